@@ -23,6 +23,7 @@ use Rattle.fluent_syntax_parser.specs.Meets.{Fails}
 use Rattle.fluent_syntax_parser.specs.declared.extents.AttributeExtents.{AttributeExtents}
 use Rattle.fluent_syntax_parser.specs.declared.extents.EntryExtents.{EntryExtents}
 use Rattle.fluent_syntax_parser.specs.declared.fault.ReadFault.{ReadFault}
+use Rattle.fluent_syntax_parser.specs.declared.words.blanks.LineStart.{LineStart}
 
 -- The construct is read at the range and gives that.
 abbrev pub ReadAt : {A : Type 0} → Construct A → A → Span → Type 0
@@ -86,11 +87,12 @@ module _ (edition : Edition) (t : List ℕ) (R : Family) where
 
   -- ---- what the readers of extents answer
 
-  -- The attribute at the place has its parts there, and that value; or the fault is that of an attribute there.
+  -- The attribute at the place has its parts there, and that value, and the line begins behind it; or the fault is that
+  -- of an attribute there.
   abbrev pub FindsAttribute : {S X : Type 0} → (Span → X) → (S → X) → ℕ →
-      Result (AttributeExtents × Pattern S) ReadFault → Type 0
+      Result (AttributeExtents × Pattern S × LineStart) ReadFault → Type 0
   FindsAttribute f v i (Ok x) =
-      (a : AttributeTree Span) × AttributeStands x.0 a × (x.0.span.start ≡ i) ×
+      (a : AttributeTree Span) × AttributeStands x.0 a × (x.0.span ≡ record { start = i; end = x.2.start }) ×
       (pattern_view v x.1 ≡ pattern_map f a.value)
   FindsAttribute f v i (Err e) = Fails t (attribute_of edition t R) i e
 

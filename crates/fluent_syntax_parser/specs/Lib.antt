@@ -11,6 +11,7 @@ pub mod Gathered
 pub mod Halts
 pub mod Lanes
 pub mod Layouts
+pub mod LineStarts
 pub mod Lines
 pub mod Made
 pub mod MadeEntries

@@ -3,6 +3,7 @@
 use Rattle.std.specs.Prelude.{◌≡◌, ℕ, List, [], ◌∷◌, ◌++◌, Result, Ok, Err}
 use Rattle.fluent_syntax_grammar.specs.Construct.{Construct, Read}
 use Rattle.fluent_syntax_parser.specs.declared.fault.ReadFault.{ReadFault}
+use Rattle.fluent_syntax_parser.specs.declared.words.blanks.LineStart.{LineStart}
 use Rattle.fluent_syntax_parser.specs.Meets.{Fails}
 
 -- The construct at i spells a value and ends at j, and f of that value is this one.
@@ -27,3 +28,12 @@ abbrev pub Fills : {A B X : Type 0} → List ℕ → (A → B) → Construct A �
     Type 0
 Fills t f c view new i (Ok j) = IsMade f c i (view new) j
 Fills t f c view new i (Err e) = Fails t c i e
+
+-- What a reader answers that gives the line behind what it read: that ends where the line begins.
+abbrev pub ended : Result LineStart ReadFault → Result ℕ ReadFault
+ended (Ok line) = Ok line.start
+ended (Err e) = Err e
+
+abbrev pub read_ended : {X : Type 0} → Result (X × LineStart) ReadFault → Result (X × ℕ) ReadFault
+read_ended (Ok read) = Ok (read.0, read.1.start)
+read_ended (Err e) = Err e

@@ -5,9 +5,8 @@ use Rattle.fluent_syntax_tree.specs.declared.edition.Edition.{Edition}
 use Rattle.fluent_syntax_tree.specs.declared.spans.Span.{Span}
 use Rattle.fluent_syntax_grammar.specs.Construct.{Read}
 use Rattle.fluent_syntax_grammar.specs.Grammar.{within}
-use Rattle.fluent_syntax_grammar.specs.Lines.{more_lines}
 use Rattle.fluent_syntax_grammar.specs.Patterns.{pattern}
-use Rattle.fluent_syntax_grammar.specs.Places.{after_eol, BlankBlock, InlineBlank}
+use Rattle.fluent_syntax_grammar.specs.Places.{after_eol, InlineBlank}
 
 -- A line whose run ends at `to` ends there, and `next` is the next line's start: with LF, which the text takes in, with
 -- CRLF, or with the text.
@@ -20,16 +19,6 @@ pub data EndsLine (t : List ℕ) (to : ℕ) : ℕ → ℕ → Type 0 where
 abbrev pub OpensAs : Edition → List ℕ → ℕ → Option (PatternTree Span) → ℕ → Type 0
 OpensAs edition t start value end =
     (n i : ℕ) → InlineBlank t i start → pattern edition t (within edition t n) i (Read value end)
-
--- No line of a pattern stands from the line's start on, and it ends at the other place.
-abbrev pub NoLines : Edition → List ℕ → (i end : ℕ) → Type 0
-NoLines edition t i end = (n : ℕ) → more_lines t (within edition t n) i (Read [] end)
-
--- From the place on blank lines stand, and behind them no line of a pattern, which ends at the other place.
-pub record EndsBlank (edition : Edition) (t : List ℕ) (i end : ℕ) : Type 0 where
-  pub place : ℕ
-  pub block : BlankBlock t i place
-  pub none : NoLines edition t place end
 
 -- the pattern of one text
 abbrev pub text_pattern : Span → PatternTree Span

@@ -13,6 +13,7 @@ ghost use Rattle.fluent_syntax_parser.specs.Extents.{
   HasExtents,
   ranges,
 };
+ghost use Rattle.fluent_syntax_parser.specs.LineStarts.{NotBlank};
 ghost use Rattle.fluent_syntax_tree.specs.Spans.{IsPart};
 ghost use Rattle.fluent_syntax_parser.specs.Halts.{HaltsWithin, OnHalt};
 
@@ -22,6 +23,7 @@ use crate::options::Halt;
 use crate::reader::Reader;
 use crate::source::Source;
 use crate::texts::{AsSpans, MakeTexts};
+use crate::words::blanks::LineStart;
 use fluent_syntax_tree::ast::Pattern;
 use fluent_syntax_tree::edition::Edition;
 use fluent_syntax_tree::spans::Span;
@@ -58,36 +60,40 @@ fn place_if<T>(value: &Option<T>, place: Span) -> Option<Span>
 }
 
 impl<'s, 't, M: MakeTexts> Reader<'s, 't, M> {
-    /// Where an attribute and its parts stand, and its value.
+    /// Where an attribute and its parts stand, its value, and the line behind it.
     pub(crate) fn attribute_parts(
         &self,
         nesting: usize,
-        ptr: usize,
-    ) -> Result<(AttributeExtents, Pattern<M::Text>), ReadFault>
-        requires { ptr ≤ length self.now.source.bytes.now }
+        line: LineStart,
+    ) -> Result<(AttributeExtents, Pattern<M::Text>, LineStart), ReadFault>
+        requires { NotBlank self.now.source.bytes.now line }
         ensures finds { let t = self.now.source.bytes.now in
             FindsAttribute self.now.edition t (within self.now.edition t nesting)
-            (M.source self.now.texts.now) M.made ptr result }
+            (M.source self.now.texts.now) M.made line.start result }
+        ensures other { IfOk result (λ read. NotBlank self.now.source.bytes.now read.2) }
         ensures within { IfOk result
-            (λ read. (ptr < read.0.span.end) × (read.0.span.end ≤ length self.now.source.bytes.now)) }
+            (λ read. (line.start < read.2.start) × (read.2.start ≤ length self.now.source.bytes.now)) }
     {
-        let dot = self.source.skip_blank_inline(ptr);
-        let letter = self.source.expect_byte(b'.', dot)?;
+        let letter = self.source.expect_byte(b'.', line.first)?;
         let name_end = self.source.identifier_end(letter)?;
         let equals = self.source.skip_blank_inline(name_end);
         let start = self.source.expect_byte(b'=', equals)?;
-        let (value, end) = self.get_pattern(nesting, start)?;
+        let (value, behind) = self.get_pattern(nesting, start)?;
+        let end = behind.start;
         match value {
             Some(value) => {
                 let extents = AttributeExtents {
-                    span: Span { start: ptr, end },
+                    span: Span {
+                        start: line.start,
+                        end,
+                    },
                     name: Span {
                         start: letter,
                         end: name_end,
                     },
                     value: Span { start, end },
                 };
-                Ok((extents, value))
+                Ok((extents, value, behind))
             }
             None => Err(ReadFault::Refused {
                 fault: Fault::Value,
@@ -97,26 +103,27 @@ impl<'s, 't, M: MakeTexts> Reader<'s, 't, M> {
         }
     }
 
-    /// Where the attributes of the longest list of them stand, and where it ends.
+    /// Where the attributes of the longest list of them stand from a line on, and where it ends.
     fn attribute_list_parts(
         &self,
         nesting: usize,
-        ptr: usize,
+        line: LineStart,
     ) -> Result<(Vec<AttributeExtents>, usize), ReadFault>
-        requires { ptr ≤ length self.now.source.bytes.now }
+        requires { NotBlank self.now.source.bytes.now line }
         ensures finds { let t = self.now.source.bytes.now in
-            FindsAttributes self.now.edition t (within self.now.edition t nesting) ptr result }
-        ensures within { IfOk result (λ read. (ptr ≤ read.1) × (read.1 ≤ length self.now.source.bytes.now)) }
+            FindsAttributes self.now.edition t (within self.now.edition t nesting) line.start result }
+        ensures within { IfOk result
+            (λ read. (line.start ≤ read.1) × (read.1 ≤ length self.now.source.bytes.now)) }
     {
         let mut attributes = Vec::new(self.alloc);
-        let mut place = ptr;
+        let mut behind = line;
         loop {
-            match self.attribute_parts(nesting, place) {
-                Ok((extents, _)) => {
+            match self.attribute_parts(nesting, behind) {
+                Ok((extents, _, next)) => {
                     add(&mut attributes, extents)?;
-                    place = extents.span.end;
+                    behind = next;
                 }
-                Err(ReadFault::Refused { .. }) => return Ok((attributes, place)),
+                Err(ReadFault::Refused { .. }) => return Ok((attributes, behind.start)),
                 Err(ReadFault::TooDeep) => return Err(ReadFault::TooDeep),
                 Err(ReadFault::Memory) => return Err(ReadFault::Memory),
             }
@@ -135,8 +142,9 @@ impl<'s, 't, M: MakeTexts> Reader<'s, 't, M> {
     {
         let equals = self.source.skip_blank_inline(ptr);
         let start = self.source.expect_byte(b'=', equals)?;
-        let (value, end) = self.get_pattern(nesting, start)?;
-        let (attributes, place) = self.attribute_list_parts(nesting, end)?;
+        let (value, line) = self.get_pattern(nesting, start)?;
+        let (attributes, place) = self.attribute_list_parts(nesting, line)?;
+        let end = line.start;
         Ok((place_if(&value, Span { start, end }), attributes, place))
     }
 

@@ -6,12 +6,13 @@ ghost use Rattle.fluent_syntax_grammar.specs.Construct.{Read};
 ghost use Rattle.fluent_syntax_grammar.specs.Grammar.{within};
 ghost use Rattle.fluent_syntax_grammar.specs.Lines.{ending};
 ghost use Rattle.fluent_syntax_grammar.specs.Patterns.{pattern};
-ghost use Rattle.fluent_syntax_grammar.specs.Places.{BlankBlock, InlineBlank};
+ghost use Rattle.fluent_syntax_grammar.specs.Places.{InlineBlank};
 ghost use Rattle.fluent_syntax_parser.specs.Elements.{item_view};
 ghost use Rattle.fluent_syntax_grammar.specs.Elements.{with_ending};
 ghost use Rattle.fluent_syntax_parser.specs.Lines.{piece_view};
-ghost use Rattle.fluent_syntax_parser.specs.Made.{Makes};
-ghost use Rattle.fluent_syntax_parser.specs.OneLine.{EndsBlank, EndsLine, OpensAs, text_pattern};
+ghost use Rattle.fluent_syntax_parser.specs.LineStarts.{NotBlank};
+ghost use Rattle.fluent_syntax_parser.specs.Made.{Makes, ended, read_ended};
+ghost use Rattle.fluent_syntax_parser.specs.OneLine.{EndsLine, OpensAs, text_pattern};
 ghost use Rattle.fluent_syntax_parser.specs.Opened.{LaysOut, Opens};
 
 pub(crate) mod elements;
@@ -26,6 +27,7 @@ use crate::pattern::line::{Line, Piece};
 use crate::reader::Reader;
 use crate::source::Source;
 use crate::texts::MakeTexts;
+use crate::words::blanks::LineStart;
 use fluent_syntax_tree::ast::{Pattern, PatternElement};
 use fluent_syntax_tree::edition::Edition;
 use fluent_syntax_tree::spans::Span;
@@ -59,48 +61,32 @@ impl<'s> Source<'s> {
         }
     }
 
-    /// Where a pattern ends whose lines from a line's start on are all blank.
-    #[inline(always)]
-    fn end_behind_blank_lines(&self, edition: Edition, ptr: usize) -> Option<usize>
-        requires { ptr ≤ length self.now.bytes.now }
-        ensures lines { IfSome result (EndsBlank edition self.now.bytes.now ptr) }
-        ensures behind { IfSome result (λ end. BlankBlock self.now.bytes.now end end) }
-        ensures within { IfSome result (λ end. (ptr ≤ end) × (end ≤ length self.now.bytes.now)) }
-    {
-        let line = self.past_blank_lines(ptr);
-        match self.byte_at(line.first) {
-            None => Some(line.first),
-            Some(byte) => {
-                if self.belongs(byte, line.first > line.start, line.first) {
-                    None
-                } else {
-                    Some(line.start)
-                }
-            }
-        }
-    }
-
     /// Reads a pattern of one line without placeable, after the inline blank that opens it, if that stands there: its
-    /// text, if it holds one.
+    /// text, if it holds one, and the line behind it.
     #[inline(always)]
-    pub(crate) fn short_text(&self, edition: Edition, start: usize) -> Option<(Option<Span>, usize)>
+    pub(crate) fn short_text(
+        &self,
+        edition: Edition,
+        start: usize,
+    ) -> Option<(Option<Span>, LineStart)>
         requires { start ≤ length self.now.bytes.now }
         ensures opens { IfSome result
-            (λ read. OpensAs edition self.now.bytes.now start (option_map text_pattern read.0) read.1) }
-        ensures behind { IfSome result (λ read. BlankBlock self.now.bytes.now read.1 read.1) }
-        ensures within { IfSome result (λ read. (start ≤ read.1) × (read.1 ≤ length self.now.bytes.now)) }
+            (λ read. OpensAs edition self.now.bytes.now start (option_map text_pattern read.0) read.1.start) }
+        ensures other { IfSome result (λ read. NotBlank self.now.bytes.now read.1) }
+        ensures within { IfSome result
+            (λ read. (start ≤ read.1.start) × (read.1.start ≤ length self.now.bytes.now)) }
     {
         let to = self.run_end(start);
         let (text_end, next) = self.line_ending(to)?;
-        let end = self.end_behind_blank_lines(edition, next)?;
+        let behind = self.line_behind(self.past_blank_lines(next))?;
         if start < to {
             let value = Span {
                 start,
                 end: self.trimmed_end(start, text_end),
             };
-            Some((Some(value), end))
+            Some((Some(value), behind))
         } else {
-            Some((None, end))
+            Some((None, behind))
         }
     }
 }
@@ -166,7 +152,7 @@ impl<'s, 't, M: MakeTexts> Reader<'s, 't, M> {
     }
 
     /// Gathers the items of the line on which a pattern opens, after the inline blank there, and its other lines, in
-    /// empty lists.
+    /// empty lists. Gives the line behind them.
     #[cycle(readers)]
     #[inline(always)]
     fn gather_layout(
@@ -175,19 +161,20 @@ impl<'s, 't, M: MakeTexts> Reader<'s, 't, M> {
         ptr: usize,
         items: &mut Vec<Piece<M::Text>>,
         lines: &mut Vec<Line<M::Text>>,
-    ) -> Result<usize, ReadFault>
+    ) -> Result<LineStart, ReadFault>
         requires within { ptr ≤ length self.now.source.bytes.now }
         requires no_items { items.old.items ≡ [] }
         requires no_lines { lines.old.items ≡ [] }
         ensures meets { let t = self.now.source.bytes.now in
             LaysOut t (within self.now.edition t nesting) (M.source self.now.texts.now) M.made ptr items.new.items
-            lines.new.items result }
-        ensures behind { IfOk result (λ end. BlankBlock self.now.source.bytes.now end end) }
-        ensures within { IfOk result (λ end. (ptr ≤ end) × (end ≤ length self.now.source.bytes.now)) }
+            lines.new.items (ended result) }
+        ensures other { IfOk result (NotBlank self.now.source.bytes.now) }
+        ensures within { IfOk result
+            (λ line. (ptr ≤ line.start) × (line.start ≤ length self.now.source.bytes.now)) }
     {
         let next = self.gather_opening(nesting, ptr, items)?;
-        let end = self.gather_lines(nesting, next, lines)?;
-        Ok(end)
+        let line = self.gather_lines(nesting, next, lines)?;
+        Ok(line)
     }
 
     /// Reads a pattern that does not stand on one line, or that has a placeable. The inline blank that opens it ends at
@@ -199,24 +186,25 @@ impl<'s, 't, M: MakeTexts> Reader<'s, 't, M> {
         nesting: usize,
         ptr: usize,
         start: usize,
-    ) -> Result<(Option<Pattern<M::Text>>, usize), ReadFault>
+    ) -> Result<(Option<Pattern<M::Text>>, LineStart), ReadFault>
         requires within { start ≤ length self.now.source.bytes.now }
         requires blank { InlineBlank self.now.source.bytes.now ptr start }
         ensures meets { let t = self.now.source.bytes.now in
             Makes t (option_map (pattern_map (M.source self.now.texts.now)))
             (pattern self.now.edition t (within self.now.edition t nesting)) (option_map (pattern_view M.made)) ptr
-            result }
-        ensures behind { IfOk result (λ read. BlankBlock self.now.source.bytes.now read.1 read.1) }
-        ensures within { IfOk result (λ read. (ptr ≤ read.1) × (read.1 ≤ length self.now.source.bytes.now)) }
+            (read_ended result) }
+        ensures other { IfOk result (λ read. NotBlank self.now.source.bytes.now read.1) }
+        ensures within { IfOk result
+            (λ read. (ptr ≤ read.1.start) × (read.1.start ≤ length self.now.source.bytes.now)) }
     {
         let mut items = Vec::new(self.alloc);
         let mut lines = Vec::new(self.alloc);
-        let end = self.gather_layout(nesting, start, &mut items, &mut lines)?;
+        let line = self.gather_layout(nesting, start, &mut items, &mut lines)?;
         let pattern = self.pattern_of(items, lines)?;
-        Ok((pattern, end))
+        Ok((pattern, line))
     }
 
-    /// Reads a pattern, if one stands there. No blank line stands behind it. That of one line without placeable is read
+    /// Reads a pattern, if one stands there, and gives the line behind it. That of one line without placeable is read
     /// by itself, and takes one allocation.
     #[cycle(readers)]
     #[inline(always)]
@@ -224,20 +212,21 @@ impl<'s, 't, M: MakeTexts> Reader<'s, 't, M> {
         &self,
         nesting: usize,
         ptr: usize,
-    ) -> Result<(Option<Pattern<M::Text>>, usize), ReadFault>
+    ) -> Result<(Option<Pattern<M::Text>>, LineStart), ReadFault>
         requires { ptr ≤ length self.now.source.bytes.now }
         ensures meets { let t = self.now.source.bytes.now in
             Makes t (option_map (pattern_map (M.source self.now.texts.now)))
             (pattern self.now.edition t (within self.now.edition t nesting)) (option_map (pattern_view M.made)) ptr
-            result }
-        ensures behind { IfOk result (λ read. BlankBlock self.now.source.bytes.now read.1 read.1) }
-        ensures within { IfOk result (λ read. (ptr ≤ read.1) × (read.1 ≤ length self.now.source.bytes.now)) }
+            (read_ended result) }
+        ensures other { IfOk result (λ read. NotBlank self.now.source.bytes.now read.1) }
+        ensures within { IfOk result
+            (λ read. (ptr ≤ read.1.start) × (read.1.start ≤ length self.now.source.bytes.now)) }
     {
         let start = self.source.skip_blank_inline(ptr);
         match self.source.short_text(self.edition, start) {
-            Some((text, end)) => {
+            Some((text, line)) => {
                 let pattern = self.short_pattern(text)?;
-                Ok((pattern, end))
+                Ok((pattern, line))
             }
             None => self.get_long_pattern(nesting, ptr, start),
         }

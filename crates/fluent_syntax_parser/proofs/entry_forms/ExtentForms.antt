@@ -1,6 +1,6 @@
 -- Where the parts of an entry stand, there the entry is read.
 use Rattle.std.proofs.Common.{◌≡◌, ℕ, true, false, List, [], ◌∷◌, ◌++◌, append_assoc, Option, Some, None, refl}
-use Rattle.std.proofs.Common.{sym, subst}
+use Rattle.std.proofs.Common.{ap, sym, subst}
 use Rattle.std.specs.Prelude.{Ok, option_map, is_some, slice_get}
 use Rattle.fluent_syntax_tree.specs.Entry.{AttributeTree, EntryTree, Level, comment}
 use Rattle.fluent_syntax_tree.specs.Kind.{Kind}
@@ -90,15 +90,16 @@ module _ (edition : Edition) (t : List ℕ) (R : Family) where
   pub no_extents : (i : ℕ) → GathersExtents i [] i
   no_extents i = record { items = []; stand = λ more rest end h. h }
 
-  pub one_extent : (i : ℕ) (xs ys : List AttributeExtents) (j : ℕ) (x : AttributeExtents) → ys ≡ xs ++ x ∷ [] →
-      GathersExtents i xs j → (a : AttributeTree Span) → AttributeStands edition t R x a → x.span.start ≡ j →
-      GathersExtents i ys x.span.end
-  one_extent i xs ys j x all g a s begins = record {
-    items = g.items ++ a ∷ [];
-    stand = λ more rest end h.
-        rw (all, append_assoc xs (x ∷ []) more, append_assoc g.items (a ∷ []) rest)
-        (g.stand (x ∷ more) (a ∷ rest) end (one_stands begins s h));
-  }
+  pub one_extent : (i : ℕ) (xs ys : List AttributeExtents) (j m : ℕ) (x : AttributeExtents) → ys ≡ xs ++ x ∷ [] →
+      GathersExtents i xs j → (a : AttributeTree Span) → AttributeStands edition t R x a →
+      x.span ≡ record { start = j; end = m } → GathersExtents i ys m
+  one_extent i xs ys j m x all g a s place =
+      subst (λ k. GathersExtents i ys k.end) place (record {
+        items = g.items ++ a ∷ [];
+        stand = λ more rest end h.
+            rw (all, append_assoc xs (x ∷ []) more, append_assoc g.items (a ∷ []) rest)
+            (g.stand (x ∷ more) (a ∷ rest) end (one_stands (ap (λ k. k.start) place) s h));
+      })
 
   pub all_extents : (i : ℕ) (xs : List AttributeExtents) (j : ℕ) → (g : GathersExtents i xs j) → {from to : ℕ} →
       {k : Kind} → attribute_of edition t R j (Refused k from to) →

@@ -15,12 +15,14 @@ use Rattle.fluent_syntax_grammar.specs.Family.{Family}
 use Rattle.fluent_syntax_grammar.specs.Grammar.{within}
 use Rattle.fluent_syntax_grammar.specs.Layout.{Line, crlf_at, lf_at}
 use Rattle.fluent_syntax_grammar.specs.Lines.{belongs, more_lines, more_pieces, own_line}
-use Rattle.fluent_syntax_grammar.specs.Places.{BlankBlock, InlineBlank, after_eol, has_byte, has_eol, line, no_line}
+use Rattle.fluent_syntax_grammar.specs.Places.{Blank, BlankBlock, InlineBlank, after_eol, has_byte, has_eol, line}
+use Rattle.fluent_syntax_grammar.specs.Places.{no_line}
 use Rattle.fluent_syntax_grammar.proofs.Facts.{byte_found, equal}
-use Rattle.fluent_syntax_grammar.proofs.LineEnds.{eol_none}
-use Rattle.fluent_syntax_grammar.proofs.Tests.{neither_left}
+use Rattle.fluent_syntax_grammar.proofs.LineEnds.{after_none, eol_none}
+use Rattle.fluent_syntax_grammar.proofs.Tests.{neither_left, or_left, or_none}
 use Rattle.fluent_syntax_parser.proofs.patterns.LineEndings.{ends_line}
-use Rattle.fluent_syntax_parser.specs.OneLine.{EndsBlank}
+use Rattle.fluent_syntax_parser.specs.LineStarts.{EndsBefore, NotBlank}
+use Rattle.fluent_syntax_parser.specs.declared.words.blanks.LineStart.{LineStart}
 
 -- ---- line ends
 
@@ -179,29 +181,44 @@ module _ (edition : Edition) (t : List ℕ) where
     pub blank : (common : Option ℕ) → cut t (flat_map (line_items edition common) lines) ≡ []
 
   -- the blank lines of a blank block, where no line of a pattern follows them
-  pub blank_rest : (i end : ℕ) → EndsBlank edition t i end → BlankRest i end
-  blank_rest i end ends = record {
-    lines = blanks i ends.place ends.block;
-    read = λ n. blanks_read (within edition t n) i ends.place end ends.block (ends.none n);
-    blank = blanks_blank i ends.place ends.block;
+  pub blank_rest : (i j end : ℕ) → BlankBlock t i j → EndsBefore t j end → BlankRest i end
+  blank_rest i j end block none = record {
+    lines = blanks i j block;
+    read = λ n. blanks_read (within edition t n) i j end block (list_ends (none edition n));
+    blank = blanks_blank i j block;
   }
 
--- ---- no blank line stands behind a pattern
+-- ---- the line behind a pattern
 
-module _ (t : List ℕ) {i k : ℕ} (blank : InlineBlank t i k) where
-  pub none_at_end : slice_get t k ≡ None → BlankBlock t k k
-  none_at_end end =
-      let no_spaces : InlineBlank t k k = record {
-        forward = omega arith;
-        each = λ j a b. absurd (omega (arith, a, b));
-        longest = blank.longest;
-      } in
-      let no_eol : has_eol t k ≡ false = rw end refl in
-      no_line no_spaces (eol_none (has_byte t lf k) (has_byte t cr k && has_byte t lf (k + 1)) _ _ no_eol)
+module _ (t : List ℕ) (line : LineStart) where
+  no_eol : (indented : Bool) → belongs t indented line.first ≡ false → has_eol t line.first ≡ false
+  no_eol true other = neither_left (has_eol t line.first) _ other
+  no_eol false other =
+      neither_left (has_eol t line.first) _
+      (neither_left (has_eol t line.first || has_byte t left_brace line.first) _ other)
 
-  pub none_before_other : (indented : Bool) → belongs t indented k ≡ false → BlankBlock t i i
-  none_before_other true other =
-      no_line blank (eol_none (has_byte t lf k) _ _ _ (neither_left (has_eol t k) _ other))
-  none_before_other false other =
-      let no_brace = neither_left (has_eol t k || has_byte t left_brace k) _ other in
-      no_line blank (eol_none (has_byte t lf k) _ _ _ (neither_left (has_eol t k) _ no_brace))
+  pub other_not_blank : (indented : Bool) → InlineBlank t line.start line.first →
+      belongs t indented line.first ≡ false → line.first ≤ length t → NotBlank t line
+  other_not_blank indented blank other within = record {
+    spaces = blank;
+    other = eol_none (has_byte t lf line.first) _ _ _ (no_eol indented other);
+    inside = within;
+  }
+
+  pub end_not_blank : InlineBlank t line.start line.first → slice_get t line.first ≡ None → line.first ≤ length t →
+      NotBlank t (record { start = line.first; first = line.first })
+  end_not_blank blank end within = record {
+    spaces = record { forward = omega arith; each = λ j a b. absurd (omega (arith, a, b)); longest = blank.longest };
+    other = rw end refl;
+    inside = within;
+  }
+
+  pub no_blank_line : NotBlank t line → BlankBlock t line.start line.start
+  no_blank_line there = no_line there.spaces there.other
+
+  pub only_spaces : NotBlank t line → Blank t line.start line.first
+  only_spaces there = record {
+    forward = there.spaces.forward;
+    each = λ j a b. or_left (has_byte t space j) (has_eol t j) (there.spaces.each j a b);
+    longest = or_none (has_byte t space line.first) _ there.spaces.longest (after_none t line.first there.other);
+  }

@@ -24,9 +24,10 @@ use Rattle.fluent_syntax_grammar.proofs.Facts.{left_true, byte_found}
 use Rattle.fluent_syntax_grammar.proofs.Tests.{without}
 use Rattle.fluent_syntax_grammar.proofs.LineEnds.{eol_none}
 use Rattle.fluent_syntax_parser.proofs.patterns.LineEndings.{ends_line, ends_text}
-use Rattle.fluent_syntax_parser.proofs.patterns.BlankLines.{blank_rest, crlf_byte, eol_there, lf_blank, no_piece}
-use Rattle.fluent_syntax_parser.proofs.patterns.BlankLines.{range_cons}
-use Rattle.fluent_syntax_parser.specs.OneLine.{EndsBlank, EndsLine, text_pattern, with_lf, with_crlf, with_text}
+use Rattle.fluent_syntax_parser.proofs.patterns.BlankLines.{BlankRest, blank_rest, crlf_byte, eol_there, lf_blank}
+use Rattle.fluent_syntax_parser.proofs.patterns.BlankLines.{no_piece, range_cons}
+use Rattle.fluent_syntax_parser.specs.LineStarts.{EndsBefore}
+use Rattle.fluent_syntax_parser.specs.OneLine.{EndsLine, text_pattern, with_lf, with_crlf, with_text}
 
 starts_nonblank : (b : ℕ) (bs : List ℕ) → (b == space) ≡ false → (b == lf) ≡ false → is_nonblank (b ∷ bs) ≡ true
 starts_nonblank b [] space other = rw (other, space) refl
@@ -137,10 +138,9 @@ module _ (edition : Edition) (t : List ℕ) (n : ℕ) where
     opened ls = record { opening = Some (record { start = start; spaces = 0; pieces = ps; ending = e }); lines = ls }
 
     -- it spells the items of its opening line
-    opening_read : (ptr end : ℕ) → InlineBlank t ptr start → EndsBlank edition t next end →
+    opening_read : (ptr end : ℕ) → InlineBlank t ptr start → BlankRest edition t next end →
         pattern edition t R ptr (Read (if_any (spelled t (cut t (with_ending ps e)))) end)
-    opening_read ptr end blank lines =
-        let behind = blank_rest edition t next end lines in
+    opening_read ptr end blank behind =
         let laid : layout_at t R None start (Read (opened behind.lines) end) = goes_on at_place
         (goes_on pieces
         (goes_on ends
@@ -157,7 +157,7 @@ module _ (edition : Edition) (t : List ℕ) (n : ℕ) where
 
   module _ (start to : ℕ) (w : Stretch (is_run_place t) start to) (some : start < to) where
     pub short_read : (ptr stop next end : ℕ) → InlineBlank t ptr start → EndsLine t to stop next → to ≤ stop →
-        stop ≤ length t → EndsBlank edition t next end →
+        stop ≤ length t → BlankRest edition t next end →
         pattern edition t R ptr
         (Read (Some (text_pattern (record { start = start; end = trimmed_end t start stop }))) end)
     short_read ptr stop next end blank line l within lines =
@@ -183,13 +183,14 @@ module _ (edition : Edition) (t : List ℕ) (n : ℕ) where
         (chosen (subst (λ o. layout_at t R o start (Read empty end)) (sym eol) laid)) in
         goes_on whole given
 
-  pub none_read : (start ptr stop next end : ℕ) → InlineBlank t ptr start → EndsLine t start stop next →
-      EndsBlank edition t next end → pattern edition t R ptr (Read None end)
+  pub none_read : (start ptr stop next place end : ℕ) → InlineBlank t ptr start → EndsLine t start stop next →
+      BlankBlock t next place → EndsBefore t place end → pattern edition t R ptr (Read None end)
   unfolding line_ended
-  none_read start ptr stop next end blank (with_lf eol e) lines =
-      empty_read start stop lines.place end eol lines.block (lines.none n) ptr blank
-  none_read start ptr stop next end blank (with_crlf eol e) lines =
-      empty_read start next lines.place end eol lines.block (lines.none n) ptr blank
-  none_read start ptr stop next end blank (with_text eol e) lines =
+  none_read start ptr stop next place end blank (with_lf eol e) block none =
+      empty_read start stop place end eol block (list_ends (none edition n)) ptr blank
+  none_read start ptr stop next place end blank (with_crlf eol e) block none =
+      empty_read start next place end eol block (list_ends (none edition n)) ptr blank
+  none_read start ptr stop next place end blank (with_text eol e) block none =
       let ended = line_ended t R start start start (with_text eol e) in
-      opening_read start eol [] start ended.pieces text_end' start ended.ends ptr end blank lines
+      opening_read start eol [] start ended.pieces text_end' start ended.ends ptr end blank
+      (blank_rest edition t next place end block none)

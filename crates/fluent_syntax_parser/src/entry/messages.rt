@@ -33,9 +33,8 @@ impl<'s, 't, M: MakeTexts> Reader<'s, 't, M> {
     {
         let equals = self.source.skip_blank_inline(ptr);
         let start = self.source.expect_byte(b'=', equals)?;
-        let (value, end) = self.get_pattern(nesting, start)?;
-        // no blank line stands behind a pattern
-        let (attributes, place) = self.get_attributes(nesting, end)?;
+        let (value, line) = self.get_pattern(nesting, start)?;
+        let (attributes, place) = self.get_attributes(nesting, line)?;
         Ok((Fields { value, attributes }, place))
     }
 

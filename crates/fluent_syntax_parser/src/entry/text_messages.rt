@@ -1,8 +1,10 @@
 //! Messages whose patterns are each one text on its line, as most are: they are passed over without a tree.
 ghost use Rattle.std.specs.Prelude.{◌<◌, ◌≤◌, length, IfSome};
 ghost use Rattle.fluent_syntax_parser.specs.AnyDepth.{AttributesAtAnyDepth, MessageAtAnyDepth, OpensPattern};
+ghost use Rattle.fluent_syntax_parser.specs.LineStarts.{NotBlank};
 
 use crate::source::Source;
+use crate::words::blanks::LineStart;
 use fluent_syntax_tree::edition::Edition;
 
 impl<'s> Source<'s> {
@@ -22,24 +24,24 @@ impl<'s> Source<'s> {
         Some(self.skip_blank_inline(behind))
     }
 
-    /// Where a list of attributes ends, of which the pattern of each is one text on its line. `None` where one is not.
-    fn text_attributes_end(&self, edition: Edition, ptr: usize) -> Option<usize>
-        requires { ptr ≤ length self.now.bytes.now }
-        ensures attributes { IfSome result (AttributesAtAnyDepth edition self.now.bytes.now ptr) }
-        ensures within { IfSome result (λ end. (ptr ≤ end) × (end ≤ length self.now.bytes.now)) }
+    /// Where a list of attributes ends that begins with a line, of which the pattern of each is one text on its line.
+    /// `None` where one is not.
+    fn text_attributes_end(&self, edition: Edition, line: LineStart) -> Option<usize>
+        requires { NotBlank self.now.bytes.now line }
+        ensures attributes { IfSome result (AttributesAtAnyDepth edition self.now.bytes.now line.start) }
+        ensures within { IfSome result (λ end. (line.start ≤ end) × (end ≤ length self.now.bytes.now)) }
     {
-        let mut place = ptr;
+        let mut behind = line;
         loop {
-            let dot = self.skip_blank_inline(place);
-            let Ok(start) = self.expect_byte(b'.', dot) else {
-                return Some(place);
+            let Ok(start) = self.expect_byte(b'.', behind.first) else {
+                return Some(behind.start);
             };
             let opening = self.pattern_start(start)?;
-            let (text, end) = self.short_text(edition, opening)?;
+            let (text, next) = self.short_text(edition, opening)?;
             let Some(_text) = text else {
                 return None;
             };
-            place = end;
+            behind = next;
         }
     }
 
@@ -55,7 +57,7 @@ impl<'s> Source<'s> {
         let end = self.text_attributes_end(edition, line)?;
         match text {
             Some(_) => Some(end),
-            None => if end > line { Some(end) } else { None },
+            None => if end > line.start { Some(end) } else { None },
         }
     }
 }

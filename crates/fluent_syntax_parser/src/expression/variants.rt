@@ -123,17 +123,17 @@ impl<'s, 't, M: MakeTexts> Reader<'s, 't, M> {
             let (key, next) = self.source.get_variant_key(start)?;
             let next = self.source.skip_blank(next);
             let next = self.source.expect_byte(b']', next)?;
-            let (value, next) = self.get_pattern(nesting, next)?;
+            let (value, line) = self.get_pattern(nesting, next)?;
             let Some(value) = value else {
                 return Err(ReadFault::Refused {
                     fault: Fault::Value,
-                    from: next,
-                    place: next,
+                    from: line.start,
+                    place: line.start,
                 });
             };
             self.add_variant(key, value, star, variants)?;
             starred |= star;
-            place = self.source.skip_blank(next);
+            place = line.first;
         }
     }
 }

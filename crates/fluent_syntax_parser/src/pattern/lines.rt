@@ -1,12 +1,13 @@
 //! The lines of a pattern.
 ghost use Rattle.std.specs.Prelude.{◌≡◌, ◌+◌, ◌-◌, ◌<◌, ◌≤◌, length, map, slice_get, IfOk, None, Some, false};
-ghost use Rattle.std.specs.Prelude.{◌==◌, ◌++◌, ◌∷◌, ◌^◌, [], true, if◌then◌else◌, IfErr, OnOk};
+ghost use Rattle.std.specs.Prelude.{◌==◌, ◌++◌, ◌∷◌, ◌^◌, [], true, if◌then◌else◌, IfErr, IfNone, IfSome, OnOk};
 ghost use Rattle.fluent_syntax_grammar.specs.Construct.{Read};
 ghost use Rattle.fluent_syntax_grammar.specs.Grammar.{within};
 ghost use Rattle.fluent_syntax_grammar.specs.Layout.{crlf_at, lf_at};
 ghost use Rattle.fluent_syntax_grammar.specs.Lines.{belongs, ending, is_run_place, line, more_lines, more_pieces};
-ghost use Rattle.fluent_syntax_grammar.specs.Places.{BlankBlock, has_eol, InlineBlank, Stretch, Word};
-ghost use Rattle.fluent_syntax_parser.specs.Made.{Adds, Fills};
+ghost use Rattle.fluent_syntax_grammar.specs.Places.{has_eol, InlineBlank, Stretch, Word};
+ghost use Rattle.fluent_syntax_parser.specs.LineStarts.{EndsBefore, NotBlank, OwnLine};
+ghost use Rattle.fluent_syntax_parser.specs.Made.{Adds, Fills, ended};
 ghost use Rattle.fluent_syntax_parser.specs.Endings.{EndsWithin};
 ghost use Rattle.fluent_syntax_parser.specs.Lanes.{is_passed};
 ghost use Rattle.fluent_syntax_parser.specs.Layouts.{line_of, piece_of};
@@ -20,6 +21,7 @@ use crate::pattern::line::{Ending, Line, Piece};
 use crate::reader::Reader;
 use crate::source::Source;
 use crate::texts::MakeTexts;
+use crate::words::blanks::LineStart;
 use crate::words::lanes::{LANES, text_run};
 use fluent_syntax_tree::ast::Expression;
 use memchr::memchr3;
@@ -79,7 +81,7 @@ impl<'s> Source<'s> {
 
     /// Whether a line belongs to a pattern, by the byte after its leading spaces, if it has any.
     #[inline(always)]
-    pub(crate) fn belongs(&self, byte: u8, indented: bool, ptr: usize) -> bool
+    fn belongs(&self, byte: u8, indented: bool, ptr: usize) -> bool
         requires within { ptr ≤ length self.now.bytes.now }
         requires byte { slice_get self.now.bytes.now ptr ≡ Some byte }
         ensures { result ≡ belongs self.now.bytes.now indented ptr }
@@ -90,6 +92,36 @@ impl<'s> Source<'s> {
             !matches!(byte, b'.' | b'}' | b'[' | b'*')
         } else {
             byte == b'{' || byte == b'\r'
+        }
+    }
+
+    /// The line behind a pattern that ends before a line. Where the text ends, that is the text's end. `None` where the
+    /// line belongs to the pattern.
+    #[inline(always)]
+    pub(crate) fn line_behind(&self, line: LineStart) -> Option<LineStart>
+        requires within { line.first ≤ length self.now.bytes.now }
+        requires spaces { InlineBlank self.now.bytes.now line.start line.first }
+        ensures ends { IfSome result (λ behind. EndsBefore self.now.bytes.now line.start behind.start) }
+        ensures other { IfSome result (NotBlank self.now.bytes.now) }
+        ensures own { IfNone result (OwnLine self.now.bytes.now line) }
+        ensures within { IfSome result
+            (λ behind. (line.start ≤ behind.start) × (behind.start ≤ length self.now.bytes.now)) }
+    {
+        match self.byte_at(line.first) {
+            None => {
+                let end = line.first;
+                Some(LineStart {
+                    start: end,
+                    first: end,
+                })
+            }
+            Some(byte) => {
+                if self.belongs(byte, line.first > line.start, line.first) {
+                    None
+                } else {
+                    Some(line)
+                }
+            }
         }
     }
 
@@ -208,56 +240,54 @@ impl<'s, 't, M: MakeTexts> Reader<'s, 't, M> {
         Ok(next)
     }
 
-    /// Reads the line that begins at `start`, whose leading spaces end at `first`, and adds it. A byte stands there.
+    /// Reads a line, and adds it. A byte stands behind its leading spaces.
     #[cycle(readers)]
     #[inline(never)]
     fn gather_line(
         &self,
         nesting: usize,
-        start: usize,
-        first: usize,
+        line: LineStart,
         lines: &mut Vec<Line<M::Text>>,
     ) -> Result<usize, ReadFault>
-        requires within { first < length self.now.source.bytes.now }
-        requires blank { InlineBlank self.now.source.bytes.now start first }
+        requires within { line.first < length self.now.source.bytes.now }
+        requires blank { InlineBlank self.now.source.bytes.now line.start line.first }
         ensures adds { let t = self.now.source.bytes.now in
             Adds t (line_of (M.source self.now.texts.now)) (line t (within self.now.edition t nesting))
-            (line_view M.made) lines.old.items lines.new.items start result }
-        ensures within { IfOk result (λ next. (start < next) × (next ≤ length self.now.source.bytes.now)) }
+            (line_view M.made) lines.old.items lines.new.items line.start result }
+        ensures within { IfOk result (λ next. (line.start < next) × (next ≤ length self.now.source.bytes.now)) }
     {
+        let LineStart { start, first } = line;
         let mut pieces = Vec::new(self.alloc);
         let end = self.gather_pieces(nesting, first, &mut pieces)?;
         let next = self.end_line(start, first - start, pieces, end, lines)?;
         Ok(next)
     }
 
-    /// Gathers the lines that belong to a pattern, from a line's start on, in an empty list.
+    /// Gathers the lines that belong to a pattern, from a line's start on, in an empty list. Gives the line behind
+    /// them.
     #[cycle(readers)]
     pub(crate) fn gather_lines(
         &self,
         nesting: usize,
         ptr: usize,
         lines: &mut Vec<Line<M::Text>>,
-    ) -> Result<usize, ReadFault>
+    ) -> Result<LineStart, ReadFault>
         requires within { ptr ≤ length self.now.source.bytes.now }
         requires empty { lines.old.items ≡ [] }
         ensures meets { let t = self.now.source.bytes.now in
             Fills t (map (line_of (M.source self.now.texts.now))) (more_lines t (within self.now.edition t nesting))
-            (map (line_view M.made)) lines.new.items ptr result }
-        ensures behind { IfOk result (λ end. BlankBlock self.now.source.bytes.now end end) }
-        ensures within { IfOk result (λ end. (ptr ≤ end) × (end ≤ length self.now.source.bytes.now)) }
+            (map (line_view M.made)) lines.new.items ptr (ended result) }
+        ensures other { IfOk result (NotBlank self.now.source.bytes.now) }
+        ensures within { IfOk result
+            (λ line. (ptr ≤ line.start) × (line.start ≤ length self.now.source.bytes.now)) }
     {
         let mut start = ptr;
         loop {
             let first = self.source.skip_blank_inline(start);
-            match self.source.byte_at(first) {
-                None => return Ok(first),
-                Some(byte) => {
-                    if !self.source.belongs(byte, first > start, first) {
-                        return Ok(start);
-                    }
-                    start = self.gather_line(nesting, start, first, lines)?;
-                }
+            let line = LineStart { start, first };
+            match self.source.line_behind(line) {
+                Some(behind) => return Ok(behind),
+                None => start = self.gather_line(nesting, line, lines)?,
             }
         }
     }

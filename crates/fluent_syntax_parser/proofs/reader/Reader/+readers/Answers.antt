@@ -277,14 +277,14 @@ gather_opening-returns-in_err-next-in-None-clause-opens =
 pub gather_layout-returns-in_err-next-clause-meets : goal.gather_layout-returns-in_err-next-clause-meets
 gather_layout-returns-in_err-next-clause-meets = patterns.gather_layout-returns-in_err-next-clause-meets
 
-pub gather_layout-returns-in_err-end-clause-meets : goal.gather_layout-returns-in_err-end-clause-meets
-gather_layout-returns-in_err-end-clause-meets = patterns.gather_layout-returns-in_err-end-clause-meets
+pub gather_layout-returns-in_err-line-clause-meets : goal.gather_layout-returns-in_err-line-clause-meets
+gather_layout-returns-in_err-line-clause-meets = patterns.gather_layout-returns-in_err-line-clause-meets
 
 pub gather_layout-returns-clause-meets : goal.gather_layout-returns-clause-meets
 gather_layout-returns-clause-meets = patterns.gather_layout-returns-clause-meets
 
-pub get_long_pattern-returns-in_err-end-clause-meets : goal.get_long_pattern-returns-in_err-end-clause-meets
-get_long_pattern-returns-in_err-end-clause-meets = patterns.get_long_pattern-returns-in_err-end-clause-meets
+pub get_long_pattern-returns-in_err-line-clause-meets : goal.get_long_pattern-returns-in_err-line-clause-meets
+get_long_pattern-returns-in_err-line-clause-meets = patterns.get_long_pattern-returns-in_err-line-clause-meets
 
 pub get_long_pattern-returns-clause-meets : goal.get_long_pattern-returns-clause-meets
 get_long_pattern-returns-clause-meets = patterns.get_long_pattern-returns-clause-meets
@@ -351,23 +351,17 @@ gather_line-returns-clause-adds = patterns.gather_line-returns-clause-adds
 pub gather_line-returns-clause-within : goal.gather_line-returns-clause-within
 gather_line-returns-clause-within = patterns.gather_line-returns-clause-within
 
-pub gather_lines-returns-in-None-clause-meets : goal.gather_lines-returns-in-None-clause-meets
-gather_lines-returns-in-None-clause-meets = patterns.gather_lines-returns-in-None-clause-meets
+pub gather_lines-returns-in-Some-clause-meets : goal.gather_lines-returns-in-Some-clause-meets
+gather_lines-returns-in-Some-clause-meets = patterns.gather_lines-returns-in-Some-clause-meets
 
-pub gather_lines-returns-in-None-clause-behind : goal.gather_lines-returns-in-None-clause-behind
-gather_lines-returns-in-None-clause-behind = patterns.gather_lines-returns-in-None-clause-behind
+pub gather_lines-gather_line-requires-clause-within : goal.gather_lines-gather_line-requires-clause-within
+gather_lines-gather_line-requires-clause-within = patterns.gather_lines-gather_line-requires-clause-within
 
-pub gather_lines-returns-then-not-belongs-clause-behind : goal.gather_lines-returns-then-not-belongs-clause-behind
-gather_lines-returns-then-not-belongs-clause-behind = patterns.gather_lines-returns-then-not-belongs-clause-behind
+pub gather_lines-returns-in_err-start-in-None-clause-meets : goal.gather_lines-returns-in_err-start-in-None-clause-meets
+gather_lines-returns-in_err-start-in-None-clause-meets = patterns.gather_lines-returns-in_err-start-in-None-clause-meets
 
-pub gather_lines-returns-then-not-belongs-clause-meets : goal.gather_lines-returns-then-not-belongs-clause-meets
-gather_lines-returns-then-not-belongs-clause-meets = patterns.gather_lines-returns-then-not-belongs-clause-meets
+pub gather_lines-loop-behind-preserved : goal.gather_lines-loop-behind-preserved
+gather_lines-loop-behind-preserved = patterns.gather_lines-loop-behind-preserved
 
-pub gather_lines-returns-in_err-start-in-Some-clause-meets : goal.gather_lines-returns-in_err-start-in-Some-clause-meets
-gather_lines-returns-in_err-start-in-Some-clause-meets = patterns.gather_lines-returns-in_err-start-in-Some-clause-meets
-
-pub gather_lines-loop-byte-preserved : goal.gather_lines-loop-byte-preserved
-gather_lines-loop-byte-preserved = patterns.gather_lines-loop-byte-preserved
-
-pub gather_lines-loop-byte-init : goal.gather_lines-loop-byte-init
-gather_lines-loop-byte-init = patterns.gather_lines-loop-byte-init
+pub gather_lines-loop-behind-init : goal.gather_lines-loop-behind-init
+gather_lines-loop-behind-init = patterns.gather_lines-loop-behind-init

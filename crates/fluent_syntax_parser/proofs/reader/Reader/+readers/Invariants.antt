@@ -116,8 +116,8 @@ invariant-gather_pieces-loop-byte g l =
 abbrev pub decreases-gather_pieces-loop-byte : goal.decreases-gather_pieces-loop-byte
 decreases-gather_pieces-loop-byte g l = length l.self.source.bytes.now - l.place
 
-abbrev pub invariant-gather_lines-loop-byte : goal.invariant-gather_lines-loop-byte
-invariant-gather_lines-loop-byte g l =
+abbrev pub invariant-gather_lines-loop-behind : goal.invariant-gather_lines-loop-behind
+invariant-gather_lines-loop-behind g l =
     let t = l.self.source.bytes.now in
     record {
       forward : l.ptr ≤ l.start;
@@ -128,5 +128,5 @@ invariant-gather_lines-loop-byte g l =
           l.start;
     }
 
-abbrev pub decreases-gather_lines-loop-byte : goal.decreases-gather_lines-loop-byte
-decreases-gather_lines-loop-byte g l = length l.self.source.bytes.now - l.start
+abbrev pub decreases-gather_lines-loop-behind : goal.decreases-gather_lines-loop-behind
+decreases-gather_lines-loop-behind g l = length l.self.source.bytes.now - l.start

@@ -27,10 +27,9 @@ returns-clause-adds g c =
     let t = c.args.self.now.source.bytes.now in
     let edition = c.args.self.now.edition in
     let R = within edition t c.args.nesting in
-    let end = c.in_ok-extents.extents.span.end in
-    let (a, parts, begins, same) = c.in_ok-extents.ensures.finds in (
+    let (a, parts, place, same) = c.in_ok-extents.ensures.finds in (
       _,
       c.in_ok-add.ensures.added,
-      made (subst (λ i. attribute_of edition t R i (Read a end)) begins parts.whole)
+      made (subst (λ s. attribute_of edition t R s.start (Read a s.end)) place parts.whole)
           (rw (c.in_ok-id.ensures, same, parts.named) refl),
     )

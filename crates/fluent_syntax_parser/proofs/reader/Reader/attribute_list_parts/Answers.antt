@@ -16,15 +16,16 @@ loop-extents-preserved-in_ok-add-in-Ok g c =
     let R = within edition t c.args.nesting in
     let old = c.loop-extents.invariant in
     let read = c.in-Ok.ensures in
-    let (a, parts, begins, same) = read.finds in
+    let (a, parts, place, same) = read.finds in
     record {
       forward = omega (arith, old.forward, read.within.0);
       within = read.within.1;
+      other = read.other;
       gathered =
-          one_extent edition t R c.args.ptr _ _ _ _ c.in_ok-add-in-Ok.ensures.added old.gathered a parts begins;
+          one_extent edition t R c.args.line.start _ _ _ _ _ c.in_ok-add-in-Ok.ensures.added old.gathered a parts place;
       deeper = λ h. old.deeper
           (deeper_attributes edition t R (functional_within edition t c.args.nesting)
-          (subst (λ i. attribute_of edition t R i (Read a c.in-Ok.extents.span.end)) begins parts.whole) h);
+          (subst (λ s. attribute_of edition t R s.start (Read a s.end)) place parts.whole) h);
     }
 
 pub returns-in-Err-Refused-clause-finds : goal.returns-in-Err-Refused-clause-finds
@@ -32,7 +33,7 @@ returns-in-Err-Refused-clause-finds g c =
     let t = c.args.self.now.source.bytes.now in
     let R = within c.args.self.now.edition t c.args.nesting in
     let found = rw c.in-Err-Refused.field-0-is at c.in-Err-Refused.ensures.finds in
-    (_, all_extents c.args.self.now.edition t R c.args.ptr _ _ c.loop-extents.invariant.gathered (shown found))
+    (_, all_extents c.args.self.now.edition t R c.args.line.start _ _ c.loop-extents.invariant.gathered (shown found))
 
 pub returns-in-Err-TooDeep-clause-finds : goal.returns-in-Err-TooDeep-clause-finds
 returns-in-Err-TooDeep-clause-finds g c =
@@ -52,7 +53,8 @@ returns-in-Err-Memory-clause-finds g c = no_memory
 pub loop-extents-init : goal.loop-extents-init
 loop-extents-init g c = record {
   forward = omega arith;
-  within = c.requires;
+  within = omega (arith, c.requires.spaces.forward, c.requires.inside);
+  other = c.requires;
   gathered = rw c.new-attributes.ensures.items (no_extents _ _ _ _);
   deeper = λ h. h;
 }

@@ -16,14 +16,14 @@ pub returns-in_err-letter-clause-finds : goal.returns-in_err-letter-clause-finds
 returns-in_err-letter-clause-finds g c =
     let p = err_from_is_err_and c.from_residual.result c.from_residual.ensures.1 in
     rw (p.1, p.2) (refused (λ k from to h.
-    goes_on (passed c.skip_blank_inline-dot.ensures.blank)
+    goes_on (passed c.requires.spaces)
     (stops (c.in_err-letter.ensures.meets k from to h))))
 
 pub returns-in_err-name_end-clause-finds : goal.returns-in_err-name_end-clause-finds
 returns-in_err-name_end-clause-finds g c =
     let p = err_from_is_err_and c.from_residual-in_err-name_end.result c.from_residual-in_err-name_end.ensures.1 in
     rw (p.1, p.2) (refused (λ k from to h.
-    goes_on (passed c.skip_blank_inline-dot.ensures.blank)
+    goes_on (passed c.requires.spaces)
     (goes_on c.in_ok-letter.ensures.meets
     (stops (c.in_err-name_end.ensures.meets k from to h)))))
 
@@ -31,7 +31,7 @@ pub returns-in_err-start-clause-finds : goal.returns-in_err-start-clause-finds
 returns-in_err-start-clause-finds g c =
     let p = err_from_is_err_and c.from_residual-in_err-start.result c.from_residual-in_err-start.ensures.1 in
     rw (p.1, p.2) (refused (λ k from to h.
-    goes_on (passed c.skip_blank_inline-dot.ensures.blank)
+    goes_on (passed c.requires.spaces)
     (goes_on c.in_ok-letter.ensures.meets
     (goes_on c.in_ok-name_end.ensures.meets
     (goes_on (passed c.skip_blank_inline-equals.ensures.blank)
@@ -42,7 +42,7 @@ returns-in_err-value-clause-finds g c =
     let t = c.args.self.now.source.bytes.now in
     let p = err_from_is_err_and c.from_residual-in_err-value.result c.from_residual-in_err-value.ensures.1 in
     rw (p.1, p.2)
-    (fails_next (functional_inline_blank t) (passed c.skip_blank_inline-dot.ensures.blank)
+    (fails_next (functional_inline_blank t) (passed c.requires.spaces)
     (fails_next (functional_token t full_stop) c.in_ok-letter.ensures.meets
     (fails_next (functional_identifier t) c.in_ok-name_end.ensures.meets
     (fails_next (functional_inline_blank t) (passed c.skip_blank_inline-equals.ensures.blank)
@@ -61,7 +61,7 @@ returns-in-Some-clause-finds g c =
       _,
       record {
         whole =
-            goes_on (passed c.skip_blank_inline-dot.ensures.blank)
+            goes_on (passed c.requires.spaces)
             (goes_on c.in_ok-letter.ensures.meets
             (goes_on c.in_ok-name_end.ensures.meets
             (goes_on (passed c.skip_blank_inline-equals.ensures.blank)
@@ -69,7 +69,7 @@ returns-in-Some-clause-finds g c =
             (goes_on there
             given)))));
         dot = _;
-        before = c.skip_blank_inline-dot.ensures.blank;
+        before = c.requires.spaces;
         point = c.in_ok-letter.ensures.meets;
         name = c.in_ok-name_end.ensures.meets;
         named = refl;
@@ -90,7 +90,7 @@ returns-in-None-clause-finds g c =
     let n = c.args.nesting in
     let found = rw c.in-None.is at c.in_ok-value.ensures.meets in
     on_made found (λ o read same. refused (λ k from to (a, b, d). rw (a, b, d)
-    (goes_on (passed c.skip_blank_inline-dot.ensures.blank)
+    (goes_on (passed c.requires.spaces)
     (goes_on c.in_ok-letter.ensures.meets
     (goes_on c.in_ok-name_end.ensures.meets
     (goes_on (passed c.skip_blank_inline-equals.ensures.blank)

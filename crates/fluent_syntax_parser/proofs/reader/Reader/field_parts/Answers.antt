@@ -11,6 +11,7 @@ use Rattle.fluent_syntax_grammar.proofs.FunctionalWords.{functional_token}
 use Rattle.fluent_syntax_grammar.proofs.Nesting.{functional_within}
 use Rattle.fluent_syntax_parser.specs.Meets.{refused}
 use Rattle.fluent_syntax_parser.proofs.entry_forms.ExtentForms.{same_place}
+use Rattle.fluent_syntax_parser.proofs.patterns.BlankLines.{no_blank_line}
 use Rattle.fluent_syntax_parser.proofs.readers.Made.{on_made}
 use Rattle.fluent_syntax_parser.proofs.readers.Fails.{fails_first, fails_next}
 use Rattle.fluent_syntax_parser.proofs.reader.Reader.field_parts.Goals as goal
@@ -41,7 +42,7 @@ returns-in_err-attributes g c =
     fails_next (functional_inline_blank t) (passed c.skip_blank_inline-equals.ensures.blank)
     (fails_next (functional_token t equals_sign) c.in_ok-start.ensures.meets
     (fails_next (functional_pattern edition t _ (functional_within edition t _)) read
-    (fails_next (functional_blank_block t) (passed c.in_ok-value.ensures.behind)
+    (fails_next (functional_blank_block t) (passed (no_blank_line t _ c.in_ok-value.ensures.other))
     (fails_first c.in_err-attributes.ensures.finds))))))
 
 pub returns : goal.returns
@@ -49,7 +50,7 @@ returns g c =
     let t = c.args.self.now.source.bytes.now in
     let f = g.M.MakeTexts.source c.args.self.now.texts.now in
     let view = pattern_view g.M.MakeTexts.made in
-    let place : Span = record { start = c.in_ok-start.start; end = c.in_ok-value.end } in
+    let place : Span = record { start = c.in_ok-start.start; end = c.in_ok-value.line.start } in
     on_made c.in_ok-value.ensures.meets (λ value read same.
     let (rest, attributes) = c.in_ok-attributes.ensures.finds in (
       (value, rest),
@@ -61,7 +62,7 @@ returns g c =
         value = read;
         there = c.place_if.ensures ∙ same_place view (pattern_map f) place c.in_ok-value.value value same;
         line = _;
-        blank = c.in_ok-value.ensures.behind;
+        blank = no_blank_line t _ c.in_ok-value.ensures.other;
         attributes = attributes;
       },
     ))

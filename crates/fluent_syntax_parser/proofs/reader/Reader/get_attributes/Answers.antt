@@ -10,5 +10,5 @@ returns-in-Ok-clause-meets g c = c.get_listed_attributes.ensures.meets
 pub returns-in-Err-clause-meets : goal.returns-in-Err-clause-meets
 returns-in-Err-clause-meets g c =
     rw c.new.ensures.items
-    (made (no_more (goes_on (passed c.skip_blank_inline-dot.ensures.blank)
+    (made (no_more (goes_on (passed c.requires.spaces)
     (stops (c.in-Err.ensures.meets _ _ _ (refl, refl, refl))))) refl)

@@ -8,6 +8,7 @@ use Rattle.fluent_syntax_grammar.proofs.FunctionalWords.{functional_token}
 use Rattle.fluent_syntax_grammar.proofs.Nesting.{functional_within}
 use Rattle.fluent_syntax_parser.specs.Meets.{refused}
 use Rattle.fluent_syntax_parser.specs.Made.{made}
+use Rattle.fluent_syntax_parser.proofs.patterns.BlankLines.{no_blank_line}
 use Rattle.fluent_syntax_parser.proofs.readers.Made.{on_made}
 use Rattle.fluent_syntax_parser.proofs.readers.Fails.{fails_first, fails_next}
 use Rattle.fluent_syntax_parser.proofs.reader.Reader.get_fields.Goals as goal
@@ -38,17 +39,18 @@ returns-in_err-attributes-clause-meets g c =
     fails_next (functional_inline_blank t) (passed c.skip_blank_inline-equals.ensures.blank)
     (fails_next (functional_token t equals_sign) c.in_ok-start.ensures.meets
     (fails_next (functional_pattern edition t _ (functional_within edition t _)) read
-    (fails_next (functional_blank_block t) (passed c.in_ok-value.ensures.behind)
+    (fails_next (functional_blank_block t) (passed (no_blank_line t _ c.in_ok-value.ensures.other))
     (fails_first c.in_err-attributes.ensures.meets))))))
 
 pub returns-clause-meets : goal.returns-clause-meets
 returns-clause-meets g c =
+    let t = c.args.self.now.source.bytes.now in
     on_made c.in_ok-value.ensures.meets (λ value read same.
     on_made c.in_ok-attributes.ensures.meets (λ rest read_rest same_rest. made
     (goes_on (passed c.skip_blank_inline-equals.ensures.blank)
     (goes_on c.in_ok-start.ensures.meets
     (goes_on read
-    (goes_on (passed c.in_ok-value.ensures.behind)
+    (goes_on (passed (no_blank_line t _ c.in_ok-value.ensures.other))
     (goes_on read_rest
     given)))))
     (rw (same, same_rest) refl)))

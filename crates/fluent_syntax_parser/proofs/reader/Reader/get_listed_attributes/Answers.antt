@@ -20,9 +20,10 @@ loop-next-preserved g c =
     on_made read.adds.2 (λ a there same. record {
       forward = omega (arith, old.forward, read.within.0);
       within = read.within.1;
+      other = read.other;
       gathered =
-          gathers.one_made (attributes_of c.args.self.now.edition t R) _ (attribute_view g.M.MakeTexts.made) c.args.ptr
-          _ _ _ _ _ read.adds.1 old.gathered a same (λ more end h. one_more there h);
+          gathers.one_made (attributes_of c.args.self.now.edition t R) _ (attribute_view g.M.MakeTexts.made) _ _ _ _ _ _
+          read.adds.1 old.gathered a same (λ more end h. one_more there h);
       deeper = λ h. old.deeper
           (deeper_attributes c.args.self.now.edition t R
           (functional_within c.args.self.now.edition t c.args.nesting) there h);
@@ -34,8 +35,8 @@ returns-in-Err-Refused-clause-meets g c =
     let R = within c.args.self.now.edition t c.args.nesting in
     let found = rw c.in-Err-Refused.field-0-is at c.in-Err-Refused.ensures.adds in
     rw found.1
-    (gathers.list_made (attributes_of c.args.self.now.edition t R) _ (attribute_view g.M.MakeTexts.made) c.args.ptr _ _
-    _ c.loop-next.invariant.gathered (no_more (shown found.0)))
+    (gathers.list_made (attributes_of c.args.self.now.edition t R) _ (attribute_view g.M.MakeTexts.made) _ _ _ _
+    c.loop-next.invariant.gathered (no_more (shown found.0)))
 
 pub returns-in-Err-TooDeep-clause-meets : goal.returns-in-Err-TooDeep-clause-meets
 returns-in-Err-TooDeep-clause-meets g c =
@@ -55,7 +56,8 @@ returns-in_err-attributes-clause-meets g c =
 pub loop-next-init : goal.loop-next-init
 loop-next-init g c = record {
   forward = omega arith;
-  within = c.requires;
+  within = omega (arith, c.requires.spaces.forward, c.requires.inside);
+  other = c.requires;
   gathered = rw c.in_ok-attributes.ensures.items (gathers.no_list _ _ _ _);
   deeper = λ h. h;
 }

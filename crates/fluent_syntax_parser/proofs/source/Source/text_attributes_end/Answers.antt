@@ -7,7 +7,8 @@ use Rattle.fluent_syntax_parser.proofs.source.Source.text_attributes_end.Goals a
 pub loop-start-init : goal.loop-start-init
 loop-start-init c = record {
   forward = omega arith;
-  inside = c.requires;
+  inside = omega (arith, c.requires.spaces.forward, c.requires.inside);
+  other = c.requires;
   passed = λ n rest end found. (rest, found);
 }
 
@@ -23,20 +24,21 @@ loop-start-preserved c =
       forward = omega (
         arith,
         inv.forward,
-        c.skip_blank_inline-dot.ensures.blank.forward,
+        inv.other.spaces.forward,
         mark.within.0,
         field.within.0,
         text.within.0,
       );
       inside = text.within.1;
+      other = text.other;
       passed = λ n rest end found.
-          let attribute = attribute_stands c.args.edition t _ _ _ _ _ _ c.skip_blank_inline-dot.ensures.blank
-          mark.meets field.opens opens n in
+          let attribute = attribute_stands c.args.edition t _ _ _ _ _ _ inv.other.spaces mark.meets field.opens
+          opens n in
           inv.passed n _ end (one_more attribute.1 found);
     }
 
 pub returns-in_default-clause-attributes : goal.returns-in_default-clause-attributes
 returns-in_default-clause-attributes c = λ n.
     c.loop-start.invariant.passed n [] _
-    (no_more (goes_on (passed c.skip_blank_inline-dot.ensures.blank)
+    (no_more (goes_on (passed c.loop-start.invariant.other.spaces)
     (stops (c.in_default.ensures.meets _ _ _ (refl, refl, refl)))))

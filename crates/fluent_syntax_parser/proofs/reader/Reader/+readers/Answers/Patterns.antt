@@ -1,10 +1,11 @@
 -- The answers of the readers of patterns: their pieces, lines and layout.
 use Rattle.std.proofs.Common.{◌∙◌, refl, sym, ap, arith, None, Some}
+use Rattle.std.proofs.lemmas.Option.{slice_get_within}
 use Rattle.std.proofs.lemmas.Result.{err_from_is_err_and}
 use Rattle.fluent_syntax_parser.proofs.patterns.LineEndings.{by_eol}
 use Rattle.fluent_syntax_grammar.specs.Construct.{goes_on, given, passed, at_place}
 use Rattle.fluent_syntax_grammar.specs.Grammar.{within}
-use Rattle.fluent_syntax_grammar.specs.Lines.{is_run_place, no_byte, other_line, own_line}
+use Rattle.fluent_syntax_grammar.specs.Lines.{is_run_place, own_line}
 use Rattle.fluent_syntax_grammar.specs.Patterns.{layout_at}
 use Rattle.fluent_syntax_grammar.proofs.FunctionalRules.{functional_ending, functional_next_line, functional_next_piece}
 use Rattle.fluent_syntax_grammar.proofs.FunctionalRules.{functional_pieces}
@@ -19,7 +20,6 @@ use Rattle.fluent_syntax_parser.proofs.readers.Behind.{all_made, item_fails, ite
 use Rattle.fluent_syntax_parser.proofs.readers.Fails.{fails_first, fails_next, fails_seen, functional_here}
 use Rattle.fluent_syntax_parser.proofs.readers.Fails.{functional_reaches, out_of_memory}
 use Rattle.fluent_syntax_parser.proofs.readers.Made.{on_made}
-use Rattle.fluent_syntax_parser.proofs.patterns.BlankLines.{none_at_end, none_before_other}
 use Rattle.fluent_syntax_parser.proofs.patterns.Pieces.{bare_brace, end_pieces, line_read, no_pieces, line_onward}
 use Rattle.fluent_syntax_parser.proofs.patterns.Pieces.{own_line_fails, further, placed_fails, placed_piece, run_piece}
 use Rattle.fluent_syntax_parser.proofs.patterns.Pieces.{run_there}
@@ -75,31 +75,31 @@ gather_layout-returns-in_err-next-clause-meets g m c =
     let p = err_from_is_err_and c.from_residual.result c.from_residual.ensures.1 in
     rw (p.1, p.2) c.in_err-next.ensures.opens
 
-pub gather_layout-returns-in_err-end-clause-meets : goal.gather_layout-returns-in_err-end-clause-meets
-gather_layout-returns-in_err-end-clause-meets g m c =
-    let p = err_from_is_err_and c.from_residual-in_err-end.result c.from_residual-in_err-end.ensures.1 in
-    rw (p.1, p.2) (c.in_ok-next.ensures.opens.fails _ c.in_err-end.ensures.meets)
+pub gather_layout-returns-in_err-line-clause-meets : goal.gather_layout-returns-in_err-line-clause-meets
+gather_layout-returns-in_err-line-clause-meets g m c =
+    let p = err_from_is_err_and c.from_residual-in_err-line.result c.from_residual-in_err-line.ensures.1 in
+    rw (p.1, p.2) (c.in_ok-next.ensures.opens.fails _ c.in_err-line.ensures.meets)
 
 pub gather_layout-returns-clause-meets : goal.gather_layout-returns-clause-meets
 gather_layout-returns-clause-meets g m c =
     let opened = c.in_ok-next.ensures.opens in
-    on_made c.in_ok-end.ensures.meets (λ ls there same. record {
+    on_made c.in_ok-line.ensures.meets (λ ls there same. record {
       layout = record { opening = opened.opening; lines = ls };
       read = opened.read ls _ there;
       same_opening = opened.same;
       same_lines = same;
     })
 
-pub get_long_pattern-returns-in_err-end-clause-meets : goal.get_long_pattern-returns-in_err-end-clause-meets
-get_long_pattern-returns-in_err-end-clause-meets g m c =
+pub get_long_pattern-returns-in_err-line-clause-meets : goal.get_long_pattern-returns-in_err-line-clause-meets
+get_long_pattern-returns-in_err-line-clause-meets g m c =
     let t = c.args.self.now.source.bytes.now in
     let p = err_from_is_err_and c.from_residual.result c.from_residual.ensures.1 in
     rw (p.1, p.2)
-    (fails_first (fails_next (functional_inline_blank t) (passed c.requires.blank) c.in_err-end.ensures.meets))
+    (fails_first (fails_next (functional_inline_blank t) (passed c.requires.blank) c.in_err-line.ensures.meets))
 
 pub get_long_pattern-returns-clause-meets : goal.get_long_pattern-returns-clause-meets
 get_long_pattern-returns-clause-meets g m c =
-    let laid = c.in_ok-end.ensures.meets in
+    let laid = c.in_ok-line.ensures.meets in
     made (goes_on (goes_on (passed c.requires.blank) laid.read) given)
     (c.in_ok-pattern.ensures laid.layout laid.same_opening laid.same_lines)
 
@@ -253,52 +253,43 @@ gather_line-returns-clause-within g m c =
     next.further in
     (omega (arith, onward, c.requires.blank.forward), next.within.1)
 
-pub gather_lines-returns-in-None-clause-meets : goal.gather_lines-returns-in-None-clause-meets
-gather_lines-returns-in-None-clause-meets g m c =
-    all_made (line_view g.M.MakeTexts.made) _ c.loop-byte.invariant.gathered
-    (no_byte c.skip_blank_inline-first.ensures.blank (sym c.in-None.ensures))
+pub gather_lines-returns-in-Some-clause-meets : goal.gather_lines-returns-in-Some-clause-meets
+gather_lines-returns-in-Some-clause-meets g m c =
+    all_made (line_view g.M.MakeTexts.made) _ c.loop-behind.invariant.gathered
+    (c.in-Some.ensures.ends c.args.self.now.edition c.args.nesting)
 
-pub gather_lines-returns-in-None-clause-behind : goal.gather_lines-returns-in-None-clause-behind
-gather_lines-returns-in-None-clause-behind g m c =
-    none_at_end c.args.self.now.source.bytes.now c.skip_blank_inline-first.ensures.blank (sym c.in-None.ensures)
+pub gather_lines-gather_line-requires-clause-within : goal.gather_lines-gather_line-requires-clause-within
+gather_lines-gather_line-requires-clause-within g m c =
+    slice_get_within c.args.self.now.source.bytes.now _ _ c.in-None.ensures.own.there
 
-pub gather_lines-returns-then-not-belongs-clause-behind : goal.gather_lines-returns-then-not-belongs-clause-behind
-gather_lines-returns-then-not-belongs-clause-behind g m c =
-    none_before_other c.args.self.now.source.bytes.now c.skip_blank_inline-first.ensures.blank _
-    (sym c.if-not-belongs.ensures)
-
-pub gather_lines-returns-then-not-belongs-clause-meets : goal.gather_lines-returns-then-not-belongs-clause-meets
-gather_lines-returns-then-not-belongs-clause-meets g m c =
-    all_made (line_view g.M.MakeTexts.made) _ c.loop-byte.invariant.gathered
-    (other_line c.skip_blank_inline-first.ensures.blank (sym c.in-Some.ensures) (sym c.if-not-belongs.ensures))
-
-pub gather_lines-returns-in_err-start-in-Some-clause-meets :
-    goal.gather_lines-returns-in_err-start-in-Some-clause-meets
-gather_lines-returns-in_err-start-in-Some-clause-meets g m c =
+pub gather_lines-returns-in_err-start-in-None-clause-meets :
+    goal.gather_lines-returns-in_err-start-in-None-clause-meets
+gather_lines-returns-in_err-start-in-None-clause-meets g m c =
     let t = c.args.self.now.source.bytes.now in
+    let own = c.in-None.ensures.own in
     let p = err_from_is_err_and c.from_residual.result c.from_residual.ensures.1 in
     rw (p.1, p.2)
-    (item_fails c.loop-byte.invariant.gathered.behind
+    (item_fails c.loop-behind.invariant.gathered.behind
     (own_line_fails t (within c.args.self.now.edition t c.args.nesting) c.skip_blank_inline-first.ensures.blank
-    (sym c.in-Some.ensures) (sym c.if-not-belongs.ensures) (fails_first c.in_err-start-in-Some.ensures.adds.0)))
+    own.there own.own (fails_first c.in_err-start-in-None.ensures.adds.0)))
 
-pub gather_lines-loop-byte-preserved : goal.gather_lines-loop-byte-preserved
-gather_lines-loop-byte-preserved g m c =
+pub gather_lines-loop-behind-preserved : goal.gather_lines-loop-behind-preserved
+gather_lines-loop-behind-preserved g m c =
     let t = c.args.self.now.source.bytes.now in
-    let read = c.in_ok-start-in-Some.ensures in
+    let own = c.in-None.ensures.own in
+    let read = c.in_ok-start-in-None.ensures in
     on_made read.adds.2 (λ l there same. record {
-      forward = omega (arith, c.loop-byte.invariant.forward, read.within.0);
+      forward = omega (arith, c.loop-behind.invariant.forward, read.within.0);
       within = read.within.1;
       gathered =
-          item_made (line_view g.M.MakeTexts.made) _ _ _ read.adds.1 c.loop-byte.invariant.gathered
+          item_made (line_view g.M.MakeTexts.made) _ _ _ read.adds.1 c.loop-behind.invariant.gathered
           (functional_next_line t (within c.args.self.now.edition t c.args.nesting)
           (functional_within c.args.self.now.edition t _)) _
-          (own_line c.skip_blank_inline-first.ensures.blank (sym c.in-Some.ensures) (sym c.if-not-belongs.ensures)
-          (goes_on there given)) same;
+          (own_line c.skip_blank_inline-first.ensures.blank own.there own.own (goes_on there given)) same;
     })
 
-pub gather_lines-loop-byte-init : goal.gather_lines-loop-byte-init
-gather_lines-loop-byte-init g m c = record {
+pub gather_lines-loop-behind-init : goal.gather_lines-loop-behind-init
+gather_lines-loop-behind-init g m c = record {
   forward = omega arith;
   within = c.requires.within;
   gathered = rw c.requires.empty (no_items (line_view g.M.MakeTexts.made));

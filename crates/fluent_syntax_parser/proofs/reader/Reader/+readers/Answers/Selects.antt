@@ -21,6 +21,7 @@ use Rattle.fluent_syntax_parser.proofs.expressions.GatheredVariants.{all_variant
 use Rattle.fluent_syntax_parser.proofs.expressions.Inlines.{inline_seen}
 use Rattle.fluent_syntax_parser.proofs.readers.Made.{no_value_read, on_made, on_value}
 use Rattle.fluent_syntax_parser.proofs.expressions.Selects.{functional_start, same_fault, select_fails, select_read}
+use Rattle.fluent_syntax_parser.proofs.patterns.BlankLines.{only_spaces}
 use Rattle.fluent_syntax_parser.proofs.reader.Reader.+readers.Goals as goal
 
 pub get_select-inline_in-requires : goal.get_select-inline_in-requires
@@ -173,9 +174,9 @@ gather_variants-loop-starred-preserved g m c =
             c.skip_blank-next.ensures.blank.forward,
             c.in_ok-next.ensures.within.0,
             c.in_ok-value.ensures.within.0,
-            c.skip_blank-place.ensures.blank.forward,
+            c.in_ok-value.ensures.other.spaces.forward,
           );
-      within = c.skip_blank-place.ensures.within;
+      within = c.in_ok-value.ensures.other.inside;
       gathered =
           variant_made g.M.MakeTexts.made _ _ added.0 added.1 old.invariant.gathered
           (functional_next_variant c.args.self.now.edition t _ (functional_within c.args.self.now.edition t _)
@@ -190,7 +191,7 @@ gather_variants-loop-starred-preserved g m c =
           (goes_on (passed c.skip_blank-next.ensures.blank)
           (goes_on c.in_ok-next.ensures.meets
           (goes_on there
-          (goes_on (passed c.skip_blank-place.ensures.blank)
+          (goes_on (passed (only_spaces t _ c.in_ok-value.ensures.other))
           given))))))))))
           (added.2 ∙ rw same_value refl);
     }))
