@@ -8,7 +8,7 @@ ghost use Rattle.fluent_syntax_grammar.specs.Lines.{belongs, ending, is_run_plac
 ghost use Rattle.fluent_syntax_grammar.specs.Places.{has_eol, InlineBlank, Stretch, Word};
 ghost use Rattle.fluent_syntax_parser.specs.Made.{Adds, Fills};
 ghost use Rattle.fluent_syntax_parser.specs.Endings.{EndsWithin};
-ghost use Rattle.fluent_syntax_parser.specs.Lanes.{is_passed};
+ghost use Rattle.fluent_syntax_grammar.specs.Lanes.{is_passed};
 ghost use Rattle.fluent_syntax_parser.specs.Layouts.{line_of, piece_of};
 ghost use Rattle.fluent_syntax_parser.specs.Lines.{ending_view, line_view, piece_view};
 ghost use Rattle.fluent_syntax_parser.specs.declared.pattern.line.Line.{Line};
@@ -19,7 +19,7 @@ use crate::pattern::line::{Ending, Line, Piece};
 use crate::reader::Reader;
 use crate::source::Source;
 use crate::texts::MakeTexts;
-use crate::words::lanes::{LANES, text_run};
+use fluent_syntax_grammar::lanes::{LANES, text_run};
 use fluent_syntax_tree::ast::Expression;
 use memchr::memchr3;
 use std::alloc::AllocError;
