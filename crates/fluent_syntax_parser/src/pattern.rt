@@ -10,7 +10,7 @@ ghost use Rattle.fluent_syntax_grammar.specs.Places.{InlineBlank};
 ghost use Rattle.fluent_syntax_parser.specs.Elements.{item_view};
 ghost use Rattle.fluent_syntax_grammar.specs.Elements.{with_ending};
 ghost use Rattle.fluent_syntax_parser.specs.Lines.{piece_view};
-ghost use Rattle.fluent_syntax_parser.specs.Made.{Makes};
+ghost use Rattle.fluent_syntax_parser.specs.Made.{Parses};
 ghost use Rattle.fluent_syntax_parser.specs.OneLine.{EndsBlank, EndsLine, NoLines, OpensAs, text_pattern};
 ghost use Rattle.fluent_syntax_parser.specs.Opened.{LaysOut, Opens};
 
@@ -196,7 +196,7 @@ impl<'s, 't, M: MakeTexts> Reader<'s, 't, M> {
         requires within { ptr ≤ length self.now.source.bytes.now }
         requires no_items { items.old.items ≡ [] }
         requires no_lines { lines.old.items ≡ [] }
-        ensures meets { let t = self.now.source.bytes.now in
+        ensures parses { let t = self.now.source.bytes.now in
             LaysOut t (within self.now.edition t nesting) (M.source self.now.texts.now) M.made ptr items.new.items
             lines.new.items result }
         ensures within { IfOk result (λ end. (ptr ≤ end) × (end ≤ length self.now.source.bytes.now)) }
@@ -218,8 +218,8 @@ impl<'s, 't, M: MakeTexts> Reader<'s, 't, M> {
     ) -> Result<(Option<Pattern<M::Text>>, usize), ReadFault>
         requires within { start ≤ length self.now.source.bytes.now }
         requires blank { InlineBlank self.now.source.bytes.now ptr start }
-        ensures meets { let t = self.now.source.bytes.now in
-            Makes t (option_map (pattern_map (M.source self.now.texts.now)))
+        ensures parses { let t = self.now.source.bytes.now in
+            Parses t (option_map (pattern_map (M.source self.now.texts.now)))
             (pattern self.now.edition t (within self.now.edition t nesting)) (option_map (pattern_view M.made)) ptr
             result }
         ensures within { IfOk result (λ read. (ptr ≤ read.1) × (read.1 ≤ length self.now.source.bytes.now)) }
@@ -241,8 +241,8 @@ impl<'s, 't, M: MakeTexts> Reader<'s, 't, M> {
         ptr: usize,
     ) -> Result<(Option<Pattern<M::Text>>, usize), ReadFault>
         requires { ptr ≤ length self.now.source.bytes.now }
-        ensures meets { let t = self.now.source.bytes.now in
-            Makes t (option_map (pattern_map (M.source self.now.texts.now)))
+        ensures parses { let t = self.now.source.bytes.now in
+            Parses t (option_map (pattern_map (M.source self.now.texts.now)))
             (pattern self.now.edition t (within self.now.edition t nesting)) (option_map (pattern_view M.made)) ptr
             result }
         ensures within { IfOk result (λ read. (ptr ≤ read.1) × (read.1 ≤ length self.now.source.bytes.now)) }

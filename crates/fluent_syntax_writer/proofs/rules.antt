@@ -4,6 +4,6 @@ pub mod FirstBroken
 pub mod Lines
 pub mod Named
 pub mod Nodes
-pub mod Stands
+pub mod Positions
 pub mod Steps
 pub mod Strings

@@ -5,7 +5,7 @@ pub returns : goal.returns
 returns c = record {
   start = c.new.result;
   is_empty = c.new.ensures.bytes;
-  came = c.new-2.ensures.none_came;
+  wrote = c.new-2.ensures.wrote_none;
   no_junk = ap (λ options. options.with_junk) c.new-2.ensures.options ∙ c.default.ensures;
   by_edition = refl;
   canonical = λ all. refl;
