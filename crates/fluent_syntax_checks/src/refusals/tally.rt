@@ -1,24 +1,24 @@
 //! What is counted over the corpus.
 
-ghost use Rattle.std.specs.Prelude.{◌≡◌, ◌+◌, ◌-◌, ◌^◌, ◌<◌, ◌≤◌, IsTrue, min};
+ghost use Rattle.std.specs.Prelude.{◌≡◌, ◌+◌, ◌-◌, ◌^◌, cond, min};
 
 /// What was seen of a call.
 #[derive(Clone, Copy)]
-pub struct Tally {
+pub(crate) struct Tally {
     /// How many requests were refused.
-    pub refused: u64,
+    pub(crate) refused: u64,
     /// How many answers were wrong.
-    pub wrong: u64,
+    pub(crate) wrong: u64,
 }
 
 impl Tally {
-    pub const NONE: Tally = Tally {
+    pub(crate) const NONE: Tally = Tally {
         refused: 0,
         wrong: 0,
     };
 
     /// Both together.
-    pub fn and(self, other: Tally) -> Tally
+    pub(crate) fn and(self, other: Tally) -> Tally
         ensures refused { result.refused ≡ min (self.refused + other.refused) (2 ^ 64 - 1) }
         ensures wrong { result.wrong ≡ min (self.wrong + other.wrong) (2 ^ 64 - 1) }
     {
@@ -29,10 +29,9 @@ impl Tally {
     }
 
     /// One wrong answer more, where it is one.
-    pub fn wrong_if(self, is_wrong: bool) -> Tally
+    pub(crate) fn wrong_if(self, is_wrong: bool) -> Tally
         ensures refused { result.refused ≡ self.refused }
-        ensures told { IsTrue is_wrong → 0 < result.wrong }
-        ensures kept { self.wrong ≤ result.wrong }
+        ensures wrong { result.wrong ≡ min (self.wrong + cond is_wrong 1 0) (2 ^ 64 - 1) }
     {
         Tally {
             refused: self.refused,

@@ -31,7 +31,8 @@ loop-mention-preserved c =
     c.loop-mention.pattern mention none c.in_ok-finding.finding c.in_ok-circle.circle c.loop-mention-test.true refl
     (c.in_ok-finding.ensures.finding ∙ found_known here.file here.text.now D names attributes known holds mention)
     c.in_ok-circle.ensures c.loop-mention.invariant.2 c.in_ok-add_finding.ensures c.in_ok-add_finding-2.ensures in
-    (after here.text.now known mention, c.in_ok-finding.ensures.noted known holds, rw c.pattern_after-pattern.ensures left)
+    let noted = c.in_ok-finding.ensures.noted known holds in
+    (after here.text.now known mention, noted, rw c.pattern_after-pattern.ensures left)
 
 pub returns : goal.returns
 returns c =
