@@ -8,13 +8,12 @@ ghost use Rattle.fluent_syntax_grammar.specs.Words.{digits, identifier, number, 
 ghost use Rattle.fluent_syntax_parser.specs.Meets.{MeetsEnd, MeetsText, name_text};
 
 pub(crate) mod blanks;
-pub(crate) mod lanes;
 pub(crate) mod line_ends;
 pub(crate) mod strings;
 
 use crate::fault::{Fault, Refusal};
 use crate::source::Source;
-use crate::words::lanes::{LANES, name_run};
+use fluent_syntax_grammar::lanes::{LANES, name_run};
 use fluent_syntax_tree::spans::Span;
 
 fn is_name_byte(byte: u8) -> bool

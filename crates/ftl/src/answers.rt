@@ -282,7 +282,7 @@ fn normal(alloc: Global, text: &str, options: Options, asks: bool) -> Result<For
     ensures shallow { let t = text.now in let at = TileIn options.comments options.edition t in
         IfOk result (λ given. TextDeeper options.edition t at options.nesting 0 → ⊥) }
 {
-    let mut writer = NormalWriter::new(alloc, options.edition, asks);
+    let mut writer = NormalWriter::new(alloc, options.edition, asks, text.len());
     let outcome = write_one_by_one(alloc, &mut writer, text, options)?;
     let is_canonical = writer.all_canonical();
     let text = writer.finish()?;

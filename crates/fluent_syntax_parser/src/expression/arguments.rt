@@ -17,6 +17,7 @@ ghost use Rattle.fluent_syntax_parser.specs.Made.{Makes};
 use crate::expression::argument_names::NotedNames;
 use crate::expression::starts::Start;
 use crate::fault::{Fault, ReadFault, Refusal};
+use crate::lists::add;
 use crate::reader::Reader;
 use crate::source::Source;
 use crate::texts::MakeTexts;
@@ -63,7 +64,7 @@ impl<'s, 't, M: MakeTexts> Reader<'s, 't, M> {
             × (positional.new.items ≡ positional.old.items ++ argument ∷ [])
             × (boxed_expression_view M.made expression ≡ inline (inline_view M.made argument))) }
     {
-        positional.push(self.inline_of(expression))?;
+        add(positional, self.inline_of(expression))?;
         Ok(())
     }
 
@@ -82,7 +83,7 @@ impl<'s, 't, M: MakeTexts> Reader<'s, 't, M> {
     {
         let name = self.identifier(name)?;
         let value = self.inline_of(value);
-        named.push(NamedArgument { name, value })?;
+        add(named, NamedArgument { name, value })?;
         Ok(())
     }
 

@@ -292,19 +292,16 @@ get_long_pattern-returns-clause-meets = patterns.get_long_pattern-returns-clause
 pub get_long_pattern-returns-in_err-pattern-clause-meets : goal.get_long_pattern-returns-in_err-pattern-clause-meets
 get_long_pattern-returns-in_err-pattern-clause-meets = patterns.get_long_pattern-returns-in_err-pattern-clause-meets
 
-pub get_pattern-returns-in-Some-clause-meets : goal.get_pattern-returns-in-Some-clause-meets
-get_pattern-returns-in-Some-clause-meets = patterns.get_pattern-returns-in-Some-clause-meets
-
-pub get_pattern-returns-in-Some-end_without_text-clause-meets :
-    goal.get_pattern-returns-in-Some-end_without_text-clause-meets
-get_pattern-returns-in-Some-end_without_text-clause-meets =
-    patterns.get_pattern-returns-in-Some-end_without_text-clause-meets
+pub get_pattern-returns-in_ok-pattern-in-Some-clause-meets : goal.get_pattern-returns-in_ok-pattern-in-Some-clause-meets
+get_pattern-returns-in_ok-pattern-in-Some-clause-meets = patterns.get_pattern-returns-in_ok-pattern-in-Some-clause-meets
 
 pub get_pattern-returns-in-None-clause-meets : goal.get_pattern-returns-in-None-clause-meets
 get_pattern-returns-in-None-clause-meets = patterns.get_pattern-returns-in-None-clause-meets
 
-pub get_pattern-returns-in_err-pattern-clause-meets : goal.get_pattern-returns-in_err-pattern-clause-meets
-get_pattern-returns-in_err-pattern-clause-meets = patterns.get_pattern-returns-in_err-pattern-clause-meets
+pub get_pattern-returns-in_err-pattern-in-Some-clause-meets :
+    goal.get_pattern-returns-in_err-pattern-in-Some-clause-meets
+get_pattern-returns-in_err-pattern-in-Some-clause-meets =
+    patterns.get_pattern-returns-in_err-pattern-in-Some-clause-meets
 
 pub gather_pieces-returns-in-None-clause-meets : goal.gather_pieces-returns-in-None-clause-meets
 gather_pieces-returns-in-None-clause-meets = patterns.gather_pieces-returns-in-None-clause-meets
@@ -356,6 +353,12 @@ gather_line-returns-clause-within = patterns.gather_line-returns-clause-within
 
 pub gather_lines-returns-in-None-clause-meets : goal.gather_lines-returns-in-None-clause-meets
 gather_lines-returns-in-None-clause-meets = patterns.gather_lines-returns-in-None-clause-meets
+
+pub gather_lines-returns-in-None-clause-behind : goal.gather_lines-returns-in-None-clause-behind
+gather_lines-returns-in-None-clause-behind = patterns.gather_lines-returns-in-None-clause-behind
+
+pub gather_lines-returns-then-not-belongs-clause-behind : goal.gather_lines-returns-then-not-belongs-clause-behind
+gather_lines-returns-then-not-belongs-clause-behind = patterns.gather_lines-returns-then-not-belongs-clause-behind
 
 pub gather_lines-returns-then-not-belongs-clause-meets : goal.gather_lines-returns-then-not-belongs-clause-meets
 gather_lines-returns-then-not-belongs-clause-meets = patterns.gather_lines-returns-then-not-belongs-clause-meets
