@@ -79,7 +79,9 @@ fn short_name_len(bytes: &[u8]) -> usize
     bytes.len()
 }
 
-fn is_name_byte(byte: u8) -> bool
+/// Whether it is an ASCII letter or digit, `-` or `_`.
+#[inline(always)]
+pub fn is_name_byte(byte: u8) -> bool
     ensures { result ≡ is_name_byte byte }
 {
     byte.is_ascii_alphanumeric() || byte == b'-' || byte == b'_'

@@ -13,14 +13,8 @@ pub(crate) mod strings;
 
 use crate::fault::{Fault, Refusal};
 use crate::source::Source;
-use fluent_syntax_grammar::lanes::{LANES, name_run};
+use fluent_syntax_grammar::lanes::{LANES, is_name_byte, name_run};
 use fluent_syntax_tree::spans::Span;
-
-fn is_name_byte(byte: u8) -> bool
-    ensures { result ≡ is_name_byte byte }
-{
-    byte.is_ascii_alphanumeric() || byte == b'-' || byte == b'_'
-}
 
 impl<'s> Source<'s> {
     pub(crate) fn expect_byte(&self, byte: u8, ptr: usize) -> Result<usize, Refusal>
