@@ -143,7 +143,8 @@ impl<'s, 't, M: MakeTexts> Reader<'s, 't, M> {
             let (expression, next) = self.get_inline_expression(nesting, place)?;
             match self.argument_name(self.inline_in(&expression), place) {
                 Some(name) if self.source.is_byte_at(b':', next) => {
-                    if noted.has(&self.source, name) {
+                    let is_new = noted.note_new(&self.source, name)?;
+                    if !is_new {
                         return Err(ReadFault::Refused {
                             fault: Fault::Duplicated,
                             from: place,
@@ -152,7 +153,6 @@ impl<'s, 't, M: MakeTexts> Reader<'s, 't, M> {
                     }
                     let start = self.source.skip_blank(next + 1);
                     let (value, end) = self.get_argument_value(nesting, start)?;
-                    noted.note(&self.source, name)?;
                     self.add_named(name, value, &mut named)?;
                     place = self.source.skip_separator(end);
                 }

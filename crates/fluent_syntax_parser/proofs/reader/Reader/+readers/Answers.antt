@@ -215,8 +215,8 @@ get_arguments-returns-then-place-self-clause-meets = arguments.get_arguments-ret
 pub get_arguments-returns-in_err-expression-clause-meets : goal.get_arguments-returns-in_err-expression-clause-meets
 get_arguments-returns-in_err-expression-clause-meets = arguments.get_arguments-returns-in_err-expression-clause-meets
 
-pub get_arguments-returns-then-has-clause-meets : goal.get_arguments-returns-then-has-clause-meets
-get_arguments-returns-then-has-clause-meets = arguments.get_arguments-returns-then-has-clause-meets
+pub get_arguments-returns-then-not-is_new-clause-meets : goal.get_arguments-returns-then-not-is_new-clause-meets
+get_arguments-returns-then-not-is_new-clause-meets = arguments.get_arguments-returns-then-not-is_new-clause-meets
 
 pub get_arguments-skip_blank-start-requires : goal.get_arguments-skip_blank-start-requires
 get_arguments-skip_blank-start-requires = arguments.get_arguments-skip_blank-start-requires
@@ -251,9 +251,10 @@ pub get_arguments-returns-in_err-add_positional-in_default-clause-meets :
 get_arguments-returns-in_err-add_positional-in_default-clause-meets =
     arguments.get_arguments-returns-in_err-add_positional-in_default-clause-meets
 
-pub get_arguments-returns-in_err-note-in-Some-clause-meets : goal.get_arguments-returns-in_err-note-in-Some-clause-meets
-get_arguments-returns-in_err-note-in-Some-clause-meets =
-    arguments.get_arguments-returns-in_err-note-in-Some-clause-meets
+pub get_arguments-returns-in_err-is_new-in-Some-clause-meets :
+    goal.get_arguments-returns-in_err-is_new-in-Some-clause-meets
+get_arguments-returns-in_err-is_new-in-Some-clause-meets =
+    arguments.get_arguments-returns-in_err-is_new-in-Some-clause-meets
 
 pub get_arguments-loop-noted-init : goal.get_arguments-loop-noted-init
 get_arguments-loop-noted-init = arguments.get_arguments-loop-noted-init
