@@ -26,6 +26,7 @@ use fluent_syntax::parser::{Edition, ParserError, TooDeep};
 use fluent_syntax::spans::{Comments, Entries, Halt, Lines, Options, Span};
 use fluent_syntax::unicode::SinkError;
 use fluent_syntax_json::BodyWriter;
+use simdutf8::basic::from_utf8;
 use std::alloc::{AllocError, Global};
 use std::fmt::Write;
 
@@ -62,7 +63,7 @@ pub fn answer_within(
     ensures deeper { OnErr result (ReadsDeeper command input.now nesting) }
     ensures shallow { IfOk result (λ answer. IfOk answer (λ given. ReadsDeeper command input.now nesting → ⊥)) }
 {
-    let Ok(text) = str::from_utf8(input) else {
+    let Ok(text) = from_utf8(input) else {
         return Ok(Err(RunFault::Input));
     };
     if text.len() == usize::MAX {
