@@ -7,8 +7,8 @@ use Rattle.ftl.specs.OneByOne.{Came}
 use Rattle.ftl.proofs.ReadTo.{ReadTo}
 use Rattle.ftl.proofs.one_by_one.write_one_by_one.Given as goal
 
-abbrev pub invariant-loop-_span : goal.invariant-loop-_span
-invariant-loop-_span g l = let t = l.fn.text in let asked = l.fn.options in
+abbrev pub invariant-loop-errors : goal.invariant-loop-errors
+invariant-loop-errors g l = let t = l.fn.text in let asked = l.fn.options in
     let deeper = TextDeeper asked.edition t (TileIn asked.comments asked.edition t) asked.nesting in record {
       text : l.entries.source.bytes.now ≡ t;
       options : l.entries.options ≡ asked;
@@ -19,5 +19,5 @@ invariant-loop-_span g l = let t = l.fn.text in let asked = l.fn.options in
       deeper : (deeper l.entries.ptr → deeper 0) × (deeper 0 → deeper l.entries.ptr);
     }
 
-abbrev pub decreases-loop-_span : goal.decreases-loop-_span
-decreases-loop-_span g l = length l.fn.text - l.entries.ptr
+abbrev pub decreases-loop-errors : goal.decreases-loop-errors
+decreases-loop-errors g l = length l.fn.text - l.entries.ptr
