@@ -1,4 +1,3 @@
-pub mod LaneRuns
 pub mod LineEnds
 pub mod NameTexts
 pub mod Names

@@ -9,7 +9,6 @@ pub mod Faults
 pub mod Fields
 pub mod Gathered
 pub mod Halts
-pub mod Lanes
 pub mod Layouts
 pub mod Lines
 pub mod Made

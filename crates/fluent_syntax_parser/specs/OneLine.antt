@@ -1,16 +1,13 @@
 -- Patterns of one line.
 use Rattle.std.specs.Prelude.{◌≡◌, ℕ, ◌+◌, List, [], ◌∷◌, length, Option, Some, None}
-use Rattle.std.specs.List.{flat_map}
 use Rattle.fluent_syntax_tree.specs.Tree.{PatternTree, elements_of, text_element}
 use Rattle.fluent_syntax_tree.specs.declared.edition.Edition.{Edition}
 use Rattle.fluent_syntax_tree.specs.declared.spans.Span.{Span}
 use Rattle.fluent_syntax_grammar.specs.Construct.{Read}
-use Rattle.fluent_syntax_grammar.specs.Elements.{cut, line_items}
 use Rattle.fluent_syntax_grammar.specs.Grammar.{within}
 use Rattle.fluent_syntax_grammar.specs.Lines.{more_lines}
 use Rattle.fluent_syntax_grammar.specs.Patterns.{pattern}
-use Rattle.fluent_syntax_grammar.specs.Layout.{Line}
-use Rattle.fluent_syntax_grammar.specs.Places.{after_eol, InlineBlank}
+use Rattle.fluent_syntax_grammar.specs.Places.{after_eol, BlankBlock, InlineBlank}
 
 -- A line whose run ends at `to` ends there, and `next` is the next line's start: with LF, which the text takes in, with
 -- CRLF, or with the text.
@@ -28,15 +25,11 @@ OpensAs edition t start value end =
 abbrev pub NoLines : Edition → List ℕ → (i end : ℕ) → Type 0
 NoLines edition t i end = (n : ℕ) → more_lines t (within edition t n) i (Read [] end)
 
--- None of the items of the lines stays under any common indent, where nothing follows them.
-abbrev pub AreBlank : Edition → List ℕ → List Line → Type 0
-AreBlank edition t ls = (common : Option ℕ) → cut t (flat_map (line_items edition common) ls) ≡ []
-
--- All lines of the pattern that are left from the place on are blank, and it ends there. So nothing nests in them.
+-- From the place on blank lines stand, and behind them no line of a pattern, which ends at the other place.
 pub record EndsBlank (edition : Edition) (t : List ℕ) (i end : ℕ) : Type 0 where
-  pub lines : List Line
-  pub read : (n : ℕ) → more_lines t (within edition t n) i (Read lines end)
-  pub blank : AreBlank edition t lines
+  pub place : ℕ
+  pub block : BlankBlock t i place
+  pub none : NoLines edition t place end
 
 -- the pattern of one text
 abbrev pub text_pattern : Span → PatternTree Span

@@ -8,7 +8,7 @@ ghost use Rattle.fluent_syntax_tree.specs.View.{entry_view};
 ghost use Rattle.fluent_syntax_grammar.specs.Nesting.{TextDeeper};
 ghost use Rattle.fluent_syntax_grammar.specs.Places.{BlankBlock};
 ghost use Rattle.fluent_syntax_parser.specs.Halts.{ComesTo, HaltsWithin, OnHalt};
-ghost use Rattle.fluent_syntax_parser.specs.MadeEntries.{NextMade};
+ghost use Rattle.fluent_syntax_parser.specs.MadeEntries.{AddsNext, NextMade};
 ghost use Rattle.fluent_syntax_parser.specs.Rest.{NextError, NextTo, Reached, TileIn};
 
 use crate::options::{Halt, Options};
@@ -126,6 +126,48 @@ impl<'s> Entries<'s> {
             let at = TileIn options.comments options.edition t in
             IfOk result (ComesTo (TextDeeper options.edition t at options.nesting) self.old.ptr self.new.ptr) }
     {
+        let mut body = Vec::new(alloc);
+        let mut errors = Vec::new(alloc);
+        let Some(_span) = self.add_next_entry(alloc, texts, &mut body, &mut errors)? else {
+            return Ok(None);
+        };
+        let Some(entry) = only_item(body) else {
+            return Ok(None);
+        };
+        Ok(Some((entry, only_item(errors))))
+    }
+
+    /// Reads the next entry as `next_entry_with` does, and adds it to the entries, and its error to the errors where it
+    /// is junk; gives where it stands. `None` where none is left. A loop that clears both lists asks for no new ones.
+    #[inline(always)]
+    pub fn add_next_entry<M: MakeTexts>(
+        &mut self,
+        alloc: Global,
+        texts: &M,
+        body: &mut Vec<Entry<M::Text>>,
+        errors: &mut Vec<ParserError>,
+    ) -> Result<Option<Span>, Halt>
+        ensures text { self.new.source ≡ self.old.source }
+        ensures options { self.new.options ≡ self.old.options }
+        ensures next { let t = self.old.source.bytes.now in let options = self.old.options in
+            let f = M.source texts.now in IfOk result (AddsNext f M.made options.comments options.edition t
+            self.old.ptr body.old.items body.new.items errors.old.items errors.new.items) }
+        ensures stands { IfOk result (λ found. IfSome found (λ span.
+            span ≡ record { start = self.new.start; end = self.new.ptr })) }
+        ensures forward { self.old.ptr ≤ self.new.ptr }
+        ensures onward { IfOk result (λ found. IfSome found (λ span. self.old.ptr < self.new.ptr)) }
+        ensures blank { let t = self.old.source.bytes.now in
+            BlankBlock t self.old.ptr (length t) → result ≡ Ok None }
+        ensures stays { OnErr result (self.new.ptr ≡ self.old.ptr) }
+        ensures nests { let left = length self.old.source.bytes.now - self.old.ptr in
+            IfErr result (HaltsWithin self.old.options.nesting left) }
+        ensures deeper { let t = self.old.source.bytes.now in let options = self.old.options in
+            let at = TileIn options.comments options.edition t in
+            IfErr result (OnHalt (TextDeeper options.edition t at options.nesting self.old.ptr)) }
+        ensures shallow { let t = self.old.source.bytes.now in let options = self.old.options in
+            let at = TileIn options.comments options.edition t in
+            IfOk result (ComesTo (TextDeeper options.edition t at options.nesting) self.old.ptr self.new.ptr) }
+    {
         let Options {
             edition,
             comments,
@@ -137,18 +179,12 @@ impl<'s> Entries<'s> {
             edition,
             texts,
         };
-        let mut body = Vec::new(alloc);
-        let mut errors = Vec::new(alloc);
-        let Some(span) = reader.add_next(&mut body, &mut errors, comments, nesting, self.ptr)?
-        else {
-            return Ok(None);
-        };
-        let Some(entry) = only_item(body) else {
+        let Some(span) = reader.add_next(body, errors, comments, nesting, self.ptr)? else {
             return Ok(None);
         };
         self.start = span.start;
         self.ptr = span.end;
-        Ok(Some((entry, only_item(errors))))
+        Ok(Some(span))
     }
 
     /// Passes over the next entry, as `next_entry` would read it: gives its error, where it is junk. `None` where no

@@ -17,6 +17,7 @@ ghost use Rattle.fluent_syntax_tree.specs.Spans.{IsPart};
 ghost use Rattle.fluent_syntax_parser.specs.Halts.{HaltsWithin, OnHalt};
 
 use crate::fault::{Fault, ReadFault, Refusal};
+use crate::lists::add;
 use crate::options::Halt;
 use crate::reader::Reader;
 use crate::source::Source;
@@ -112,7 +113,7 @@ impl<'s, 't, M: MakeTexts> Reader<'s, 't, M> {
         loop {
             match self.attribute_parts(nesting, place) {
                 Ok((extents, _)) => {
-                    attributes.push(extents)?;
+                    add(&mut attributes, extents)?;
                     place = extents.span.end;
                 }
                 Err(ReadFault::Refused { .. }) => return Ok((attributes, place)),
@@ -135,8 +136,7 @@ impl<'s, 't, M: MakeTexts> Reader<'s, 't, M> {
         let equals = self.source.skip_blank_inline(ptr);
         let start = self.source.expect_byte(b'=', equals)?;
         let (value, end) = self.get_pattern(nesting, start)?;
-        let line = self.source.skip_blank_block(end);
-        let (attributes, place) = self.attribute_list_parts(nesting, line)?;
+        let (attributes, place) = self.attribute_list_parts(nesting, end)?;
         Ok((place_if(&value, Span { start, end }), attributes, place))
     }
 

@@ -9,6 +9,7 @@ mod error;
 mod expression;
 pub mod extents;
 pub mod fault;
+mod lists;
 pub mod options;
 mod pattern;
 mod reader;

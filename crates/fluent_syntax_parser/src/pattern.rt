@@ -1,17 +1,17 @@
 //! Patterns.
-ghost use Rattle.std.specs.Prelude.{◌≡◌, ◌≤◌, [], length, map, option_map, IfOk, IfSome, None, Some};
+ghost use Rattle.std.specs.Prelude.{◌≡◌, ◌≤◌, [], length, map, option_map, IfOk, IfSome};
 ghost use Rattle.fluent_syntax_tree.specs.Tree.{pattern_map};
 ghost use Rattle.fluent_syntax_tree.specs.View.{pattern_view};
 ghost use Rattle.fluent_syntax_grammar.specs.Construct.{Read};
 ghost use Rattle.fluent_syntax_grammar.specs.Grammar.{within};
 ghost use Rattle.fluent_syntax_grammar.specs.Lines.{ending};
 ghost use Rattle.fluent_syntax_grammar.specs.Patterns.{pattern};
-ghost use Rattle.fluent_syntax_grammar.specs.Places.{InlineBlank};
+ghost use Rattle.fluent_syntax_grammar.specs.Places.{BlankBlock, InlineBlank};
 ghost use Rattle.fluent_syntax_parser.specs.Elements.{item_view};
 ghost use Rattle.fluent_syntax_grammar.specs.Elements.{with_ending};
 ghost use Rattle.fluent_syntax_parser.specs.Lines.{piece_view};
 ghost use Rattle.fluent_syntax_parser.specs.Made.{Makes};
-ghost use Rattle.fluent_syntax_parser.specs.OneLine.{EndsBlank, EndsLine, NoLines, OpensAs, text_pattern};
+ghost use Rattle.fluent_syntax_parser.specs.OneLine.{EndsBlank, EndsLine, OpensAs, text_pattern};
 ghost use Rattle.fluent_syntax_parser.specs.Opened.{LaysOut, Opens};
 
 pub(crate) mod elements;
@@ -32,27 +32,9 @@ use fluent_syntax_tree::spans::Span;
 use std::alloc::AllocError;
 
 impl<'s> Source<'s> {
-    /// Where a pattern ends that has no line from a line's start on.
-    fn end_without_lines(&self, edition: Edition, ptr: usize) -> Option<usize>
-        requires { ptr ≤ length self.now.bytes.now }
-        ensures lines { IfSome result (NoLines edition self.now.bytes.now ptr) }
-        ensures within { IfSome result (λ end. (ptr ≤ end) × (end ≤ length self.now.bytes.now)) }
-    {
-        let first = self.skip_blank_inline(ptr);
-        match self.byte_at(first) {
-            None => Some(first),
-            Some(byte) => {
-                if self.belongs(byte, first > ptr, first) {
-                    None
-                } else {
-                    Some(ptr)
-                }
-            }
-        }
-    }
-
     /// Where a text ends whose line ends at a place, with the LF there, and where the next line begins. `None`,
     /// where no line ends there.
+    #[inline(always)]
     fn line_ending(&self, to: usize) -> Option<(usize, usize)>
         requires { to ≤ length self.now.bytes.now }
         ensures ending { IfSome result (λ read. EndsLine self.now.bytes.now to read.0 read.1) }
@@ -82,59 +64,60 @@ impl<'s> Source<'s> {
     fn end_behind_blank_lines(&self, edition: Edition, ptr: usize) -> Option<usize>
         requires { ptr ≤ length self.now.bytes.now }
         ensures lines { IfSome result (EndsBlank edition self.now.bytes.now ptr) }
+        ensures behind { IfSome result (λ end. BlankBlock self.now.bytes.now end end) }
         ensures within { IfSome result (λ end. (ptr ≤ end) × (end ≤ length self.now.bytes.now)) }
     {
-        let end = self.end_without_lines(edition, self.skip_blank_block(ptr))?;
-        Some(end)
-    }
-
-    /// Reads a pattern of one line without placeable, after the inline blank that opens it, if that stands there: its
-    /// text.
-    #[inline(always)]
-    pub(crate) fn short_text(&self, edition: Edition, start: usize) -> Option<(Span, usize)>
-        requires { start ≤ length self.now.bytes.now }
-        ensures opens { IfSome result
-            (λ read. OpensAs edition self.now.bytes.now start (Some (text_pattern read.0)) read.1) }
-        ensures within { IfSome result (λ read. (start ≤ read.1) × (read.1 ≤ length self.now.bytes.now)) }
-    {
-        let to = self.run_end(start);
-        if start < to {
-            if let Some((text_end, next)) = self.line_ending(to) {
-                if let Some(end) = self.end_behind_blank_lines(edition, next) {
-                    let value = Span {
-                        start,
-                        end: self.trimmed_end(start, text_end),
-                    };
-                    return Some((value, end));
+        let line = self.past_blank_lines(ptr);
+        match self.byte_at(line.first) {
+            None => Some(line.first),
+            Some(byte) => {
+                if self.belongs(byte, line.first > line.start, line.first) {
+                    None
+                } else {
+                    Some(line.start)
                 }
             }
         }
-        None
     }
 
-    /// Where a pattern ends that holds nothing, after the inline blank that opens it, if a line ends there.
+    /// Reads a pattern of one line without placeable, after the inline blank that opens it, if that stands there: its
+    /// text, if it holds one.
     #[inline(always)]
-    pub(crate) fn end_without_text(&self, edition: Edition, start: usize) -> Option<usize>
+    pub(crate) fn short_text(&self, edition: Edition, start: usize) -> Option<(Option<Span>, usize)>
         requires { start ≤ length self.now.bytes.now }
-        ensures opens { IfSome result (OpensAs edition self.now.bytes.now start None) }
-        ensures within { IfSome result (λ end. (start ≤ end) × (end ≤ length self.now.bytes.now)) }
+        ensures opens { IfSome result
+            (λ read. OpensAs edition self.now.bytes.now start (option_map text_pattern read.0) read.1) }
+        ensures behind { IfSome result (λ read. BlankBlock self.now.bytes.now read.1 read.1) }
+        ensures within { IfSome result (λ read. (start ≤ read.1) × (read.1 ≤ length self.now.bytes.now)) }
     {
-        let next = self.eol_end(start)?;
-        let end = self.end_without_lines(edition, self.skip_blank_block(next))?;
-        Some(end)
+        let to = self.run_end(start);
+        let (text_end, next) = self.line_ending(to)?;
+        let end = self.end_behind_blank_lines(edition, next)?;
+        if start < to {
+            let value = Span {
+                start,
+                end: self.trimmed_end(start, text_end),
+            };
+            Some((Some(value), end))
+        } else {
+            Some((None, end))
+        }
     }
 }
 
 impl<'s, 't, M: MakeTexts> Reader<'s, 't, M> {
-    /// The pattern that is one text.
-    fn short_pattern(&self, value: Span) -> Result<Pattern<M::Text>, AllocError>
-        ensures { IfOk result (λ pattern. pattern_view M.made pattern
-            ≡ pattern_map (M.source self.now.texts.now) (text_pattern value)) }
+    /// The pattern that is one text, if there is one.
+    fn short_pattern(&self, text: Option<Span>) -> Result<Option<Pattern<M::Text>>, AllocError>
+        ensures { IfOk result (λ pattern. option_map (pattern_view M.made) pattern
+            ≡ option_map (pattern_map (M.source self.now.texts.now)) (option_map text_pattern text)) }
     {
-        let value = self.text(value)?;
+        let Some(text) = text else {
+            return Ok(None);
+        };
+        let value = self.text(text)?;
         let mut elements = Vec::with_capacity(self.alloc, 1)?;
-        elements.push(PatternElement::TextElement { value })?;
-        Ok(Pattern { elements })
+        elements.push_reserved(PatternElement::TextElement { value });
+        Ok(Some(Pattern { elements }))
     }
 
     /// Ends the line on which a pattern opens, whose pieces end at a place: they are its items then. Gives where the
@@ -199,6 +182,7 @@ impl<'s, 't, M: MakeTexts> Reader<'s, 't, M> {
         ensures meets { let t = self.now.source.bytes.now in
             LaysOut t (within self.now.edition t nesting) (M.source self.now.texts.now) M.made ptr items.new.items
             lines.new.items result }
+        ensures behind { IfOk result (λ end. BlankBlock self.now.source.bytes.now end end) }
         ensures within { IfOk result (λ end. (ptr ≤ end) × (end ≤ length self.now.source.bytes.now)) }
     {
         let next = self.gather_opening(nesting, ptr, items)?;
@@ -222,6 +206,7 @@ impl<'s, 't, M: MakeTexts> Reader<'s, 't, M> {
             Makes t (option_map (pattern_map (M.source self.now.texts.now)))
             (pattern self.now.edition t (within self.now.edition t nesting)) (option_map (pattern_view M.made)) ptr
             result }
+        ensures behind { IfOk result (λ read. BlankBlock self.now.source.bytes.now read.1 read.1) }
         ensures within { IfOk result (λ read. (ptr ≤ read.1) × (read.1 ≤ length self.now.source.bytes.now)) }
     {
         let mut items = Vec::new(self.alloc);
@@ -231,8 +216,8 @@ impl<'s, 't, M: MakeTexts> Reader<'s, 't, M> {
         Ok((pattern, end))
     }
 
-    /// Reads a pattern, if one stands there. That of one line without placeable is read by itself, and takes one
-    /// allocation.
+    /// Reads a pattern, if one stands there. No blank line stands behind it. That of one line without placeable is read
+    /// by itself, and takes one allocation.
     #[cycle(readers)]
     #[inline(always)]
     pub(crate) fn get_pattern(
@@ -245,15 +230,15 @@ impl<'s, 't, M: MakeTexts> Reader<'s, 't, M> {
             Makes t (option_map (pattern_map (M.source self.now.texts.now)))
             (pattern self.now.edition t (within self.now.edition t nesting)) (option_map (pattern_view M.made)) ptr
             result }
+        ensures behind { IfOk result (λ read. BlankBlock self.now.source.bytes.now read.1 read.1) }
         ensures within { IfOk result (λ read. (ptr ≤ read.1) × (read.1 ≤ length self.now.source.bytes.now)) }
     {
         let start = self.source.skip_blank_inline(ptr);
-        if let Some((value, end)) = self.source.short_text(self.edition, start) {
-            let pattern = self.short_pattern(value)?;
-            return Ok((Some(pattern), end));
-        }
-        match self.source.end_without_text(self.edition, start) {
-            Some(end) => Ok((None, end)),
+        match self.source.short_text(self.edition, start) {
+            Some((text, end)) => {
+                let pattern = self.short_pattern(text)?;
+                Ok((pattern, end))
+            }
             None => self.get_long_pattern(nesting, ptr, start),
         }
     }

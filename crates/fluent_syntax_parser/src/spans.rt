@@ -21,6 +21,9 @@ use fluent_syntax_tree::errors::ParserError;
 use fluent_syntax_tree::spans::Span;
 use std::alloc::Global;
 
+/// For so many bytes of a text there is room for one entry from the start.
+const BYTES_OF_ENTRY: usize = 64;
+
 impl<'s, 't, M: MakeTexts> Reader<'s, 't, M> {
     /// The entries and the errors of the text.
     fn get_body(
@@ -40,6 +43,9 @@ impl<'s, 't, M: MakeTexts> Reader<'s, 't, M> {
     {
         let mut body = Vec::new(self.alloc);
         let mut errors = Vec::new(self.alloc);
+        // room that is refused is asked for again where an entry needs it; a blank text needs none
+        let first = self.source.skip_blank_block(0);
+        let _ = body.reserve((self.source.bytes.len() - first) / BYTES_OF_ENTRY);
         let mut ptr = 0;
         loop {
             let Some(span) = self.add_next(&mut body, &mut errors, comments, nesting, ptr)? else {

@@ -8,20 +8,13 @@ ghost use Rattle.fluent_syntax_grammar.specs.Words.{digits, identifier, number, 
 ghost use Rattle.fluent_syntax_parser.specs.Meets.{MeetsEnd, MeetsText, name_text};
 
 pub(crate) mod blanks;
-pub(crate) mod lanes;
 pub(crate) mod line_ends;
 pub(crate) mod strings;
 
 use crate::fault::{Fault, Refusal};
 use crate::source::Source;
-use crate::words::lanes::{LANES, name_run};
+use fluent_syntax_grammar::lanes::{LANES, is_name_byte, name_run};
 use fluent_syntax_tree::spans::Span;
-
-fn is_name_byte(byte: u8) -> bool
-    ensures { result ≡ is_name_byte byte }
-{
-    byte.is_ascii_alphanumeric() || byte == b'-' || byte == b'_'
-}
 
 impl<'s> Source<'s> {
     pub(crate) fn expect_byte(&self, byte: u8, ptr: usize) -> Result<usize, Refusal>

@@ -4,6 +4,7 @@ pub mod FirstBroken
 pub mod Lines
 pub mod Named
 pub mod Nodes
+pub mod Plain
 pub mod Stands
 pub mod Steps
 pub mod Strings

@@ -20,6 +20,7 @@ mod expressions;
 mod first;
 mod flush;
 pub mod patterns;
+mod plain;
 mod rules;
 mod spellings;
 mod standard;

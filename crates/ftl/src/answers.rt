@@ -26,6 +26,7 @@ use fluent_syntax::parser::{Edition, ParserError, TooDeep};
 use fluent_syntax::spans::{Comments, Entries, Halt, Lines, Options, Span};
 use fluent_syntax::unicode::SinkError;
 use fluent_syntax_json::BodyWriter;
+use simdutf8::basic::from_utf8;
 use std::alloc::{AllocError, Global};
 use std::fmt::Write;
 
@@ -62,7 +63,7 @@ pub fn answer_within(
     ensures deeper { OnErr result (ReadsDeeper command input.now nesting) }
     ensures shallow { IfOk result (λ answer. IfOk answer (λ given. ReadsDeeper command input.now nesting → ⊥)) }
 {
-    let Ok(text) = str::from_utf8(input) else {
+    let Ok(text) = from_utf8(input) else {
         return Ok(Err(RunFault::Input));
     };
     if text.len() == usize::MAX {
@@ -282,7 +283,7 @@ fn normal(alloc: Global, text: &str, options: Options, asks: bool) -> Result<For
     ensures shallow { let t = text.now in let at = TileIn options.comments options.edition t in
         IfOk result (λ given. TextDeeper options.edition t at options.nesting 0 → ⊥) }
 {
-    let mut writer = NormalWriter::new(alloc, options.edition, asks);
+    let mut writer = NormalWriter::new(alloc, options.edition, asks, text.len());
     let outcome = write_one_by_one(alloc, &mut writer, text, options)?;
     let is_canonical = writer.all_canonical();
     let text = writer.finish()?;

@@ -1,5 +1,5 @@
 //! Entries of a text, each written as it is read: none of them is kept.
-ghost use Rattle.std.specs.Prelude.{◌≡◌, List, length, IfErr, IfOk};
+ghost use Rattle.std.specs.Prelude.{◌≡◌, ◌∷◌, [], List, Option, length, map, option_to_list, IfErr, IfOk};
 ghost use Rattle.fluent_syntax_tree.specs.Entry.{EntryTree, body_map};
 ghost use Rattle.fluent_syntax_tree.specs.Spans.{bytes_at};
 ghost use Rattle.fluent_syntax_tree.specs.View.{entry_view};
@@ -48,33 +48,36 @@ pub fn write_one_by_one<W: WriteEntries>(
     let slices: Slices<'_, '_, &str> = Slices::new(&text);
     let mut entries = Entries::new(text, options);
     let mut outcome = Outcome::Clean;
-    while let Some(read) = entries.next_entry_with(alloc, &slices)? {
-        outcome = write_read(alloc, writer, outcome, read);
+    let mut body = Vec::new(alloc);
+    let mut errors = Vec::new(alloc);
+    while let Some(_span) = entries.add_next_entry(alloc, &slices, &mut body, &mut errors)? {
+        outcome = write_read(alloc, writer, outcome, &body, &errors);
+        body.clear();
+        errors.clear();
     }
     Ok(outcome)
 }
 
-/// Writes the entry that was read next, and gives the outcome so far.
+/// Writes the entry that was read next, which stands alone in its list, and gives the outcome so far.
+#[inline(always)]
 fn write_read<W: WriteEntries>(
     alloc: Global,
     writer: &mut W,
     outcome: Outcome,
-    read: (Entry<&str>, Option<ParserError>),
+    body: &[Entry<&str>],
+    errors: &[ParserError],
 ) -> Outcome
-    ensures written { W.writes writer.old (entry_view (λ s. s.now) read.entry.0) writer.new }
-    ensures outcome { result ≡ outcome_behind outcome read.entry.1 }
+    ensures written { (e : EntryTree Text) → map (entry_view (λ s. s.now)) body.now ≡ e ∷ [] →
+        W.writes writer.old e writer.new }
+    ensures outcome { (error : Option ParserError) → errors.now ≡ option_to_list error →
+        result ≡ outcome_behind outcome error }
 {
-    let (entry, error) = read;
-    writer.write_next(alloc, &entry);
-    outcome_behind(outcome, &error)
-}
-
-/// The outcome of what was read so far and of an entry behind it, which has an error where it is junk.
-fn outcome_behind(outcome: Outcome, error: &Option<ParserError>) -> Outcome
-    ensures { result ≡ outcome_behind outcome error.now }
-{
-    match error {
-        Some(_) => Outcome::SyntaxErrors,
-        None => outcome,
+    if let [entry] = body {
+        writer.write_next(alloc, entry);
+    }
+    if errors.is_empty() {
+        outcome
+    } else {
+        Outcome::SyntaxErrors
     }
 }

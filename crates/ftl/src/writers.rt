@@ -16,6 +16,17 @@ use fluent_syntax::unicode::SinkError;
 use fluent_syntax_json::BodyWriter;
 use std::alloc::{AllocError, Global};
 
+/// An empty text, with room for so many bytes where there is memory for it. Where there is none, the first write asks
+/// again.
+fn text_for(alloc: Global, room: usize) -> String
+    ensures { string_bytes result ≡ [] }
+{
+    match String::with_capacity(alloc, room) {
+        Ok(text) => text,
+        Err(_) => String::new(alloc),
+    }
+}
+
 /// Writes entries in their normal form, without junk, and notes whether each of them is canonical.
 #[derive(Drop)]
 pub struct NormalWriter {
@@ -26,11 +37,12 @@ pub struct NormalWriter {
 
 impl NormalWriter {
     /// A writer to an empty text, to which no entry came yet. Only if `asks`, it asks whether entries are canonical.
-    pub fn new(alloc: Global, edition: Edition, asks: bool) -> NormalWriter
+    /// There is room for so many bytes, if there is memory for it.
+    pub fn new(alloc: Global, edition: Edition, asks: bool, room: usize) -> NormalWriter
         ensures { HasNormal edition [] result }
     {
         NormalWriter {
-            writer: EntryWriter::new(String::new(alloc), Options::default()),
+            writer: EntryWriter::new(text_for(alloc, room), Options::default()),
             edition,
             all_canonical: asks,
         }

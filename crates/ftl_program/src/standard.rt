@@ -5,6 +5,7 @@ use fluent_syntax::parser::TooDeep;
 use ftl::{Command, Formatted, Outcome, RunFault, Watched, formatted_within, run_within};
 use ftl_project::{Reading, unsafe_in, unsafe_line};
 use ftl_words::{Task, Work};
+use simdutf8::basic::from_utf8;
 use std::io;
 use std::io::{ErrorKind, IsTerminal, Read};
 
@@ -61,7 +62,7 @@ fn format_input<R: Input + Print + Eprint + AllocGlobal>(rt: &R, work: &Work<'_>
         Ok(input) => input,
         Err(fault) => return refuse_run(rt, fault),
     };
-    let Ok(text) = str::from_utf8(input.as_slice()) else {
+    let Ok(text) = from_utf8(input.as_slice()) else {
         return refuse_run(rt, RunFault::Input);
     };
     let Reading { edition, nesting } = work.options.reading();

@@ -1,11 +1,21 @@
 -- What a table of many names holds.
-use Rattle.std.proofs.Common.{◌≡◌, ◌≤◌, ℕ, List, [], ◌∷◌, ◌++◌, arith, length, length-append, subst}
+use Rattle.std.proofs.Common.{◌≡◌, ◌∙◌, ◌≤◌, ℕ, List, [], ◌∷◌, ◌++◌, Bool, true, false, not, ap, arith, length}
+use Rattle.std.proofs.Common.{length-append, subst, sym}
+use Rattle.std.specs.BTreeMap.{is_at}
 use Rattle.std.specs.BTreeSet.{insert_key}
+use Rattle.std.specs.Cmp.Lexicographic.{slice_cmp}
+use Rattle.std.specs.List.{list_any}
+use Rattle.std.specs.Ordering.{nat_cmp}
 use Rattle.std.specs.declared.cmp.Ordering.{Ordering}
 use Rattle.std.specs.declared.cmp.Ordering.TheVariants.{Equal}
-use Rattle.fluent_syntax_grammar.specs.NameKeys.{NotesAll}
-use Rattle.fluent_syntax_grammar.proofs.NameKeys.{notes_behind}
+use Rattle.fluent_syntax_grammar.specs.Arguments.{is_used}
+use Rattle.fluent_syntax_grammar.specs.NameKeys.{NotesAll, is_key}
+use Rattle.fluent_syntax_grammar.proofs.NameKeys.{key_held, notes_behind}
 use Rattle.fluent_syntax_parser.specs.Noted.{Notes}
+
+other_way : (held used new : Bool) → new ≡ not held → held ≡ used → used ≡ not new
+other_way true used new e same = rw e (sym same)
+other_way false used new e same = rw e (sym same)
 
 module _ {K : Type 0} (text : K → List ℕ) where
   -- one name more, where they are many then
@@ -18,3 +28,10 @@ module _ {K : Type 0} (text : K → List ℕ) where
         λ many. rw e (subst (λ n. NotesAll text (insert_key cmp keys k) (names ++ n ∷ [])) f
             (notes_behind text cmp same keys names k all)),
       )
+
+  -- what the table tells where a name comes into it: whether it is none of the names there
+  pub told_new : (keys : List K) (names : List (List ℕ)) (key n : List ℕ) (new : Bool) →
+      new ≡ not (list_any (is_at (λ k. slice_cmp nat_cmp key (text k))) keys) → key ≡ n → NotesAll text keys names →
+      is_used n names ≡ not new
+  told_new keys names key n new e same all =
+      other_way _ _ _ e (key_held text key keys ∙ ap (λ name. is_key text keys name) same ∙ all n)

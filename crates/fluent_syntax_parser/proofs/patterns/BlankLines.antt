@@ -7,7 +7,7 @@ use Rattle.std.proofs.Math.Seq.{drop-cons}
 use Rattle.std.proofs.lemmas.Bool.Decides.{nat_tests}
 use Rattle.std.proofs.lemmas.Option.{slice_get-get_or, slice_get_within}
 use Rattle.fluent_syntax_tree.specs.declared.edition.Edition.{Edition}
-use Rattle.fluent_syntax_grammar.specs.Bytes.{lf, cr, space}
+use Rattle.fluent_syntax_grammar.specs.Bytes.{lf, cr, left_brace, space}
 use Rattle.fluent_syntax_grammar.specs.Construct.{Read, at_place, chosen, first, given, goes_on, item_and_more}
 use Rattle.fluent_syntax_grammar.specs.Construct.{list_ends, passed}
 use Rattle.fluent_syntax_grammar.specs.Elements.{Item, cut, is_nonblank, line_items}
@@ -17,8 +17,10 @@ use Rattle.fluent_syntax_grammar.specs.Layout.{Line, crlf_at, lf_at}
 use Rattle.fluent_syntax_grammar.specs.Lines.{belongs, more_lines, more_pieces, own_line}
 use Rattle.fluent_syntax_grammar.specs.Places.{BlankBlock, InlineBlank, after_eol, has_byte, has_eol, line, no_line}
 use Rattle.fluent_syntax_grammar.proofs.Facts.{byte_found, equal}
+use Rattle.fluent_syntax_grammar.proofs.LineEnds.{eol_none}
+use Rattle.fluent_syntax_grammar.proofs.Tests.{neither_left}
 use Rattle.fluent_syntax_parser.proofs.patterns.LineEndings.{ends_line}
-use Rattle.fluent_syntax_parser.specs.OneLine.{AreBlank, EndsBlank, NoLines}
+use Rattle.fluent_syntax_parser.specs.OneLine.{EndsBlank}
 
 -- ---- line ends
 
@@ -162,17 +164,44 @@ module _ (edition : Edition) (t : List ℕ) where
       given))
       (blanks_read R m j end more last)
 
-  blanks_blank : (i j : ℕ) (block : BlankBlock t i j) → AreBlank edition t (blanks i j block)
+  blanks_blank : (i j : ℕ) (block : BlankBlock t i j) (common : Option ℕ) →
+      cut t (flat_map (line_items edition common) (blanks i j block)) ≡ []
   unfolding blanks
-  blanks_blank i j (no_line blank none) = λ common. refl
-  blanks_blank i j (line {k = k} {m = m} blank eol more) = λ common.
+  blanks_blank i j (no_line blank none) common = refl
+  blanks_blank i j (line {k = k} {m = m} blank eol more) common =
       blank_items edition t common i k m blank eol (flat_map (line_items edition common) (blanks m j more))
       (blanks_blank m j more common)
 
+  -- All lines of the pattern that are left from the place on are blank, and it ends there. So nothing nests in them.
+  pub record BlankRest (i end : ℕ) : Type 0 where
+    pub lines : List Line
+    pub read : (n : ℕ) → more_lines t (within edition t n) i (Read lines end)
+    pub blank : (common : Option ℕ) → cut t (flat_map (line_items edition common) lines) ≡ []
+
   -- the blank lines of a blank block, where no line of a pattern follows them
-  pub blank_lines : (i j end : ℕ) → BlankBlock t i j → NoLines edition t j end → EndsBlank edition t i end
-  blank_lines i j end block last = record {
-    lines = blanks i j block;
-    read = λ n. blanks_read (within edition t n) i j end block (last n);
-    blank = blanks_blank i j block;
+  pub blank_rest : (i end : ℕ) → EndsBlank edition t i end → BlankRest i end
+  blank_rest i end ends = record {
+    lines = blanks i ends.place ends.block;
+    read = λ n. blanks_read (within edition t n) i ends.place end ends.block (ends.none n);
+    blank = blanks_blank i ends.place ends.block;
   }
+
+-- ---- no blank line stands behind a pattern
+
+module _ (t : List ℕ) {i k : ℕ} (blank : InlineBlank t i k) where
+  pub none_at_end : slice_get t k ≡ None → BlankBlock t k k
+  none_at_end end =
+      let no_spaces : InlineBlank t k k = record {
+        forward = omega arith;
+        each = λ j a b. absurd (omega (arith, a, b));
+        longest = blank.longest;
+      } in
+      let no_eol : has_eol t k ≡ false = rw end refl in
+      no_line no_spaces (eol_none (has_byte t lf k) (has_byte t cr k && has_byte t lf (k + 1)) _ _ no_eol)
+
+  pub none_before_other : (indented : Bool) → belongs t indented k ≡ false → BlankBlock t i i
+  none_before_other true other =
+      no_line blank (eol_none (has_byte t lf k) _ _ _ (neither_left (has_eol t k) _ other))
+  none_before_other false other =
+      let no_brace = neither_left (has_eol t k || has_byte t left_brace k) _ other in
+      no_line blank (eol_none (has_byte t lf k) _ _ _ (neither_left (has_eol t k) _ no_brace))

@@ -24,7 +24,8 @@ use Rattle.fluent_syntax_grammar.proofs.Facts.{left_true, byte_found}
 use Rattle.fluent_syntax_grammar.proofs.Tests.{without}
 use Rattle.fluent_syntax_grammar.proofs.LineEnds.{eol_none}
 use Rattle.fluent_syntax_parser.proofs.patterns.LineEndings.{ends_line, ends_text}
-use Rattle.fluent_syntax_parser.proofs.patterns.BlankLines.{crlf_byte, eol_there, lf_blank, no_piece, range_cons}
+use Rattle.fluent_syntax_parser.proofs.patterns.BlankLines.{blank_rest, crlf_byte, eol_there, lf_blank, no_piece}
+use Rattle.fluent_syntax_parser.proofs.patterns.BlankLines.{range_cons}
 use Rattle.fluent_syntax_parser.specs.OneLine.{EndsBlank, EndsLine, text_pattern, with_lf, with_crlf, with_text}
 
 starts_nonblank : (b : ℕ) (bs : List ℕ) → (b == space) ≡ false → (b == lf) ≡ false → is_nonblank (b ∷ bs) ≡ true
@@ -138,7 +139,8 @@ module _ (edition : Edition) (t : List ℕ) (n : ℕ) where
     -- it spells the items of its opening line
     opening_read : (ptr end : ℕ) → InlineBlank t ptr start → EndsBlank edition t next end →
         pattern edition t R ptr (Read (if_any (spelled t (cut t (with_ending ps e)))) end)
-    opening_read ptr end blank behind =
+    opening_read ptr end blank lines =
+        let behind = blank_rest edition t next end lines in
         let laid : layout_at t R None start (Read (opened behind.lines) end) = goes_on at_place
         (goes_on pieces
         (goes_on ends
@@ -167,11 +169,11 @@ module _ (edition : Edition) (t : List ℕ) (n : ℕ) where
         blank lines in
         let f = rw (ended.text_stays start stays) at read in f
 
-  -- ---- a pattern that holds nothing: a line ends where it would begin, and no line of a pattern follows
+  -- ---- a pattern that holds nothing: a line or the text ends where it would begin, and no line of a pattern follows
 
   module _ (start next first end : ℕ) (eol : after_eol t start ≡ Some next) (block : BlankBlock t next first)
       (lines : more_lines t R first (Read [] end)) where
-    pub empty_read : (ptr : ℕ) → InlineBlank t ptr start → pattern edition t R ptr (Read None end)
+    empty_read : (ptr : ℕ) → InlineBlank t ptr start → pattern edition t R ptr (Read None end)
     empty_read ptr blank =
         let empty : Layout = record { opening = None; lines = [] } in
         let laid : layout_at t R (Some next) start (Read empty end) = goes_on (passed (record { there = refl }))
@@ -180,3 +182,14 @@ module _ (edition : Edition) (t : List ℕ) (n : ℕ) where
         let whole : layout t R ptr (Read empty end) = goes_on (passed blank)
         (chosen (subst (λ o. layout_at t R o start (Read empty end)) (sym eol) laid)) in
         goes_on whole given
+
+  pub none_read : (start ptr stop next end : ℕ) → InlineBlank t ptr start → EndsLine t start stop next →
+      EndsBlank edition t next end → pattern edition t R ptr (Read None end)
+  unfolding line_ended
+  none_read start ptr stop next end blank (with_lf eol e) lines =
+      empty_read start stop lines.place end eol lines.block (lines.none n) ptr blank
+  none_read start ptr stop next end blank (with_crlf eol e) lines =
+      empty_read start next lines.place end eol lines.block (lines.none n) ptr blank
+  none_read start ptr stop next end blank (with_text eol e) lines =
+      let ended = line_ended t R start start start (with_text eol e) in
+      opening_read start eol [] start ended.pieces text_end' start ended.ends ptr end blank lines

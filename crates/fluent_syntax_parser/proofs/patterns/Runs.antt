@@ -8,7 +8,7 @@ use Rattle.fluent_syntax_grammar.specs.Bytes.{lf, cr, left_brace, right_brace}
 use Rattle.fluent_syntax_grammar.specs.Places.{Stretch, holds, has, has_byte, Word}
 use Rattle.fluent_syntax_grammar.specs.Lines.{is_run_place}
 use Rattle.fluent_syntax_grammar.proofs.Tests.{and_right}
-use Rattle.fluent_syntax_parser.specs.Lanes.{is_passed}
+use Rattle.fluent_syntax_grammar.specs.Lanes.{is_passed}
 
 passed_run : (o : Option ℕ) (eol : Bool) → holds is_passed o ≡ true → eol ≡ false →
     (holds (λ b. not (b == lf || b == left_brace || b == right_brace)) o && not (holds (λ c. c == lf) o || eol)) ≡ true

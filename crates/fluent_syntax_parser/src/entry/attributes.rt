@@ -7,12 +7,14 @@ ghost use Rattle.fluent_syntax_grammar.specs.Grammar.{within};
 ghost use Rattle.fluent_syntax_parser.specs.Made.{Adds, Makes};
 
 use crate::fault::ReadFault;
+use crate::lists::add;
 use crate::reader::Reader;
 use crate::texts::MakeTexts;
 use fluent_syntax_tree::ast::Attribute;
 
 impl<'s, 't, M: MakeTexts> Reader<'s, 't, M> {
     /// Reads an attribute, and adds it.
+    #[inline(always)]
     fn add_attribute(
         &self,
         attributes: &mut Vec<Attribute<M::Text>>,
@@ -28,7 +30,7 @@ impl<'s, 't, M: MakeTexts> Reader<'s, 't, M> {
     {
         let (extents, value) = self.attribute_parts(nesting, ptr)?;
         let id = self.identifier(extents.name)?;
-        attributes.push(Attribute { id, value })?;
+        add(attributes, Attribute { id, value })?;
         Ok(extents.span.end)
     }
 
@@ -46,7 +48,7 @@ impl<'s, 't, M: MakeTexts> Reader<'s, 't, M> {
             (λ found. map (attribute_view M.made) found.items) ptr result }
         ensures within { IfOk result (λ read. (ptr ≤ read.1) × (read.1 ≤ length self.now.source.bytes.now)) }
     {
-        let mut attributes = Vec::new(self.alloc);
+        let mut attributes = Vec::with_capacity(self.alloc, 4)?;
         let mut place = ptr;
         loop {
             match self.add_attribute(&mut attributes, nesting, place) {

@@ -8,6 +8,7 @@ ghost use Rattle.fluent_syntax_parser.specs.Made.{Adds, Makes};
 ghost use Rattle.fluent_syntax_parser.specs.Meets.{Answers};
 
 use crate::fault::{ReadFault, Refusal};
+use crate::lists::add;
 use crate::reader::Reader;
 use crate::source::Source;
 use crate::texts::MakeTexts;
@@ -81,7 +82,7 @@ impl<'s, 't, M: MakeTexts> Reader<'s, 't, M> {
             2 => Entry::GroupComment(comment),
             _ => Entry::ResourceComment(comment),
         };
-        body.push(entry)?;
+        add(body, entry)?;
         Ok(end)
     }
 
@@ -92,7 +93,7 @@ impl<'s, 't, M: MakeTexts> Reader<'s, 't, M> {
     {
         if let Some(line) = line {
             let text = self.text(line)?;
-            content.push(text)?;
+            add(content, text)?;
         }
         Ok(())
     }

@@ -8,6 +8,7 @@ ghost use Rattle.fluent_syntax_parser.specs.Fields.{fields, fields_map, fields_v
 ghost use Rattle.fluent_syntax_parser.specs.Made.{Adds, Makes};
 
 use crate::fault::{Fault, ReadFault, Refusal};
+use crate::lists::add;
 use crate::reader::Reader;
 use crate::texts::MakeTexts;
 use fluent_syntax_tree::ast::{Attribute, Entry, Message, Pattern, Term};
@@ -33,8 +34,8 @@ impl<'s, 't, M: MakeTexts> Reader<'s, 't, M> {
         let equals = self.source.skip_blank_inline(ptr);
         let start = self.source.expect_byte(b'=', equals)?;
         let (value, end) = self.get_pattern(nesting, start)?;
-        let line = self.source.skip_blank_block(end);
-        let (attributes, place) = self.get_attributes(nesting, line)?;
+        // no blank line stands behind a pattern
+        let (attributes, place) = self.get_attributes(nesting, end)?;
         Ok((Fields { value, attributes }, place))
     }
 
@@ -65,12 +66,13 @@ impl<'s, 't, M: MakeTexts> Reader<'s, 't, M> {
             });
         }
         let id = self.identifier(name)?;
-        body.push(Entry::Message(Message {
+        let message = Message {
             id,
             value,
             attributes,
             comment: None,
-        }))?;
+        };
+        add(body, Entry::Message(message))?;
         Ok(place)
     }
 
@@ -97,12 +99,13 @@ impl<'s, 't, M: MakeTexts> Reader<'s, 't, M> {
         match value {
             Some(value) => {
                 let id = self.identifier(name)?;
-                body.push(Entry::Term(Term {
+                let term = Term {
                     id,
                     value,
                     attributes,
                     comment: None,
-                }))?;
+                };
+                add(body, Entry::Term(term))?;
                 Ok(place)
             }
             None => Err(ReadFault::Refused {

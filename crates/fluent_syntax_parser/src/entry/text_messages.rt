@@ -35,7 +35,10 @@ impl<'s> Source<'s> {
                 return Some(place);
             };
             let opening = self.pattern_start(start)?;
-            let (_text, end) = self.short_text(edition, opening)?;
+            let (text, end) = self.short_text(edition, opening)?;
+            let Some(_text) = text else {
+                return None;
+            };
             place = end;
         }
     }
@@ -48,13 +51,11 @@ impl<'s> Source<'s> {
         ensures within { IfSome result (λ end. (start < end) × (end ≤ length self.now.bytes.now)) }
     {
         let opening = self.pattern_start(start)?;
-        if let Some((_text, line)) = self.short_text(edition, opening) {
-            let end = self.text_attributes_end(edition, self.skip_blank_block(line))?;
-            return Some(end);
+        let (text, line) = self.short_text(edition, opening)?;
+        let end = self.text_attributes_end(edition, line)?;
+        match text {
+            Some(_) => Some(end),
+            None => if end > line { Some(end) } else { None },
         }
-        let line = self.end_without_text(edition, opening)?;
-        let place = self.skip_blank_block(line);
-        let end = self.text_attributes_end(edition, place)?;
-        if end > place { Some(end) } else { None }
     }
 }

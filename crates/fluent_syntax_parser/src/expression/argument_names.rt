@@ -1,5 +1,5 @@
 //! The names of the named arguments of a list, looked up in a table where there are many.
-ghost use Rattle.std.specs.Prelude.{◌≡◌, ◌==◌, ◌++◌, ◌∷◌, [], length, OnOk};
+ghost use Rattle.std.specs.Prelude.{◌≡◌, ◌==◌, ◌++◌, ◌∷◌, [], length, not, true, IfOk, OnOk};
 ghost use Rattle.fluent_syntax_tree.specs.Spans.{bytes_at};
 ghost use Rattle.fluent_syntax_grammar.specs.Arguments.{is_used};
 ghost use Rattle.fluent_syntax_parser.specs.Gathered.{names_in_order};
@@ -39,22 +39,33 @@ impl<'s> NotedNames<'s> {
         self.names.is_empty()
     }
 
-    /// Whether the name is one of those noted.
-    pub(crate) fn has(&self, source: &Source<'s>, name: Span) -> bool
-        requires { Notes (λ k. k.now) self.now.table.keys (names_in_order source.now.bytes.now self.now.names.items) }
-        ensures { let t = source.now.bytes.now in
-            result ≡ is_used (bytes_at t name) (names_in_order t self.now.names.items) }
+    /// Notes a name behind the others, if it is none of them, and says whether it is new.
+    pub(crate) fn note_new(&mut self, source: &Source<'s>, name: Span) -> Result<bool, AllocError>
+        requires { Notes (λ k. k.now) self.old.table.keys (names_in_order source.now.bytes.now self.old.names.items) }
+        ensures new { let t = source.now.bytes.now in
+            IfOk result (λ is_new. is_used (bytes_at t name) (names_in_order t self.old.names.items) ≡ not is_new) }
+        ensures noted { let t = source.now.bytes.now in IfOk result (λ is_new. is_new ≡ true →
+            (self.new.names.items ≡ self.old.names.items ++ name ∷ [])
+            × Notes (λ k. k.now) self.new.table.keys (names_in_order t self.new.names.items)) }
     {
         if self.names.len() < MANY {
-            source.has_name(&self.names, name)
-        } else {
-            self.table.contains(source.bytes_of(name))
+            if source.has_name(&self.names, name) {
+                return Ok(false);
+            }
+            self.note_among_few(source, name)?;
+            return Ok(true);
         }
+        let is_new = self.table.insert(source.bytes_of(name))?;
+        if !is_new {
+            return Ok(false);
+        }
+        self.names.push(name)?;
+        Ok(true)
     }
 
-    /// Notes a name behind the others.
-    pub(crate) fn note(&mut self, source: &Source<'s>, name: Span) -> Result<(), AllocError>
-        requires { Notes (λ k. k.now) self.old.table.keys (names_in_order source.now.bytes.now self.old.names.items) }
+    /// Notes a name behind few others, which then perhaps are many.
+    fn note_among_few(&mut self, source: &Source<'s>, name: Span) -> Result<(), AllocError>
+        requires { self.old.table.keys ≡ [] }
         ensures names { OnOk result (self.new.names.items ≡ self.old.names.items ++ name ∷ []) }
         ensures noted { let t = source.now.bytes.now in
             OnOk result (Notes (λ k. k.now) self.new.table.keys (names_in_order t self.new.names.items)) }
@@ -63,11 +74,7 @@ impl<'s> NotedNames<'s> {
         if self.names.len() < MANY {
             return Ok(());
         }
-        if self.names.len() == MANY {
-            return self.note_all(source);
-        }
-        self.table.insert(source.bytes_of(name))?;
-        Ok(())
+        self.note_all(source)
     }
 
     /// Notes all names in the table, where none was noted there yet.

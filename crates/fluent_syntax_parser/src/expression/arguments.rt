@@ -17,6 +17,7 @@ ghost use Rattle.fluent_syntax_parser.specs.Made.{Makes};
 use crate::expression::argument_names::NotedNames;
 use crate::expression::starts::Start;
 use crate::fault::{Fault, ReadFault, Refusal};
+use crate::lists::add;
 use crate::reader::Reader;
 use crate::source::Source;
 use crate::texts::MakeTexts;
@@ -63,7 +64,7 @@ impl<'s, 't, M: MakeTexts> Reader<'s, 't, M> {
             × (positional.new.items ≡ positional.old.items ++ argument ∷ [])
             × (boxed_expression_view M.made expression ≡ inline (inline_view M.made argument))) }
     {
-        positional.push(self.inline_of(expression))?;
+        add(positional, self.inline_of(expression))?;
         Ok(())
     }
 
@@ -82,7 +83,7 @@ impl<'s, 't, M: MakeTexts> Reader<'s, 't, M> {
     {
         let name = self.identifier(name)?;
         let value = self.inline_of(value);
-        named.push(NamedArgument { name, value })?;
+        add(named, NamedArgument { name, value })?;
         Ok(())
     }
 
@@ -142,7 +143,8 @@ impl<'s, 't, M: MakeTexts> Reader<'s, 't, M> {
             let (expression, next) = self.get_inline_expression(nesting, place)?;
             match self.argument_name(self.inline_in(&expression), place) {
                 Some(name) if self.source.is_byte_at(b':', next) => {
-                    if noted.has(&self.source, name) {
+                    let is_new = noted.note_new(&self.source, name)?;
+                    if !is_new {
                         return Err(ReadFault::Refused {
                             fault: Fault::Duplicated,
                             from: place,
@@ -151,7 +153,6 @@ impl<'s, 't, M: MakeTexts> Reader<'s, 't, M> {
                     }
                     let start = self.source.skip_blank(next + 1);
                     let (value, end) = self.get_argument_value(nesting, start)?;
-                    noted.note(&self.source, name)?;
                     self.add_named(name, value, &mut named)?;
                     place = self.source.skip_separator(end);
                 }

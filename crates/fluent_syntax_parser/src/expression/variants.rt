@@ -11,6 +11,7 @@ ghost use Rattle.fluent_syntax_parser.specs.Made.{Fills};
 ghost use Rattle.fluent_syntax_parser.specs.Meets.{Answers};
 
 use crate::fault::{Fault, ReadFault, Refusal};
+use crate::lists::add;
 use crate::reader::Reader;
 use crate::source::Source;
 use crate::texts::MakeTexts;
@@ -70,11 +71,12 @@ impl<'s, 't, M: MakeTexts> Reader<'s, 't, M> {
             default)) }
     {
         let key = self.key(key)?;
-        variants.push(Variant {
+        let variant = Variant {
             key,
             value,
             default,
-        })?;
+        };
+        add(variants, variant)?;
         Ok(())
     }
 

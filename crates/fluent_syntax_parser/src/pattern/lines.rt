@@ -5,21 +5,22 @@ ghost use Rattle.fluent_syntax_grammar.specs.Construct.{Read};
 ghost use Rattle.fluent_syntax_grammar.specs.Grammar.{within};
 ghost use Rattle.fluent_syntax_grammar.specs.Layout.{crlf_at, lf_at};
 ghost use Rattle.fluent_syntax_grammar.specs.Lines.{belongs, ending, is_run_place, line, more_lines, more_pieces};
-ghost use Rattle.fluent_syntax_grammar.specs.Places.{has_eol, InlineBlank, Stretch, Word};
+ghost use Rattle.fluent_syntax_grammar.specs.Places.{BlankBlock, has_eol, InlineBlank, Stretch, Word};
 ghost use Rattle.fluent_syntax_parser.specs.Made.{Adds, Fills};
 ghost use Rattle.fluent_syntax_parser.specs.Endings.{EndsWithin};
-ghost use Rattle.fluent_syntax_parser.specs.Lanes.{is_passed};
+ghost use Rattle.fluent_syntax_grammar.specs.Lanes.{is_passed};
 ghost use Rattle.fluent_syntax_parser.specs.Layouts.{line_of, piece_of};
 ghost use Rattle.fluent_syntax_parser.specs.Lines.{ending_view, line_view, piece_view};
 ghost use Rattle.fluent_syntax_parser.specs.declared.pattern.line.Line.{Line};
 ghost use Rattle.fluent_syntax_parser.specs.declared.pattern.line.Piece.TheVariants.{Placed, Run};
 
 use crate::fault::{Fault, ReadFault, Refusal};
+use crate::lists::add;
 use crate::pattern::line::{Ending, Line, Piece};
 use crate::reader::Reader;
 use crate::source::Source;
 use crate::texts::MakeTexts;
-use crate::words::lanes::{LANES, text_run};
+use fluent_syntax_grammar::lanes::{LANES, text_run};
 use fluent_syntax_tree::ast::Expression;
 use memchr::memchr3;
 use std::alloc::AllocError;
@@ -77,6 +78,7 @@ impl<'s> Source<'s> {
     }
 
     /// Whether a line belongs to a pattern, by the byte after its leading spaces, if it has any.
+    #[inline(always)]
     pub(crate) fn belongs(&self, byte: u8, indented: bool, ptr: usize) -> bool
         requires within { ptr ≤ length self.now.bytes.now }
         requires byte { slice_get self.now.bytes.now ptr ≡ Some byte }
@@ -111,8 +113,7 @@ impl<'s> Source<'s> {
 fn add_run<T: Drop>(from: usize, to: usize, pieces: &mut Vec<Piece<T>>) -> Result<(), AllocError>
     ensures { OnOk result (pieces.new.items ≡ pieces.old.items ++ Run from to ∷ []) }
 {
-    pieces.push(Piece::Run { from, to })?;
-    Ok(())
+    add(pieces, Piece::Run { from, to })
 }
 
 /// Adds the placeable of an expression to the pieces of a line.
@@ -123,8 +124,7 @@ fn add_placed<T: Drop>(
 ) -> Result<(), AllocError>
     ensures { OnOk result (pieces.new.items ≡ pieces.old.items ++ Placed expression ∷ []) }
 {
-    pieces.push(Piece::Placed { expression })?;
-    Ok(())
+    add(pieces, Piece::Placed { expression })
 }
 
 impl<'s, 't, M: MakeTexts> Reader<'s, 't, M> {
@@ -198,12 +198,13 @@ impl<'s, 't, M: MakeTexts> Reader<'s, 't, M> {
         ensures stays { IfErr result (λ _. lines.new.items ≡ lines.old.items) }
     {
         let (ending, next) = self.source.get_ending(end);
-        lines.push(Line {
+        let line = Line {
             start,
             spaces,
             pieces,
             ending,
-        })?;
+        };
+        add(lines, line)?;
         Ok(next)
     }
 
@@ -243,6 +244,7 @@ impl<'s, 't, M: MakeTexts> Reader<'s, 't, M> {
         ensures meets { let t = self.now.source.bytes.now in
             Fills t (map (line_of (M.source self.now.texts.now))) (more_lines t (within self.now.edition t nesting))
             (map (line_view M.made)) lines.new.items ptr result }
+        ensures behind { IfOk result (λ end. BlankBlock self.now.source.bytes.now end end) }
         ensures within { IfOk result (λ end. (ptr ≤ end) × (end ≤ length self.now.source.bytes.now)) }
     {
         let mut start = ptr;

@@ -5,6 +5,7 @@ ghost use Rattle.fluent_syntax_tree.specs.View.{element_view};
 ghost use Rattle.fluent_syntax_grammar.specs.Elements.{is_nonblank, trimmed_end, stays};
 ghost use Rattle.fluent_syntax_parser.specs.Elements.{CutsTo, MakesPattern, element_of, item_view, last_of};
 
+use crate::lists::add;
 use crate::pattern::elements::add_lines;
 use crate::pattern::indents::common_indent;
 use crate::pattern::line::{Line, Piece};
@@ -77,12 +78,12 @@ impl<'s, 't, M: MakeTexts> Reader<'s, 't, M> {
                     start: from,
                     end: to,
                 })?;
-                elements.push(PatternElement::TextElement { value })?;
+                add(elements, PatternElement::TextElement { value })?;
                 Ok(())
             }
             Piece::Placed { expression } => {
                 let expression = Box::into_inner(expression);
-                elements.push(PatternElement::Placeable { expression })?;
+                add(elements, PatternElement::Placeable { expression })?;
                 Ok(())
             }
         }
@@ -117,12 +118,12 @@ impl<'s, 't, M: MakeTexts> Reader<'s, 't, M> {
             Piece::Run { from, to } => {
                 let end = self.source.trimmed_end(from, to);
                 let value = self.text(Span { start: from, end })?;
-                elements.push(PatternElement::TextElement { value })?;
+                add(elements, PatternElement::TextElement { value })?;
                 Ok(())
             }
             Piece::Placed { expression } => {
                 let expression = Box::into_inner(expression);
-                elements.push(PatternElement::Placeable { expression })?;
+                add(elements, PatternElement::Placeable { expression })?;
                 Ok(())
             }
         }

@@ -34,6 +34,7 @@ impl Comments {
 
 impl<'s> Source<'s> {
     /// Where the next entry or junk begins, or the text's end.
+    #[inline(always)]
     fn tile_start(&self, comments: Comments, ptr: usize) -> usize
         requires { ptr ≤ length self.now.bytes.now }
         ensures rest { (edition : Edition) (entries : BodyTree Span) (errors : List (Option Fault)) →

@@ -12,6 +12,7 @@ ghost use Rattle.fluent_syntax_parser.specs.MadeEntries.{AddsJunk, AddsTile, Han
 ghost use Rattle.fluent_syntax_parser.specs.MadeEntries.{ends_with_comment, is_comment};
 
 use crate::fault::{ReadFault, Refusal};
+use crate::lists::add;
 use crate::options::Halt;
 use crate::reader::Reader;
 use crate::texts::MakeTexts;
@@ -98,11 +99,11 @@ fn hang_last<S: Drop>(body: &mut Vec<Entry<S>>) -> Result<bool, AllocError>
     };
     match with_comment(comment, entry) {
         Ok(entry) => {
-            body.push(entry)?;
+            add(body, entry)?;
             Ok(true)
         }
         Err(comment) => {
-            body.push(Entry::Comment(comment))?;
+            add(body, Entry::Comment(comment))?;
             Ok(false)
         }
     }
@@ -128,13 +129,14 @@ impl<'s, 't, M: MakeTexts> Reader<'s, 't, M> {
         let stretch = Span { start, end };
         let error = self.source.error_of(self.alloc, refusal, stretch)?;
         let content = self.text(stretch)?;
-        body.push(Entry::Junk { content })?;
-        errors.push(error)?;
+        add(body, Entry::Junk { content })?;
+        add(errors, error)?;
         Ok(end)
     }
 
     /// Reads an entry and adds it, or junk up to the next place where one may start, with its error; says where it
     /// ends.
+    #[inline(always)]
     pub(crate) fn add_tile(
         &self,
         body: &mut Vec<Entry<M::Text>>,

@@ -4,6 +4,13 @@ ghost use Rattle.fluent_syntax_grammar.specs.Places.{after_eol, has_eol, Blank, 
 
 use crate::source::Source;
 
+/// Where a line begins, and where its leading spaces end.
+#[derive(Clone, Copy, Debug)]
+pub(crate) struct LineStart {
+    pub(crate) start: usize,
+    pub(crate) first: usize,
+}
+
 impl<'s> Source<'s> {
     /// Whether LF or CRLF stands at a place.
     pub(crate) fn is_eol_at(&self, place: usize) -> bool
@@ -15,6 +22,7 @@ impl<'s> Source<'s> {
     }
 
     /// Where the line end that begins at a place ends.
+    #[inline(always)]
     pub(crate) fn eol_end(&self, ptr: usize) -> Option<usize>
         requires { ptr ≤ length self.now.bytes.now }
         ensures eol { result ≡ after_eol self.now.bytes.now ptr }
@@ -56,6 +64,24 @@ impl<'s> Source<'s> {
         }
     }
 
+    /// Passes over blank lines, and gives the line behind them. That is not blank.
+    #[inline(always)]
+    pub(crate) fn past_blank_lines(&self, ptr: usize) -> LineStart
+        requires { ptr ≤ length self.now.bytes.now }
+        ensures blank { BlankBlock self.now.bytes.now ptr result.start }
+        ensures spaces { InlineBlank self.now.bytes.now result.start result.first }
+        ensures within { (ptr ≤ result.start) × (result.first ≤ length self.now.bytes.now) }
+    {
+        let mut start = ptr;
+        loop {
+            let first = self.skip_blank_inline(start);
+            match self.eol_end(first) {
+                Some(next) => start = next,
+                None => return LineStart { start, first },
+            }
+        }
+    }
+
     #[inline(always)]
     pub(crate) fn skip_blank_block(&self, ptr: usize) -> usize
         requires { ptr ≤ length self.now.bytes.now }
@@ -63,12 +89,6 @@ impl<'s> Source<'s> {
         ensures forward { ptr ≤ result }
         ensures within { result ≤ length self.now.bytes.now }
     {
-        let mut end = ptr;
-        loop {
-            match self.eol_end(self.skip_blank_inline(end)) {
-                Some(next) => end = next,
-                None => return end,
-            }
-        }
+        self.past_blank_lines(ptr).start
     }
 }

@@ -1,12 +1,16 @@
--- Texts by their first and last bytes.
-use Rattle.std.proofs.Common.{◌≡◌, [], ◌∷◌, Bool, false, ◌&&◌, ◌||◌, ◌==◌, refl, ap}
-use Rattle.fluent_syntax_grammar.specs.Bytes.{lf, cr}
-use Rattle.fluent_syntax_grammar.specs.PatternTexts.{has_crlf}
-use Rattle.fluent_syntax_grammar.specs.Written.{Text}
-
--- ---- The last byte, which is at place n
-
--- ---- All bytes
+-- Texts by their lines and bytes.
+use Rattle.std.proofs.Common.{◌≡◌, ℕ, [], ◌∷◌, Bool, true, false, ◌&&◌, ◌||◌, ◌==◌, not, refl, sym, ap, ◌∙◌}
+use Rattle.std.proofs.Common.{subst}
+use Rattle.std.specs.List.{list_all, list_any}
+use Rattle.fluent_syntax_grammar.specs.Bytes.{lf, cr, left_brace, right_brace}
+use Rattle.fluent_syntax_grammar.specs.Elements.{without_last_lf}
+use Rattle.fluent_syntax_grammar.specs.Lanes.{is_passed}
+use Rattle.fluent_syntax_grammar.specs.PatternTexts.{is_brace, is_empty, has_crlf}
+use Rattle.fluent_syntax_grammar.specs.Readable.{is_text}
+use Rattle.fluent_syntax_grammar.specs.Written.{Text, has_lf}
+use Rattle.fluent_syntax_grammar.proofs.Facts.{equal}
+use Rattle.fluent_syntax_grammar.proofs.Tests.{and_false, neither_left, neither_right}
+use Rattle.fluent_syntax_writer.specs.Texts.{ends_in_crlf, is_text_by_line}
 
 -- whether an LF directly follows a CR, which may stand before the text
 abbrev pub has_crlf_after : Bool → Text → Bool
@@ -17,3 +21,64 @@ pub has_crlf-after : (bs : Text) → has_crlf_after false bs ≡ has_crlf bs
 has_crlf-after [] = refl
 has_crlf-after (b ∷ []) = refl
 has_crlf-after (b ∷ c ∷ bs) = ap (λ r. b == cr && c == lf || r) (has_crlf-after (c ∷ bs))
+
+-- ---- A text by its line, which is what stands before the LF that ends it
+
+-- What is so of one LF, and of each other byte, is so of each byte.
+by_lf : (P : ℕ → Type 0) → P lf → ((b : ℕ) → (b == lf) ≡ false → P b) → (b : ℕ) → P b
+by_lf P one other b = at (b == lf) refl
+  where
+    at : (is : Bool) → (b == lf) ≡ is → P b
+    at true e = subst P (sym (equal b lf e)) one
+    at false e = other b e
+
+braces_in_line : (v : Text) → list_any is_brace (without_last_lf v) ≡ list_any is_brace v
+braces_in_line [] = refl
+braces_in_line (b ∷ []) =
+    by_lf (λ c. list_any is_brace (without_last_lf (c ∷ [])) ≡ list_any is_brace (c ∷ [])) refl
+    (λ c other. rw other refl) b
+braces_in_line (b ∷ c ∷ bs) = ap (λ r. is_brace b || r) (braces_in_line (c ∷ bs))
+
+passed_first : (l x y braces lfs : Bool)
+    → (not (l || x || y) && (not braces && not lfs)) ≡ (not ((x || y) || braces) && not (l || lfs))
+passed_first true x y braces lfs = sym (and_false (not ((x || y) || braces)))
+passed_first false true y braces lfs = refl
+passed_first false false true braces lfs = refl
+passed_first false false false braces lfs = refl
+
+all_passed : (u : Text) → list_all is_passed u ≡ (not (list_any is_brace u) && not (has_lf u))
+all_passed [] = refl
+all_passed (b ∷ bs) =
+    ap (λ r. is_passed b && r) (all_passed bs)
+    ∙ passed_first (b == lf) (b == left_brace) (b == right_brace) (list_any is_brace bs) (has_lf bs)
+
+crlf_last : (r : Bool) → (r && true || false) ≡ (true && r)
+crlf_last true = refl
+crlf_last false = refl
+
+crlf_at_end : (v : Text) → has_lf (without_last_lf v) ≡ false → has_crlf v ≡ ends_in_crlf v
+crlf_at_end [] none = refl
+crlf_at_end (b ∷ []) none =
+    by_lf (λ c. has_crlf (c ∷ []) ≡ ends_in_crlf (c ∷ [])) refl (λ c other. rw other refl) b
+crlf_at_end (b ∷ c ∷ []) none =
+    by_lf (λ d. has_crlf (b ∷ d ∷ []) ≡ ends_in_crlf (b ∷ d ∷ [])) (crlf_last (b == cr))
+    (λ d other. rw (other, and_false (b == cr)) refl) c
+crlf_at_end (b ∷ c ∷ d ∷ bs) none =
+    let rest = neither_right (b == lf) _ none in
+    let other = neither_left (c == lf) (has_lf (without_last_lf (d ∷ bs))) rest in
+    rw (other, and_false (b == cr)) (crlf_at_end (c ∷ d ∷ bs) rest)
+
+by_parts : (filled braces lfs crlf at_end : Bool) → (lfs ≡ false → crlf ≡ at_end)
+    → (filled && ((not braces && not lfs) && not at_end)) ≡ (filled && (not braces && (not crlf && not lfs)))
+by_parts false braces lfs crlf at_end same = refl
+by_parts true true lfs crlf at_end same = refl
+by_parts true false true crlf at_end same = sym (and_false (not crlf))
+by_parts true false false true at_end same = ap not (sym (same refl))
+by_parts true false false false at_end same = ap not (sym (same refl))
+
+pub is_text-line : (v : Text) → is_text_by_line v ≡ is_text v
+is_text-line v =
+    let line = without_last_lf v in
+    ap (λ passed. not (is_empty v) && (passed && not (ends_in_crlf v)))
+    (all_passed line ∙ ap (λ braces. not braces && not (has_lf line)) (braces_in_line v))
+    ∙ by_parts (not (is_empty v)) (list_any is_brace v) (has_lf line) (has_crlf v) (ends_in_crlf v) (crlf_at_end v)

@@ -8,6 +8,8 @@ ghost use Rattle.fluent_syntax_grammar.specs.Spellings.{is_units, is_escape, is_
 ghost use Rattle.fluent_syntax_grammar.specs.Readable.{is_callee};
 ghost use Rattle.fluent_syntax_writer.specs.Strings.{may_follow};
 
+use fluent_syntax_grammar::lanes::name_len;
+
 /// Whether the text is a letter and then letters, digits, `-` and `_`.
 pub fn is_name(text: &str) -> bool
     ensures { result ≡ is_name text.now }
@@ -21,13 +23,7 @@ pub fn is_name(text: &str) -> bool
 fn are_name_bytes(bytes: &[u8]) -> bool
     ensures { result ≡ list_all is_name_byte bytes.now }
 {
-    bytes.iter().all(|byte| is_name_byte(*byte))
-}
-
-fn is_name_byte(byte: u8) -> bool
-    ensures { result ≡ is_name_byte byte }
-{
-    byte.is_ascii_alphanumeric() || byte == b'-' || byte == b'_'
+    name_len(bytes) == bytes.len()
 }
 
 /// Whether the text holds only `A` to `Z`, digits, `_` and `-`.

@@ -13,6 +13,7 @@ use crate::canonical::elements::is_pattern;
 use crate::canonical::entries::is_message;
 use crate::canonical::expressions::{has_one_default, is_expression};
 use crate::canonical::flush::is_flush;
+use crate::canonical::plain::is_plain_pattern;
 use crate::canonical::rules::Rule;
 use crate::canonical::spellings::{is_callee, is_name, is_number, is_string};
 use fluent_syntax_tree::ast::*;
@@ -65,7 +66,8 @@ pub fn is_pattern_by<X, T: ReadTexts<X>>(standard: Standard, pattern: &Pattern<X
     match standard {
         Standard::Readable(edition) => is_pattern::<X, T>(edition, pattern),
         Standard::Canonical(edition) => {
-            is_pattern::<X, T>(edition, pattern) && is_flush::<X, T>(edition, pattern)
+            is_plain_pattern::<X, T>(pattern)
+                || is_pattern::<X, T>(edition, pattern) && is_flush::<X, T>(edition, pattern)
         }
         Standard::Alone(edition, rule) => pattern_keeps::<X, T>(edition, rule, pattern),
     }

@@ -1,22 +1,55 @@
 //! Tests of one text of a pattern or of a line of a comment.
-ghost use Rattle.std.specs.Prelude.{◌≡◌};
+ghost use Rattle.std.specs.Prelude.{◌≡◌, None};
 ghost use Rattle.std.specs.List.{list_all, list_any};
-ghost use Rattle.fluent_syntax_grammar.specs.Bytes.{is_space};
+ghost use Rattle.fluent_syntax_grammar.specs.Bytes.{cr, is_space};
 ghost use Rattle.fluent_syntax_grammar.specs.Elements.{is_nonblank};
+ghost use Rattle.fluent_syntax_grammar.specs.Lanes.{is_passed};
 ghost use Rattle.fluent_syntax_grammar.specs.PatternTexts.{is_brace, has_crlf, is_spaces, begins_with_space};
 ghost use Rattle.fluent_syntax_grammar.specs.PatternTexts.{leading_spaces, after_spaces, ends_plainly};
 ghost use Rattle.fluent_syntax_grammar.specs.Readable.{is_text};
-ghost use Rattle.fluent_syntax_grammar.specs.Written.{has_lf, is_shown, begins_with_mark, is_leading_mark};
+ghost use Rattle.fluent_syntax_grammar.specs.Written.{has_lf, is_last, is_shown, last_of, begins_with_mark};
+ghost use Rattle.fluent_syntax_grammar.specs.Written.{is_leading_mark};
+ghost use Rattle.fluent_syntax_writer.specs.Texts.{ends_in_crlf, is_text_by_line};
 
-use fluent_syntax_grammar::texts::{self, without_last_lf};
+use fluent_syntax_grammar::lanes::text_len;
+use fluent_syntax_grammar::texts::{self, ends_in_lf, without_last_lf};
 use fluent_syntax_tree::trimming::is_trimmed;
 
 /// Whether the text is not empty, and holds no brace, no CR directly before an LF, and an LF only as its last byte.
 pub(crate) fn is_text(text: &str) -> bool
     ensures { result ≡ is_text text.now }
 {
+    is_text_by_line(text)
+}
+
+/// The same, by the line of the text, which is what stands before the LF that ends it.
+fn is_text_by_line(text: &str) -> bool
+    ensures { result ≡ is_text_by_line text.now }
+{
     let bytes = text.as_bytes();
-    !bytes.is_empty() && !has_brace(bytes) && !has_crlf(bytes) && !has_lf(without_last_lf(bytes))
+    !bytes.is_empty() && is_text_line(without_last_lf(bytes)) && !ends_in_crlf(text)
+}
+
+/// Whether the bytes hold no LF and no brace.
+fn is_text_line(bytes: &[u8]) -> bool
+    ensures { result ≡ list_all is_passed bytes.now }
+{
+    text_len(bytes) == bytes.len()
+}
+
+fn ends_in_crlf(text: &str) -> bool
+    ensures { result ≡ ends_in_crlf text.now }
+{
+    ends_in_lf(text) && ends_in_cr(without_last_lf(text.as_bytes()))
+}
+
+fn ends_in_cr(bytes: &[u8]) -> bool
+    ensures { result ≡ is_last cr (last_of None bytes.now) }
+{
+    match bytes {
+        [.., last] => *last == b'\r',
+        [] => false,
+    }
 }
 
 pub(crate) fn has_brace(bytes: &[u8]) -> bool

@@ -47,26 +47,26 @@ returns-clause-text c =
     elim c.match-command.branch [
       | in-Check+in_ok-answer-in-Check w ↦
           of_arm (λ a. string_bytes a.0) (λ a. a.1) c.args.command Check c.args.input.now c.in-Ok.text.now
-          c.in-Ok.ensures.cases w.in-Check.is w.in_ok-answer-in-Check.answer _ w.answer-is
+          c.in-Ok.ensures w.in-Check.is w.in_ok-answer-in-Check.answer _ w.answer-is
           w.in_ok-answer-in-Check.ensures.text
       | in-CheckTwo+in_ok-answer-in-CheckTwo w ↦
           of_arm (λ a. string_bytes a.0) (λ a. a.1) c.args.command CheckTwo c.args.input.now c.in-Ok.text.now
-          c.in-Ok.ensures.cases w.in-CheckTwo.is w.in_ok-answer-in-CheckTwo.answer _ w.answer-is
+          c.in-Ok.ensures w.in-CheckTwo.is w.in_ok-answer-in-CheckTwo.answer _ w.answer-is
           w.in_ok-answer-in-CheckTwo.ensures.text
       | in-Format+in_ok-answer-in-Format w ↦
           of_arm (λ a. string_bytes a.0) (λ a. a.1) c.args.command Format c.args.input.now c.in-Ok.text.now
-          c.in-Ok.ensures.cases w.in-Format.is w.in_ok-answer-in-Format.answer _ w.answer-is
+          c.in-Ok.ensures w.in-Format.is w.in_ok-answer-in-Format.answer _ w.answer-is
           w.in_ok-answer-in-Format.ensures.text
       | in-FormatTwo+in_ok-answer-in-FormatTwo w ↦
           of_arm (λ a. string_bytes a.0) (λ a. a.1) c.args.command FormatTwo c.args.input.now c.in-Ok.text.now
-          c.in-Ok.ensures.cases w.in-FormatTwo.is w.in_ok-answer-in-FormatTwo.answer _ w.answer-is
+          c.in-Ok.ensures w.in-FormatTwo.is w.in_ok-answer-in-FormatTwo.answer _ w.answer-is
           w.in_ok-answer-in-FormatTwo.ensures.text
       | in-Runtime+in_ok-answer-in-Runtime w ↦
           of_arm (λ a. string_bytes a.0) (λ a. a.1) c.args.command Runtime c.args.input.now c.in-Ok.text.now
-          c.in-Ok.ensures.cases w.in-Runtime.is w.in_ok-answer-in-Runtime.answer _ w.answer-is
+          c.in-Ok.ensures w.in-Runtime.is w.in_ok-answer-in-Runtime.answer _ w.answer-is
           w.in_ok-answer-in-Runtime.ensures.text
       | in-Json+in_ok-answer-in-Json w ↦
           of_arm (λ a. string_bytes a.0) (λ a. a.1) c.args.command Json c.args.input.now c.in-Ok.text.now
-          c.in-Ok.ensures.cases w.in-Json.is w.in_ok-answer-in-Json.answer _ w.answer-is
+          c.in-Ok.ensures w.in-Json.is w.in_ok-answer-in-Json.answer _ w.answer-is
           w.in_ok-answer-in-Json.ensures.text
     ]

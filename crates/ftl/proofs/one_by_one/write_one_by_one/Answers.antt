@@ -1,16 +1,20 @@
-use Rattle.std.proofs.Common.{◌∙◌, [], ap}
+use Rattle.std.proofs.Common.{◌∙◌, ◌∷◌, ◌++◌, [], ap, map}
+use Rattle.std.specs.Prelude.{option_to_list}
+use Rattle.fluent_syntax_tree.specs.View.{entry_view}
 use Rattle.fluent_syntax_parser.specs.Rest.{faults_of}
 use Rattle.fluent_syntax_parser.proofs.tilings.Rests.{entry_to}
 use Rattle.ftl.specs.OneByOne.{none_came, one_more}
 use Rattle.ftl.proofs.ReadTo.{all_read, nothing_read, read_on}
 use Rattle.ftl.proofs.one_by_one.write_one_by_one.Goals as goal
 
-pub loop-read-init : goal.loop-read-init
-loop-read-init g c =
+pub loop-errors-init : goal.loop-errors-init
+loop-errors-init g c =
     let options = c.args.options in
     record {
       text = c.new-entries.ensures.text;
       options = c.new-entries.ensures.options;
+      no_entry = c.new-body.ensures.items;
+      no_error = c.new-errors.ensures.items;
       so_far = (
         [],
         none_came,
@@ -19,23 +23,31 @@ loop-read-init g c =
       deeper = rw c.new-entries.ensures.start (λ d. d, λ d. d);
     }
 
-pub loop-read-preserved : goal.loop-read-preserved
-loop-read-preserved g c =
+pub loop-errors-preserved : goal.loop-errors-preserved
+loop-errors-preserved g c =
     let t = c.args.text.now in
     let options = c.args.options in
-    let inv = c.loop-read.invariant in
-    let here = c.in_ok-read.ensures in
-    let next = rw (inv.text, inv.options, c.in-Some.is, c.new-slices.ensures) at here.next in
-    let error = c.in-Some.read.1 in
-    let there = entry_to options.comments options.edition t _ _ _ next.0 (faults_of error) next.1 in
-    let longer = read_on options.comments options.edition t _ _ _ inv.so_far.2 _ next.0 error there in
+    let inv = c.loop-errors.invariant in
+    let here = c.in_ok-_span.ensures in
+    let put = rw (inv.text, inv.options, c.in-Some.is, c.new-slices.ensures) at here.next in
+    let span = rw c.in-Some.is at here.stands in
+    let stands = rw span at put.stands in
+    let there = entry_to options.comments options.edition t _ _ _ put.tree (faults_of put.error) stands in
+    let longer = read_on options.comments options.edition t _ _ _ inv.so_far.2 _ put.tree put.error there in
+    let entry = put.added ∙ ap (λ xs. xs ++ put.entry ∷ []) inv.no_entry in
+    let error = put.tells ∙ ap (λ xs. xs ++ option_to_list put.error) inv.no_error in
+    let written = c.write_read-outcome.ensures.written (entry_view (λ s. s.now) put.entry)
+    (ap (map (entry_view (λ s. s.now))) (c.deref.ensures.value ∙ entry)) in
+    let outcome = c.write_read-outcome.ensures.outcome put.error (c.deref-in-Some.ensures.value ∙ error) in
     record {
       text = ap (λ source. source.bytes.now) here.text ∙ inv.text;
       options = here.options ∙ inv.options;
+      no_entry = c.clear.ensures.items;
+      no_error = c.clear-in-Some.ensures.items;
       so_far = (
         _,
-        one_more inv.so_far.1 (rw next.2 at c.write_read-outcome.ensures.written),
-        rw c.write_read-outcome.ensures.outcome longer,
+        one_more inv.so_far.1 (rw put.same at written),
+        rw outcome longer,
       );
       deeper =
           let shallow = rw (inv.text, inv.options, c.in-Some.is) at here.shallow in
@@ -45,7 +57,7 @@ loop-read-preserved g c =
 pub returns-clause-written : goal.returns-clause-written
 returns-clause-written g c =
     let options = c.args.options in
-    let inv = c.loop-read.invariant in
-    let none = rw (inv.text, inv.options, c.in_default.is) at c.in_ok-read.ensures.next in
-    let tiled = all_read options.comments options.edition c.args.text.now _ _ _ inv.so_far.2 none in
+    let inv = c.loop-errors.invariant in
+    let none = rw (inv.text, inv.options, c.in_default.is) at c.in_ok-_span.ensures.next in
+    let tiled = all_read options.comments options.edition c.args.text.now _ _ _ inv.so_far.2 none.0 in
     (tiled.0, tiled.1, rw tiled.2 at inv.so_far.1, tiled.3)

@@ -1,14 +1,13 @@
-use Rattle.std.proofs.Common.{◌∷◌, ◌++◌, [], Some, ap, sym, ◌∙◌}
+use Rattle.std.proofs.Common.{◌∷◌, ◌++◌, [], Some, ap, arith, length, sym, ◌∙◌}
 use Rattle.std.specs.Prelude.{option_to_list}
-use Rattle.fluent_syntax_parser.specs.Rest.{faults_of}
 use Rattle.fluent_syntax_parser.proofs.tilings.ErrorPlaces.{error_behind}
 use Rattle.fluent_syntax_parser.proofs.entry_forms.MadeEntries.{same_some}
-use Rattle.fluent_syntax_parser.proofs.tilings.Rests.{entry_to, reached_behind}
+use Rattle.fluent_syntax_parser.proofs.tilings.Rests.{entry_to}
 use Rattle.fluent_syntax_parser.proofs.entries.Entries.next_entry_with.Goals as goal
 
 pub returns-in_default-only_item-clause-next : goal.returns-in_default-only_item-clause-next
 returns-in_default-only_item-clause-next g c =
-    let put = rw c.in-Some.is at c.in_ok-span.ensures.next in
+    let put = rw c.in-Some.is at c.in_ok-_span.ensures.next in
     let some =
     sym c.in_default-only_item.is
     ∙ c.only_item.ensures (Some put.entry)
@@ -17,7 +16,7 @@ returns-in_default-only_item-clause-next g c =
 
 pub returns-in_default-only_item-clause-shallow : goal.returns-in_default-only_item-clause-shallow
 returns-in_default-only_item-clause-shallow g c =
-    let put = rw c.in-Some.is at c.in_ok-span.ensures.next in
+    let put = rw c.in-Some.is at c.in_ok-_span.ensures.next in
     let some =
     sym c.in_default-only_item.is
     ∙ c.only_item.ensures (Some put.entry)
@@ -26,7 +25,8 @@ returns-in_default-only_item-clause-shallow g c =
 
 pub returns-clause-next : goal.returns-clause-next
 returns-clause-next g c =
-    let put = rw c.in-Some.is at c.in_ok-span.ensures.next in
+    let put = rw (c.in-Some.is) at c.in_ok-_span.ensures.next in
+    let stands = rw c.in-Some.is at c.in_ok-_span.ensures.stands in
     let same =
     sym c.in-Some-only_item.is
     ∙ c.only_item.ensures (Some put.entry)
@@ -34,24 +34,19 @@ returns-clause-next g c =
     let told =
     c.only_item-2.ensures put.error
     (put.tells ∙ ap (λ xs. xs ++ option_to_list put.error) c.new-errors.ensures.items) in
-    rw (same_some c.in-Some-only_item.entry put.entry same, told) (put.tree, put.stands, put.same)
+    rw (same_some c.in-Some-only_item.entry put.entry same, told) (put.tree, rw stands at put.stands, put.same)
 
 pub returns-clause-places : goal.returns-clause-places
 returns-clause-places g c =
     let t = c.args.self.now.source.bytes.now in
     let options = c.args.self.now.options in
-    let put = rw c.in-Some.is at c.in_ok-span.ensures.next in
-    let inside = rw c.in-Some.is at c.in_ok-span.ensures.within in
+    let put = rw c.in-Some.is at c.in_ok-_span.ensures.next in
+    let stands = rw c.in-Some.is at c.in_ok-_span.ensures.stands in
+    let source = ap (λ source. length source.bytes.now) c.in_ok-_span.ensures.text in
     let told =
     c.only_item-2.ensures put.error
     (put.tells ∙ ap (λ xs. xs ++ option_to_list put.error) c.new-errors.ensures.items) in
-    let there = entry_to options.comments options.edition t _ _ _ put.tree _ put.stands in
+    let there = entry_to options.comments options.edition t _ _ _ put.tree _ (rw stands at put.stands) in
     rw told
-    (error_behind t options.comments options.edition _ _ put.tree put.error inside c.args.self.now.reached there)
-
-pub invariant_of-self-clause-reached : goal.invariant_of-self-clause-reached
-invariant_of-self-clause-reached g c =
-    let options = c.args.self.now.options in
-    let put = rw c.in-Some.is at c.in_ok-span.ensures.next in
-    reached_behind options.comments options.edition c.args.self.now.source.bytes.now _ _ _ put.tree
-    (faults_of put.error) put.stands c.args.self.now.reached
+    (error_behind t options.comments options.edition _ _ put.tree put.error
+    (omega (arith, source, c.add_next_entry.new.self.within)) c.args.self.now.reached there)

@@ -215,8 +215,8 @@ get_arguments-returns-then-place-self-clause-meets = arguments.get_arguments-ret
 pub get_arguments-returns-in_err-expression-clause-meets : goal.get_arguments-returns-in_err-expression-clause-meets
 get_arguments-returns-in_err-expression-clause-meets = arguments.get_arguments-returns-in_err-expression-clause-meets
 
-pub get_arguments-returns-then-has-clause-meets : goal.get_arguments-returns-then-has-clause-meets
-get_arguments-returns-then-has-clause-meets = arguments.get_arguments-returns-then-has-clause-meets
+pub get_arguments-returns-then-not-is_new-clause-meets : goal.get_arguments-returns-then-not-is_new-clause-meets
+get_arguments-returns-then-not-is_new-clause-meets = arguments.get_arguments-returns-then-not-is_new-clause-meets
 
 pub get_arguments-skip_blank-start-requires : goal.get_arguments-skip_blank-start-requires
 get_arguments-skip_blank-start-requires = arguments.get_arguments-skip_blank-start-requires
@@ -251,9 +251,10 @@ pub get_arguments-returns-in_err-add_positional-in_default-clause-meets :
 get_arguments-returns-in_err-add_positional-in_default-clause-meets =
     arguments.get_arguments-returns-in_err-add_positional-in_default-clause-meets
 
-pub get_arguments-returns-in_err-note-in-Some-clause-meets : goal.get_arguments-returns-in_err-note-in-Some-clause-meets
-get_arguments-returns-in_err-note-in-Some-clause-meets =
-    arguments.get_arguments-returns-in_err-note-in-Some-clause-meets
+pub get_arguments-returns-in_err-is_new-in-Some-clause-meets :
+    goal.get_arguments-returns-in_err-is_new-in-Some-clause-meets
+get_arguments-returns-in_err-is_new-in-Some-clause-meets =
+    arguments.get_arguments-returns-in_err-is_new-in-Some-clause-meets
 
 pub get_arguments-loop-noted-init : goal.get_arguments-loop-noted-init
 get_arguments-loop-noted-init = arguments.get_arguments-loop-noted-init
@@ -292,19 +293,16 @@ get_long_pattern-returns-clause-meets = patterns.get_long_pattern-returns-clause
 pub get_long_pattern-returns-in_err-pattern-clause-meets : goal.get_long_pattern-returns-in_err-pattern-clause-meets
 get_long_pattern-returns-in_err-pattern-clause-meets = patterns.get_long_pattern-returns-in_err-pattern-clause-meets
 
-pub get_pattern-returns-in-Some-clause-meets : goal.get_pattern-returns-in-Some-clause-meets
-get_pattern-returns-in-Some-clause-meets = patterns.get_pattern-returns-in-Some-clause-meets
-
-pub get_pattern-returns-in-Some-end_without_text-clause-meets :
-    goal.get_pattern-returns-in-Some-end_without_text-clause-meets
-get_pattern-returns-in-Some-end_without_text-clause-meets =
-    patterns.get_pattern-returns-in-Some-end_without_text-clause-meets
+pub get_pattern-returns-in_ok-pattern-in-Some-clause-meets : goal.get_pattern-returns-in_ok-pattern-in-Some-clause-meets
+get_pattern-returns-in_ok-pattern-in-Some-clause-meets = patterns.get_pattern-returns-in_ok-pattern-in-Some-clause-meets
 
 pub get_pattern-returns-in-None-clause-meets : goal.get_pattern-returns-in-None-clause-meets
 get_pattern-returns-in-None-clause-meets = patterns.get_pattern-returns-in-None-clause-meets
 
-pub get_pattern-returns-in_err-pattern-clause-meets : goal.get_pattern-returns-in_err-pattern-clause-meets
-get_pattern-returns-in_err-pattern-clause-meets = patterns.get_pattern-returns-in_err-pattern-clause-meets
+pub get_pattern-returns-in_err-pattern-in-Some-clause-meets :
+    goal.get_pattern-returns-in_err-pattern-in-Some-clause-meets
+get_pattern-returns-in_err-pattern-in-Some-clause-meets =
+    patterns.get_pattern-returns-in_err-pattern-in-Some-clause-meets
 
 pub gather_pieces-returns-in-None-clause-meets : goal.gather_pieces-returns-in-None-clause-meets
 gather_pieces-returns-in-None-clause-meets = patterns.gather_pieces-returns-in-None-clause-meets
@@ -356,6 +354,12 @@ gather_line-returns-clause-within = patterns.gather_line-returns-clause-within
 
 pub gather_lines-returns-in-None-clause-meets : goal.gather_lines-returns-in-None-clause-meets
 gather_lines-returns-in-None-clause-meets = patterns.gather_lines-returns-in-None-clause-meets
+
+pub gather_lines-returns-in-None-clause-behind : goal.gather_lines-returns-in-None-clause-behind
+gather_lines-returns-in-None-clause-behind = patterns.gather_lines-returns-in-None-clause-behind
+
+pub gather_lines-returns-then-not-belongs-clause-behind : goal.gather_lines-returns-then-not-belongs-clause-behind
+gather_lines-returns-then-not-belongs-clause-behind = patterns.gather_lines-returns-then-not-belongs-clause-behind
 
 pub gather_lines-returns-then-not-belongs-clause-meets : goal.gather_lines-returns-then-not-belongs-clause-meets
 gather_lines-returns-then-not-belongs-clause-meets = patterns.gather_lines-returns-then-not-belongs-clause-meets

@@ -17,10 +17,10 @@ pub returns-in_err-id-clause-adds : goal.returns-in_err-id-clause-adds
 returns-in_err-id-clause-adds g c =
     rw (out_of_memory c.from_residual-in_err-id.result c.from_residual-in_err-id.ensures.1) (no_memory, refl)
 
-pub returns-in_err-push-clause-adds : goal.returns-in_err-push-clause-adds
-returns-in_err-push-clause-adds g c =
-    rw (out_of_memory c.from_residual-in_err-push.result c.from_residual-in_err-push.ensures.1)
-    (no_memory, c.in_err-push.ensures.items)
+pub returns-in_err-add-clause-adds : goal.returns-in_err-add-clause-adds
+returns-in_err-add-clause-adds g c =
+    rw (out_of_memory c.from_residual-in_err-add.result c.from_residual-in_err-add.ensures.1)
+    (no_memory, c.in_err-add.ensures.stays)
 
 pub returns-clause-adds : goal.returns-clause-adds
 returns-clause-adds g c =
@@ -30,7 +30,7 @@ returns-clause-adds g c =
     let end = c.in_ok-extents.extents.span.end in
     let (a, parts, begins, same) = c.in_ok-extents.ensures.finds in (
       _,
-      c.in_ok-push.ensures.items,
+      c.in_ok-add.ensures.added,
       made (subst (λ i. attribute_of edition t R i (Read a end)) begins parts.whole)
           (rw (c.in_ok-id.ensures, same, parts.named) refl),
     )

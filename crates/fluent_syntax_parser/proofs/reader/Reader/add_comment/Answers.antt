@@ -15,10 +15,10 @@ returns-in_err-content-clause-adds g c =
     rw (p.1, p.2)
     (fails_seen (comment_of t) _ c.comment_level-level.ensures.level c.in_err-content.ensures.meets, refl)
 
-pub returns-in_err-push-clause-adds : goal.returns-in_err-push-clause-adds
-returns-in_err-push-clause-adds g c =
-    rw (out_of_memory c.from_residual-in_err-push.result c.from_residual-in_err-push.ensures.1)
-    (no_memory, c.in_err-push.ensures.items)
+pub returns-in_err-add-clause-adds : goal.returns-in_err-add-clause-adds
+returns-in_err-add-clause-adds g c =
+    rw (out_of_memory c.from_residual-in_err-add.result c.from_residual-in_err-add.ensures.1)
+    (no_memory, c.in_err-add.ensures.stays)
 
 pub returns-clause-adds : goal.returns-clause-adds
 returns-clause-adds g c =
@@ -27,7 +27,7 @@ returns-clause-adds g c =
     let named = comment_made c.args.self.now.source.bytes.now c.args.ptr c.in_ok-content.end count _ hashed
     c.in_ok-content.ensures.meets in (
       _,
-      c.in_ok-push.ensures.items,
+      c.in_ok-add.ensures.added,
       elim c.match-level.branch [
         | in-1 w ↦ rw w.entry-is (named regular (rw w.in-1.is refl))
         | in-2 w ↦ rw w.entry-is (named group (rw w.in-2.is refl))

@@ -6,8 +6,8 @@ pub returns-clause-adds : goal.returns-clause-adds
 returns-clause-adds g c = record {
   entry = _;
   error = _;
-  added = c.in_ok-push.ensures.items;
-  tells = c.in_ok-push-2.ensures.items;
+  added = c.in_ok-add.ensures.added;
+  tells = c.in_ok-add-2.ensures.added;
   same = ap junk c.in_ok-content.ensures;
   fault = c.in_ok-error.ensures;
 }

@@ -61,10 +61,10 @@ pub returns-in_err-id-clause-adds : goal.returns-in_err-id-clause-adds
 returns-in_err-id-clause-adds g c =
     rw (out_of_memory c.from_residual-in_err-id.result c.from_residual-in_err-id.ensures.1) (no_memory, refl)
 
-pub returns-in_err-push-clause-adds : goal.returns-in_err-push-clause-adds
-returns-in_err-push-clause-adds g c =
-    rw (out_of_memory c.from_residual-in_err-push.result c.from_residual-in_err-push.ensures.1)
-    (no_memory, c.in_err-push.ensures.items)
+pub returns-in_err-add-clause-adds : goal.returns-in_err-add-clause-adds
+returns-in_err-add-clause-adds g c =
+    rw (out_of_memory c.from_residual-in_err-add.result c.from_residual-in_err-add.ensures.1)
+    (no_memory, c.in_err-add.ensures.stays)
 
 pub returns-clause-adds : goal.returns-clause-adds
 returns-clause-adds g c =
@@ -76,7 +76,7 @@ returns-clause-adds g c =
     let size : length rest ≡ vec_len found.attributes = omega (arith, found.attributes.ok.0) in
     on_made c.in_ok-fields.ensures.meets (λ x read same. (
       _,
-      c.in_ok-push.ensures.items,
+      c.in_ok-add.ensures.added,
       made
           (goes_on at_place
           (goes_on c.in_ok-end.ensures.meets

@@ -52,13 +52,13 @@ returns-in_err-id-in-Some-clause-adds g c =
     rw (out_of_memory c.from_residual-in_err-id-in-Some.result c.from_residual-in_err-id-in-Some.ensures.1)
     (no_memory, refl)
 
-pub returns-in_err-push-in-Some-clause-adds : goal.returns-in_err-push-in-Some-clause-adds
-returns-in_err-push-in-Some-clause-adds g c =
-    rw (out_of_memory c.from_residual-in_err-push-in-Some.result c.from_residual-in_err-push-in-Some.ensures.1)
-    (no_memory, c.in_err-push-in-Some.ensures.items)
+pub returns-in_err-add-in-Some-clause-adds : goal.returns-in_err-add-in-Some-clause-adds
+returns-in_err-add-in-Some-clause-adds g c =
+    rw (out_of_memory c.from_residual-in_err-add-in-Some.result c.from_residual-in_err-add-in-Some.ensures.1)
+    (no_memory, c.in_err-add-in-Some.ensures.stays)
 
-pub returns-in_ok-push-in-Some-clause-adds : goal.returns-in_ok-push-in-Some-clause-adds
-returns-in_ok-push-in-Some-clause-adds g c =
+pub returns-in_ok-add-in-Some-clause-adds : goal.returns-in_ok-add-in-Some-clause-adds
+returns-in_ok-add-in-Some-clause-adds g c =
     let t = c.args.self.now.source.bytes.now in
     let name : Span = record { start = c.in_ok-letter.letter; end = c.in_ok-end.end } in
     let edition = c.args.self.now.edition in
@@ -67,7 +67,7 @@ returns-in_ok-push-in-Some-clause-adds g c =
     some_field (pattern_map (g.M.MakeTexts.source c.args.self.now.texts.now))
     (fields edition t (within edition t c.args.nesting)) x read (ap (λ y. y.0) same) (λ value there same_value. (
       _,
-      c.in_ok-push-in-Some.ensures.items,
+      c.in_ok-add-in-Some.ensures.added,
       made
           (goes_on at_place
           (goes_on c.in_ok-letter.ensures.meets

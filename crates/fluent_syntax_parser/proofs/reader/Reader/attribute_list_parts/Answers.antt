@@ -9,8 +9,8 @@ use Rattle.fluent_syntax_parser.proofs.entry_forms.ExtentForms.{all_extents, no_
 use Rattle.fluent_syntax_parser.proofs.readers.Fails.{out_of_memory, shown, too_deep_there}
 use Rattle.fluent_syntax_parser.proofs.reader.Reader.attribute_list_parts.Goals as goal
 
-pub loop-extents-preserved-in_ok-push-in-Ok : goal.loop-extents-preserved-in_ok-push-in-Ok
-loop-extents-preserved-in_ok-push-in-Ok g c =
+pub loop-extents-preserved-in_ok-add-in-Ok : goal.loop-extents-preserved-in_ok-add-in-Ok
+loop-extents-preserved-in_ok-add-in-Ok g c =
     let t = c.args.self.now.source.bytes.now in
     let edition = c.args.self.now.edition in
     let R = within edition t c.args.nesting in
@@ -21,7 +21,7 @@ loop-extents-preserved-in_ok-push-in-Ok g c =
       forward = omega (arith, old.forward, read.within.0);
       within = read.within.1;
       gathered =
-          one_extent edition t R c.args.ptr _ _ _ _ c.in_ok-push-in-Ok.ensures.items old.gathered a parts begins;
+          one_extent edition t R c.args.ptr _ _ _ _ c.in_ok-add-in-Ok.ensures.added old.gathered a parts begins;
       deeper = λ h. old.deeper
           (deeper_attributes edition t R (functional_within edition t c.args.nesting)
           (subst (λ i. attribute_of edition t R i (Read a c.in-Ok.extents.span.end)) begins parts.whole) h);
@@ -42,8 +42,8 @@ returns-in-Err-TooDeep-clause-finds g c =
     (deeper_attribute c.args.self.now.edition t (within c.args.self.now.edition t c.args.nesting)
     (too_deep_there found)))
 
-pub returns-in_err-push-in-Ok-clause-finds : goal.returns-in_err-push-in-Ok-clause-finds
-returns-in_err-push-in-Ok-clause-finds g c =
+pub returns-in_err-add-in-Ok-clause-finds : goal.returns-in_err-add-in-Ok-clause-finds
+returns-in_err-add-in-Ok-clause-finds g c =
     rw (out_of_memory c.from_residual.result c.from_residual.ensures.1) no_memory
 
 pub returns-in-Err-Memory-clause-finds : goal.returns-in-Err-Memory-clause-finds

@@ -41,7 +41,7 @@ returns-in_err-attributes g c =
     fails_next (functional_inline_blank t) (passed c.skip_blank_inline-equals.ensures.blank)
     (fails_next (functional_token t equals_sign) c.in_ok-start.ensures.meets
     (fails_next (functional_pattern edition t _ (functional_within edition t _)) read
-    (fails_next (functional_blank_block t) (passed c.skip_blank_block-line.ensures.blank)
+    (fails_next (functional_blank_block t) (passed c.in_ok-value.ensures.behind)
     (fails_first c.in_err-attributes.ensures.finds))))))
 
 pub returns : goal.returns
@@ -61,7 +61,7 @@ returns g c =
         value = read;
         there = c.place_if.ensures ∙ same_place view (pattern_map f) place c.in_ok-value.value value same;
         line = _;
-        blank = c.skip_blank_block-line.ensures.blank;
+        blank = c.in_ok-value.ensures.behind;
         attributes = attributes;
       },
     ))

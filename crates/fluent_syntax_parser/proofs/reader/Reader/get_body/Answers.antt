@@ -9,7 +9,7 @@ loop-errors-init g c =
     let f = g.M.MakeTexts.source c.args.self.now.texts.now in
     record {
       within = search rules;
-      read = rw (c.new-body.ensures.items, c.new-errors.ensures.items)
+      read = rw (c.reserve.ensures.items, c.new-body.ensures.items, c.new-errors.ensures.items)
           (none_read f g.M.MakeTexts.made c.args.comments c.args.self.now.edition c.args.self.now.source.bytes.now);
       deeper = λ h. h;
       shallow = λ h. h;

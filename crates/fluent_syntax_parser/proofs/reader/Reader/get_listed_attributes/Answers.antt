@@ -8,7 +8,7 @@ use Rattle.fluent_syntax_grammar.proofs.DeeperEntries.{deeper_attribute, deeper_
 use Rattle.fluent_syntax_grammar.proofs.Nesting.{functional_within}
 use Rattle.fluent_syntax_parser.specs.Meets.{no_memory, too_deep}
 use Rattle.fluent_syntax_parser.proofs.readers.Made.{on_made}
-use Rattle.fluent_syntax_parser.proofs.readers.Fails.{shown, too_deep_there}
+use Rattle.fluent_syntax_parser.proofs.readers.Fails.{out_of_memory, shown, too_deep_there}
 use Rattle.fluent_syntax_parser.proofs.reader.Reader.get_listed_attributes.Goals as goal
 
 pub loop-next-preserved : goal.loop-next-preserved
@@ -48,10 +48,14 @@ returns-in-Err-TooDeep-clause-meets g c =
 pub returns-in-Err-Memory-clause-meets : goal.returns-in-Err-Memory-clause-meets
 returns-in-Err-Memory-clause-meets g c = no_memory
 
+pub returns-in_err-attributes-clause-meets : goal.returns-in_err-attributes-clause-meets
+returns-in_err-attributes-clause-meets g c =
+    rw (out_of_memory c.from_residual.result c.from_residual.ensures.1) no_memory
+
 pub loop-next-init : goal.loop-next-init
 loop-next-init g c = record {
   forward = omega arith;
   within = c.requires;
-  gathered = rw c.new-attributes.ensures.items (gathers.no_list _ _ _ _);
+  gathered = rw c.in_ok-attributes.ensures.items (gathers.no_list _ _ _ _);
   deeper = λ h. h;
 }

@@ -1,7 +1,28 @@
-use Rattle.fluent_syntax_parser.proofs.patterns.BlankLines.{blank_lines}
+use Rattle.std.proofs.Common.{sym}
+use Rattle.fluent_syntax_grammar.specs.Construct.{list_ends}
+use Rattle.fluent_syntax_grammar.specs.Lines.{no_byte, other_line}
+use Rattle.fluent_syntax_parser.proofs.patterns.BlankLines.{none_at_end, none_before_other}
 use Rattle.fluent_syntax_parser.proofs.source.Source.end_behind_blank_lines.Goals as goal
 
-pub returns-clause-lines : goal.returns-clause-lines
-returns-clause-lines c =
-    blank_lines c.args.edition c.args.self.now.bytes.now _ _ _ c.skip_blank_block.ensures.blank
-    c.in_ok-end.ensures.lines
+pub returns-in-None-clause-lines : goal.returns-in-None-clause-lines
+returns-in-None-clause-lines c = record {
+  place = _;
+  block = c.past_blank_lines-line.ensures.blank;
+  none = λ n. list_ends (no_byte c.past_blank_lines-line.ensures.spaces (sym c.in-None.ensures));
+}
+
+pub returns-in-None-clause-behind : goal.returns-in-None-clause-behind
+returns-in-None-clause-behind c =
+    none_at_end c.args.self.now.bytes.now c.past_blank_lines-line.ensures.spaces (sym c.in-None.ensures)
+
+pub returns-else-belongs-clause-lines : goal.returns-else-belongs-clause-lines
+returns-else-belongs-clause-lines c = record {
+  place = _;
+  block = c.past_blank_lines-line.ensures.blank;
+  none = λ n. list_ends (other_line c.past_blank_lines-line.ensures.spaces (sym c.in-Some.ensures)
+      (sym c.if-belongs.ensures));
+}
+
+pub returns-else-belongs-clause-behind : goal.returns-else-belongs-clause-behind
+returns-else-belongs-clause-behind c =
+    none_before_other c.args.self.now.bytes.now c.past_blank_lines-line.ensures.spaces _ (sym c.if-belongs.ensures)

@@ -17,7 +17,8 @@ loop-start-preserved c =
     let inv = c.loop-start.invariant in
     let mark = c.in-Ok.ensures in
     let field = c.in_ok-opening.ensures in
-    let text = c.in_ok-_text.ensures in
+    let text = c.in_ok-text.ensures in
+    let opens = rw c.in-Some.is at text.opens in
     record {
       forward = omega (
         arith,
@@ -30,7 +31,7 @@ loop-start-preserved c =
       inside = text.within.1;
       passed = λ n rest end found.
           let attribute = attribute_stands c.args.edition t _ _ _ _ _ _ c.skip_blank_inline-dot.ensures.blank
-          mark.meets field.opens text.opens n in
+          mark.meets field.opens opens n in
           inv.passed n _ end (one_more attribute.1 found);
     }
 

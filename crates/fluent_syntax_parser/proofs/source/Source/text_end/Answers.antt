@@ -1,6 +1,6 @@
 use Rattle.memchr.specs.Find.{is_byte3}
 use Rattle.fluent_syntax_grammar.specs.Bytes.{lf, left_brace, right_brace}
-use Rattle.fluent_syntax_parser.specs.Lanes.{is_passed}
+use Rattle.fluent_syntax_grammar.specs.Lanes.{is_passed}
 use Rattle.fluent_syntax_parser.proofs.scanning.Scans.{run_behind, scanned}
 use Rattle.fluent_syntax_parser.proofs.source.Source.text_end.Goals as goal
 

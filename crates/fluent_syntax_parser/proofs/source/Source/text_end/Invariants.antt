@@ -1,6 +1,6 @@
 use Rattle.std.proofs.Common.{length, ◌-◌, ◌≡◌, ◌<◌, ◌≤◌, ℕ, true}
 use Rattle.fluent_syntax_grammar.specs.Places.{has}
-use Rattle.fluent_syntax_parser.specs.Lanes.{is_passed}
+use Rattle.fluent_syntax_grammar.specs.Lanes.{is_passed}
 use Rattle.fluent_syntax_parser.proofs.source.Source.text_end.Given as goal
 
 abbrev pub invariant-loop-looks : goal.invariant-loop-looks

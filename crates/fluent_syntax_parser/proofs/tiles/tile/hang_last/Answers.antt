@@ -17,8 +17,8 @@ returns-in_default-take_comment g c = λ before comm e last.
     let some = sym c.in_default-take_comment.is ∙ (c.take_comment.ensures before comm ends.0).0 in
     cc
 
-pub returns-in_ok-push-in-Ok : goal.returns-in_ok-push-in-Ok
-returns-in_ok-push-in-Ok g c = λ before comm e last.
+pub returns-in_ok-add-in-Ok : goal.returns-in_ok-add-in-Ok
+returns-in_ok-add-in-Ok g c = λ before comm e last.
     let comment = c.in-Some-take_comment.comment in
     let hung = c.in-Ok.entry in
     let ends = same_from_push _ (before ++ entries.Comment comm ∷ []) _ e (sym c.in-Some.ensures.items ∙ last) in
@@ -26,17 +26,17 @@ returns-in_ok-push-in-Ok g c = λ before comm e last.
     let same = same_some comment comm (sym c.in-Some-take_comment.is ∙ took.0) in (
       hung,
       ap (λ x. commented x e) (sym same) ∙ ap (commented comment) (sym ends.1) ∙ c.in-Ok.ensures.hung,
-      c.in_ok-push-in-Ok.ensures.items ∙ ap (λ xs. xs ++ hung ∷ []) took.1,
+      c.in_ok-add-in-Ok.ensures.added ∙ ap (λ xs. xs ++ hung ∷ []) took.1,
     )
 
-pub returns-in_ok-push-in-Err : goal.returns-in_ok-push-in-Err
-returns-in_ok-push-in-Err g c = λ before comm e last.
+pub returns-in_ok-add-in-Err : goal.returns-in_ok-add-in-Err
+returns-in_ok-add-in-Err g c = λ before comm e last.
     let comment = c.in-Some-take_comment.comment in
     let ends = same_from_push _ (before ++ entries.Comment comm ∷ []) _ e (sym c.in-Some.ensures.items ∙ last) in
     let took = c.take_comment.ensures before comm ends.0 in
     let same = same_some comment comm (sym c.in-Some-take_comment.is ∙ took.0) in
     let other = c.in-Err.ensures.other in (
       ap (λ x. commented x e) (sym same) ∙ ap (commented comment) (sym ends.1) ∙ other.1,
-      c.in_ok-push-in-Err.ensures.items ∙ ap (λ xs. xs ++ entries.Comment c.in-Err.comment ∷ []) took.1
+      c.in_ok-add-in-Err.ensures.added ∙ ap (λ xs. xs ++ entries.Comment c.in-Err.comment ∷ []) took.1
           ∙ ap (λ x. before ++ entries.Comment x ∷ []) (other.0 ∙ same),
     )

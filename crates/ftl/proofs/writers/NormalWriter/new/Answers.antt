@@ -3,10 +3,10 @@ use Rattle.ftl.proofs.writers.NormalWriter.new.Goals as goal
 
 pub returns : goal.returns
 returns c = record {
-  start = c.new.result;
-  is_empty = c.new.ensures.bytes;
-  came = c.new-2.ensures.none_came;
-  no_junk = ap (λ options. options.with_junk) c.new-2.ensures.options ∙ c.default.ensures;
+  start = c.text_for.result;
+  is_empty = c.text_for.ensures;
+  came = c.new.ensures.none_came;
+  no_junk = ap (λ options. options.with_junk) c.new.ensures.options ∙ c.default.ensures;
   by_edition = refl;
   canonical = λ all. refl;
 }

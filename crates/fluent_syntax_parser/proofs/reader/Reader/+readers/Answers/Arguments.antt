@@ -1,6 +1,6 @@
 -- The answers of the readers of argument lists.
 use Rattle.std.proofs.Common.{◌≡◌, ◌∙◌, refl, sym, ap, arith, false, None, inl, inr}
-use Rattle.std.specs.Prelude.{◌⊎◌}
+use Rattle.std.specs.Prelude.{◌⊎◌, not}
 use Rattle.std.proofs.lemmas.Option.{gets}
 use Rattle.std.proofs.lemmas.Result.{err_from_is_err_and}
 use Rattle.fluent_syntax_tree.specs.Kind.{DuplicatedNamedArgument}
@@ -128,11 +128,12 @@ get_arguments-returns-in_err-expression-clause-meets g m c =
     (inline_fails t _ _ _ (omega (arith, c.if-place-self.false, c.loop-noted.invariant.within))
     (sym c.loop-noted-test.ensures) c.in_err-expression.ensures.meets))
 
-pub get_arguments-returns-then-has-clause-meets : goal.get_arguments-returns-then-has-clause-meets
-get_arguments-returns-then-has-clause-meets g m c =
+pub get_arguments-returns-then-not-is_new-clause-meets : goal.get_arguments-returns-then-not-is_new-clause-meets
+get_arguments-returns-then-not-is_new-clause-meets g m c =
     let t = c.args.self.now.source.bytes.now in
     let names = c.loop-noted.noted.names.items in
-    let used = used_in_order t (bytes_at t c.in-Some.name) names ∙ sym c.if-has.ensures in
+    let used = used_in_order t (bytes_at t c.in-Some.name) names ∙ c.in_ok-is_new-in-Some.ensures.new
+    ∙ ap not c.if-not-is_new.true in
     on_made c.in_ok-expression.ensures.meets (λ e read same.
     let there = inline_seen _ _ c.deref.ensures c.inline_in.ensures same in
     let is = sym (c.in-Some.ensures c.args.nesting _ e read there) in
@@ -154,7 +155,8 @@ pub get_arguments-returns-in_err-value-in-Some-clause-meets :
 get_arguments-returns-in_err-value-in-Some-clause-meets g m c =
     let t = c.args.self.now.source.bytes.now in
     let names = c.loop-noted.noted.names.items in
-    let new = used_in_order t (bytes_at t c.in-Some.name) names ∙ sym c.if-has.ensures in
+    let new = used_in_order t (bytes_at t c.in-Some.name) names ∙ c.in_ok-is_new-in-Some.ensures.new
+    ∙ ap not c.if-not-is_new.false in
     let mark = sym c.if-is_byte_at.ensures in
     let p = err_from_is_err_and c.from_residual-in_err-value-in-Some.result
     c.from_residual-in_err-value-in-Some.ensures.1 in
@@ -185,7 +187,9 @@ pub get_arguments-loop-noted-preserved-then-is_byte_at : goal.get_arguments-loop
 get_arguments-loop-noted-preserved-then-is_byte_at g m c =
     let t = c.args.self.now.source.bytes.now in
     let old = c.loop-noted in
-    let new = used_in_order t (bytes_at t c.in-Some.name) old.noted.names.items ∙ sym c.if-has.ensures in
+    let new = used_in_order t (bytes_at t c.in-Some.name) old.noted.names.items ∙ c.in_ok-is_new-in-Some.ensures.new
+    ∙ ap not c.if-not-is_new.false in
+    let noted = c.in_ok-is_new-in-Some.ensures.noted c.if-not-is_new.false in
     let named = c.in_ok-add_named-in-Some.ensures in
     on_made c.in_ok-expression.ensures.meets (λ e read same.
     let there = inline_seen _ _ c.deref.ensures c.inline_in.ensures same in
@@ -206,10 +210,10 @@ get_arguments-loop-noted-preserved-then-is_byte_at g m c =
           old.invariant.gathered (omega (arith, c.if-place-self.false, old.invariant.within))
           (sym c.loop-noted-test.ensures) e _ read named.0 c.in-Some.name
           (sym (c.in-Some.ensures c.args.nesting _ e read there)) (sym c.if-is_byte_at.ensures) new
-          named.2 _ named.1 _ c.in_ok-note-in-Some.ensures.names _ _ _
+          named.2 _ named.1 _ noted.0 _ _ _
           c.skip_blank-start.ensures.blank value read_value (inline_seen _ _ refl named.3 same_value)
           c.skip_separator-place.ensures.meets;
-      noted = c.in_ok-note-in-Some.ensures.noted;
+      noted = noted.1;
     }))
 
 pub get_arguments-returns-then-not-is_empty-clause-meets : goal.get_arguments-returns-then-not-is_empty-clause-meets
@@ -277,11 +281,11 @@ get_arguments-returns-in_err-add_positional-in_default-clause-meets g m c =
     rw (out_of_memory c.from_residual-in_err-add_positional-in_default.result
     c.from_residual-in_err-add_positional-in_default.ensures.1) no_memory
 
-pub get_arguments-returns-in_err-note-in-Some-clause-meets :
-    goal.get_arguments-returns-in_err-note-in-Some-clause-meets
-get_arguments-returns-in_err-note-in-Some-clause-meets g m c =
-    rw (out_of_memory c.from_residual-in_err-note-in-Some.result
-    c.from_residual-in_err-note-in-Some.ensures.1) no_memory
+pub get_arguments-returns-in_err-is_new-in-Some-clause-meets :
+    goal.get_arguments-returns-in_err-is_new-in-Some-clause-meets
+get_arguments-returns-in_err-is_new-in-Some-clause-meets g m c =
+    rw (out_of_memory c.from_residual-in_err-is_new-in-Some.result
+    c.from_residual-in_err-is_new-in-Some.ensures.1) no_memory
 
 pub get_arguments-loop-noted-init : goal.get_arguments-loop-noted-init
 get_arguments-loop-noted-init g m c = record {

@@ -19,6 +19,7 @@ use Rattle.fluent_syntax_parser.proofs.readers.Behind.{all_made, item_fails, ite
 use Rattle.fluent_syntax_parser.proofs.readers.Fails.{fails_first, fails_next, fails_seen, functional_here}
 use Rattle.fluent_syntax_parser.proofs.readers.Fails.{functional_reaches, out_of_memory}
 use Rattle.fluent_syntax_parser.proofs.readers.Made.{on_made}
+use Rattle.fluent_syntax_parser.proofs.patterns.BlankLines.{none_at_end, none_before_other}
 use Rattle.fluent_syntax_parser.proofs.patterns.Pieces.{bare_brace, end_pieces, line_read, no_pieces, line_onward}
 use Rattle.fluent_syntax_parser.proofs.patterns.Pieces.{own_line_fails, further, placed_fails, placed_piece, run_piece}
 use Rattle.fluent_syntax_parser.proofs.patterns.Pieces.{run_there}
@@ -108,22 +109,17 @@ get_long_pattern-returns-in_err-pattern-clause-meets g m c =
     rw (out_of_memory c.from_residual-in_err-pattern.result
     c.from_residual-in_err-pattern.ensures.1) no_memory
 
-pub get_pattern-returns-in-Some-clause-meets : goal.get_pattern-returns-in-Some-clause-meets
-get_pattern-returns-in-Some-clause-meets g m c =
+pub get_pattern-returns-in_ok-pattern-in-Some-clause-meets : goal.get_pattern-returns-in_ok-pattern-in-Some-clause-meets
+get_pattern-returns-in_ok-pattern-in-Some-clause-meets g m c =
     made (c.in-Some.ensures.opens _ c.args.ptr c.skip_blank_inline-start.ensures.blank)
-    (ap Some c.in_ok-pattern.ensures)
-
-pub get_pattern-returns-in-Some-end_without_text-clause-meets :
-    goal.get_pattern-returns-in-Some-end_without_text-clause-meets
-get_pattern-returns-in-Some-end_without_text-clause-meets g m c =
-    made (c.in-Some-end_without_text.ensures.opens _ c.args.ptr c.skip_blank_inline-start.ensures.blank) refl
+    c.in_ok-pattern-in-Some.ensures
 
 pub get_pattern-returns-in-None-clause-meets : goal.get_pattern-returns-in-None-clause-meets
 get_pattern-returns-in-None-clause-meets g m c = c.get_long_pattern.ensures.meets
 
-pub get_pattern-returns-in_err-pattern-clause-meets :
-    goal.get_pattern-returns-in_err-pattern-clause-meets
-get_pattern-returns-in_err-pattern-clause-meets g m c =
+pub get_pattern-returns-in_err-pattern-in-Some-clause-meets :
+    goal.get_pattern-returns-in_err-pattern-in-Some-clause-meets
+get_pattern-returns-in_err-pattern-in-Some-clause-meets g m c =
     rw (out_of_memory c.from_residual.result c.from_residual.ensures.1) no_memory
 
 pub gather_pieces-returns-in-None-clause-meets : goal.gather_pieces-returns-in-None-clause-meets
@@ -261,6 +257,15 @@ pub gather_lines-returns-in-None-clause-meets : goal.gather_lines-returns-in-Non
 gather_lines-returns-in-None-clause-meets g m c =
     all_made (line_view g.M.MakeTexts.made) _ c.loop-byte.invariant.gathered
     (no_byte c.skip_blank_inline-first.ensures.blank (sym c.in-None.ensures))
+
+pub gather_lines-returns-in-None-clause-behind : goal.gather_lines-returns-in-None-clause-behind
+gather_lines-returns-in-None-clause-behind g m c =
+    none_at_end c.args.self.now.source.bytes.now c.skip_blank_inline-first.ensures.blank (sym c.in-None.ensures)
+
+pub gather_lines-returns-then-not-belongs-clause-behind : goal.gather_lines-returns-then-not-belongs-clause-behind
+gather_lines-returns-then-not-belongs-clause-behind g m c =
+    none_before_other c.args.self.now.source.bytes.now c.skip_blank_inline-first.ensures.blank _
+    (sym c.if-not-belongs.ensures)
 
 pub gather_lines-returns-then-not-belongs-clause-meets : goal.gather_lines-returns-then-not-belongs-clause-meets
 gather_lines-returns-then-not-belongs-clause-meets g m c =

@@ -1,9 +1,9 @@
 use Rattle.std.proofs.Common.{ℕ, bit_or, refl, arith}
 use Rattle.std.proofs.lemmas.Simd.{length-chunk, zip2_of_maps, zip2_splat}
 use lib.Lanes.{chunk}
-use Rattle.fluent_syntax_parser.specs.Lanes.{is_passed}
-use Rattle.fluent_syntax_parser.proofs.scanning.LaneRuns.{run_of}
-use Rattle.fluent_syntax_parser.proofs.words.lanes.text_run.Goals as goal
+use Rattle.fluent_syntax_grammar.specs.Lanes.{is_passed}
+use Rattle.fluent_syntax_grammar.proofs.LaneRuns.{run_of}
+use Rattle.fluent_syntax_grammar.proofs.lanes.text_run.Goals as goal
 
 pub returns : goal.returns
 returns c =

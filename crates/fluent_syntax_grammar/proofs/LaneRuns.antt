@@ -1,15 +1,18 @@
 -- Runs of bytes that are looked at several at a time: from the lanes to the bytes.
-use Rattle.std.proofs.Common.{◌≡◌, ℕ, ◌+◌, ◌%◌, ◌^◌, ◌≤◌, eqb, Bool, true, false, not, cond, List, map, length, get_or}
-use Rattle.std.proofs.Common.{Fits, w8, ap, ◌∙◌, refl, arith}
-use Rattle.std.proofs.lemmas.Bool.{agree_below, agree_below_at}
+use Rattle.std.proofs.Common.{◌≡◌, ℕ, suc, ◌+◌, ◌%◌, ◌^◌, ◌<◌, ◌≤◌, ◌==◌, eqb, Bool, true, false, ◌&&◌, not, cond, List}
+use Rattle.std.proofs.Common.{[], ◌∷◌, map, length, get_or, Fits, w8, sym, ap, ◌∙◌, refl, inl, inr, arith}
+use Rattle.std.proofs.lemmas.Bool.{agree_below, agree_below_at, cases_lt}
+use Rattle.std.proofs.lemmas.Bool.Decides.{nat_tests}
 use Rattle.std.proofs.lemmas.List.{length-map}
+use Rattle.std.proofs.lemmas.List.Sums.{prefix_len_is}
 use Rattle.std.proofs.lemmas.Option.{slice_get-get_or}
 use Rattle.std.proofs.lemmas.Simd.{first_set_mask_l, length-chunk, map-map, mask_l-mod, run_in_chunk_fails}
 use Rattle.std.proofs.lemmas.Simd.{run_in_chunk_le, run_in_chunk_stops}
-use Rattle.std.specs.List.{prefix_len}
+use Rattle.std.specs.List.{list_all, prefix_len}
 use lib.Count.{count_trailing_zeros}
 use lib.Lanes.{chunk, mask_l, top}
-use Rattle.fluent_syntax_parser.specs.Lanes.{RunOf}
+use Rattle.fluent_syntax_grammar.specs.Lanes.{RunOf}
+use Rattle.fluent_syntax_grammar.specs.Places.{holds, has}
 
 -- the lanes that are set before none is, of n
 abbrev pub lanes_before : (n mask : ℕ) → ℕ
@@ -56,3 +59,31 @@ module _ (test : ℕ → Bool) (t : List ℕ) (i n r : ℕ) (room : i + n ≤ le
         rw (slice_get-get_or t (i + r) 0 (omega arith))
         (not_true _ _ (byte_at (i + r)) (run_in_chunk_stops stops t i n r 0 room counted short));
   }
+
+-- ---- How many bytes pass
+
+module _ (test : ℕ → Bool) (t : List ℕ) where
+  at_byte : (k : ℕ) (b : Bool) → k < length t → has t test k ≡ b → test (get_or t k 0) ≡ b
+  at_byte k b within is = ap (holds test) (sym (slice_get-get_or t k 0 within)) ∙ is
+
+  -- the bytes before the run, and those of the run, if it ends before its n bytes or the text does
+  pub run_behind : (i n r : ℕ) → i + n ≤ length t → ((k : ℕ) → k < i → has t test k ≡ true) → RunOf test t i n r
+      → (i + r < length t → r < n) → i + r ≡ prefix_len test t
+  run_behind i n r room before run ends =
+      sym (prefix_len_is test t (i + r) 0 (omega (arith, run.within))
+      (λ k within. at_byte k true (omega (arith, run.within)) (elim (cases_lt k i) [
+        | inl first ↦ before k first
+        | inr behind ↦ run.each k (omega (arith, behind)) within
+      ]))
+      (λ more. at_byte (i + r) false more (run.stops (ends more))))
+
+all_by_first : (first : Bool) (n m : ℕ) (rest : Bool) → (n == m) ≡ rest
+    → (cond first (1 + n) 0 == suc m) ≡ (first && rest)
+all_by_first true n m true is = grind (arith, nat_tests)
+all_by_first true n m false is = grind (arith, nat_tests)
+all_by_first false n m rest is = grind (arith, nat_tests)
+
+-- All bytes pass just where as many pass as there are.
+pub all_pass : (test : ℕ → Bool) (t : List ℕ) → (prefix_len test t == length t) ≡ list_all test t
+all_pass test [] = refl
+all_pass test (b ∷ bs) = all_by_first (test b) (prefix_len test bs) (length bs) (list_all test bs) (all_pass test bs)

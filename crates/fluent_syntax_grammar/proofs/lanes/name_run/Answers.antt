@@ -2,8 +2,8 @@ use Rattle.std.proofs.Common.{ℕ, leb, cond, bit_and, refl, arith}
 use Rattle.std.proofs.lemmas.Simd.{length-chunk, splat_is_map, zip2_of_maps, zip2_splat}
 use lib.Lanes.{chunk}
 use Rattle.fluent_syntax_grammar.specs.Bytes.{is_name_byte}
-use Rattle.fluent_syntax_parser.proofs.scanning.LaneRuns.{run_of}
-use Rattle.fluent_syntax_parser.proofs.words.lanes.name_run.Goals as goal
+use Rattle.fluent_syntax_grammar.proofs.LaneRuns.{run_of}
+use Rattle.fluent_syntax_grammar.proofs.lanes.name_run.Goals as goal
 
 pub returns : goal.returns
 returns c =

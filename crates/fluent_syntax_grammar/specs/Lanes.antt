@@ -1,12 +1,11 @@
 -- Runs of bytes that are looked at several at a time.
-use Rattle.std.specs.Prelude.{◌≡◌, ℕ, ◌+◌, ◌<◌, ◌≤◌, List, Bool, true, false, not}
-use Rattle.memchr.specs.Find.{is_byte3}
+use Rattle.std.specs.Prelude.{◌≡◌, ℕ, ◌+◌, ◌<◌, ◌≤◌, List, Bool, true, false, ◌||◌, ◌==◌, not}
 use Rattle.fluent_syntax_grammar.specs.Bytes.{lf, left_brace, right_brace}
 use Rattle.fluent_syntax_grammar.specs.Places.{has}
 
 -- a byte of a text other than LF and braces
 abbrev pub is_passed : ℕ → Bool
-is_passed b = not (is_byte3 lf left_brace right_brace b)
+is_passed b = not (b == lf || b == left_brace || b == right_brace)
 
 -- Of the n bytes at the place, r pass the test before one that fails it, if one does.
 pub record RunOf (test : ℕ → Bool) (t : List ℕ) (i n r : ℕ) : Type 0 where

@@ -1,0 +1,62 @@
+-- A pattern that is one text on one line obeys each rule of patterns.
+use Rattle.std.proofs.Common.{◌≡◌, ℕ, List, [], ◌∷◌, length, get_or, map, true, false, ◌&&◌, ◌||◌, not, refl, sym}
+use Rattle.std.proofs.Common.{ap, ◌∙◌, arith}
+use Rattle.std.specs.Prelude.{if◌then◌else◌}
+use Rattle.std.specs.List.{list_any}
+use Rattle.fluent_syntax_tree.specs.Text.{is_trimmed}
+use Rattle.fluent_syntax_tree.specs.Tree.{ElementTree, text_element, no_elements, elements, elements_of}
+use Rattle.fluent_syntax_tree.specs.declared.edition.Edition.{Edition}
+use Rattle.fluent_syntax_grammar.specs.Bytes.{lf, space, is_space}
+use Rattle.fluent_syntax_grammar.specs.Canonical.{canonical_rules, hides_mark, first_stand, line_numbers, are_flush}
+use Rattle.fluent_syntax_grammar.specs.Elements.{without_last_lf}
+use Rattle.fluent_syntax_grammar.specs.Layout.{least}
+use Rattle.fluent_syntax_grammar.specs.PatternTexts.{begins_with_space, ends_plainly, is_empty, is_brace, has_crlf}
+use Rattle.fluent_syntax_grammar.specs.Readable.{opening, is_text, are_elements}
+use Rattle.fluent_syntax_grammar.specs.Written.{Text, has_lf}
+use Rattle.fluent_syntax_grammar.proofs.Facts.{left_true, right_true}
+use Rattle.fluent_syntax_grammar.proofs.Tests.{both, differ, not_true, or_right}
+
+-- a text that ends plainly
+record Ends (v : Text) : Type 0 where
+  no_lf : without_last_lf v ≡ v
+  shown : list_any (λ b. not (is_space b)) v ≡ true
+
+ends_by : (v : Text) → ends_plainly v ≡ true → Ends v
+ends_by [] ends = absurd cc
+ends_by (b ∷ []) ends =
+    let other = λ (c : ℕ). differ (λ c. not (is_trimmed c)) b c ends in
+    record {
+      no_lf = ap (λ t. if t then [] else b ∷ []) (other lf refl);
+      shown = ap (λ t. not t || false) (other space refl);
+    }
+ends_by (b ∷ c ∷ bs) ends =
+    let rest = ends_by (c ∷ bs) ends in
+    record { no_lf = ap (λ t. b ∷ t) rest.no_lf; shown = or_right (not (is_space b)) _ rest.shown }
+
+pub plain_text_obeys : (edition : Edition) (v : Text)
+    → (is_text v && (not (begins_with_space v) && ends_plainly v)) ≡ true
+    → (canonical_rules edition).pattern (elements (text_element v) no_elements) ≡ true
+plain_text_obeys edition v plain =
+    let p = elements (text_element v) no_elements in
+    let text = left_true (is_text v) _ plain in
+    let at_ends = right_true (is_text v) _ plain in
+    let tight = left_true (not (begins_with_space v)) _ at_ends in
+    let plainly = right_true (not (begins_with_space v)) _ at_ends in
+    let ends = ends_by v plainly in
+    let later = right_true (not (is_empty v)) _ text in
+    let no_crlf = right_true (not (list_any is_brace v)) _ later in
+    let no_lf = not_true (has_lf (without_last_lf v)) (right_true (not (has_crlf v)) _ no_crlf) in
+    let on_one_line : (has_lf v || false) ≡ false =
+    ap (λ u. has_lf u || false) (sym ends.no_lf) ∙ ap (λ b. b || false) no_lf in
+    let shown = ap (list_any (λ b. not (is_space b))) ends.no_lf ∙ ends.shown in
+    let flush = not (hides_mark p) && are_flush (least (line_numbers edition (first_stand p) p)) (first_stand p) p in
+    both
+    (ap (λ multiline. are_elements edition multiline opening p) on_one_line
+    ∙ both text (both (both shown tight) (both plainly refl)))
+    (ap (λ multiline. not multiline || flush) on_one_line)
+
+pub one_element : {E : Type 0} (view : E → ElementTree Text) (es : List E) (e : E) → length es ≡ 1 → e ≡ get_or es 0 e
+    → elements_of (map view es) ≡ elements (view e) no_elements
+one_element view [] e one is = absurd (omega arith)
+one_element view (x ∷ []) e one is = ap (λ y. elements (view y) no_elements) (sym is)
+one_element view (x ∷ y ∷ es) e one is = absurd (omega arith)

@@ -1,0 +1,39 @@
+//! The usual pattern: one text on one line.
+ghost use Rattle.std.specs.Prelude.{◌≡◌, ◌&&◌, IsTrue, not};
+ghost use Rattle.fluent_syntax_tree.specs.Tree.{no_elements, elements};
+ghost use Rattle.fluent_syntax_tree.specs.View.{element_view, pattern_view};
+ghost use Rattle.fluent_syntax_tree.specs.declared.edition.Edition.{Edition};
+ghost use Rattle.fluent_syntax_grammar.specs.Canonical.{canonical_rules};
+ghost use Rattle.fluent_syntax_grammar.specs.PatternTexts.{begins_with_space, ends_plainly};
+ghost use Rattle.fluent_syntax_grammar.specs.Readable.{is_text};
+
+use crate::canonical::texts::{begins_with_space, ends_plainly, is_text};
+use fluent_syntax_tree::ast::{Pattern, PatternElement};
+use fluent_syntax_tree::texts::ReadTexts;
+
+/// Whether the pattern is one text on one line, without a space at either end: so it obeys, in each edition.
+pub fn is_plain_pattern<X, T: ReadTexts<X>>(pattern: &Pattern<X>) -> bool
+    ensures { (edition : Edition) → IsTrue result →
+        IsTrue ((canonical_rules edition).pattern (pattern_view T.text pattern.now)) }
+{
+    match pattern.elements.as_slice() {
+        [element] => is_plain_element::<X, T>(element),
+        _ => false,
+    }
+}
+
+fn is_plain_element<X, T: ReadTexts<X>>(element: &PatternElement<X>) -> bool
+    ensures { (edition : Edition) → IsTrue result →
+        IsTrue ((canonical_rules edition).pattern (elements (element_view T.text element.now) no_elements)) }
+{
+    match element {
+        PatternElement::TextElement { value } => is_plain_text(T::as_str(value)),
+        PatternElement::Placeable { .. } => false,
+    }
+}
+
+fn is_plain_text(text: &str) -> bool
+    ensures { result ≡ (is_text text.now && (not (begins_with_space text.now) && ends_plainly text.now)) }
+{
+    is_text(text) && !begins_with_space(text) && ends_plainly(text)
+}
