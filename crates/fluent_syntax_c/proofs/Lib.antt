@@ -5,4 +5,4 @@ mod LineStarts
 mod Recovered
 mod Told
 mod Commands
-mod Outlined
+mod NameIndexes

@@ -8,7 +8,7 @@ use Rattle.std.proofs.lemmas.Option.{slice_get_within, slice_get_cases}
 use Rattle.fluent_syntax_grammar.specs.Bytes.{lf, cr}
 use Rattle.fluent_syntax_grammar.specs.Places.{holds, Stretch, has_byte, has_eol, after_eol, is_line_place, starts_line}
 use Rattle.fluent_syntax_grammar.specs.Construct.{Read, goes_on, given, at_place, passed, chosen, first, second}
-use Rattle.fluent_syntax_grammar.specs.Words.{token, optional_eol, past_eol}
+use Rattle.fluent_syntax_grammar.specs.Tokens.{token, optional_eol, past_eol}
 use Rattle.fluent_syntax_grammar.specs.Tiling.{whole_line}
 use Rattle.fluent_syntax_grammar.specs.Comments.{hashes, comment_text, comment_rest, comment_line}
 use Rattle.fluent_syntax_tree.specs.declared.spans.Span.{Span}

@@ -4,11 +4,11 @@ use Rattle.std.proofs.Common.{inr, ⊎_elim, refl, sym, ap}
 use Rattle.std.proofs.lemmas.Option.{MatchOption-at_some}
 use Rattle.ftl_files.specs.Files.{Changes, Files, GoesOn, IsDurable, IsNamed, IsSynced, at_free_paths}
 use Rattle.ftl_files.specs.Files.{at_path, filled, nowhere, renamed, replaced}
-use Rattle.ftl_files.specs.Store.{AllStand, Becomes}
+use Rattle.ftl_files.specs.Store.{AllUnchanged, Becomes}
 use Rattle.ftl_files.proofs.Steps.{IsPartOf, then}
 
 -- what a call that changes nothing has left
-pub stands : (old new : Files) → GoesOn old new nowhere → AllStand old.bytes_at new.bytes_at
+pub stands : (old new : Files) → GoesOn old new nowhere → AllUnchanged old.bytes_at new.bytes_at
 stands old new one path = ⊎_elim (λ same. same) (λ none. absurd none) (one.bytes path)
 
 known : (o : Option (List ℕ)) (P : Type 0) → IfSome o (λ _. P) → (o ≡ None) ⊎ P

@@ -1,7 +1,7 @@
 //! How a file's bytes are replaced, so that whenever a crash comes the old ones or the new ones stand, each whole.
 ghost use Rattle.std.specs.Prelude.{◌≡◌, ◌⊎◌, ◌++◌, [], ℕ, List, None, Some, IfOk, IfSome, OnErr, OnOk, string_bytes};
 ghost use Rattle.ftl_files.specs.Files.{GoesOn, IsDurable, IsSynced, at_free_paths, filled, replaced};
-ghost use Rattle.ftl_files.specs.Store.{AllStand, Becomes, OthersStand};
+ghost use Rattle.ftl_files.specs.Store.{AllUnchanged, Becomes, OthersUnchanged};
 
 use crate::file_system::FileSystem;
 use std::alloc::Global;

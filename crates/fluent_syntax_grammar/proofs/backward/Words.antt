@@ -9,7 +9,7 @@ use Rattle.fluent_syntax_grammar.specs.Bytes.{lf, is_letter, is_digit}
 use Rattle.fluent_syntax_grammar.specs.Places.{holds, has, has_byte, Word}
 use Rattle.fluent_syntax_grammar.specs.Construct.{Read, goes_on, given, at_place, passed, chosen, first, second, either}
 use Rattle.fluent_syntax_grammar.specs.Construct.{gives}
-use Rattle.fluent_syntax_grammar.specs.Words.{optional, digits, identifier, number}
+use Rattle.fluent_syntax_grammar.specs.Tokens.{optional, digits, identifier, number}
 use Rattle.fluent_syntax_grammar.specs.Strings.{hex_digits, all_there, escaped, string_unit, string_units, before_quote}
 use Rattle.fluent_syntax_grammar.specs.Strings.{unit_and_more, string_literal}
 use Rattle.fluent_syntax_grammar.specs.Spellings.{is_name, is_digits, is_number_rest, is_unsigned, is_number, is_units}

@@ -17,7 +17,7 @@ use Rattle.fluent_syntax_grammar.specs.Readable.{is_argument_value, are_named_we
 use Rattle.fluent_syntax_grammar.specs.NameKeys.{NotesAll}
 use Rattle.fluent_syntax_grammar.specs.Written.{Text}
 use Rattle.fluent_syntax_grammar.proofs.NameKeys.{key_held}
-use Rattle.fluent_syntax_writer.specs.Alone.{have_values, have_new_names}
+use Rattle.fluent_syntax_writer.specs.SingleRule.{have_values, have_new_names}
 use Rattle.fluent_syntax_writer.specs.Names.{name_of}
 
 is_used-reversed : (name : Text) (names : List Text) → is_used name names ≡ is_used name (reverse names)

@@ -6,7 +6,7 @@ use ftl_files::{
     FILE_LIMIT, Folders, Memory, SourceFile, is_below, original_of, path_of_uri, read_files,
     shared_folders, uri_of_path,
 };
-use ftl_lsp::{Closed, NameKind, Occurrence, serve};
+use ftl_lsp::{ClosedFile, NameKind, Occurrence, serve};
 use std::alloc::Global;
 use std::test::Fail;
 
@@ -158,7 +158,7 @@ const NAMES: [(NameKind, usize, usize); 6] = [
 fn are_names(found: &[Occurrence], expected: &[(NameKind, usize, usize)]) -> bool {
     found.len() == expected.len()
         && found.iter().zip(expected).all(|(name, row)| {
-            name.kind == row.0 && name.place().start == row.1 && name.place().end == row.2
+            name.kind == row.0 && name.span().start == row.1 && name.span().end == row.2
         })
 }
 
@@ -166,7 +166,7 @@ fn are_names(found: &[Occurrence], expected: &[(NameKind, usize, usize)]) -> boo
 fn names_of_a_closed_file(rt: HostRuntime) -> Result<(), Fail> {
     let alloc = rt.alloc();
     let text = String::from_str(alloc, "a = { b.c } { $d }\n    .e = { F() }\n")?;
-    match Closed::new(alloc, "/w/a b.ftl", text)? {
+    match ClosedFile::new(alloc, "/w/a b.ftl", text)? {
         Some(file) => {
             assert_same_text(alloc, "its URI", file.uri.as_str(), "file:///w/a%20b.ftl")?;
             assert_holds(alloc, "its names", are_names(&file.occurrences, &NAMES))

@@ -1,6 +1,6 @@
 use Rattle.std.proofs.Common.{◌∙◌}
 use Rattle.fluent_syntax_c.specs.Answer.{IsCommandAnswer}
-use Rattle.fluent_syntax_c.specs.declared.arguments.Asked.TheVariants.{Answer}
+use Rattle.fluent_syntax_c.specs.declared.arguments.CommandKind.TheVariants.{Answer}
 use Rattle.fluent_syntax_c.specs.declared.status.Refusal.TheVariants.{Argument, Input, Depth, Tree}
 use Rattle.fluent_syntax_c.proofs.Commands.{is_of_text}
 use Rattle.fluent_syntax_c.proofs.Statuses.{leaves_answered, refused_deeper, told_where}

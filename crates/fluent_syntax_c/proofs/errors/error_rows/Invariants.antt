@@ -5,6 +5,6 @@ use Rattle.fluent_syntax_c.proofs.errors.error_rows.Given as goal
 
 abbrev pub invariant-loop-error : goal.invariant-loop-error
 invariant-loop-error l = record {
-  text : l.places ≡ l.text;
+  text : l.positions ≡ l.text;
   so_far : l.rows.items ≡ map (λ e. error_row l.text (told e)) (take l.error-index l.error-items);
 }

@@ -3,7 +3,7 @@ use Rattle.std.specs.Prelude.{option_to_list}
 use Rattle.fluent_syntax_tree.specs.View.{entry_view}
 use Rattle.fluent_syntax_parser.specs.Rest.{faults_of}
 use Rattle.fluent_syntax_parser.proofs.tilings.Rests.{entry_to}
-use Rattle.ftl.specs.OneByOne.{none_came, one_more}
+use Rattle.ftl.specs.OneByOne.{wrote_none, one_more}
 use Rattle.ftl.proofs.ReadTo.{all_read, nothing_read, read_on}
 use Rattle.ftl.proofs.one_by_one.write_one_by_one.Goals as goal
 
@@ -17,7 +17,7 @@ loop-errors-init g c =
       no_error = c.new-errors.ensures.items;
       so_far = (
         [],
-        none_came,
+        wrote_none,
         rw c.new-entries.ensures.start (nothing_read options.comments options.edition c.args.text.now),
       );
       deeper = rw c.new-entries.ensures.start (λ d. d, λ d. d);

@@ -4,7 +4,7 @@ use Rattle.std.proofs.lemmas.Result.{IfOk-weaker}
 use Rattle.serde_json.specs.View.{items_view, view}
 use Rattle.serde_json.specs.declared.value.Value.{Value}
 use Rattle.ftl_lsp.specs.Edits.{edit_of, edits_in}
-use Rattle.ftl_lsp.specs.Opened.{texts}
+use Rattle.ftl_lsp.specs.OpenDocuments.{texts}
 use Rattle.ftl_lsp.specs.Replies.{silence, sends_none}
 use Rattle.ftl_lsp.specs.Sessions.{passes, session_of}
 use Rattle.ftl_lsp.specs.declared.changes.Change.{Change}

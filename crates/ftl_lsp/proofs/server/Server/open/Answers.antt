@@ -2,7 +2,7 @@ use Rattle.std.proofs.Common.{ap, refl, sym}
 use Rattle.std.proofs.Common.{Some}
 use Rattle.std.proofs.lemmas.Result.{IfOk-weaker}
 use Rattle.serde_json.specs.View.{view}
-use Rattle.ftl_lsp.specs.Opened.{texts}
+use Rattle.ftl_lsp.specs.OpenDocuments.{texts}
 use Rattle.ftl_lsp.specs.Replies.{silence, sends_none}
 use Rattle.ftl_lsp.specs.Sessions.{passes, session_of}
 use Rattle.ftl_lsp.specs.declared.methods.Method.TheVariants.{DidOpen}
