@@ -5,7 +5,7 @@ use Rattle.std.proofs.lemmas.List.{length-map, map-append}
 use Rattle.std.proofs.lemmas.Map.Lookups.{exact_bytes}
 use Rattle.fluent_syntax_tree.specs.Spans.{bytes_at}
 use Rattle.fluent_syntax_parser.specs.Gathered.{names_in_order}
-use Rattle.fluent_syntax_parser.proofs.expressions.Noted.{notes_many, told_new}
+use Rattle.fluent_syntax_parser.proofs.expressions.Noted.{notes_many, is_used-new}
 use Rattle.fluent_syntax_parser.proofs.expression.argument_names.SeenNames.note_new.Goals as goal
 
 pub returns-then-not-is_new-clause-new : goal.returns-then-not-is_new-clause-new
@@ -15,7 +15,7 @@ returns-then-not-is_new-clause-new c =
     let size = length-map names.items (bytes_at t) in
     let many : 32 ≤ length (names_in_order t names.items) =
     omega (arith, size, c.if-len-lt-MANY.false, c.len.ensures, names.ok.0) in
-    told_new (λ k. k.now) c.args.self.now.table.keys _ _ _ _ c.in_ok-is_new.ensures.added c.bytes_of.ensures
+    is_used-new (λ k. k.now) c.args.self.now.table.keys _ _ _ _ c.in_ok-is_new.ensures.added c.bytes_of.ensures
     (c.requires.1 many) ∙ ap not c.if-not-is_new.true
 
 pub returns-clause-new : goal.returns-clause-new
@@ -25,7 +25,7 @@ returns-clause-new c =
     let size = length-map names.items (bytes_at t) in
     let many : 32 ≤ length (names_in_order t names.items) =
     omega (arith, size, c.if-len-lt-MANY.false, c.len.ensures, names.ok.0) in
-    told_new (λ k. k.now) c.args.self.now.table.keys _ _ _ _ c.in_ok-is_new.ensures.added c.bytes_of.ensures
+    is_used-new (λ k. k.now) c.args.self.now.table.keys _ _ _ _ c.in_ok-is_new.ensures.added c.bytes_of.ensures
     (c.requires.1 many) ∙ ap not c.if-not-is_new.false
 
 pub returns-clause-noted : goal.returns-clause-noted
