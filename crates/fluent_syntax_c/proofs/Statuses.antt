@@ -36,17 +36,17 @@ same_status : (a b : Status) → status_number a ≡ status_number b → a ≡ b
 same_status a b e = sym (number_back a) ∙ ap status_at e ∙ number_back b
 
 -- The number of a refusal is told exactly where the answer is that refusal.
-pub told_exactly : {X : Type 0} (answer : Result X Refusal) (number : ℕ) (status : Status) →
+pub refusal_exactly : {X : Type 0} (answer : Result X Refusal) (number : ℕ) (status : Status) →
     number ≡ status_number status → ((why : Refusal) → (status ≡ Refused why) ↔ (answer ≡ Err why)) → (why : Refusal) →
     (number ≡ refusal_number why) ↔ (answer ≡ Err why)
-told_exactly answer number status is refused why = (
+refusal_exactly answer number status is refused why = (
   (λ e. (refused why).0 (same_status status (Refused why) (sym is ∙ e))),
   (λ e. is ∙ ap status_number ((refused why).1 e)),
 )
 
 -- What is told exactly of an answer that is given exactly where P holds, is told exactly there.
-pub told_where : {Told Answered P : Type 0} → (Told ↔ Answered) → (Answered ↔ P) → Told ↔ P
-told_where told answered = ((λ e. answered.0 (told.0 e)), (λ p. told.1 (answered.1 p)))
+pub status_where : {Told Answered P : Type 0} → (Told ↔ Answered) → (Answered ↔ P) → Told ↔ P
+status_where told answered = ((λ e. answered.0 (told.0 e)), (λ p. told.1 (answered.1 p)))
 
 -- Where nothing that nests deeper is answered, no number is wrong and no tree is asked for, what nests deeper is
 -- refused: for its bytes, for want of memory, or for its depth.
@@ -103,8 +103,8 @@ gives_answered number expected AreTexts Long Deeper answer before after count st
   leaves =
       leaves_answered expected (λ given. given.0.items) (λ given. given.1) answer before after count status h.rows
       leaves;
-  argument = told_where (refused Argument) h.argument;
-  input = λ known. told_where (refused Input) (h.input known);
+  argument = status_where (refused Argument) h.argument;
+  input = λ known. status_where (refused Input) (h.input known);
   deep = λ told. h.deep ((refused Depth).0 told);
   deeper = λ told. h.deeper ((refused Depth).0 told);
   shallow = λ deeper. refused_deeper answer status Deeper refused h.shallow h.read (λ e d. h.tree e) deeper;

@@ -1,7 +1,7 @@
 //! Errors as rows.
 ghost use Rattle.std.specs.Prelude.{◌≡◌, ◌+◌, ◌<◌, ◌≤◌, ◌^◌, length, map, All, IfOk};
 ghost use Rattle.std.specs.Str.{IsUtf8};
-ghost use Rattle.ftl.specs.Answer.{told};
+ghost use Rattle.ftl.specs.Answer.{error_fault};
 ghost use Rattle.fluent_syntax_c.specs.Depth.{EditionReadsDeeper};
 ghost use Rattle.fluent_syntax_c.specs.Errors.{are_errors, error_row, row_at};
 ghost use Rattle.fluent_syntax_c.specs.Rows.{AreRows, Gives};
@@ -81,7 +81,7 @@ fn error_rows(
 ) -> Result<Vec<FtlError>, AllocError>
     requires short { length text.now + 1 < 2 ^ 63 }
     requires within { All (λ e. e.pos.start ≤ length text.now) errors.now.items }
-    ensures { IfOk result (λ rows. rows.items ≡ map (λ e. error_row text.now (told e)) errors.now.items) }
+    ensures { IfOk result (λ rows. rows.items ≡ map (λ e. error_row text.now (error_fault e)) errors.now.items) }
 {
     let mut rows = Vec::with_capacity(alloc, errors.len())?;
     let mut positions = Positions::new(text);
@@ -92,7 +92,7 @@ fn error_rows(
 }
 
 fn row_of(position: Position, error: &ParserError) -> FtlError
-    ensures { result ≡ row_at position (told error.now) }
+    ensures { result ≡ row_at position (error_fault error.now) }
 {
     let junk = error.slice.as_ref().unwrap_or(&error.pos);
     FtlError {

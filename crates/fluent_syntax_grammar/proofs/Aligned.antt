@@ -32,7 +32,7 @@ use Rattle.fluent_syntax_grammar.proofs.LineEnds.{block_at_end, block_start}
 use Rattle.fluent_syntax_grammar.proofs.WholeLines.{IsLine, line_of, line_to, line_start, line_in_text, no_start}
 use Rattle.fluent_syntax_grammar.proofs.WholeLines.{hash_bytes, comment_whole, hashes_onward}
 use Rattle.fluent_syntax_grammar.proofs.CommentFaults.{IsAt, comment_fault, name_fault, some_hash}
-use Rattle.fluent_syntax_grammar.proofs.Facts.{byte_found, byte_stands, differs, implies, left_true, lt_or_same}
+use Rattle.fluent_syntax_grammar.proofs.Facts.{byte_found, byte_holds, differs, implies, left_true, lt_or_same}
 use Rattle.fluent_syntax_grammar.proofs.Facts.{right_false, right_true, lt_or_le, has_inside}
 
 -- Tiles of the one and of the other that are the same; comments of the one and dropped lines of the other; and junk
@@ -164,9 +164,9 @@ module _ (edition : Edition) (t : List ℕ) where
       has t is_entry_byte i ≡ false → entry_of edition t (family edition t) b i o → (k : Kind) × (from : ℕ) × (to : ℕ) ×
       (o ≡ Refused k from to) × IsAt i k from to
   entry_there i o None f e x = message_there i o e x
-  entry_there i o (Some b) f e (first g x) = differs (byte_stands is_entry_byte (slice_get t i) b f (hash_entry b g)) e
+  entry_there i o (Some b) f e (first g x) = differs (byte_holds is_entry_byte (slice_get t i) b f (hash_entry b g)) e
   entry_there i o (Some b) f e (second g (first h x)) =
-      differs (byte_stands is_entry_byte (slice_get t i) b f (minus_entry b h)) e
+      differs (byte_holds is_entry_byte (slice_get t i) b f (minus_entry b h)) e
   entry_there i o (Some b) f e (second g (second h x)) = message_there i o e x
 
   -- where no entry may begin, every entry is refused at once

@@ -66,7 +66,7 @@ module _ {S X : Type 0} (f : Span → X) (v : S → X) where
     pub entry : Entry S
     pub error : ParserError
     pub added : new ≡ old ++ entry ∷ []
-    pub tells : told ≡ errors ++ error ∷ []
+    pub errors_are : told ≡ errors ++ error ∷ []
     pub same : entry_view v entry ≡ junk (f (record { start = i; end = j }))
     pub fault : fault_of error ≡ Some (refused_as t refusal (record { start = i; end = j }))
 
@@ -76,7 +76,7 @@ module _ {S X : Type 0} (f : Span → X) (v : S → X) where
     pub entry : Entry S
     pub error : Option ParserError
     pub added : new ≡ old ++ entry ∷ []
-    pub tells : told ≡ errors ++ option_to_list error
+    pub errors_are : told ≡ errors ++ option_to_list error
     pub tile : MappedTile edition t n i j entry error
 
   -- An entry that comes next from i on stands from the start to j, before whatever the rest is from there on, and is
@@ -86,7 +86,7 @@ module _ {S X : Type 0} (f : Span → X) (v : S → X) where
     pub entry : Entry S
     pub error : Option ParserError
     pub added : new ≡ old ++ entry ∷ []
-    pub tells : told ≡ errors ++ option_to_list error
+    pub errors_are : told ≡ errors ++ option_to_list error
     pub tree : EntryTree Span
     pub stands : EntryAt comments edition t i start j tree (faults_of error)
     pub same : entry_view v entry ≡ entry_map f tree

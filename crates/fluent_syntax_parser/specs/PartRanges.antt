@@ -47,9 +47,9 @@ module _ (edition : Edition) (t : List ℕ) (R : Family) where
 
   -- From the one place to the other stand those attributes, one after the other, and none follows.
   pub data HaveAttributeParts : ℕ → List AttributeRanges → List (AttributeTree Span) → ℕ → Type 0 where
-    none_stands : {i from to : ℕ} {k : Kind} → attribute_of edition t R i (Refused k from to) →
+    no_attribute_parts : {i from to : ℕ} {k : Kind} → attribute_of edition t R i (Refused k from to) →
         HaveAttributeParts i [] [] i
-    one_stands : {i end : ℕ} {x : AttributeRanges} {xs : List AttributeRanges} {a : AttributeTree Span}
+    more_attribute_parts : {i end : ℕ} {x : AttributeRanges} {xs : List AttributeRanges} {a : AttributeTree Span}
         {rest : List (AttributeTree Span)} → x.span.start ≡ i → HasAttributeParts x a →
         HaveAttributeParts x.span.end xs rest end → HaveAttributeParts i (x ∷ xs) (a ∷ rest) end
 
@@ -70,10 +70,10 @@ module _ (edition : Edition) (t : List ℕ) (R : Family) where
 
   -- The entry has its parts there: a message begins with its name, a term with a `-` and its name.
   pub data HasEntryParts (i : ℕ) (x : EntryRanges) : EntryTree Span → ℕ → Type 0 where
-    message_stands : {f : FieldTrees Span} {end : ℕ} → x.name.start ≡ i → ReadAt (identifier t) x.name x.name →
+    message_has_parts : {f : FieldTrees Span} {end : ℕ} → x.name.start ≡ i → ReadAt (identifier t) x.name x.name →
         HaveFieldParts x.name.end x.value x.attributes.items f end →
         HasEntryParts i x (message (record { id = x.name; value = f.0; attributes = f.1; comment = None })) end
-    term_stands : {value : PatternTree Span} {rest : List (AttributeTree Span)} {end : ℕ} →
+    term_has_parts : {value : PatternTree Span} {rest : List (AttributeTree Span)} {end : ℕ} →
         token t hyphen i (Read tt x.name.start) → ReadAt (identifier t) x.name x.name →
         HaveFieldParts x.name.end x.value x.attributes.items (Some value, rest) end →
         HasEntryParts i x (term (record { id = x.name; value = value; attributes = rest; comment = None })) end

@@ -3,7 +3,7 @@ use Rattle.std.specs.Prelude.{ℕ, List, [], Option, Some, None, Bool, true, fal
 use Rattle.fluent_syntax_tree.specs.Tree.{ElementTree, text_element, placeable, PatternTree}
 use Rattle.fluent_syntax_tree.specs.declared.edition.Edition.{Edition}
 use Rattle.fluent_syntax_grammar.specs.Readable as grammar
-use Rattle.fluent_syntax_grammar.specs.Readable.{is_text, stands_well, ends_well, is_line_start, position_after}
+use Rattle.fluent_syntax_grammar.specs.Readable.{is_text, is_well_placed, ends_well, is_line_start, position_after}
 use Rattle.fluent_syntax_grammar.specs.Canonical.{text_numbers, placeable_numbers}
 use Rattle.fluent_syntax_grammar.specs.PatternTexts.{is_lone_lf, begins_with_space, after_spaces}
 use Rattle.fluent_syntax_grammar.specs.Written.{Text, begins_with_mark}
@@ -31,7 +31,7 @@ is_placeable (placeable e) = true
 abbrev pub is_element :
     Edition → (multiline : Bool) → grammar.ElementPosition → ElementTree Text → (rest : PatternTree Text) → Bool
 is_element edition multiline s (text_element v) rest =
-    is_text v && (stands_well edition multiline s v rest && ends_well v rest)
+    is_text v && (is_well_placed edition multiline s v rest && ends_well v rest)
 is_element edition multiline s (placeable e) rest = true
 
 -- one rule of one element, by those that follow it
@@ -66,5 +66,5 @@ is_lone (text_element v) = is_lone_lf v
 is_lone (placeable e) = true
 
 -- the rule of one element where no line has a number
-abbrev pub stands_lone : grammar.ElementPosition → ElementTree Text → Bool
-stands_lone s e = not (is_line_start s) || is_lone e
+abbrev pub is_lone_at_line_start : grammar.ElementPosition → ElementTree Text → Bool
+is_lone_at_line_start s e = not (is_line_start s) || is_lone e

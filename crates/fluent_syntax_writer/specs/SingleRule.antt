@@ -71,9 +71,9 @@ comment_keeps _ content = true
 -- ---- Patterns: where a text stands
 
 -- A text does not directly follow a text that ends in no LF.
-abbrev pub begins_anew : ElementPosition → Bool
-begins_anew within_line = false
-begins_anew _ = true
+abbrev pub follows_no_text : ElementPosition → Bool
+follows_no_text within_line = false
+follows_no_text _ = true
 
 -- A first text is nonblank. In a multiline pattern it may also indent a placeable.
 abbrev pub first_is_nonblank : Edition → (multiline : Bool) → ElementPosition → Text → (rest : PatternTree Text) → Bool
@@ -102,7 +102,7 @@ text_keeps edition EmptyText multiline s v rest = not (is_empty v)
 text_keeps edition BraceInText multiline s v rest = not (list_any is_brace v)
 text_keeps edition CrBeforeLf multiline s v rest = not (has_crlf v)
 text_keeps edition LfWithinText multiline s v rest = not (has_lf (without_last_lf v))
-text_keeps edition TextAfterText multiline s v rest = begins_anew s
+text_keeps edition TextAfterText multiline s v rest = follows_no_text s
 text_keeps edition BlankFirstText multiline s v rest = first_is_nonblank edition multiline s v rest
 text_keeps edition LeadingSpace multiline s v rest = first_is_tight multiline s v
 text_keeps edition BlankEnd multiline s v rest = ends_well v rest

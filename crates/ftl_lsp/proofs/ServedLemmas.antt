@@ -10,7 +10,7 @@ use Rattle.ftl_lsp.specs.Served.{Ends, IsFresh, IsUnsent, Serves, begins, has_no
 use Rattle.ftl_lsp.specs.Outbox.{Sends}
 use Rattle.ftl_lsp.specs.Phases.{ending_of}
 use Rattle.ftl_lsp.specs.Served.{GoesOn, Stops, TakesStep, is_not_written, is_unpublished, stops}
-use Rattle.ftl_lsp.specs.Served.{takes, tells, publishes_unwritten, has_no_memory_to_publish}
+use Rattle.ftl_lsp.specs.Served.{takes, republishes, publishes_unwritten, has_no_memory_to_publish}
 use Rattle.ftl_lsp.specs.Sessions.{Answers, Session, Republishes}
 use Rattle.ftl_lsp.specs.declared.endings.Ending.{Ending}
 use Rattle.ftl_lsp.specs.declared.endings.Ending.TheVariants.{Input, Memory, Output}
@@ -84,11 +84,11 @@ takes_behind (Ok x) old mid now left after written sent_on same step =
 takes_behind (Err e) old mid now left after written sent_on same step = step
 
 -- a document of which was told
-pub tells_behind : {X Y : Type 0} (r : Result X Y) (old mid : Session) (left written sent_on : Option (List ℕ))
+pub republishes_behind : {X Y : Type 0} (r : Result X Y) (old mid : Session) (left written sent_on : Option (List ℕ))
     (value : Data) → mid ≡ old → Republishes old value → OnOk r (Sends written sent_on (Some value)) →
     OnOk r (GoesOn old mid left left written sent_on)
-tells_behind (Ok x) old mid left written sent_on value same anew sends = tells value anew same refl sends
-tells_behind (Err e) old mid left written sent_on value same anew sends = sends
+republishes_behind (Ok x) old mid left written sent_on value same anew sends = republishes value anew same refl sends
+republishes_behind (Err e) old mid left written sent_on value same anew sends = sends
 
 -- why a session stops behind what changes nothing of it
 pub stops_behind : {X : Type 0} (r : Result X Ending) (old mid : Session) (left written now : Option (List ℕ)) →

@@ -109,16 +109,16 @@ unpublished old mid uri same none =
 pub is_published : (old mid : Session) (uri : List ℕ) (found : OpenText) (value : Data) (list : List Data) →
     mid ≡ old → Some found ≡ mid.texts uri → value ≡ diagnostics_form uri list → PublishesDiagnostics found.text list →
     IsSent (published uri (old.texts uri)) (Some value)
-is_published old mid uri found value list same open' is tells_all =
+is_published old mid uri found value list same open' is publishes_all =
     let at : Session → Type 0 = λ s. IsSent (published uri (s.texts uri)) (Some value) in
-    let sent = sent_as (diagnosed uri found.text) value _ is (sends_diagnostics uri found.text list tells_all) in
+    let sent = sent_as (diagnosed uri found.text) value _ is (sends_diagnostics uri found.text list publishes_all) in
     subst at same (subst (λ (o : Option OpenText). IsSent (published uri o) (Some value)) open' sent)
 
 -- what is told of a document: its errors, and then what is told beside
-pub tells_document : (t : List ℕ) (errors : List Diagnostic) (values others all : List Value) →
+pub publishes_document : (t : List ℕ) (errors : List Diagnostic) (values others all : List Value) →
     ∥ DiagnosesText t (map shown errors) ∥₁ → map view values ≡ map error_form errors →
     All IsLintDiagnostic (map view others) → all ≡ values ++ others → PublishesDiagnostics t (map view all)
-tells_document t errors values others all diagnoses told lint_diagnostics is = record {
+publishes_document t errors values others all diagnoses told lint_diagnostics is = record {
   errors = errors;
   diagnoses = diagnoses;
   others = map view others;
@@ -133,13 +133,13 @@ is_withdrawn uri value list is none =
     sent_as (withdrawn uri) value _ (is ∙ ap (diagnostics_form uri) none) (sends_withdrawal uri)
 
 -- the diagnostics of a document that is open are told, behind what was done before
-pub tells : {Y : Type 0} (r : Result (Option Value) Y) (old : List ℕ → Option OpenText) (d : Data)
+pub republishes : {Y : Type 0} (r : Result (Option Value) Y) (old : List ℕ → Option OpenText) (d : Data)
     (method : Option Method) (uri : List ℕ) (found : OpenText) (mid new : Session) → mid.texts uri ≡ Some found →
     ((texts : List ℕ → Option OpenText) → texts ≡ mid.texts
     → HandlesNotification old d method (diagnosed uri found.text) texts) →
     OnOk r (new ≡ mid) → IfOk r (λ sent. IsSent (published uri (mid.texts uri)) (option_map view sent)) →
     IfOk r (λ sent. AnswersRunning old d method (option_map view sent) new.texts)
-tells r old d method uri found mid new open' follows same sent =
+republishes r old d method uri found mid new open' follows same sent =
     ok_with r _ _ _
     (λ e x h. (
       diagnosed uri found.text,
@@ -149,15 +149,15 @@ tells r old d method uri found mid new open' follows same sent =
     same sent
 
 -- a document that was opened
-pub tells_opened : {Y : Type 0} (r : Result (Option Value) Y) (d : Data) (uri text : List ℕ) (version : Option ℤ)
+pub publishes_opened : {Y : Type 0} (r : Result (Option Value) Y) (d : Data) (uri text : List ℕ) (version : Option ℤ)
     (old mid new : Session) → uri_in d ≡ Some uri → opened_text_in d ≡ Some text → version ≡ version_in d →
     Sets old.texts uri (Some (record { text = text; version = version })) mid.texts → OnOk r (new ≡ mid) →
     IfOk r (λ sent. IsSent (published uri (mid.texts uri)) (option_map view sent)) →
     IfOk r (λ sent. AnswersRunning old.texts d (Some DidOpen) (option_map view sent) new.texts)
-tells_opened r d uri text version old mid new named told numbered sets same sent =
+publishes_opened r d uri text version old mid new named told numbered sets same sent =
     let made = subst
     (λ (n : Option ℤ). Sets old.texts uri (Some (record { text = text; version = n })) mid.texts) numbered sets in
-    tells r old.texts d (Some DidOpen) uri (record { text = text; version = version }) mid new
+    republishes r old.texts d (Some DidOpen) uri (record { text = text; version = version }) mid new
     (is_open old.texts mid.texts uri _ sets)
     (λ now e. opens uri text now named told
     (subst
@@ -166,20 +166,20 @@ tells_opened r d uri text version old mid new named told numbered sets same sent
     same sent
 
 -- a document that was changed
-pub tells_changed : {Y : Type 0} (r : Result (Option Value) Y) (d : Data) (uri : List ℕ) (items : Items)
+pub publishes_changed : {Y : Type 0} (r : Result (Option Value) Y) (d : Data) (uri : List ℕ) (items : Items)
     (edits : List Edit) (version : Option ℤ) (found : Bool) (old mid new : Session) → uri_in d ≡ Some uri →
     changes_in d ≡ Some items → edits_in items ≡ Some edits → version ≡ version_in d →
     is_some (old.texts uri) ≡ true → SetsMade old.texts uri version edits found mid.texts → OnOk r (new ≡ mid) →
     IfOk r (λ sent. IsSent (published uri (mid.texts uri)) (option_map view sent)) →
     IfOk r (λ sent. AnswersRunning old.texts d (Some DidChange) (option_map view sent) new.texts)
-tells_changed r d uri items edits version true old mid new named told is_read numbered open'
+publishes_changed r d uri items edits version true old mid new named told is_read numbered open'
     (before, after, was, makes, sets) same sent =
-    tells r old.texts d (Some DidChange) uri after mid new (is_open old.texts mid.texts uri after sets)
+    republishes r old.texts d (Some DidChange) uri after mid new (is_open old.texts mid.texts uri after sets)
     (λ now e. changes uri items edits before after now named told is_read was
     (subst (λ (n : Option ℤ). MakesOpen before n edits after) numbered makes)
     (subst (λ (t : List ℕ → Option OpenText). Sets old.texts uri (Some after) t) (sym e) sets))
     same sent
-tells_changed r d uri items edits version false old mid new named told is_read numbered open' h same sent =
+publishes_changed r d uri items edits version false old mid new named told is_read numbered open' h same sent =
     absurd (true≢false (sym open' ∙ ap is_some h.0))
 
 -- a document that is saved
@@ -191,11 +191,11 @@ saved old new d uri sent (Some found) open' named same is =
 saved old new d uri sent None open' named same is =
     (silence, is, passes (Some DidSave) new (named_open old d uri named ∙ ap is_some open') same)
 
-pub tells_saved : {Y : Type 0} (r : Result (Option Value) Y) (d : Data) (uri : List ℕ) (old new : Session) →
+pub publishes_saved : {Y : Type 0} (r : Result (Option Value) Y) (d : Data) (uri : List ℕ) (old new : Session) →
     uri_in d ≡ Some uri → OnOk r (new ≡ old) →
     IfOk r (λ sent. IsSent (published uri (old.texts uri)) (option_map view sent)) →
     IfOk r (λ sent. AnswersRunning old.texts d (Some DidSave) (option_map view sent) new.texts)
-tells_saved r d uri old new named same sent =
+publishes_saved r d uri old new named same sent =
     ok_with r _ _ _ (λ e x h. saved old.texts new.texts d uri _ _ refl named (ap (λ s. s.texts) e) h) same sent
 
 mapped_some : (found : Option Value) → is_some found ≡ is_some (option_map view found)
@@ -294,17 +294,18 @@ notified_running old mid behind noted d method sent last is_running same kept sa
 
 -- ---- What is published again
 
-told_if_open : (session : Session) (uri : List ℕ) (found : Option OpenText) (value : Data) →
+published_if_open : (session : Session) (uri : List ℕ) (found : Option OpenText) (value : Data) →
     session.phase ≡ Running → session.texts uri ≡ found → IsSent (published uri found) (Some value) →
     Republishes session value
-told_if_open session uri (Some found) value running open' sent =
+published_if_open session uri (Some found) value running open' sent =
     record { runs = running; uri = uri; found = found; is_open = open'; diagnostics = sent }
-told_if_open session uri None value running open' sent = elim sent [ ]
+published_if_open session uri None value running open' sent = elim sent [ ]
 
 -- what is published of a document is told of one that is open
-pub tells_open : {Y : Type 0} (r : Result (Option Value) Y) (session : Session) (uri : List ℕ) →
+pub publishes_open : {Y : Type 0} (r : Result (Option Value) Y) (session : Session) (uri : List ℕ) →
     session.phase ≡ Running → IfOk r (λ sent. IsSent (published uri (session.texts uri)) (option_map view sent)) →
     IfOk r (λ sent. IfSome sent (λ value. Republishes session (view value)))
-tells_open (Ok (Some value)) session uri running sent = told_if_open session uri _ (view value) running refl sent
-tells_open (Ok None) session uri running sent = tt
-tells_open (Err e) session uri running sent = sent
+publishes_open (Ok (Some value)) session uri running sent =
+    published_if_open session uri _ (view value) running refl sent
+publishes_open (Ok None) session uri running sent = tt
+publishes_open (Err e) session uri running sent = sent

@@ -30,7 +30,7 @@ pub record TakesStep (before now : Session) (left after written sent_on : Option
 -- A session goes on: it takes a frame off the input, or it publishes the diagnostics of a document again.
 pub data GoesOn (before now : Session) (left after written sent_on : Option (List ℕ)) : Type 0 where
   takes : TakesStep before now left after written sent_on → GoesOn before now left after written sent_on
-  tells : (value : Data) → Republishes before value → now ≡ before → after ≡ left →
+  republishes : (value : Data) → Republishes before value → now ≡ before → after ≡ left →
       Sends written sent_on (Some value) → GoesOn before now left after written sent_on
 
 -- What is left of the input and what stands on the output, behind a session's steps from the first on.

@@ -36,7 +36,7 @@ use Rattle.fluent_syntax_grammar.specs.RoundTrip.{HasNoBareCr}
 use Rattle.fluent_syntax_grammar.proofs.Holds.{gave}
 use Rattle.fluent_syntax_grammar.proofs.Cuts.{eol_cases}
 use Rattle.fluent_syntax_grammar.proofs.Functional.{single_stretch}
-use Rattle.fluent_syntax_grammar.proofs.Facts.{byte_stands, differs, two_on_as_one, one_on_as_two}
+use Rattle.fluent_syntax_grammar.proofs.Facts.{byte_holds, differs, two_on_as_one, one_on_as_two}
 use Rattle.fluent_syntax_grammar.proofs.Facts.{stretch_onward}
 use Rattle.fluent_syntax_grammar.proofs.Tests.{both}
 use Rattle.fluent_syntax_grammar.proofs.backward.Shapes.{Kept, kept_cut, shape_cut, tree, Well, items_well, items_same}
@@ -159,7 +159,7 @@ module _ (t : List ℕ) (Joins : Type 0) where
   run_begins i b e f g h =
       let no_lf : (b == lf) ≡ false =
       ap (holds (λ c. c == lf)) (sym e) ∙ neither_left (has_byte t lf i) (has_byte t cr i && has_byte t lf (i + 1)) f in
-      both (byte_stands (λ b. not (b == lf || b == 123 || b == 125)) (slice_get t i) b e (rw (no_lf, h, g) refl))
+      both (byte_holds (λ b. not (b == lf || b == 123 || b == 125)) (slice_get t i) b e (rw (no_lf, h, g) refl))
       (not_false (has_eol t i) f)
 
 module _ (t : List ℕ) (bare : HasNoBareCr t) (Joins : Type 0) (crs : (i : ℕ) → has_byte t cr i ≡ true → Joins)

@@ -16,7 +16,7 @@ use Rattle.fluent_syntax_grammar.specs.Written.{begins_with_mark, is_leading_mar
 use Rattle.fluent_syntax_grammar.specs.Readable.{ElementPosition, opening, after_line}
 use Rattle.fluent_syntax_grammar.specs.Readable.{after_placeable}
 use Rattle.fluent_syntax_grammar.specs.RoundTrip.{HasNoBareCr}
-use Rattle.fluent_syntax_grammar.proofs.Facts.{byte_found, byte_stands, implies, left_true, right_true, differs}
+use Rattle.fluent_syntax_grammar.proofs.Facts.{byte_found, byte_holds, implies, left_true, right_true, differs}
 use Rattle.fluent_syntax_grammar.proofs.Facts.{equal, two_on, lt_or_le, byte_of}
 use Rattle.fluent_syntax_grammar.proofs.Tests.{or_cases}
 use Rattle.fluent_syntax_grammar.proofs.Functional.{single_stretch}
@@ -65,7 +65,7 @@ module _ (t : List ℕ) (bare : HasNoBareCr t) where
 
   no_cr : (i b : ℕ) (x : Bool) → (b == cr) ≡ x → slice_get t i ≡ Some b → has_eol t i ≡ false → (b == cr) ≡ false
   no_cr i b false e f g = e
-  no_cr i b true e f g = let h = byte_stands (λ c. c == cr) (slice_get t i) b f e in differs (eol_of i h (bare i h)) g
+  no_cr i b true e f g = let h = byte_holds (λ c. c == cr) (slice_get t i) b f e in differs (eol_of i h (bare i h)) g
 
   -- a byte of a run is plain
   run_plain : (i : ℕ) → is_run_place t i ≡ true → has t is_plain i ≡ true
@@ -75,7 +75,7 @@ module _ (t : List ℕ) (bare : HasNoBareCr t) where
       let f =
       not_true (has_eol t i)
       (right_true (has t (λ b. not (b == lf || b == 123 || b == 125)) i) (not (has_eol t i)) e) in
-      byte_stands is_plain (slice_get t i) b.0 b.1 (plain_of b.0 b.2 (no_cr i b.0 (b.0 == cr) refl b.1 f))
+      byte_holds is_plain (slice_get t i) b.0 b.1 (plain_of b.0 b.2 (no_cr i b.0 (b.0 == cr) refl b.1 f))
 
   -- where a run begins a later line, it begins with no mark
   own_mark : (indented : Bool) (i b : ℕ) → belongs t indented i ≡ true → is_run_place t i ≡ true →

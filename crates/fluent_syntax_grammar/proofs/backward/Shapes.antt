@@ -15,14 +15,15 @@ use Rattle.fluent_syntax_grammar.specs.Elements.{spelled}
 use Rattle.fluent_syntax_grammar.specs.Written.{Text}
 use Rattle.fluent_syntax_grammar.specs.Rules.{expression_obeys, elements_obey}
 use Rattle.fluent_syntax_grammar.specs.Readable.{is_text, ElementPosition, opening, after_line}
-use Rattle.fluent_syntax_grammar.specs.Readable.{within_line, after_placeable, position_after, stands_well, ends_well}
+use Rattle.fluent_syntax_grammar.specs.Readable.{within_line, after_placeable, position_after, is_well_placed}
+use Rattle.fluent_syntax_grammar.specs.Readable.{ends_well}
 use Rattle.fluent_syntax_grammar.specs.Readable.{are_elements, readable_rules}
 use Rattle.fluent_syntax_grammar.specs.Joined.{is_joined, joined_expression, joined_pattern, joined_after}
 use Rattle.fluent_syntax_grammar.proofs.Facts.{left_true, right_true, equal, append_nothing}
 use Rattle.fluent_syntax_grammar.proofs.Tests.{both}
 use Rattle.fluent_syntax_grammar.proofs.backward.Texts.{is_plain, line_end, line_not_empty, plain_is_text, line_ends}
 use Rattle.fluent_syntax_grammar.proofs.backward.Texts.{plain_ends_not, shows, plain_nonblank, trimmed_of}
-use Rattle.fluent_syntax_grammar.proofs.backward.Texts.{trimmed_range, Begins, begins_kept, begins_stands, blank_stands}
+use Rattle.fluent_syntax_grammar.proofs.backward.Texts.{trimmed_range, Begins, begins_kept, begin_holds, blank_holds}
 use Rattle.fluent_syntax_grammar.proofs.backward.Texts.{stands_any}
 
 -- ---- expressions that were read
@@ -137,7 +138,8 @@ tree_more t w (filled e) xs = refl
 -- ---- the elements are well
 
 text_well : (m : Bool) (s : ElementPosition) (v : Text) (p : PatternTree Text) → is_text v ≡ true →
-    stands_well One m s v no_elements ≡ true → ends_well v p ≡ true → are_elements One m (position_after v) p ≡ true →
+    is_well_placed One m s v no_elements ≡ true → ends_well v p ≡ true → are_elements One m (position_after v) p ≡ true
+    →
     are_elements One m s (elements (text_element v) p) ≡ true
 text_well m s v p a b c d = both a (both (stands_any m s v p no_elements ∙ b) (both c d))
 
@@ -147,7 +149,7 @@ pub record Well (m : Bool) (s : ElementPosition) (p : PatternTree Text) : Type 0
 
 -- a line's text and what follows it
 line_well : (m : Bool) (s : ElementPosition) (u w : Text) (q : PatternTree Text) → w ≡ u ++ line_end true →
-    list_all is_plain u ≡ true → stands_well One m s (u ++ line_end true) no_elements ≡ true →
+    list_all is_plain u ≡ true → is_well_placed One m s (u ++ line_end true) no_elements ≡ true →
     ends_well (u ++ line_end true) (joined_pattern q) ≡ true →
     Well m after_line (joined_pattern q) → Well m s (joined_after w q)
 line_well m s u w q e p b c h =
@@ -216,8 +218,8 @@ module _ (t : List ℕ) (Joins : Type 0) (m : Bool) where
       subst (λ v. is_text v ≡ true) bare
       (plain_is_text r.kept false r.plain
       (subst (λ v. is_empty v ≡ false) (sym bare) (shown_not_empty r.kept r.shown))) in
-      let stands : stands_well One m s r.kept no_elements ≡ true =
-      subst (λ v. stands_well One m s v no_elements ≡ true) bare (begins_stands m s r.kept false r.plain begins) in
+      let stands : is_well_placed One m s r.kept no_elements ≡ true =
+      subst (λ v. is_well_placed One m s v no_elements ≡ true) bare (begin_holds m s r.kept false r.plain begins) in
       subst (λ v. Well m s (elements (text_element v) no_elements)) (sym same)
       (record { position = text_well m s r.kept no_elements is stands r.ends refl; obey = refl })
 
@@ -230,8 +232,8 @@ module _ (t : List ℕ) (Joins : Type 0) (m : Bool) where
       let bare : u ++ line_end false ≡ u = append_nothing u in
       let is : is_text u ≡ true =
       subst (λ v. is_text v ≡ true) bare (plain_is_text u false p (subst (λ v. is_empty v ≡ false) (sym bare) n)) in
-      let stands : stands_well One m s u no_elements ≡ true =
-      subst (λ v. stands_well One m s v no_elements ≡ true) bare (begins_stands m s u false p b) in
+      let stands : is_well_placed One m s u no_elements ≡ true =
+      subst (λ v. is_well_placed One m s v no_elements ≡ true) bare (begin_holds m s u false p b) in
       let rest = joined_pattern (tree t (filled e ∷ xs)) in
       subst (λ w. Well m s (joined_after w (tree t (filled e ∷ xs)))) (sym f)
       (record { position = text_well m s u rest is stands refl h.position; obey = both g.obeys h.obey })
@@ -251,7 +253,7 @@ module _ (t : List ℕ) (Joins : Type 0) (m : Bool) where
       subst (Well m s) (sym whole) (record {
         position =
             text_well m s (u ++ line_end true) (joined_pattern q) (plain_is_text u true p (line_not_empty u))
-            (begins_stands m s u true p b) c
+            (begin_holds m s u true p b) c
             (subst (λ s. are_elements One m s (joined_pattern q) ≡ true) (sym next) h.position);
         obey = h.obey;
       })
@@ -273,10 +275,10 @@ module _ (t : List ℕ) (Joins : Type 0) (m : Bool) where
       record { position = q.position; obey = both g.obeys q.obey }
   items_well s (text from to ∷ []) r (more e h) k = last_of_step s _ from to e k
   items_well s (text from to ∷ y ∷ ys) r (more (ends_line u e p b) h) k =
-      line_well m s u (At from to) (tree t (y ∷ ys)) e p (begins_stands m s u true p b)
+      line_well m s u (At from to) (tree t (y ∷ ys)) e p (begin_holds m s u true p b)
       (tree_more t (u ++ line_end true) y ys) (items_well after_line (y ∷ ys) tt h k)
   items_well s (text from to ∷ y ∷ ys) r (more (blank_line u e f) h) k =
-      line_well m after_line u (At from to) (tree t (y ∷ ys)) e (spaces_plain u f) (blank_stands m u f)
+      line_well m after_line u (At from to) (tree t (y ∷ ys)) e (spaces_plain u f) (blank_holds m u f)
       (tree_more t (u ++ line_end true) y ys) (items_well after_line (y ∷ ys) tt h k)
   items_well s (text from to ∷ y ∷ ys) r (more (joins e j) h) k = absurd r
   items_well s (text from to ∷ filled x ∷ ys) r (more (runs u e p n b) (more (places g) h)) k =

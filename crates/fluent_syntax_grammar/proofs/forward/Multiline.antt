@@ -14,7 +14,7 @@ use Rattle.fluent_syntax_grammar.specs.Bytes.{lf, cr, space, is_space}
 use Rattle.fluent_syntax_grammar.specs.Places.{holds}
 use Rattle.fluent_syntax_grammar.specs.Written.{Text, is_last, last_of, indent, begins_with_mark}
 use Rattle.fluent_syntax_grammar.specs.Readable.{ElementPosition, after_line, within_line, after_placeable}
-use Rattle.fluent_syntax_grammar.specs.Readable.{ends_well, is_text, are_elements, stands_well}
+use Rattle.fluent_syntax_grammar.specs.Readable.{ends_well, is_text, are_elements, is_well_placed}
 use Rattle.fluent_syntax_grammar.specs.Readable.{position_after, indents}
 use Rattle.fluent_syntax_grammar.specs.Canonical.{line_numbers, are_lone, text_numbers, placeable_numbers}
 use Rattle.fluent_syntax_grammar.specs.Elements.{is_nonblank}
@@ -315,7 +315,7 @@ not_mark b e f = marks (b == 46) (b == 91) (b == 42) (b == 125) (b == lf) (b == 
 
 no_mark_there : (edition : Edition) (v : Text) (es : PatternTree Text) (gap : List ℕ) (b : ℕ) (bs : List ℕ) →
     v ≡ gap ++ (b ∷ bs) → list_all is_space gap ≡ true → is_space b ≡ false →
-    stands_well edition true after_line v es ≡ true → begins_with_mark (b ∷ []) ≡ false
+    is_well_placed edition true after_line v es ≡ true → begins_with_mark (b ∷ []) ≡ false
 no_mark_there edition v es gap b bs is a e g =
     sym (ap begins_with_mark (ap after_spaces is ∙ after_of gap b bs a e))
     ∙ not_true (begins_with_mark (after_spaces v)) (right_true (not (is_spaces v) || indents edition v es) _ g)
@@ -440,7 +440,7 @@ spaces_number v e = rw (spaces_blank_text v e, e) refl
 spaces_starts :
     (edition : Edition) (t : List ℕ) (level : ℕ) (common : Option ℕ) (tail rest : List ℕ) (v : Text)
     (es : PatternTree Text) → is_text v ≡ true → list_all is_run_byte v ≡ true → list_all is_space v ≡ true →
-    stands_well edition true after_line v es ≡ true →
+    is_well_placed edition true after_line v es ≡ true →
     Fit edition (length (indent level)) common after_line (elements (text_element v) es) →
     ((i : ℕ) → Left t i (elements_bytes level false es (lf ∷ tail)) →
     Mid edition t common es (map (λ n. length (indent level) + n) (line_numbers edition after_placeable es)) i
@@ -513,27 +513,27 @@ module _ (edition : Edition) (t : List ℕ) (level : ℕ) (common : Option ℕ) 
       are_elements edition true s (elements (text_element v) es) ≡ true → is_text v ≡ true
   text_is s v es g = left_true (is_text v) _ g
 
-  pub text_stands : (s : ElementPosition) (v : Text) (es : PatternTree Text) →
-      are_elements edition true s (elements (text_element v) es) ≡ true → stands_well edition true s v es ≡ true
-  text_stands s v es g = left_true (stands_well edition true s v es) _ (right_true (is_text v) _ g)
+  pub text_holds : (s : ElementPosition) (v : Text) (es : PatternTree Text) →
+      are_elements edition true s (elements (text_element v) es) ≡ true → is_well_placed edition true s v es ≡ true
+  text_holds s v es g = left_true (is_well_placed edition true s v es) _ (right_true (is_text v) _ g)
 
   pub text_ends_well : (s : ElementPosition) (v : Text) (es : PatternTree Text) →
       are_elements edition true s (elements (text_element v) es) ≡ true → ends_well v es ≡ true
   text_ends_well s v es g =
-      left_true (ends_well v es) _ (right_true (stands_well edition true s v es) _ (right_true (is_text v) _ g))
+      left_true (ends_well v es) _ (right_true (is_well_placed edition true s v es) _ (right_true (is_text v) _ g))
 
   pub text_more : (s : ElementPosition) (v : Text) (es : PatternTree Text) →
       are_elements edition true s (elements (text_element v) es) ≡ true →
       are_elements edition true (position_after v) es ≡ true
   text_more s v es g =
-      right_true (ends_well v es) _ (right_true (stands_well edition true s v es) _ (right_true (is_text v) _ g))
+      right_true (ends_well v es) _ (right_true (is_well_placed edition true s v es) _ (right_true (is_text v) _ g))
 
   -- a text without LF is followed by no text
   pub no_text_after : (v w : Text) (es : PatternTree Text) → ends_in_lf v ≡ false →
       are_elements edition true (position_after v) (elements (text_element w) es) ≡ true → ⊥
   no_text_after v w es e g =
-      false≢true (sym (ap (λ s. stands_well edition true s w es) (ap (λ b. if b then after_line else within_line) e))
-      ∙ text_stands (position_after v) w es g)
+      false≢true (sym (ap (λ s. is_well_placed edition true s w es) (ap (λ b. if b then after_line else within_line) e))
+      ∙ text_holds (position_after v) w es g)
 
   after_lf : (v : Text) (es : PatternTree Text) → ends_in_lf v ≡ true →
       are_elements edition true (position_after v) es ≡ true → are_elements edition true after_line es ≡ true
@@ -584,7 +584,7 @@ module _ (edition : Edition) (t : List ℕ) (level : ℕ) (common : Option ℕ) 
       let byte = left_true (is_run_byte b) (list_all is_run_byte bs) part in
       let mark =
       not_mark b byte
-      (no_mark_there edition v no_elements gap b bs is c e (text_stands after_line v no_elements g)) in
+      (no_mark_there edition v no_elements gap b bs is c e (text_holds after_line v no_elements g)) in
       let plain = text_ends_well after_line v no_elements g in
       let safe : is_last cr (last_of None (b ∷ bs)) ≡ false =
       sym (ap (is_last cr) (ap (last_of None) is ∙ last_of_part gap b bs)) ∙ plain_no_cr v plain in
@@ -596,7 +596,7 @@ module _ (edition : Edition) (t : List ℕ) (level : ℕ) (common : Option ℕ) 
       let mark =
       not_mark b byte
       (no_mark_there edition v (elements (placeable x) es) gap b bs is c e
-      (text_stands after_line v (elements (placeable x) es) g)) in
+      (text_holds after_line v (elements (placeable x) es) g)) in
       let brace = element_brace level x (elements_bytes level false es (lf ∷ tail)) in
       let end = run_ends_in v a in
       let m =
@@ -625,7 +625,7 @@ module _ (edition : Edition) (t : List ℕ) (level : ℕ) (common : Option ℕ) 
       spaces_alone : list_all is_space v ≡ true → StartsOf (elements (text_element v) es)
       spaces_alone e =
           spaces_starts edition t level common tail rest v es (text_is after_line v es g) a e
-          (text_stands after_line v es g) f (mid (run_ends_in v a))
+          (text_holds after_line v es g) f (mid (run_ends_in v a))
 
       alone_at : (gap more : List ℕ) → v ≡ gap ++ more → list_all is_space gap ≡ true →
           holds is_space (first more) ≡ false → StartsOf (elements (text_element v) es)
@@ -666,7 +666,7 @@ module _ (edition : Edition) (t : List ℕ) (level : ℕ) (common : Option ℕ) 
           let mark =
           not_mark b byte
           (no_mark_there edition v (elements d es) gap b (bs ++ (lf ∷ [])) whole s n
-          (text_stands after_line v (elements d es) g)) in
+          (text_holds after_line v (elements d es) g)) in
           let safe : is_last cr (last_of None (b ∷ bs)) ≡ false =
           sym (ap (is_last cr) (ap (last_of None) e ∙ last_of_part gap b bs)) ∙ c in
           let more = elements_bytes level true (elements d es) (lf ∷ tail) in

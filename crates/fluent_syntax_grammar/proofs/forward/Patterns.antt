@@ -43,7 +43,7 @@ use Rattle.fluent_syntax_grammar.proofs.forward.Multiline.{Fit, fixed, lone, lin
 use Rattle.fluent_syntax_grammar.proofs.forward.Multiline.{plain_not_line, blank_of, no_spaces_end}
 use Rattle.fluent_syntax_grammar.proofs.forward.Runs.{without_of}
 use Rattle.fluent_syntax_grammar.proofs.forward.Multiline.{spaces_blank_text, run_ends_in, last_of_part, append_none}
-use Rattle.fluent_syntax_grammar.proofs.forward.Multiline.{run_part, no_text_after, text_is, text_stands}
+use Rattle.fluent_syntax_grammar.proofs.forward.Multiline.{run_part, no_text_after, text_is, text_holds}
 use Rattle.fluent_syntax_grammar.proofs.forward.Multiline.{text_ends_well, text_more}
 use Rattle.fluent_syntax_grammar.proofs.Tests.{and_false, not_true}
 
@@ -261,7 +261,7 @@ module _ (edition : Edition) (t : List ℕ) (level : ℕ) (common : Option ℕ) 
       let d =
       indents_placeable edition v no_elements
       (or_second (is_nonblank v) _ (spaces_blank_text v all)
-      (text_stands edition t level common tail rest ends deep opening v no_elements g)) in absurd (false≢true d.1)
+      (text_holds edition t level common tail rest ends deep opening v no_elements g)) in absurd (false≢true d.1)
   first_alone v (elements (placeable x) es) i g a gap [] is c s l =
       let all : is_spaces v ≡ true = ap is_spaces (is ∙ append_none gap) ∙ c in
       let are =
@@ -296,7 +296,7 @@ module _ (edition : Edition) (t : List ℕ) (level : ℕ) (common : Option ℕ) 
       let d =
       indents_placeable edition v (elements d es)
       (or_second (is_nonblank v) _ blank
-      (text_stands edition t level common tail rest ends deep opening v (elements d es) g)) in
+      (text_holds edition t level common tail rest ends deep opening v (elements d es) g)) in
       absurd (false≢true (sym (ap is_spaces whole ∙ no_spaces_end gap) ∙ d.0))
 
   -- The first line is not blank.

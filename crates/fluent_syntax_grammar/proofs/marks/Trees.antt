@@ -26,7 +26,7 @@ use Rattle.fluent_syntax_grammar.specs.Rules.{named_obeys, expression_obeys, var
 use Rattle.fluent_syntax_grammar.specs.Rules.{option_obeys, elements_obey, pattern_obeys}
 use Rattle.fluent_syntax_grammar.specs.Readable.{ElementPosition, opening, position_after, after_placeable}
 use Rattle.fluent_syntax_grammar.specs.Readable.{are_named_well}
-use Rattle.fluent_syntax_grammar.specs.Readable.{ends_well, is_pattern, is_text, stands_well}
+use Rattle.fluent_syntax_grammar.specs.Readable.{ends_well, is_pattern, is_text, is_well_placed}
 use Rattle.fluent_syntax_grammar.specs.Readable.{are_elements}
 use Rattle.fluent_syntax_grammar.specs.Canonical.{canonical_rules, is_flush}
 use Rattle.fluent_syntax_grammar.proofs.Obeys.{inline_part, select_parts}
@@ -361,7 +361,7 @@ module _ (edition : Edition) where
       are_elements edition multiline s (elements (text_element (b ∷ bs)) es) ≡ true → (ends_well (b ∷ bs) es ≡ true) ×
       (are_elements edition multiline (position_after (b ∷ bs)) es ≡ true)
   elements_rest multiline s b bs es g =
-      let m = right_true (stands_well edition multiline s (b ∷ bs) es) _ (right_true (is_text (b ∷ bs)) _ g) in
+      let m = right_true (is_well_placed edition multiline s (b ∷ bs) es) _ (right_true (is_text (b ∷ bs)) _ g) in
       (left_true (ends_well (b ∷ bs) es) _ m, right_true (ends_well (b ∷ bs) es) _ m)
 
   mutual

@@ -44,7 +44,7 @@ module _ (edition : Edition) (t : List ℕ) (content : List Span) (ptr : ℕ) wh
     rest.tiled,
     by_itself none i rest.tiles rest.tiled ∙ (ap (λ b. comment regular content ∷ b) rest.gives
         ∙ ap (λ x. x ∷ entries) (sym same)),
-    rest.tells,
+    rest.errors_are,
   )
 
   pub attaches_on : (e with_comment : EntryTree Span) (j : ℕ) → BlankBlock t ptr ptr → ptr < length t →
@@ -54,7 +54,7 @@ module _ (edition : Edition) (t : List ℕ) (content : List Span) (ptr : ℕ) wh
     entry (record { start = ptr; end = j }) e ∷ rest.tiles,
     next block inside (reads read) rest.tiled,
     rw (same_number ptr, same) (ap (λ b. with_comment ∷ b) rest.gives),
-    rest.tells,
+    rest.errors_are,
   )
 
   -- ---- where it is not attached

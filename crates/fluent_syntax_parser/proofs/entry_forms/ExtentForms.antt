@@ -22,8 +22,9 @@ use Rattle.fluent_syntax_grammar.proofs.Included.{IsIncluded, IsIncludedFamily, 
 use Rattle.fluent_syntax_grammar.proofs.IncludedEntries.{included_entry}
 use Rattle.fluent_syntax_grammar.proofs.Nesting.{within_family}
 use Rattle.fluent_syntax_parser.proofs.entry_forms.EntryForms.{of_hash}
-use Rattle.fluent_syntax_parser.specs.PartRanges.{HasAttributeParts, HaveAttributeParts, none_stands, one_stands}
-use Rattle.fluent_syntax_parser.specs.PartRanges.{HaveFieldParts, HasEntryParts, message_stands, term_stands}
+use Rattle.fluent_syntax_parser.specs.PartRanges.{HasAttributeParts, HaveAttributeParts, no_attribute_parts}
+use Rattle.fluent_syntax_parser.specs.PartRanges.{more_attribute_parts}
+use Rattle.fluent_syntax_parser.specs.PartRanges.{HaveFieldParts, HasEntryParts, message_has_parts, term_has_parts}
 use Rattle.fluent_syntax_parser.specs.PartRanges.{EntryWithParts}
 use Rattle.fluent_syntax_parser.specs.PartRanges.{FindsEntry, HasRanges}
 use Rattle.fluent_syntax_parser.specs.Fields.{FieldTrees, fields}
@@ -35,8 +36,8 @@ use Rattle.fluent_syntax_parser.specs.declared.ranges.EntryRanges.{EntryRanges}
 module _ (edition : Edition) (t : List ℕ) (R : Family) where
   pub attributes_there : {i end : ℕ} {xs : List AttributeRanges} {rest : List (AttributeTree Span)} →
       HaveAttributeParts edition t R i xs rest end → attributes_of edition t R i (Read rest end)
-  attributes_there (none_stands x) = no_more x
-  attributes_there (one_stands {x = x} {a = a} begins s more) =
+  attributes_there (no_attribute_parts x) = no_more x
+  attributes_there (more_attribute_parts {x = x} {a = a} begins s more) =
       one_more (subst (λ i. attribute_of edition t R i (Read a x.span.end)) begins s.whole) (attributes_there more)
 
   -- what stands behind a name, from the place to the end
@@ -72,13 +73,13 @@ module _ (edition : Edition) (t : List ℕ) (R : Family) where
 
   pub no_attributes : {i end : ℕ} {xs : List AttributeRanges} {rest : List (AttributeTree Span)} →
       HaveAttributeParts edition t R i xs rest end → xs ≡ [] → rest ≡ []
-  no_attributes (none_stands x) e = refl
-  no_attributes (one_stands begins s more) e = cc
+  no_attributes (no_attribute_parts x) e = refl
+  no_attributes (more_attribute_parts begins s more) e = cc
 
   pub no_attribute_ranges : {i end : ℕ} {xs : List AttributeRanges} {rest : List (AttributeTree Span)} →
       HaveAttributeParts edition t R i xs rest end → rest ≡ [] → xs ≡ []
-  no_attribute_ranges (none_stands x) e = refl
-  no_attribute_ranges (one_stands begins s more) e = cc
+  no_attribute_ranges (no_attribute_parts x) e = refl
+  no_attribute_ranges (more_attribute_parts begins s more) e = cc
 
   -- ---- a list that a loop gathers
 
@@ -99,14 +100,14 @@ module _ (edition : Edition) (t : List ℕ) (R : Family) where
     items = g.items ++ a ∷ [];
     stand = λ more rest end h.
         rw (all, append_assoc xs (x ∷ []) more, append_assoc g.items (a ∷ []) rest)
-        (g.stand (x ∷ more) (a ∷ rest) end (one_stands begins s h));
+        (g.stand (x ∷ more) (a ∷ rest) end (more_attribute_parts begins s h));
   }
 
   pub all_ranges : (i : ℕ) (xs : List AttributeRanges) (j : ℕ) → (g : GathersRanges i xs j) → {from to : ℕ} →
       {k : Kind} → attribute_of edition t R j (Refused k from to) →
       HaveAttributeParts edition t R i xs g.items j
   all_ranges i xs j g none =
-      rw (← append_nothing xs, ← append_nothing g.items) (g.stand [] [] j (none_stands none))
+      rw (← append_nothing xs, ← append_nothing g.items) (g.stand [] [] j (no_attribute_parts none))
 
 -- ---- within a family that is included in another
 
@@ -132,9 +133,9 @@ module _ (edition : Edition) (t : List ℕ) (R S : Family) (h : IsIncludedFamily
 
   attributes_included : {i end : ℕ} {xs : List AttributeRanges} {rest : List (AttributeTree Span)} →
       HaveAttributeParts edition t R i xs rest end → HaveAttributeParts edition t S i xs rest end
-  attributes_included (none_stands x) = none_stands (included_attribute.part _ _ x)
-  attributes_included (one_stands begins s more) =
-      one_stands begins (attribute_included s) (attributes_included more)
+  attributes_included (no_attribute_parts x) = no_attribute_parts (included_attribute.part _ _ x)
+  attributes_included (more_attribute_parts begins s more) =
+      more_attribute_parts begins (attribute_included s) (attributes_included more)
 
   fields_included : {i end : ℕ} {o : Option Span} {xs : List AttributeRanges} {f : FieldTrees Span} →
       HaveFieldParts edition t R i o xs f end → HaveFieldParts edition t S i o xs f end
@@ -152,8 +153,8 @@ module _ (edition : Edition) (t : List ℕ) (R S : Family) (h : IsIncludedFamily
 
   parts_included : {i end : ℕ} {x : EntryRanges} {e : EntryTree Span} → HasEntryParts edition t R i x e end →
       HasEntryParts edition t S i x e end
-  parts_included (message_stands begins name s) = message_stands begins name (fields_included s)
-  parts_included (term_stands mark name s) = term_stands mark name (fields_included s)
+  parts_included (message_has_parts begins name s) = message_has_parts begins name (fields_included s)
+  parts_included (term_has_parts mark name s) = term_has_parts mark name (fields_included s)
 
   pub found_included : (i : ℕ) (x : EntryRanges) → EntryWithParts edition t R i x → EntryWithParts edition t S i x
   found_included i x s = record {

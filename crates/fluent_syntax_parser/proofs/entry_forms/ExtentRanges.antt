@@ -24,9 +24,10 @@ use Rattle.fluent_syntax_grammar.proofs.Tests.{letter_name}
 use Rattle.fluent_syntax_parser.specs.PartRanges.{HasAttributeParts, HaveAttributeParts, HasEntryParts, HaveFieldParts}
 use Rattle.fluent_syntax_parser.specs.PartRanges.{HasRanges}
 use Rattle.fluent_syntax_parser.specs.PartRanges.{ReadAt}
-use Rattle.fluent_syntax_parser.specs.PartRanges.{each_attribute_range, message_stands, none_stands, one_stands}
+use Rattle.fluent_syntax_parser.specs.PartRanges.{each_attribute_range, message_has_parts, no_attribute_parts}
+use Rattle.fluent_syntax_parser.specs.PartRanges.{more_attribute_parts}
 use Rattle.fluent_syntax_parser.specs.PartRanges.{each_range}
-use Rattle.fluent_syntax_parser.specs.PartRanges.{term_stands}
+use Rattle.fluent_syntax_parser.specs.PartRanges.{term_has_parts}
 use Rattle.fluent_syntax_parser.specs.Fields.{FieldTrees}
 use Rattle.fluent_syntax_parser.specs.declared.ranges.AttributeRanges.{AttributeRanges}
 use Rattle.fluent_syntax_parser.specs.declared.ranges.EntryRanges.{EntryRanges}
@@ -70,8 +71,8 @@ module _ (edition : Edition) (t : List ℕ) (P : ℕ → Type 0) (cuts : IsCuts 
   attributes_in_text : {i end : ℕ} {xs : List AttributeRanges} {rest : List (AttributeTree Span)} →
       HaveAttributeParts edition t (family edition t) i xs rest end → P i
       → list_every (each_attribute_range (IsSpan P)) xs
-  attributes_in_text (none_stands x) p = tt
-  attributes_in_text (one_stands {x = x} {a = a} begins s more) p =
+  attributes_in_text (no_attribute_parts x) p = tt
+  attributes_in_text (more_attribute_parts {x = x} {a = a} begins s more) p =
       let r = attribute_in_text x a s (subst P (sym begins) p) in (r, attributes_in_text more r.0.2)
 
   fields_in_text : (x : EntryRanges) (f : FieldTrees Span) (end : ℕ) → ReadAt (identifier t) x.name x.name →
@@ -84,8 +85,8 @@ module _ (edition : Edition) (t : List ℕ) (P : ℕ → Type 0) (cuts : IsCuts 
 
   entry_in_text : (i end : ℕ) (x : EntryRanges) (e : EntryTree Span) →
       HasEntryParts edition t (family edition t) i x e end → each_range (IsSpan P) x
-  entry_in_text i end x e (message_stands {f = f} begins name s) = fields_in_text x f end name s
-  entry_in_text i end x e (term_stands mark name s) = fields_in_text x _ end name s
+  entry_in_text i end x e (message_has_parts {f = f} begins name s) = fields_in_text x f end name s
+  entry_in_text i end x e (term_has_parts mark name s) = fields_in_text x _ end name s
 
 pub ranges_in_text : (edition : Edition) (t : List ℕ) → IsUtf8 t → (i : ℕ) (found : Option EntryRanges) →
     HasRanges edition t i found → IfSome found (each_range (IsPart t))

@@ -234,10 +234,10 @@ module _ {S X : Type 0} (f : Span → X) (v : S → X) where
         }
 
 -- what one error more tells, if there is one
-pub told_faults : (errors told : List ParserError) (error : Option ParserError) →
+pub error_faults : (errors told : List ParserError) (error : Option ParserError) →
     told ≡ errors ++ option_to_list error → map fault_of told ≡ map fault_of errors ++ faults_of error
-told_faults errors told None same = ap (map fault_of) same ∙ map-append fault_of errors []
-told_faults errors told (Some e) same = ap (map fault_of) same ∙ map-append fault_of errors (e ∷ [])
+error_faults errors told None same = ap (map fault_of) same ∙ map-append fault_of errors []
+error_faults errors told (Some e) same = ap (map fault_of) same ∙ map-append fault_of errors (e ∷ [])
 
 -- ---- entries of spans
 

@@ -10,7 +10,7 @@ use Rattle.std.specs.declared.cmp.Ordering.{Ordering}
 use Rattle.std.specs.declared.cmp.Ordering.TheVariants.{Equal}
 use Rattle.fluent_syntax_grammar.specs.Arguments.{is_used}
 use Rattle.fluent_syntax_grammar.specs.NameKeys.{NotesAll, is_key}
-use Rattle.fluent_syntax_grammar.proofs.NameKeys.{key_held, notes_behind}
+use Rattle.fluent_syntax_grammar.proofs.NameKeys.{any_key, notes_behind}
 use Rattle.fluent_syntax_parser.specs.Noted.{Notes}
 
 not_new : (held used new : Bool) → new ≡ not held → held ≡ used → used ≡ not new
@@ -34,4 +34,4 @@ module _ {K : Type 0} (text : K → List ℕ) where
       new ≡ not (list_any (is_at (λ k. slice_cmp nat_cmp key (text k))) keys) → key ≡ n → NotesAll text keys names →
       is_used n names ≡ not new
   is_used-new keys names key n new e same all =
-      not_new _ _ _ e (key_held text key keys ∙ ap (λ name. is_key text keys name) same ∙ all n)
+      not_new _ _ _ e (any_key text key keys ∙ ap (λ name. is_key text keys name) same ∙ all n)

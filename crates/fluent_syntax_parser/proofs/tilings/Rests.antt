@@ -66,7 +66,7 @@ module _ (t : List ℕ) (at : (i j : ℕ) → Tile → Type 0) where
 
 module _ (comments : Comments) (edition : Edition) (t : List ℕ) where
   pub none_left : (i : ℕ) → i ≡ length t → RestAt comments edition t i [] []
-  none_left i end = record { tiles = []; tiled_here = at_end end; gives = refl; tells = refl }
+  none_left i end = record { tiles = []; tiled_here = at_end end; gives = refl; errors_are = refl }
 
   pub rest_behind : (i j : ℕ) (entries : BodyTree Span) (errors : List (Option Fault)) → BlankBlock t i j →
       RestAt comments edition t j entries errors → Rest comments edition t i entries errors
@@ -74,7 +74,7 @@ module _ (comments : Comments) (edition : Edition) (t : List ℕ) where
     tiles = rest.tiles;
     tiled = behind_block t (TileIn comments edition t (family edition t)) i j rest.tiles block rest.tiled_here;
     gives = rest.gives;
-    tells = rest.tells;
+    errors_are = rest.errors_are;
   }
 
 pub in_mode : (comments : Comments) (edition : Edition) (t : List ℕ) (R : Family) (i j : ℕ) (tile : Tile) →
@@ -102,7 +102,7 @@ module _ (edition : Edition) (t : List ℕ) (i j : ℕ) (inside : i < length t) 
     tiles = dropped ∷ rest.tiles;
     tiled_here = at_tile inside (drops there line) rest.tiled;
     gives = dropped_then rest.tiles ∙ rest.gives;
-    tells = rest.tells;
+    errors_are = rest.errors_are;
   }
 
   module _ (comments : Comments) (none : are_dropped comments ≡ true → has_byte t hash i ≡ false) (e : EntryTree Span)
@@ -115,7 +115,7 @@ module _ (edition : Edition) (t : List ℕ) (i j : ℕ) (inside : i < length t) 
       tiled_here = at_tile inside (in_mode comments edition t (family edition t) i j tile.tile none
           (at_any_depth edition t n i j tile.tile tile.stands)) rest.tiled;
       gives = body_then tile.tile rest.tiles e tile.entry other ∙ ap (λ b. e ∷ b) rest.gives;
-      tells = rw (faults_then tile.tile rest.tiles, tile.errors, rest.tells) refl;
+      errors_are = rw (faults_then tile.tile rest.tiles, tile.errors, rest.errors_are) refl;
     }
 
   module _ (comments : Comments) (none : are_dropped comments ≡ true → has_byte t hash i ≡ false) (e : EntryTree Span)
@@ -130,7 +130,7 @@ module _ (edition : Edition) (t : List ℕ) (i j : ℕ) (inside : i < length t) 
           tiled_here = at_tile inside
               (in_mode comments edition t (family edition t) i j tile none (reads read)) rest.tiled;
           gives = body_then tile rest.tiles e refl other ∙ ap (λ b. e ∷ b) rest.gives;
-          tells = rest.tells;
+          errors_are = rest.errors_are;
         }
 
 -- ---- a comment that may be attached
@@ -166,7 +166,7 @@ module _ (edition : Edition) (t : List ℕ) (n i j : ℕ) (inside : i < length t
         tiles = tile.tile ∷ behind.0;
         tiled_here = at_tile inside stands_there behind.1;
         gives = ap (λ x. body (x ∷ behind.0)) is_comment ∙ behind.2;
-        tells = rw (faults_then tile.tile behind.0, tile.errors, behind.3) refl;
+        errors_are = rw (faults_then tile.tile behind.0, tile.errors, behind.3) refl;
       }
   rest_comment Dropped none with_comment k after entries errors rest = absurd (is_no_bare_comment (none refl))
 

@@ -18,7 +18,7 @@ use Rattle.fluent_syntax_grammar.specs.PatternTexts.{after_spaces}
 use Rattle.fluent_syntax_grammar.specs.Readable.{is_message, is_callee, is_text}
 use Rattle.fluent_syntax_grammar.specs.Readable.{ElementPosition, opening, after_line, within_line, after_placeable}
 use Rattle.fluent_syntax_grammar.specs.Readable.{position_after}
-use Rattle.fluent_syntax_grammar.specs.Readable.{indents, stands_well, ends_well, are_elements, is_pattern, defaults}
+use Rattle.fluent_syntax_grammar.specs.Readable.{indents, is_well_placed, ends_well, are_elements, is_pattern, defaults}
 use Rattle.fluent_syntax_grammar.specs.Readable.{are_lines, is_expression, are_arguments}
 use Rattle.fluent_syntax_grammar.specs.Canonical.{canonical_rules, is_plain_comment, is_plain_line, hides_mark}
 use Rattle.fluent_syntax_grammar.specs.Canonical.{are_lone, are_flush, first_position, is_flush, has_one_default}
@@ -27,7 +27,7 @@ use Rattle.fluent_syntax_writer.specs.SingleRule.{every_rule, single_rule, entry
 use Rattle.fluent_syntax_writer.specs.SingleRule.{texts_keep}
 use Rattle.fluent_syntax_writer.specs.SingleRule.{form_keeps, pattern_keeps, expression_keeps, have_values}
 use Rattle.fluent_syntax_writer.specs.SingleRule.{have_new_names}
-use Rattle.fluent_syntax_writer.specs.SingleRule.{arguments_keep, is_zero_if_some, least_of_lines, begins_anew}
+use Rattle.fluent_syntax_writer.specs.SingleRule.{arguments_keep, is_zero_if_some, least_of_lines, follows_no_text}
 use Rattle.fluent_syntax_writer.specs.SingleRule.{first_is_nonblank, first_is_tight, later_is_no_space}
 use Rattle.fluent_syntax_writer.specs.SingleRule.{later_is_unmarked}
 use Rattle.fluent_syntax_writer.specs.declared.canonical.rules.Rule.{Rule}
@@ -78,8 +78,8 @@ on_later_line false mark false = refl
 
 module _ (edition : Edition) where
   place_whole : (multiline : Bool) (s : ElementPosition) (v : Text) (es : PatternTree Text)
-      → (stands_well edition multiline s v es && ends_well v es)
-      ≡ (begins_anew s && (first_is_nonblank edition multiline s v es && (first_is_tight multiline s v
+      → (is_well_placed edition multiline s v es && ends_well v es)
+      ≡ (follows_no_text s && (first_is_nonblank edition multiline s v es && (first_is_tight multiline s v
       && (ends_well v es && (later_is_no_space edition s v es && (later_is_unmarked s v && true))))))
   place_whole true opening v es =
       ap (λ b. (is_nonblank v || indents edition v es) && b) (and_true (ends_well v es))
@@ -91,7 +91,7 @@ module _ (edition : Edition) where
   place_whole multiline after_placeable v es = and_true (ends_well v es)
 
   text_whole : (multiline : Bool) (s : ElementPosition) (v : Text) (es : PatternTree Text)
-      → (is_text v && (stands_well edition multiline s v es && ends_well v es))
+      → (is_text v && (is_well_placed edition multiline s v es && ends_well v es))
       ≡ list_all (λ rule. text_keeps edition rule multiline s v es) every_rule
   text_whole multiline s v es =
       after_four (not (is_empty v)) (not (list_any is_brace v)) (not (has_crlf v)) (not (has_lf (without_last_lf v)))
@@ -104,7 +104,7 @@ module _ (edition : Edition) where
   texts_whole multiline s (elements (text_element v) es) =
       let text = λ (rule : Rule). text_keeps edition rule multiline s v es in
       let rest = λ (rule : Rule). texts_keep edition rule multiline (position_after v) es in
-      and_assoc (is_text v) (stands_well edition multiline s v es) (ends_well v es)
+      and_assoc (is_text v) (is_well_placed edition multiline s v es) (ends_well v es)
       (are_elements edition multiline (position_after v) es)
       ∙ rw (text_whole multiline s v es, texts_whole multiline (position_after v) es)
       (sym (both_pass text rest every_rule))

@@ -7,7 +7,8 @@ use Rattle.std.specs.List.{list_any}
 use Rattle.fluent_syntax_tree.specs.Tree.{ElementTree, text_element, placeable, PatternTree, no_elements, elements}
 use Rattle.fluent_syntax_tree.specs.Tree.{elements_of}
 use Rattle.fluent_syntax_tree.specs.declared.edition.Edition.{Edition}
-use Rattle.fluent_syntax_grammar.specs.Readable.{begins_with_placeable, is_text, stands_well, ends_well, position_after}
+use Rattle.fluent_syntax_grammar.specs.Readable.{begins_with_placeable, is_text, is_well_placed, ends_well}
+use Rattle.fluent_syntax_grammar.specs.Readable.{position_after}
 use Rattle.fluent_syntax_grammar.specs.Readable.{are_elements}
 use Rattle.fluent_syntax_grammar.specs.Readable.{ElementPosition, opening, is_line_start, is_pattern}
 use Rattle.fluent_syntax_grammar.specs.Canonical.{hides_mark, are_lone}
@@ -15,7 +16,7 @@ use Rattle.fluent_syntax_grammar.specs.Written.{Text, is_multiline, spans_lines}
 use Rattle.fluent_syntax_writer.specs.SingleRule.{has_element, texts_keep}
 use Rattle.fluent_syntax_writer.specs.Places.{position_past, is_element, element_keeps, is_placeable}
 use Rattle.fluent_syntax_writer.specs.Places.{element_hides_mark}
-use Rattle.fluent_syntax_writer.specs.Places.{stands_lone}
+use Rattle.fluent_syntax_writer.specs.Places.{is_lone_at_line_start}
 use Rattle.fluent_syntax_writer.specs.declared.canonical.rules.Rule.{Rule}
 
 pub is_multiline-list : {E : Type 0} (view : E → ElementTree Text) (es : List E)
@@ -78,7 +79,7 @@ module _ {E : Type 0} (view : E → ElementTree Text) where
         → are_elements edition multiline s (elements e es)
         ≡ (is_element edition multiline s e es && are_elements edition multiline (position_past e) es)
     by_form s (text_element v) es =
-        and_assoc (is_text v) (stands_well edition multiline s v es) (ends_well v es)
+        and_assoc (is_text v) (is_well_placed edition multiline s v es) (ends_well v es)
         (are_elements edition multiline (position_after v) es)
     by_form s (placeable e) es = refl
 
@@ -108,10 +109,10 @@ module _ {E : Type 0} (view : E → ElementTree Text) where
   lone s es = are_lone s (tree es)
 
   abbrev pub one_lone : ElementPosition → E → List E → Bool
-  one_lone s e es = stands_lone s (view e)
+  one_lone s e es = is_lone_at_line_start s (view e)
 
   lone_by_form : (s : ElementPosition) (e : ElementTree Text) (es : PatternTree Text)
-      → are_lone s (elements e es) ≡ (stands_lone s e && are_lone (position_past e) es)
+      → are_lone s (elements e es) ≡ (is_lone_at_line_start s e && are_lone (position_past e) es)
   lone_by_form s (text_element v) es = refl
   lone_by_form s (placeable e) es =
       ap (λ b. b && are_lone (position_past (placeable e)) es) (or_true (not (is_line_start s)))

@@ -3,7 +3,7 @@ ghost use Rattle.std.specs.Prelude.{◌≡◌, map};
 ghost use Rattle.fluent_syntax_tree.specs.Tree.{text_element, elements_of};
 ghost use Rattle.fluent_syntax_tree.specs.View.{element_view, pattern_view};
 ghost use Rattle.fluent_syntax_grammar.specs.Readable.{opening, is_line_start, position_after, begins_with_placeable};
-ghost use Rattle.fluent_syntax_grammar.specs.Readable.{indents, opens_well, stands_well, ends_well, are_elements};
+ghost use Rattle.fluent_syntax_grammar.specs.Readable.{indents, opens_well, is_well_placed, ends_well, are_elements};
 ghost use Rattle.fluent_syntax_grammar.specs.Readable.{is_pattern};
 ghost use Rattle.fluent_syntax_writer.specs.Places.{position_of, position_past, is_element, is_placeable};
 
@@ -117,19 +117,19 @@ fn is_text_at<X, T: ReadTexts<X>>(
         (elements_of (map (element_view T.text) rest.now)) }
 {
     is_text(text)
-        && stands_well::<X, T>(edition, multiline, position, text, rest)
+        && is_well_placed::<X, T>(edition, multiline, position, text, rest)
         && ends_well::<X, T>(text, rest)
 }
 
 /// Whether the text may stand there.
-fn stands_well<X, T: ReadTexts<X>>(
+fn is_well_placed<X, T: ReadTexts<X>>(
     edition: Edition,
     multiline: bool,
     position: ElementPosition,
     text: &str,
     rest: &[PatternElement<X>],
 ) -> bool
-    ensures { result ≡ stands_well edition multiline (position_of position) text.now
+    ensures { result ≡ is_well_placed edition multiline (position_of position) text.now
         (elements_of (map (element_view T.text) rest.now)) }
 {
     match position {

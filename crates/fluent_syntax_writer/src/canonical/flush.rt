@@ -8,7 +8,7 @@ ghost use Rattle.fluent_syntax_grammar.specs.Layout.{least};
 ghost use Rattle.fluent_syntax_grammar.specs.PatternTexts.{is_lone_lf};
 ghost use Rattle.fluent_syntax_writer.specs.Places.{position_of, numbers_at, element_numbers, element_hides_mark};
 ghost use Rattle.fluent_syntax_writer.specs.Places.{is_lone};
-ghost use Rattle.fluent_syntax_writer.specs.Places.{stands_lone, lesser};
+ghost use Rattle.fluent_syntax_writer.specs.Places.{is_lone_at_line_start, lesser};
 
 use crate::canonical::elements::{ElementPosition, is_line_start, position_past};
 use crate::canonical::patterns::{has_leading_mark, is_multiline};
@@ -165,7 +165,7 @@ pub fn are_lone<X, T: ReadTexts<X>>(first: ElementPosition, elements: &[PatternE
 {
     let mut position = first;
     for element in elements {
-        if !stands_lone::<X, T>(position, element) {
+        if !is_lone_at_line_start::<X, T>(position, element) {
             return false;
         }
         position = position_past::<X, T>(element);
@@ -174,8 +174,11 @@ pub fn are_lone<X, T: ReadTexts<X>>(first: ElementPosition, elements: &[PatternE
 }
 
 /// Whether the element begins no line, is no text, or is one LF.
-fn stands_lone<X, T: ReadTexts<X>>(position: ElementPosition, element: &PatternElement<X>) -> bool
-    ensures { result ≡ stands_lone (position_of position) (element_view T.text element.now) }
+fn is_lone_at_line_start<X, T: ReadTexts<X>>(
+    position: ElementPosition,
+    element: &PatternElement<X>,
+) -> bool
+    ensures { result ≡ is_lone_at_line_start (position_of position) (element_view T.text element.now) }
 {
     !is_line_start(position) || is_lone::<X, T>(element)
 }

@@ -2,7 +2,7 @@
 ghost use Rattle.std.specs.Prelude.{◌≡◌, map};
 ghost use Rattle.fluent_syntax_tree.specs.Tree.{elements_of};
 ghost use Rattle.fluent_syntax_tree.specs.View.{element_view};
-ghost use Rattle.fluent_syntax_writer.specs.SingleRule.{text_keeps, begins_anew, first_is_nonblank, first_is_tight};
+ghost use Rattle.fluent_syntax_writer.specs.SingleRule.{text_keeps, follows_no_text, first_is_nonblank, first_is_tight};
 ghost use Rattle.fluent_syntax_writer.specs.SingleRule.{later_is_no_space, later_is_unmarked};
 ghost use Rattle.fluent_syntax_writer.specs.Places.{position_of};
 
@@ -32,7 +32,7 @@ pub fn text_keeps<X, T: ReadTexts<X>>(
         Rule::BraceInText => !has_brace(bytes),
         Rule::CrBeforeLf => !has_crlf(bytes),
         Rule::LfWithinText => !has_lf(without_last_lf(bytes)),
-        Rule::TextAfterText => begins_anew(position),
+        Rule::TextAfterText => follows_no_text(position),
         Rule::BlankFirstText => first_is_nonblank::<X, T>(edition, multiline, position, text, rest),
         Rule::LeadingSpace => first_is_tight(multiline, position, text),
         Rule::BlankEnd => ends_well::<X, T>(text, rest),
@@ -43,8 +43,8 @@ pub fn text_keeps<X, T: ReadTexts<X>>(
 }
 
 /// Whether no text that ends in no LF stands directly before.
-fn begins_anew(position: ElementPosition) -> bool
-    ensures { result ≡ begins_anew (position_of position) }
+fn follows_no_text(position: ElementPosition) -> bool
+    ensures { result ≡ follows_no_text (position_of position) }
 {
     match position {
         ElementPosition::WithinLine => false,

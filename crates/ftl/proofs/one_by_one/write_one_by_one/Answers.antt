@@ -35,7 +35,7 @@ loop-errors-preserved g c =
     let there = entry_to options.comments options.edition t _ _ _ put.tree (faults_of put.error) stands in
     let longer = read_on options.comments options.edition t _ _ _ inv.so_far.2 _ put.tree put.error there in
     let entry = put.added ∙ ap (λ xs. xs ++ put.entry ∷ []) inv.no_entry in
-    let error = put.tells ∙ ap (λ xs. xs ++ option_to_list put.error) inv.no_error in
+    let error = put.errors_are ∙ ap (λ xs. xs ++ option_to_list put.error) inv.no_error in
     let written = c.write_read-outcome.ensures.written (entry_view (λ s. s.now) put.entry)
     (ap (map (entry_view (λ s. s.now))) (c.deref.ensures.value ∙ entry)) in
     let outcome = c.write_read-outcome.ensures.outcome put.error (c.deref-in-Some.ensures.value ∙ error) in

@@ -2,12 +2,12 @@ use Rattle.std.proofs.Common.{ap, refl}
 use Rattle.serde_json.specs.View.{view}
 use Rattle.ftl_lsp.specs.Served.{is_unpublished, has_no_memory_to_publish}
 use Rattle.ftl_lsp.specs.Sessions.{session_of}
-use Rattle.ftl_lsp.proofs.ServedLemmas.{takes_behind, tells_behind, stops_behind, not_published}
+use Rattle.ftl_lsp.proofs.ServedLemmas.{takes_behind, republishes_behind, stops_behind, not_published}
 use Rattle.ftl_lsp.proofs.sessions.go_on.Goals as goal
 
 pub returns-in-Ok-Some-clause-step : goal.returns-in-Ok-Some-clause-step
 returns-in-Ok-Some-clause-step g c =
-    tells_behind c.send.result _ _ _ _ _ (view c.in-Ok-Some.diagnostics) c.in-Ok-Some.ensures.same
+    republishes_behind c.send.result _ _ _ _ _ (view c.in-Ok-Some.diagnostics) c.in-Ok-Some.ensures.same
     (rw c.in-Ok-Some.field-0-is at c.in-Ok-Some.ensures.diagnostics) c.send.ensures.sent
 
 pub returns-in-Ok-Some-clause-stops : goal.returns-in-Ok-Some-clause-stops

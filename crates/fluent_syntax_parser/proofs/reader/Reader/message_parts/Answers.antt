@@ -7,7 +7,7 @@ use Rattle.fluent_syntax_grammar.specs.Construct.{stops, goes_on, at_place}
 use Rattle.fluent_syntax_grammar.specs.Entries.{message_with}
 use Rattle.fluent_syntax_grammar.specs.Grammar.{within}
 use Rattle.fluent_syntax_grammar.proofs.FunctionalWords.{functional_identifier}
-use Rattle.fluent_syntax_parser.specs.PartRanges.{message_stands}
+use Rattle.fluent_syntax_parser.specs.PartRanges.{message_has_parts}
 use Rattle.fluent_syntax_parser.specs.Outcomes.{refused}
 use Rattle.fluent_syntax_parser.specs.declared.fault.Fault.TheVariants as fault
 use Rattle.fluent_syntax_parser.proofs.entry_forms.ExtentForms.{fields_there, no_attribute_ranges, no_attributes}
@@ -81,5 +81,5 @@ returns g c =
                 message_of_value t c.args.start found.place name f.0 f.1
                 (same_value edition t R _ _ _ found.value f stand ∙ w.if-is_none.ensures)
           ]))),
-      message_stands refl c.in_ok-end.ensures.parses stand,
+      message_has_parts refl c.in_ok-end.ensures.parses stand,
     )

@@ -7,7 +7,7 @@ use Rattle.fluent_syntax_grammar.specs.Construct.{stops, goes_on, at_place, give
 use Rattle.fluent_syntax_grammar.specs.Entries.{term_with}
 use Rattle.fluent_syntax_grammar.specs.Grammar.{within}
 use Rattle.fluent_syntax_grammar.proofs.FunctionalWords.{functional_identifier, functional_token}
-use Rattle.fluent_syntax_parser.specs.PartRanges.{term_stands}
+use Rattle.fluent_syntax_parser.specs.PartRanges.{term_has_parts}
 use Rattle.fluent_syntax_parser.specs.Outcomes.{refused}
 use Rattle.fluent_syntax_parser.specs.declared.fault.Fault.TheVariants as fault
 use Rattle.fluent_syntax_parser.proofs.entry_forms.ExtentForms.{fields_there, with_value, without_value}
@@ -77,5 +77,5 @@ returns g c =
           (fields_then edition t R (term_with t c.args.start name) _ _ (Some value, f.1) _
           (fields_there edition t R _ _ _ found.value (Some value, f.1) parts)
           given))),
-      term_stands c.in_ok-letter.ensures.parses c.in_ok-end.ensures.parses parts,
+      term_has_parts c.in_ok-letter.ensures.parses c.in_ok-end.ensures.parses parts,
     ))

@@ -1,6 +1,6 @@
 use Rattle.ftl_files.specs.Files.{GoesOn, at_free_paths}
 use Rattle.ftl_files.specs.Store.{AllUnchanged}
-use Rattle.ftl_files.proofs.replacing.create_beside.Given as goal
+use Rattle.ftl_files.proofs.replacing.create_temporary.Given as goal
 
 abbrev pub invariant-loop-number : goal.invariant-loop-number
 invariant-loop-number g l = record {
