@@ -280,8 +280,8 @@ module _ {X : Type 0} (S : RattleType) (E : Ghosts S.Denot) (dict : Dict) (lawfu
   ClaimV a =
       (b : Variant S.Denot) → Decides ((variant_eq.ghosts S E dict).eq a b) (variant_view text a ≡ variant_view text b)
 
-  abbrev Hypotheses : (F : (A B C D E G H : Type 0) → Type 0) → Type 0
-  Hypotheses F = F (Such ClaimX) (Such ClaimI) (Such ClaimE) (Such ClaimA) (Such ClaimN) (Such ClaimP) (Such ClaimV)
+  abbrev Held : (F : (A B C D E G H : Type 0) → Type 0) → Type 0
+  Held F = F (Such ClaimX) (Such ClaimI) (Such ClaimE) (Such ClaimA) (Such ClaimN) (Such ClaimP) (Such ClaimV)
 
   inlines_decide : (ps : List (Such ClaimI)) (bs : List (InlineExpression S.Denot)) →
       Decides (pointwise (inline_eq.ghosts S E dict).eq (map (λ p. p.0) ps) bs)
@@ -320,7 +320,7 @@ module _ {X : Type 0} (S : RattleType) (E : Ghosts S.Denot) (dict : Dict) (lawfu
       decides_as _ _ refl (decides_and _ _ (p.1 b) (variants_decide ps bs)) (λ h. rw (h.0, h.1)) (λ q. (cc, cc))
 
   decide-Element :
-      (y : Hypotheses (PatternElement-F S.Denot))
+      (y : Held (PatternElement-F S.Denot))
       (z : PatternElement-F S.Denot (Expression S.Denot) (InlineExpression S.Denot) (PatternElement S.Denot)
       (CallArguments S.Denot) (NamedArgument S.Denot) (Pattern S.Denot) (Variant S.Denot)) →
       let a : PatternElement S.Denot =
@@ -350,7 +350,7 @@ module _ {X : Type 0} (S : RattleType) (E : Ghosts S.Denot) (dict : Dict) (lawfu
       sym (view-Placeable text e.0) ∙ q ∙ view-Placeable text d in cc f)
 
   decide-Expression :
-      (y : Hypotheses (Expression-F S.Denot))
+      (y : Held (Expression-F S.Denot))
       (z : Expression-F S.Denot (Expression S.Denot) (InlineExpression S.Denot) (PatternElement S.Denot)
       (CallArguments S.Denot) (NamedArgument S.Denot) (Pattern S.Denot) (Variant S.Denot)) →
       let a : Expression S.Denot =
@@ -390,7 +390,7 @@ module _ {X : Type 0} (S : RattleType) (E : Ghosts S.Denot) (dict : Dict) (lawfu
   arguments_decide (Some p) (Some b) = decides_as _ _ refl (p.1 b) (λ h. ap some_arguments h) (λ q. cc)
 
   decide-Inline :
-      (y : Hypotheses (InlineExpression-F S.Denot))
+      (y : Held (InlineExpression-F S.Denot))
       (z : InlineExpression-F S.Denot (Expression S.Denot) (InlineExpression S.Denot) (PatternElement S.Denot)
       (CallArguments S.Denot) (NamedArgument S.Denot) (Pattern S.Denot) (Variant S.Denot)) →
       let a : InlineExpression S.Denot =
@@ -480,7 +480,7 @@ module _ {X : Type 0} (S : RattleType) (E : Ghosts S.Denot) (dict : Dict) (lawfu
       (λ e. e.0) (λ e. e.0) (λ e. e.0) y)) ∙ q ∙ view-roll-InlineExpression text z)))
 
   decide-Arguments :
-      (y : Hypotheses (CallArguments-F S.Denot))
+      (y : Held (CallArguments-F S.Denot))
       (z : CallArguments-F S.Denot (Expression S.Denot) (InlineExpression S.Denot) (PatternElement S.Denot)
       (CallArguments S.Denot) (NamedArgument S.Denot) (Pattern S.Denot) (Variant S.Denot)) →
       let a : CallArguments S.Denot =
@@ -504,8 +504,7 @@ module _ {X : Type 0} (S : RattleType) (E : Ghosts S.Denot) (dict : Dict) (lawfu
       (nameds_of (map (named_view text) z.named.items)) =
       sym (view-roll-CallArguments text _) ∙ q ∙ view-roll-CallArguments text z in (cc f, cc f))
 
-  decide-Named : (y : Hypotheses (NamedArgument-F S.Denot)) (b : NamedArgument S.Denot)
-      → let a : NamedArgument S.Denot =
+  decide-Named : (y : Held (NamedArgument-F S.Denot)) (b : NamedArgument S.Denot) → let a : NamedArgument S.Denot =
       roll-NamedArgument S.Denot
       (map-NamedArgument S.Denot _ _ _ _ _ _ _ _ _ _ _ _ _ _ (λ e. e.0) (λ e. e.0) (λ e. e.0) (λ e. e.0) (λ e. e.0)
       (λ e. e.0) (λ e. e.0) y) in
@@ -520,7 +519,7 @@ module _ {X : Type 0} (S : RattleType) (E : Ghosts S.Denot) (dict : Dict) (lawfu
       ≡ named_argument (text b.name.name) (inline_view text b.value) =
       sym (view-NamedArgument text _) ∙ q ∙ view-NamedArgument text b in (cc f, cc f))
 
-  decide-Pattern : (y : Hypotheses (Pattern-F S.Denot)) (b : Pattern S.Denot) → let a : Pattern S.Denot =
+  decide-Pattern : (y : Held (Pattern-F S.Denot)) (b : Pattern S.Denot) → let a : Pattern S.Denot =
       roll-Pattern S.Denot
       (map-Pattern S.Denot _ _ _ _ _ _ _ _ _ _ _ _ _ _ (λ e. e.0) (λ e. e.0) (λ e. e.0) (λ e. e.0) (λ e. e.0)
       (λ e. e.0) (λ e. e.0) y) in
@@ -530,7 +529,7 @@ module _ {X : Type 0} (S : RattleType) (E : Ghosts S.Denot) (dict : Dict) (lawfu
       (λ p. view-Pattern text _ ∙ p ∙ sym (view-Pattern text b))
       (λ q. sym (view-Pattern text _) ∙ q ∙ view-Pattern text b)
 
-  decide-Variant : (y : Hypotheses (Variant-F S.Denot)) (b : Variant S.Denot) → let a : Variant S.Denot =
+  decide-Variant : (y : Held (Variant-F S.Denot)) (b : Variant S.Denot) → let a : Variant S.Denot =
       roll-Variant S.Denot
       (map-Variant S.Denot _ _ _ _ _ _ _ _ _ _ _ _ _ _ (λ e. e.0) (λ e. e.0) (λ e. e.0) (λ e. e.0) (λ e. e.0)
       (λ e. e.0) (λ e. e.0) y) in

@@ -112,10 +112,10 @@ module _ {S X Y : Type 0} (g : S → X) (f : X → Y) where
   key_claimed (key.Identifier x) = refl
   key_claimed (key.NumberLiteral x) = refl
 
-  abbrev Hypotheses : (F : (A B C D E G H : Type 0) → Type 0) → Type 0
-  Hypotheses F = F (Such ClaimX) (Such ClaimI) (Such ClaimE) (Such ClaimA) (Such ClaimN) (Such ClaimP) (Such ClaimV)
+  abbrev Held : (F : (A B C D E G H : Type 0) → Type 0) → Type 0
+  Held F = F (Such ClaimX) (Such ClaimI) (Such ClaimE) (Such ClaimA) (Such ClaimN) (Such ClaimP) (Such ClaimV)
 
-  step-Expression : (y : Hypotheses (Expression-F S)) →
+  step-Expression : (y : Held (Expression-F S)) →
       ClaimX (roll-Expression S
       (map-Expression S _ _ _ _ _ _ _ _ _ _ _ _ _ _ (λ e. e.0) (λ e. e.0) (λ e. e.0) (λ e. e.0) (λ e. e.0) (λ e. e.0)
       (λ e. e.0) y))
@@ -126,7 +126,7 @@ module _ {S X Y : Type 0} (g : S → X) (f : X → Y) where
       ∙ sym (ap (expression_map f) (view-Select g e.0 _))
   step-Expression (layer.Inline e) = view-Inline _ e.0 ∙ ap inline e.1 ∙ sym (ap (expression_map f) (view-Inline g e.0))
 
-  step-Inline : (y : Hypotheses (InlineExpression-F S)) →
+  step-Inline : (y : Held (InlineExpression-F S)) →
       ClaimI (roll-InlineExpression S
       (map-InlineExpression S _ _ _ _ _ _ _ _ _ _ _ _ _ _ (λ e. e.0) (λ e. e.0) (λ e. e.0) (λ e. e.0) (λ e. e.0)
       (λ e. e.0) (λ e. e.0) y))
@@ -152,7 +152,7 @@ module _ {S X Y : Type 0} (g : S → X) (f : X → Y) where
   step-Inline (layer.InlineExpression::Placeable e) =
       view-InlinePlaceable _ _ ∙ ap inline_placeable e.value.1 ∙ sym (ap (inline_map f) (view-InlinePlaceable g _))
 
-  step-Element : (y : Hypotheses (PatternElement-F S)) →
+  step-Element : (y : Held (PatternElement-F S)) →
       ClaimE (roll-PatternElement S
       (map-PatternElement S _ _ _ _ _ _ _ _ _ _ _ _ _ _ (λ e. e.0) (λ e. e.0) (λ e. e.0) (λ e. e.0) (λ e. e.0)
       (λ e. e.0) (λ e. e.0) y))
@@ -161,7 +161,7 @@ module _ {S X Y : Type 0} (g : S → X) (f : X → Y) where
   step-Element (layer.PatternElement::Placeable e) =
       view-Placeable _ e.0 ∙ ap placeable e.1 ∙ sym (ap (element_map f) (view-Placeable g e.0))
 
-  step-Arguments : (y : Hypotheses (CallArguments-F S)) →
+  step-Arguments : (y : Held (CallArguments-F S)) →
       ClaimA (roll-CallArguments S
       (map-CallArguments S _ _ _ _ _ _ _ _ _ _ _ _ _ _ (λ e. e.0) (λ e. e.0) (λ e. e.0) (λ e. e.0) (λ e. e.0)
       (λ e. e.0) (λ e. e.0) y))
@@ -172,7 +172,7 @@ module _ {S X Y : Type 0} (g : S → X) (f : X → Y) where
       ∙ ap (arguments (inlines_map f (inlines_of (map (inline_view g) (map (λ p. p.0) y.positional.items)))))
       (nameds_claimed y.named.items) ∙ sym (ap (arguments_map f) (view-roll-CallArguments g _))
 
-  step-Named : (y : Hypotheses (NamedArgument-F S)) →
+  step-Named : (y : Held (NamedArgument-F S)) →
       ClaimN (roll-NamedArgument S
       (map-NamedArgument S _ _ _ _ _ _ _ _ _ _ _ _ _ _ (λ e. e.0) (λ e. e.0) (λ e. e.0) (λ e. e.0) (λ e. e.0)
       (λ e. e.0) (λ e. e.0) y))
@@ -180,13 +180,13 @@ module _ {S X Y : Type 0} (g : S → X) (f : X → Y) where
       view-NamedArgument _ _ ∙ ap (named_argument (fg y.name.name)) y.value.1
       ∙ sym (ap (named_map f) (view-NamedArgument g _))
 
-  step-Pattern : (y : Hypotheses (Pattern-F S)) →
+  step-Pattern : (y : Held (Pattern-F S)) →
       ClaimP (roll-Pattern S
       (map-Pattern S _ _ _ _ _ _ _ _ _ _ _ _ _ _ (λ e. e.0) (λ e. e.0) (λ e. e.0) (λ e. e.0) (λ e. e.0) (λ e. e.0)
       (λ e. e.0) y))
   step-Pattern y = view-Pattern _ _ ∙ elements_claimed y.elements.items ∙ sym (ap (pattern_map f) (view-Pattern g _))
 
-  step-Variant : (y : Hypotheses (Variant-F S)) →
+  step-Variant : (y : Held (Variant-F S)) →
       ClaimV (roll-Variant S
       (map-Variant S _ _ _ _ _ _ _ _ _ _ _ _ _ _ (λ e. e.0) (λ e. e.0) (λ e. e.0) (λ e. e.0) (λ e. e.0) (λ e. e.0)
       (λ e. e.0) y))
