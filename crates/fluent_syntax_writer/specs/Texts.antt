@@ -16,7 +16,7 @@ abbrev pub is_plain_text : Text → Bool
 is_plain_text v = is_text v && (not (begins_with_space v) && ends_plainly v)
 
 -- a pattern that is one such text
-pub is_plain_pattern : PatternTree Text → Bool
+abbrev pub is_plain_pattern : PatternTree Text → Bool
 is_plain_pattern no_elements = false
 is_plain_pattern (elements (text_element v) no_elements) = is_plain_text v
 is_plain_pattern (elements (text_element v) (elements x xs)) = false

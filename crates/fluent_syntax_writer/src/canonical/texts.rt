@@ -19,9 +19,12 @@ use fluent_syntax_tree::trimming::is_trimmed;
 pub(crate) fn is_text(text: &str) -> bool
     ensures { result ≡ is_text text.now }
 {
-    // its line is what stands before the LF that ends it
     let bytes = text.as_bytes();
-    !bytes.is_empty() && is_text_line(without_last_lf(bytes)) && !ends_in_crlf(text)
+    if bytes.is_empty() {
+        return false;
+    }
+    // its line is what stands before the LF that ends it
+    is_text_line(without_last_lf(bytes)) && !ends_in_crlf(text)
 }
 
 /// Whether the bytes hold no LF and no brace.
