@@ -28,16 +28,16 @@ returns-clause-missing_parts c =
     (used_in other.text.now nameless other.mentions.items)
     (rw c.deref-2.ensures.value at c.in_ok-note_uses.ensures) in
     let adds_references = rw c.deref-3.ensures.value at c.in_ok-message_references.ensures in
-    let links_to =
+    let reachable =
     λ (name : Text). reachable_same (row_of message_references)
     (messages_of (references_of other)) adds_references.has_messages name in
     let tables : Other = record {
       defines = has_name defined;
       uses = has_name used;
-      links_to = reachable_of message_references;
+      reachable = reachable_of message_references;
     } in
     let same =
-    missing_parts_same one.text.now tables (other_of other) defines uses links_to nameless one.mentions.items [] in
+    missing_parts_same one.text.now tables (other_of other) defines uses reachable nameless one.mentions.items [] in
     let finding_of = rw c.deref-4.ensures.value at c.missing_parts_by.ensures in
     rw (← same) finding_of
 
