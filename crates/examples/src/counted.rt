@@ -1,4 +1,4 @@
-//! A sink.
+//! A sink that counts lines.
 ghost use Rattle.std.specs.Prelude.{◌≡◌, [], string_bytes};
 
 use fluent_syntax::unicode::{SinkError, TextSink};
