@@ -1,8 +1,6 @@
 //! A tree built by hand: checked that it reads back once it is written, and written onto a sink of its own.
 
-mod counted;
-
-use crate::build::counted::Counted;
+use crate::counted::Counted;
 use fluent_syntax::ast::{
     Entry, Expression, Identifier, InlineExpression, Message, Pattern, PatternElement, Resource,
     Variant, VariantKey,

@@ -6,6 +6,7 @@
 #![tactic(auto)]
 
 mod build;
+mod counted;
 mod edit;
 mod lint;
 

@@ -11,7 +11,7 @@ ghost use Rattle.fluent_syntax_tree.specs.View.{resource_view};
 
 use crate::parser::{Edition, ParseFault, Result, Slice, parse};
 pub use fluent_syntax_grammar::{
-    formats_again, reads_back, reads_readable, unique_reading, written_apart,
+    formatting_is_idempotent, parse_is_readable, reads_back, serialize_is_injective, unique_reading,
 };
 use fluent_syntax_tree::ast::Resource;
 pub use fluent_syntax_tree::laws::same_texts;

@@ -39,7 +39,7 @@ pub fn parse<'s, S: Slice<'s>>(alloc: Global, input: S) -> Result<S>
     ensures errors { ErrorsAscend (S.text input) result }
     ensures places { ErrorsInText (S.text input) result }
 {
-    parse_edition(alloc, input, Edition::One)
+    parse_at_any_depth(alloc, &input, Edition::One, Comments::Kept)
 }
 
 /// Reads a text as `parse` does, by the given edition of the grammar.
@@ -67,7 +67,7 @@ pub fn parse_runtime<'s, S: Slice<'s>>(alloc: Global, input: S) -> Result<S>
     ensures errors { ErrorsAscend (S.text input) result }
     ensures places { ErrorsInText (S.text input) result }
 {
-    parse_runtime_edition(alloc, input, Edition::One)
+    parse_at_any_depth(alloc, &input, Edition::One, Comments::Dropped)
 }
 
 /// Reads a text as `parse_runtime` does, by the given edition of the grammar.

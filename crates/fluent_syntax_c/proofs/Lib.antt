@@ -3,6 +3,6 @@ mod NameRows
 mod ValueRows
 mod LineStarts
 mod Recovered
-mod Told
+mod ErrorRows
 mod Commands
-mod Outlined
+mod NameIndexes

@@ -6,9 +6,9 @@ use Rattle.std.specs.List.{sum_by}
 use Rattle.std.proofs.lemmas.List.{drop-drop, drop-take, length-take, length-take-le, take-append-drop, take_all}
 use Rattle.std.proofs.lemmas.List.Sums.{suffix_len-le-length, sum_by-le, sum_by-take-drop, sum_by_more_le}
 use Rattle.fluent_syntax.specs.Lines.{column_at}
-use Rattle.fluent_syntax_c.specs.Columns.{IsOnLine, IsPlaced, characters, line_before, utf16_units}
+use Rattle.fluent_syntax_c.specs.Columns.{IsOnLine, IsPositionOf, characters, line_before, utf16_units}
 use Rattle.fluent_syntax_c.specs.declared.columns.OnLine.{OnLine}
-use Rattle.fluent_syntax_c.specs.declared.columns.Placed.{Placed}
+use Rattle.fluent_syntax_c.specs.declared.columns.LastPosition.{LastPosition}
 
 module _ (t : List ℕ) (place : ℕ) (inside : place ≤ length t) where
   -- a column is at most 1 and the place
@@ -36,22 +36,22 @@ module _ (t : List ℕ) (place : ℕ) (inside : place ≤ length t) where
       ∙ ap (λ bytes. 1 + sum_by f bytes) (line_before_is column same)
 
 -- a place that is known is on the line that begins where its own does
-pub known_on_line : (t : List ℕ) (last : Placed) (start : ℕ) (known : OnLine) → IsPlaced t last →
-    last.byte - (last.place.column - 1) ≡ start → known.byte ≡ last.byte →
-    known.column_utf16 ≡ last.place.column_utf16 → known.column_characters ≡ last.place.column_characters →
+pub known_on_line : (t : List ℕ) (last : LastPosition) (start : ℕ) (known : OnLine) → IsPositionOf t last →
+    last.byte - (last.position.column - 1) ≡ start → known.byte ≡ last.byte →
+    known.column_utf16 ≡ last.position.column_utf16 → known.column_characters ≡ last.position.column_characters →
     IsOnLine t start known
 known_on_line t last start known placed from at units chars =
     let before =
-    line_before_is t last.byte placed.within last.place.column (ap (λ place. place.column) placed.place_is) in
+    line_before_is t last.byte placed.within last.position.column (ap (λ place. place.column) placed.position_is) in
     let range : slice_range t start known.byte ≡ line_before t last.byte =
     ap (λ b. slice_range t start b) at ∙ ap (λ a. slice_range t a last.byte) (sym from) ∙ before in
     record {
       behind = omega (arith, from, at);
       units_are =
-          units ∙ ap (λ place. place.column_utf16) placed.place_is
+          units ∙ ap (λ place. place.column_utf16) placed.position_is
           ∙ ap (λ bytes. 1 + sum_by utf16_units bytes) (sym range);
       characters_are =
-          chars ∙ ap (λ place. place.column_characters) placed.place_is
+          chars ∙ ap (λ place. place.column_characters) placed.position_is
           ∙ ap (λ bytes. 1 + sum_by characters bytes) (sym range);
     }
 

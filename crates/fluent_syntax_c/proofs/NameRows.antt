@@ -23,7 +23,7 @@ use Rattle.fluent_syntax_grammar.proofs.OneTiling.{one_tiling}
 use Rattle.fluent_syntax_grammar.proofs.SoundTiling.{EndedTile, GoodTile, tile_good}
 use Rattle.fluent_syntax_parser.specs.Rest.{tree_of}
 use Rattle.fluent_syntax_parser.specs.Tiles.{TileTo}
-use Rattle.fluent_syntax_parser.specs.declared.tiles.FoundTile.{FoundTile}
+use Rattle.fluent_syntax_parser.specs.declared.tiles.SpannedTile.{SpannedTile}
 use Rattle.fluent_syntax_c.specs.Names.{NamesTiles, are_names, entry_rows, tile_rows, tiles_rows}
 use Rattle.fluent_syntax_c.specs.declared.names.FtlName.{FtlName}
 
@@ -74,7 +74,7 @@ module _ (edition : Edition) (t : List ℕ) where
   rows_given s tile e n (reads {e = v} r) given = let same : v ≡ tree_of e = cc in ap (entry_rows t n s) same
   rows_given s tile e n (refuses r end) given = let same : junk s ≡ tree_of e = cc in ap (entry_rows t n s) same
 
-  module _ (utf8 : IsUtf8 t) (i j : ℕ) (found : FoundTile) (rows : List FtlName) (names : NamesTo i rows)
+  module _ (utf8 : IsUtf8 t) (i j : ℕ) (found : SpannedTile) (rows : List FtlName) (names : NamesTo i rows)
       (to : TileTo edition t i j found) where
     ends_there : EndedTile edition t (IsCharBoundary t) (boundary_cuts t utf8) found.span.start found.span.end to.tile
     ends_there =

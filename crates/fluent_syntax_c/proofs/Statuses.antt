@@ -11,7 +11,7 @@ use Rattle.fluent_syntax_c.specs.declared.status.Status.{Status}
 use Rattle.fluent_syntax_c.specs.declared.status.Status.TheVariants.{Clean, SyntaxErrors, TooSmall, Refused}
 use Rattle.fluent_syntax_c.specs.Status.{EndsAs, refusal_number, status_number}
 use Rattle.fluent_syntax_c.specs.Arguments.{IsNoEdition}
-use Rattle.fluent_syntax_c.specs.Output.{Leaves}
+use Rattle.fluent_syntax_c.specs.Output.{LeavesOutput}
 use Rattle.fluent_syntax_c.specs.Rows.{Answers, Gives}
 
 -- the status of a number
@@ -36,17 +36,17 @@ same_status : (a b : Status) → status_number a ≡ status_number b → a ≡ b
 same_status a b e = sym (number_back a) ∙ ap status_at e ∙ number_back b
 
 -- The number of a refusal is told exactly where the answer is that refusal.
-pub told_exactly : {X : Type 0} (answer : Result X Refusal) (number : ℕ) (status : Status) →
+pub refusal_exactly : {X : Type 0} (answer : Result X Refusal) (number : ℕ) (status : Status) →
     number ≡ status_number status → ((why : Refusal) → (status ≡ Refused why) ↔ (answer ≡ Err why)) → (why : Refusal) →
     (number ≡ refusal_number why) ↔ (answer ≡ Err why)
-told_exactly answer number status is refused why = (
+refusal_exactly answer number status is refused why = (
   (λ e. (refused why).0 (same_status status (Refused why) (sym is ∙ e))),
   (λ e. is ∙ ap status_number ((refused why).1 e)),
 )
 
 -- What is told exactly of an answer that is given exactly where P holds, is told exactly there.
-pub told_where : {Told Answered P : Type 0} → (Told ↔ Answered) → (Answered ↔ P) → Told ↔ P
-told_where told answered = ((λ e. answered.0 (told.0 e)), (λ p. told.1 (answered.1 p)))
+pub status_where : {Told Answered P : Type 0} → (Told ↔ Answered) → (Answered ↔ P) → Told ↔ P
+status_where told answered = ((λ e. answered.0 (told.0 e)), (λ p. told.1 (answered.1 p)))
 
 -- Where nothing that nests deeper is answered, no number is wrong and no tree is asked for, what nests deeper is
 -- refused: for its bytes, for want of memory, or for its depth.
@@ -63,47 +63,48 @@ refused_deeper (Err Depth) number Deeper refused shallow known tree deeper = inr
 refused_deeper (Err Tree) number Deeper refused shallow known tree deeper = absurd (tree refl deeper)
 
 -- what was given is what was asked for, where the answer is
-asked_is : {A X E : Type 0} (asked : List A → Outcome → Type 0) (items_of : X → List A) (found_of : X → Outcome)
-    (answer : Result X E) → IfOk answer (λ given. asked (items_of given) (found_of given)) →
+expected_is : {A X E : Type 0} (expected : List A → Outcome → Type 0) (items_of : X → List A) (found_of : X → Outcome)
+    (answer : Result X E) → IfOk answer (λ given. expected (items_of given) (found_of given)) →
     (items : List A) (found : Outcome) →
-    IsOkAnd answer (λ given. (items_of given ≡ items) × (found_of given ≡ found)) → asked items found
-asked_is asked items_of found_of (Ok given) is items found same =
-    subst (λ xs. asked xs found) same.0 (subst (λ o. asked (items_of given) o) same.1 is)
-asked_is asked items_of found_of (Err e) is items found same = absurd same
+    IsOkAnd answer (λ given. (items_of given ≡ items) × (found_of given ≡ found)) → expected items found
+expected_is expected items_of found_of (Ok given) is items found same =
+    subst (λ xs. expected xs found) same.0 (subst (λ o. expected (items_of given) o) same.1 is)
+expected_is expected items_of found_of (Err e) is items found same = absurd same
 
 -- a call leaves what another one asked for, if that is all that was asked for
 leaves_other : {A : Type 0} (P Q : List A → Outcome → Type 0) (before after : List A) (count : ℕ) (status : Status) →
     ((items : List A) (found : Outcome) → P items found → Q items found) →
-    Leaves P before after count status → Leaves Q before after count status
+    LeavesOutput P before after count status → LeavesOutput Q before after count status
 leaves_other P Q before after count Clean to h = (h.0, to h.0 outcome.Clean h.1, h.2)
 leaves_other P Q before after count SyntaxErrors to h = (h.0, to h.0 outcome.SyntaxErrors h.1, h.2)
 leaves_other P Q before after count TooSmall to h = (h.0, (h.1.0, to h.0 h.1.0 h.1.1), h.2, h.3)
 leaves_other P Q before after count (Refused why) to h = h
 
 -- What was asked for was answered, and the answer given.
-pub leaves_answered : {A X E : Type 0} (asked : List A → Outcome → Type 0) (items_of : X → List A)
+pub leaves_answered : {A X E : Type 0} (expected : List A → Outcome → Type 0) (items_of : X → List A)
     (found_of : X → Outcome) (answer : Result X E) (before after : List A) (count number : ℕ) →
-    IfOk answer (λ given. asked (items_of given) (found_of given)) →
+    IfOk answer (λ given. expected (items_of given) (found_of given)) →
     EndsAs number
-    (Leaves (λ items found. IsOkAnd answer (λ given. (items_of given ≡ items) × (found_of given ≡ found)))
-    before after count) → EndsAs number (Leaves asked before after count)
-leaves_answered asked items_of found_of answer before after count number is h =
-    (h.0, h.1, leaves_other _ asked before after count h.0 (asked_is asked items_of found_of answer is) h.2)
+    (LeavesOutput (λ items found. IsOkAnd answer (λ given. (items_of given ≡ items) × (found_of given ≡ found)))
+    before after count) → EndsAs number (LeavesOutput expected before after count)
+leaves_answered expected items_of found_of answer before after count number is h =
+    (h.0, h.1, leaves_other _ expected before after count h.0 (expected_is expected items_of found_of answer is) h.2)
 
 -- Rows that were answered are given.
-pub gives_answered : {A : Type 0} (number : ℕ) (asked : List A → Outcome → Type 0) (AreTexts Long Deeper : Type 0)
+pub gives_answered : {A : Type 0} (number : ℕ) (expected : List A → Outcome → Type 0) (AreTexts Long Deeper : Type 0)
     (answer : Result (Vec A Global × Outcome) Refusal) (before after : List A) (count status : ℕ) →
-    Answers number asked AreTexts Long Deeper answer →
+    Answers number expected AreTexts Long Deeper answer →
     EndsAs status
-    (Leaves (λ items found. IsOkAnd answer (λ given. (given.0.items ≡ items) × (given.1 ≡ found))) before after
+    (LeavesOutput (λ items found. IsOkAnd answer (λ given. (given.0.items ≡ items) × (given.1 ≡ found))) before after
     count) →
     ((why : Refusal) → (status ≡ refusal_number why) ↔ (answer ≡ Err why)) →
-    Gives number asked AreTexts Long Deeper before after count status
-gives_answered number asked AreTexts Long Deeper answer before after count status h leaves refused = record {
+    Gives number expected AreTexts Long Deeper before after count status
+gives_answered number expected AreTexts Long Deeper answer before after count status h leaves refused = record {
   leaves =
-      leaves_answered asked (λ given. given.0.items) (λ given. given.1) answer before after count status h.rows leaves;
-  argument = told_where (refused Argument) h.argument;
-  input = λ known. told_where (refused Input) (h.input known);
+      leaves_answered expected (λ given. given.0.items) (λ given. given.1) answer before after count status h.rows
+      leaves;
+  argument = status_where (refused Argument) h.argument;
+  input = λ known. status_where (refused Input) (h.input known);
   deep = λ told. h.deep ((refused Depth).0 told);
   deeper = λ told. h.deeper ((refused Depth).0 told);
   shallow = λ deeper. refused_deeper answer status Deeper refused h.shallow h.read (λ e d. h.tree e) deeper;
@@ -111,10 +112,10 @@ gives_answered number asked AreTexts Long Deeper answer before after count statu
 
 -- These are the rows, where they are those that are asked for, the edition is known, all texts are UTF-8, and none
 -- nests deeper than it may.
-pub answers_ok : {A : Type 0} (number : ℕ) (asked : List A → Outcome → Type 0) (AreTexts Long Deeper : Type 0)
-    (rows : Vec A Global) (outcome : Outcome) → asked rows.items outcome → ¬ (IsNoEdition number) → AreTexts →
-    (Deeper → ⊥) → Answers number asked AreTexts Long Deeper (Ok (rows, outcome))
-answers_ok number asked AreTexts Long Deeper rows outcome is known texts shallow = record {
+pub answers_ok : {A : Type 0} (number : ℕ) (expected : List A → Outcome → Type 0) (AreTexts Long Deeper : Type 0)
+    (rows : Vec A Global) (outcome : Outcome) → expected rows.items outcome → ¬ (IsNoEdition number) → AreTexts →
+    (Deeper → ⊥) → Answers number expected AreTexts Long Deeper (Ok (rows, outcome))
+answers_ok number expected AreTexts Long Deeper rows outcome is known texts shallow = record {
   rows = is;
   argument = ((λ e. cc), (λ none. absurd (known none)));
   input = λ known. ((λ e. cc), (λ no. absurd (no texts)));

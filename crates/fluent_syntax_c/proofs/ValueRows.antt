@@ -10,11 +10,11 @@ use Rattle.fluent_syntax_grammar.specs.Places.{BlankBlock}
 use Rattle.fluent_syntax_grammar.specs.Tiling.{Tile, Tiled, TileAt, Tiling, done, entry, next, reads, refuses}
 use Rattle.fluent_syntax_grammar.proofs.FunctionalEntries.{functional_entry}
 use Rattle.fluent_syntax_grammar.proofs.OneTiling.{one_tiling}
-use Rattle.fluent_syntax_parser.specs.Extents.{EntryStands, HasExtents}
+use Rattle.fluent_syntax_parser.specs.PartRanges.{HasEntryParts, HasRanges}
 use Rattle.fluent_syntax_parser.specs.Tiles.{TileTo}
-use Rattle.fluent_syntax_parser.specs.declared.extents.EntryExtents.{EntryExtents}
-use Rattle.fluent_syntax_parser.specs.declared.tiles.FoundTile.{FoundTile}
-use Rattle.fluent_syntax_c.specs.Values.{AddsValues, TileValues, TilesValues, ValuesTiling, found_values}
+use Rattle.fluent_syntax_parser.specs.declared.ranges.EntryRanges.{EntryRanges}
+use Rattle.fluent_syntax_parser.specs.declared.tiles.SpannedTile.{SpannedTile}
+use Rattle.fluent_syntax_c.specs.Values.{AddsValues, TileValues, TilesValues, ValuesTiling, values_of_entry}
 use Rattle.fluent_syntax_c.specs.Values.{no_more, of_comment, of_entry, of_junk, one_more}
 use Rattle.fluent_syntax_c.specs.declared.values.FtlValue.{FtlValue}
 
@@ -31,8 +31,8 @@ module _ (edition : Edition) (t : List ℕ) where
       (one_more h (values_behind more last))
 
   -- what is found where a tile begins gives the tile's rows
-  tile_values : (s : Span) (tile : Tile) (found : Option EntryExtents) → TileAt edition t s.start s.end tile →
-      HasExtents edition t s.start found → TileValues edition t tile (found_values found)
+  tile_values : (s : Span) (tile : Tile) (found : Option EntryRanges) → TileAt edition t s.start s.end tile →
+      HasRanges edition t s.start found → TileValues edition t tile (values_of_entry found)
   tile_values s tile None (reads {e = e} r) has =
       let here = has e s.end r in
       subst (λ tree. TileValues edition t (entry s tree) []) (sym here.2) of_comment
@@ -42,8 +42,8 @@ module _ (edition : Edition) (t : List ℕ) where
       let same_tree : has.tree ≡ e = cc in
       let same_end : has.end ≡ s.end = cc in
       of_entry
-      (subst (λ tree. EntryStands edition t (family edition t) s.start x tree s.end) same_tree
-      (subst (EntryStands edition t (family edition t) s.start x has.tree) same_end has.parts))
+      (subst (λ tree. HasEntryParts edition t (family edition t) s.start x tree s.end) same_tree
+      (subst (HasEntryParts edition t (family edition t) s.start x has.tree) same_end has.parts))
   tile_values s tile (Some x) (refuses r end) has =
       let same = (functional_entry edition t).same s.start _ _ has.read r in cc
 
@@ -57,7 +57,7 @@ module _ (edition : Edition) (t : List ℕ) where
   values_of_nothing = record { tiles = []; values = no_more; whole = λ more tiled. tiled }
 
   -- the rows of what was found behind those before it
-  pub values_on : (i j : ℕ) (found : FoundTile) (before after : List FtlValue) → ValuesTo i before →
+  pub values_on : (i j : ℕ) (found : SpannedTile) (before after : List FtlValue) → ValuesTo i before →
       TileTo edition t i j found → AddsValues edition t found.span.start before after → ValuesTo j after
   values_on i j found before after values to adds = record {
     tiles = values.tiles ++ (to.tile ∷ []);

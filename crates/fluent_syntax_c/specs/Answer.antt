@@ -7,21 +7,21 @@ use Rattle.ftl.specs.declared.outcome.Outcome.{Outcome}
 use Rattle.ftl.specs.declared.outcome.Outcome.TheVariants.{Clean}
 use Rattle.ftl.specs.declared.from_json.JsonFault.{JsonFault}
 use Rattle.ftl.specs.declared.from_json.JsonFault.TheVariants as fault
-use Rattle.fluent_syntax_c.specs.Arguments.{asked_number, from_json_number}
-use Rattle.fluent_syntax_c.specs.declared.arguments.Asked.{Asked}
-use Rattle.fluent_syntax_c.specs.declared.arguments.Asked.TheVariants.{Answer, FromJson}
+use Rattle.fluent_syntax_c.specs.Arguments.{command_kind_number, from_json_number}
+use Rattle.fluent_syntax_c.specs.declared.arguments.CommandKind.{CommandKind}
+use Rattle.fluent_syntax_c.specs.declared.arguments.CommandKind.TheVariants.{Answer, FromJson}
 use Rattle.fluent_syntax_c.specs.declared.status.Refusal.{Refusal}
 use Rattle.fluent_syntax_c.specs.declared.status.Refusal.TheVariants.{Tree, Depth, Memory}
 
 -- The text and the outcome are those that were asked for, of the input. A tree that is spelled as JSON has no errors.
-abbrev pub IsAskedOf : (asked : Asked) (input text : List ℕ) (outcome : Outcome) → Type 0
-IsAskedOf (Answer command) input text outcome = IsAnswer command input text outcome
-IsAskedOf FromJson input text outcome = IsTextOf input text × (outcome ≡ Clean)
+abbrev pub IsAnswerOfKind : (expected : CommandKind) (input text : List ℕ) (outcome : Outcome) → Type 0
+IsAnswerOfKind (Answer command) input text outcome = IsAnswer command input text outcome
+IsAnswerOfKind FromJson input text outcome = IsTextOf input text × (outcome ≡ Clean)
 
 -- The text and the outcome are those of the input by the command of the number.
 abbrev pub IsCommandAnswer : (number : ℕ) (input text : List ℕ) (outcome : Outcome) → Type 0
 IsCommandAnswer number input text outcome =
-    (asked : Asked) × (asked_number asked ≡ number) × IsAskedOf asked input text outcome
+    (expected : CommandKind) × (command_kind_number expected ≡ number) × IsAnswerOfKind expected input text outcome
 
 -- The input spells no tree as JSON.
 abbrev pub SpellsNone : (input : List ℕ) → Type 0

@@ -4,8 +4,8 @@ use Rattle.fluent_syntax_tree.specs.declared.edition.Edition.{Edition}
 use Rattle.fluent_syntax_tree.specs.declared.edition.Edition.TheVariants.{One, Two}
 use Rattle.ftl.specs.declared.command.Command.{Command}
 use Rattle.ftl.specs.declared.command.Command.TheVariants.{Check, Format, Runtime, Json, CheckTwo, FormatTwo}
-use Rattle.fluent_syntax_c.specs.declared.arguments.Asked.{Asked}
-use Rattle.fluent_syntax_c.specs.declared.arguments.Asked.TheVariants.{Answer, FromJson}
+use Rattle.fluent_syntax_c.specs.declared.arguments.CommandKind.{CommandKind}
+use Rattle.fluent_syntax_c.specs.declared.arguments.CommandKind.TheVariants.{Answer, FromJson}
 
 abbrev pub command_number : Command → ℕ
 command_number Check = 0
@@ -20,9 +20,9 @@ abbrev pub from_json_number : ℕ
 from_json_number = 6
 
 -- the number of what is asked for
-abbrev pub asked_number : Asked → ℕ
-asked_number (Answer command) = command_number command
-asked_number FromJson = from_json_number
+abbrev pub command_kind_number : CommandKind → ℕ
+command_kind_number (Answer command) = command_number command
+command_kind_number FromJson = from_json_number
 
 abbrev pub edition_number : Edition → ℕ
 edition_number One = 1
@@ -30,7 +30,7 @@ edition_number Two = 2
 
 -- No command has the number.
 abbrev pub IsNoCommand : ℕ → Type 0
-IsNoCommand number = (asked : Asked) → asked_number asked ≢ number
+IsNoCommand number = (expected : CommandKind) → command_kind_number expected ≢ number
 
 -- No edition has the number.
 abbrev pub IsNoEdition : ℕ → Type 0

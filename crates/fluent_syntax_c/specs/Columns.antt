@@ -4,8 +4,8 @@ use Rattle.std.specs.Prelude.{if◌then◌else◌}
 use Rattle.std.specs.List.{sum_by}
 use Rattle.fluent_syntax.specs.Lines.{column_at, line_at}
 use Rattle.fluent_syntax_c.specs.declared.columns.OnLine.{OnLine}
-use Rattle.fluent_syntax_c.specs.declared.columns.Place.{Place}
-use Rattle.fluent_syntax_c.specs.declared.columns.Placed.{Placed}
+use Rattle.fluent_syntax_c.specs.declared.columns.Position.{Position}
+use Rattle.fluent_syntax_c.specs.declared.columns.LastPosition.{LastPosition}
 
 -- how many characters begin with the byte: none with 0x80 to 0xBF, which go on with one
 abbrev pub characters : ℕ → ℕ
@@ -28,8 +28,8 @@ abbrev pub column_utf16 : List ℕ → ℕ → ℕ
 column_utf16 t place = 1 + sum_by utf16_units (line_before t place)
 
 -- the line and the columns of the place
-abbrev pub place_at : List ℕ → ℕ → Place
-place_at t place = record {
+abbrev pub position_at : List ℕ → ℕ → Position
+position_at t place = record {
   line = line_at t place;
   column = column_at t place;
   column_utf16 = column_utf16 t place;
@@ -37,9 +37,9 @@ place_at t place = record {
 }
 
 -- The line and the columns are those of the byte, which is one of the text's or its end.
-pub record IsPlaced (t : List ℕ) (last : Placed) : Type 0 where
+pub record IsPositionOf (t : List ℕ) (last : LastPosition) : Type 0 where
   pub within : last.byte ≤ length t
-  pub place_is : last.place ≡ place_at t last.byte
+  pub position_is : last.position ≡ position_at t last.byte
 
 -- The columns are those of the byte on a line that begins at `start`.
 pub record IsOnLine (t : List ℕ) (start : ℕ) (known : OnLine) : Type 0 where

@@ -7,18 +7,18 @@ use Rattle.fluent_syntax_grammar.specs.Tiling.{Fault, Tile, Tiling}
 use Rattle.ftl.specs.Answer.{outcome_of}
 use Rattle.ftl.specs.declared.outcome.Outcome.{Outcome}
 use Rattle.fluent_syntax_c.specs.Arguments.{edition_number}
-use Rattle.fluent_syntax_c.specs.Columns.{place_at}
+use Rattle.fluent_syntax_c.specs.Columns.{position_at}
 use Rattle.fluent_syntax_c.specs.Kinds.{kind_number}
-use Rattle.fluent_syntax_c.specs.declared.columns.Place.{Place}
+use Rattle.fluent_syntax_c.specs.declared.columns.Position.{Position}
 use Rattle.fluent_syntax_c.specs.declared.errors.FtlError.{FtlError}
 
 -- the row of an error at a place
-abbrev pub row_at : Place → Fault → FtlError
-row_at place f = record {
-  line = place.line;
-  column = place.column;
-  column_utf16 = place.column_utf16;
-  column_characters = place.column_characters;
+abbrev pub row_at : Position → Fault → FtlError
+row_at position f = record {
+  line = position.line;
+  column = position.column;
+  column_utf16 = position.column_utf16;
+  column_characters = position.column_characters;
   start = f.pos.start;
   end = f.pos.end;
   junk_start = f.slice.start;
@@ -28,7 +28,7 @@ row_at place f = record {
 
 -- the row of an error of the source
 abbrev pub error_row : List ℕ → Fault → FtlError
-error_row t f = row_at (place_at t f.pos.start) f
+error_row t f = row_at (position_at t f.pos.start) f
 
 -- The rows are those of the errors of the tiles, in order.
 abbrev pub are_errors : Edition → List ℕ → List Tile → List FtlError → Type 0

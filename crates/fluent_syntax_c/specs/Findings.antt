@@ -4,15 +4,15 @@ use Rattle.fluent_syntax_tree.specs.declared.spans.Span.{Span}
 use Rattle.fluent_syntax_names.specs.Findings.{all_findings}
 use Rattle.fluent_syntax_names.specs.declared.finding.Finding.{Finding}
 use Rattle.fluent_syntax_names.specs.declared.finding.Place.{Place as NamePlace}
-use Rattle.fluent_syntax_names.specs.declared.outline.Outline.{Outline}
+use Rattle.fluent_syntax_names.specs.declared.name_index.NameIndex.{NameIndex}
 use Rattle.ftl.specs.declared.outcome.Outcome.{Outcome}
-use Rattle.fluent_syntax_c.specs.Columns.{place_at}
-use Rattle.fluent_syntax_c.specs.FoundKinds.{found_number, found_severity, severity_number}
-use Rattle.fluent_syntax_c.specs.Outlines.{AreOutlines}
+use Rattle.fluent_syntax_c.specs.Columns.{position_at}
+use Rattle.fluent_syntax_c.specs.FindingKinds.{finding_kind_number, finding_kind_severity, severity_number}
+use Rattle.fluent_syntax_c.specs.NameIndexes.{AreNameIndexes}
 use Rattle.fluent_syntax_c.specs.declared.findings.FtlFinding.{FtlFinding}
-use Rattle.fluent_syntax_c.specs.declared.found_kinds.FoundKind.{FoundKind}
-use Rattle.fluent_syntax_c.specs.declared.found_kinds.FoundKind.TheVariants.{Within}
-use Rattle.fluent_syntax_c.specs.declared.outlines.FtlText.{FtlText}
+use Rattle.fluent_syntax_c.specs.declared.finding_kinds.FindingKind.{FindingKind}
+use Rattle.fluent_syntax_c.specs.declared.finding_kinds.FindingKind.TheVariants.{Within}
+use Rattle.fluent_syntax_c.specs.declared.name_indexes.FtlText.{FtlText}
 
 -- no range
 abbrev pub nowhere : Span
@@ -28,9 +28,9 @@ place_or_none (Some place) = place
 
 -- the row of what is found at a name of the text, which has this number; its line and its columns are those of the
 -- name, or of the text's end where that comes first
-abbrev pub found_row : FoundKind → (number : ℕ) → (text : List ℕ) → Span → Option NamePlace → FtlFinding
-found_row kind number text name other =
-    let place = place_at text (min name.start (length text)) in let first = place_or_none other in record {
+abbrev pub finding_row_of : FindingKind → (number : ℕ) → (text : List ℕ) → Span → Option NamePlace → FtlFinding
+finding_row_of kind number text name other =
+    let place = position_at text (min name.start (length text)) in let first = place_or_none other in record {
       text = number;
       line = place.line;
       column = place.column;
@@ -41,26 +41,26 @@ found_row kind number text name other =
       other_text = first.file;
       other_start = first.span.start;
       other_end = first.span.end;
-      kind = found_number kind;
-      severity = severity_number (found_severity kind);
+      kind = finding_kind_number kind;
+      severity = severity_number (finding_kind_severity kind);
     }
 
-abbrev pub text_or_none : Option Outline → List ℕ
+abbrev pub text_or_none : Option NameIndex → List ℕ
 text_or_none None = []
-text_or_none (Some outline) = outline.text.now
+text_or_none (Some name_index) = name_index.text.now
 
 -- the text of the number; none where there is no such text
-abbrev pub text_at : List Outline → ℕ → List ℕ
-text_at outlines number = text_or_none (slice_get outlines number)
+abbrev pub text_at : List NameIndex → ℕ → List ℕ
+text_at name_indexes number = text_or_none (slice_get name_indexes number)
 
-abbrev pub finding_row : List Outline → Finding → FtlFinding
-finding_row outlines finding =
-    found_row (Within finding.kind) finding.file (text_at outlines finding.file) (span_or_none finding.place)
+abbrev pub finding_row : List NameIndex → Finding → FtlFinding
+finding_row name_indexes finding =
+    finding_row_of (Within finding.kind) finding.file (text_at name_indexes finding.file) (span_or_none finding.place)
     finding.other
 
 -- The texts are UTF-8, and the rows are those of all that is found in what they say of names, by the edition of the
 -- number, with the outcome of all.
 pub record AreFindings (number : ℕ) (texts : List FtlText) (rows : List FtlFinding) (outcome : Outcome) : Type 0 where
-  pub outlines : List Outline
-  pub are_outlines : AreOutlines number texts outlines outcome
-  pub rows_are : rows ≡ map (finding_row outlines) (all_findings outlines)
+  pub name_indexes : List NameIndex
+  pub are_name_indexes : AreNameIndexes number texts name_indexes outcome
+  pub rows_are : rows ≡ map (finding_row name_indexes) (all_findings name_indexes)

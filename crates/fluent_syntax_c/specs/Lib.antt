@@ -11,7 +11,7 @@ pub mod Errors
 pub mod Names
 pub mod Values
 pub mod Messages
-pub mod FoundKinds
-pub mod Outlines
+pub mod FindingKinds
+pub mod NameIndexes
 pub mod Findings
 pub mod Comparison

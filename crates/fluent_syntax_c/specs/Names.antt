@@ -8,7 +8,7 @@ use Rattle.fluent_syntax_grammar.specs.Tiling.{Tile, Tiling, dropped, entry, ref
 use Rattle.ftl.specs.Answer.{outcome_of}
 use Rattle.ftl.specs.declared.outcome.Outcome.{Outcome}
 use Rattle.fluent_syntax_c.specs.Arguments.{edition_number}
-use Rattle.fluent_syntax_c.specs.Columns.{place_at}
+use Rattle.fluent_syntax_c.specs.Columns.{position_at}
 use Rattle.fluent_syntax_c.specs.declared.names.FtlName.{FtlName}
 use Rattle.fluent_syntax_c.specs.declared.names.Named.{Named}
 use Rattle.fluent_syntax_c.specs.declared.names.Named.TheVariants.{Message, Term, Attribute}
@@ -22,7 +22,7 @@ named_number Attribute = 3
 module _ (t : List ℕ) where
   -- the row of a name; `owner` is the number of the row of its message or term, from 0, which stands at `whole`
   abbrev pub name_row : Named → (owner : ℕ) → (whole : Span) → Span → FtlName
-  name_row named owner whole name = let place = place_at t name.start in record {
+  name_row named owner whole name = let place = position_at t name.start in record {
     line = place.line;
     column = place.column;
     column_utf16 = place.column_utf16;

@@ -17,7 +17,7 @@ pub record IsReading (edition : Edition) (t : List ℕ) (reading : Reading) : Ty
   pub tiles : List Tile
   pub has_tiles : Tiling edition t tiles
   pub tree_is : resource_view (λ s. s) reading.tree ≡ body tiles
-  pub tells : map fault_of reading.errors.items ≡ map Some (faults tiles)
+  pub errors_are : map fault_of reading.errors.items ≡ map Some (faults tiles)
 
 -- The same by the edition of the number.
 abbrev pub IsEditionReading : (number : ℕ) (t : List ℕ) → Reading → Type 0

@@ -6,8 +6,8 @@ use Rattle.fluent_syntax_tree.specs.declared.edition.Edition.{Edition}
 use Rattle.fluent_syntax_tree.specs.declared.spans.Span.{Span}
 use Rattle.fluent_syntax_grammar.specs.Grammar.{family}
 use Rattle.fluent_syntax_grammar.specs.Tiling.{Fault, Tile, Tiling, entry, refused}
-use Rattle.fluent_syntax_parser.specs.Extents.{EntryStands, HasExtents}
-use Rattle.fluent_syntax_parser.specs.declared.extents.EntryExtents.{EntryExtents}
+use Rattle.fluent_syntax_parser.specs.PartRanges.{HasEntryParts, HasRanges}
+use Rattle.fluent_syntax_parser.specs.declared.ranges.EntryRanges.{EntryRanges}
 use Rattle.ftl.specs.Answer.{outcome_of}
 use Rattle.ftl.specs.declared.outcome.Outcome.{Outcome}
 use Rattle.fluent_syntax_c.specs.Arguments.{edition_number}
@@ -19,24 +19,24 @@ value_row None = record { start = 0; end = 0 }
 value_row (Some s) = record { start = s.start; end = s.end }
 
 -- the rows of a message or a term with these parts: its own, and those of its attributes
-abbrev pub entry_values : EntryExtents → List FtlValue
+abbrev pub entry_values : EntryRanges → List FtlValue
 entry_values x = value_row x.value ∷ map (λ a. value_row (Some a.value)) x.attributes.items
 
 -- the rows of what was found at a place, if it is a message or a term
-abbrev pub found_values : Option EntryExtents → List FtlValue
-found_values None = []
-found_values (Some x) = entry_values x
+abbrev pub values_of_entry : Option EntryRanges → List FtlValue
+values_of_entry None = []
+values_of_entry (Some x) = entry_values x
 
 -- Those of the message or the term that begins at the place, if one does, came behind the others.
 abbrev pub AddsValues : Edition → List ℕ → (start : ℕ) → (before after : List FtlValue) → Type 0
 AddsValues edition t start before after =
-    (found : Option EntryExtents) × HasExtents edition t start found × (after ≡ before ++ found_values found)
+    (found : Option EntryRanges) × HasRanges edition t start found × (after ≡ before ++ values_of_entry found)
 
 module _ (edition : Edition) (t : List ℕ) where
   -- The rows are those of the tile: of a message or a term with its parts where they stand, and of others none.
   pub data TileValues : Tile → List FtlValue → Type 0 where
-    of_entry : {whole : Span} {e : EntryTree Span} {x : EntryExtents} →
-        EntryStands edition t (family edition t) whole.start x e whole.end →
+    of_entry : {whole : Span} {e : EntryTree Span} {x : EntryRanges} →
+        HasEntryParts edition t (family edition t) whole.start x e whole.end →
         TileValues (entry whole e) (entry_values x)
     of_comment : {whole : Span} {level : Level} {content : List Span} →
         TileValues (entry whole (comment level content)) []

@@ -6,10 +6,10 @@ ghost use Rattle.ftl.specs.FromJson.{IsTextOf};
 ghost use Rattle.fluent_syntax_c.specs.Answer.{IsCommandAnswer, IsNoTree, SpellsNone, refusal_of};
 ghost use Rattle.fluent_syntax_c.specs.Arguments.{IsNoCommand, from_json_number};
 ghost use Rattle.fluent_syntax_c.specs.Depth.{CommandReadsDeeper};
-ghost use Rattle.fluent_syntax_c.specs.Output.{Leaves};
+ghost use Rattle.fluent_syntax_c.specs.Output.{LeavesOutput};
 ghost use Rattle.fluent_syntax_c.specs.Status.{EndsAs};
 
-use crate::arguments::{Asked, asked_of};
+use crate::arguments::{CommandKind, command_kind_of};
 use crate::outputs::give;
 use crate::status::Refusal;
 use crate::texts::text_of;
@@ -33,7 +33,7 @@ pub extern "C" fn ftl_answer(
     out: &mut [u8],
     needed: &mut usize,
 ) -> u32
-    ensures leaves { EndsAs result (Leaves (IsCommandAnswer command input.now) out.old out.new needed.new) }
+    ensures leaves { EndsAs result (LeavesOutput (IsCommandAnswer command input.now) out.old out.new needed.new) }
     ensures argument { (result ≡ 2) ↔ IsNoCommand command }
     ensures input { ¬ (IsNoCommand command) → ((result ≡ 3) ↔ ¬ (IsUtf8 input.now)) }
     ensures deep { result ≡ 6 → command ≢ from_json_number → nesting < length input.now }
@@ -63,9 +63,9 @@ fn command_bytes(
     ensures tree { result ≡ Err Refusal.Tree → IsNoTree command input.now }
     ensures json { result ≡ Err Refusal.Depth → command ≡ from_json_number → SpellsNone input.now }
 {
-    match asked_of(command) {
-        Some(Asked::Answer(command)) => answer_bytes(alloc, command, nesting, input),
-        Some(Asked::FromJson) => from_json_bytes(alloc, input),
+    match command_kind_of(command) {
+        Some(CommandKind::Answer(command)) => answer_bytes(alloc, command, nesting, input),
+        Some(CommandKind::FromJson) => from_json_bytes(alloc, input),
         None => Err(Refusal::Argument),
     }
 }

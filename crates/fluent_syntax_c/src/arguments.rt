@@ -1,13 +1,13 @@
 //! Numbers that the caller names commands and editions by.
 ghost use Rattle.std.specs.Prelude.{◌≡◌, IfSome, IfNone};
-ghost use Rattle.fluent_syntax_c.specs.Arguments.{IsNoCommand, IsNoEdition, asked_number, edition_number};
+ghost use Rattle.fluent_syntax_c.specs.Arguments.{IsNoCommand, IsNoEdition, command_kind_number, edition_number};
 
 use fluent_syntax::parser::Edition;
 use ftl::Command;
 
 /// What a command's number asks for: `enum ftl_command` of `include/fluent.h`.
 #[derive(Clone, Copy)]
-pub enum Asked {
+pub enum CommandKind {
     /// What the command writes for the text.
     Answer(Command),
     /// The text of the tree that the text spells as JSON.
@@ -15,18 +15,18 @@ pub enum Asked {
 }
 
 /// What is asked for by a number.
-pub(crate) fn asked_of(number: u32) -> Option<Asked>
-    ensures some { IfSome result (λ asked. asked_number asked ≡ number) }
+pub(crate) fn command_kind_of(number: u32) -> Option<CommandKind>
+    ensures some { IfSome result (λ expected. command_kind_number expected ≡ number) }
     ensures none { IfNone result (IsNoCommand number) }
 {
     match number {
-        0 => Some(Asked::Answer(Command::Check)),
-        1 => Some(Asked::Answer(Command::Format)),
-        2 => Some(Asked::Answer(Command::Runtime)),
-        3 => Some(Asked::Answer(Command::Json)),
-        4 => Some(Asked::Answer(Command::CheckTwo)),
-        5 => Some(Asked::Answer(Command::FormatTwo)),
-        6 => Some(Asked::FromJson),
+        0 => Some(CommandKind::Answer(Command::Check)),
+        1 => Some(CommandKind::Answer(Command::Format)),
+        2 => Some(CommandKind::Answer(Command::Runtime)),
+        3 => Some(CommandKind::Answer(Command::Json)),
+        4 => Some(CommandKind::Answer(Command::CheckTwo)),
+        5 => Some(CommandKind::Answer(Command::FormatTwo)),
+        6 => Some(CommandKind::FromJson),
         _ => None,
     }
 }

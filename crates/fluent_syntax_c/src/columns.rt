@@ -2,15 +2,15 @@
 ghost use Rattle.std.specs.Prelude.{◌≡◌, ◌+◌, ◌<◌, ◌≤◌, ◌^◌, ℕ, List, length, min, slice_range};
 ghost use Rattle.std.specs.List.{sum_by};
 ghost use Rattle.fluent_syntax.specs.Lines.{column_at};
-ghost use Rattle.fluent_syntax_c.specs.Columns.{IsOnLine, IsPlaced, characters, column_characters, column_utf16};
-ghost use Rattle.fluent_syntax_c.specs.Columns.{place_at, utf16_units};
+ghost use Rattle.fluent_syntax_c.specs.Columns.{IsOnLine, IsPositionOf, characters, column_characters, column_utf16};
+ghost use Rattle.fluent_syntax_c.specs.Columns.{position_at, utf16_units};
 
 use fluent_syntax::spans::Lines;
 use std::marker::Model;
 
 /// The line and the columns of a place, all from 1.
 #[derive(Clone, Copy)]
-pub(crate) struct Place {
+pub(crate) struct Position {
     pub(crate) line: usize,
     /// In bytes.
     pub(crate) column: usize,
@@ -20,41 +20,41 @@ pub(crate) struct Place {
 
 /// A place of a text, in bytes.
 #[derive(Clone, Copy)]
-pub(crate) struct Placed {
+pub(crate) struct LastPosition {
     byte: usize,
-    place: Place,
+    position: Position,
 }
 
 /// The places of one text. Where they come in order, the text is read once or twice for all of them. In a clause it is
 /// the bytes of the text.
 #[derive(Drop)]
-pub(crate) struct Places<'t> {
+pub(crate) struct Positions<'t> {
     text: &'t str,
     lines: Lines<'t>,
-    last: Placed,
+    last: LastPosition,
     ghost same: { lines ≡ text.now },
     ghost short: { length text.now < 2 ^ 63 },
-    ghost placed: { IsPlaced text.now last },
+    ghost placed: { IsPositionOf text.now last },
 }
 
-impl<'t> Model for Places<'t> {
+impl<'t> Model for Positions<'t> {
     ghost Value = { List ℕ };
 
-    ghost view = { λ places. places.text.now };
+    ghost view = { λ positions. positions.text.now };
 }
 
-impl<'t> Places<'t> {
+impl<'t> Positions<'t> {
     /// The places of a text.
     pub(crate) fn new(text: &'t str) -> Self
         requires { length text.now + 1 < 2 ^ 63 }
         ensures { result ≡ text.now }
     {
-        Places {
+        Positions {
             text,
             lines: Lines::new(text),
-            last: Placed {
+            last: LastPosition {
                 byte: 0,
-                place: Place {
+                position: Position {
                     line: 1,
                     column: 1,
                     column_utf16: 1,
@@ -67,29 +67,29 @@ impl<'t> Places<'t> {
     /// The line and the columns of a byte of the text, or of its end. It reads what lies between the last place and
     /// this one, and where this one lies before it or on another line, what lies before this one on its line, and what
     /// `Lines` reads.
-    pub(crate) fn place(&mut self, byte: usize) -> Place
+    pub(crate) fn position(&mut self, byte: usize) -> Position
         requires { byte ≤ length self.old }
         ensures text { self.new ≡ self.old }
-        ensures place { result ≡ place_at self.old byte }
+        ensures position { result ≡ position_at self.old byte }
     {
         let (line, column) = self.lines.line_column(byte);
         let (column_utf16, column_characters) = wide_columns(self.text, self.last, byte, column);
-        let place = Place {
+        let position = Position {
             line,
             column,
             column_utf16,
             column_characters,
         };
-        self.last = Placed { byte, place };
-        place
+        self.last = LastPosition { byte, position };
+        position
     }
 
     /// The line and the columns of a byte of the text, or of the text's end where it lies beyond.
-    pub(crate) fn place_within(&mut self, byte: usize) -> Place
+    pub(crate) fn position_within(&mut self, byte: usize) -> Position
         ensures text { self.new ≡ self.old }
-        ensures place { result ≡ place_at self.old (min byte (length self.old)) }
+        ensures position { result ≡ position_at self.old (min byte (length self.old)) }
     {
-        self.place(byte.min(self.text.len()))
+        self.position(byte.min(self.text.len()))
     }
 }
 
@@ -103,31 +103,31 @@ pub(crate) struct OnLine {
 
 /// The columns of a place in UTF-16 units and in characters, by its column in bytes. They are counted on from the last
 /// place where that stands before it on the same line.
-fn wide_columns(text: &str, last: Placed, byte: usize, column: usize) -> (usize, usize)
+fn wide_columns(text: &str, last: LastPosition, byte: usize, column: usize) -> (usize, usize)
     requires in_text { byte ≤ length text.now }
     requires short { length text.now < 2 ^ 63 }
     requires column { column ≡ column_at text.now byte }
-    requires placed { IsPlaced text.now last }
+    requires placed { IsPositionOf text.now last }
     ensures utf16 { result.0 ≡ column_utf16 text.now byte }
     ensures characters { result.1 ≡ column_characters text.now byte }
 {
     let start = byte - (column - 1);
-    counted_on(text, start, known(text, last, start, byte), byte)
+    columns_from(text, start, start_on_line(text, last, start, byte), byte)
 }
 
 /// A place on the line that begins at `start`, no farther than `byte`: the last one, or the line's start.
-fn known(text: &str, last: Placed, start: usize, byte: usize) -> OnLine
+fn start_on_line(text: &str, last: LastPosition, start: usize, byte: usize) -> OnLine
     requires in_text { byte ≤ length text.now }
     requires before { start ≤ byte }
-    requires placed { IsPlaced text.now last }
+    requires placed { IsPositionOf text.now last }
     ensures on_line { IsOnLine text.now start result }
     ensures before { result.byte ≤ byte }
 {
-    if last.byte <= byte && last.byte - (last.place.column - 1) == start {
+    if last.byte <= byte && last.byte - (last.position.column - 1) == start {
         OnLine {
             byte: last.byte,
-            column_utf16: last.place.column_utf16,
-            column_characters: last.place.column_characters,
+            column_utf16: last.position.column_utf16,
+            column_characters: last.position.column_characters,
         }
     } else {
         OnLine {
@@ -139,7 +139,7 @@ fn known(text: &str, last: Placed, start: usize, byte: usize) -> OnLine
 }
 
 /// The columns of a place in UTF-16 units and in characters, counted on from an earlier place of its line.
-fn counted_on(text: &str, start: usize, from: OnLine, byte: usize) -> (usize, usize)
+fn columns_from(text: &str, start: usize, from: OnLine, byte: usize) -> (usize, usize)
     requires in_text { byte ≤ length text.now }
     requires short { length text.now < 2 ^ 63 }
     requires on_line { IsOnLine text.now start from }

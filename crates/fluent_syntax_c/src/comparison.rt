@@ -2,19 +2,19 @@
 ghost use Rattle.std.specs.Prelude.{◌≡◌, ◌⊎◌, ◌++◌, ◌+◌, ◌<◌, ◌^◌, length, IfOk, OnOk};
 ghost use Rattle.std.specs.List.{flat_map};
 ghost use Rattle.std.specs.Str.{IsUtf8};
-ghost use Rattle.fluent_syntax_c.specs.Comparison.{AreDifferences, compared_rows, lack_rows, side_number};
+ghost use Rattle.fluent_syntax_c.specs.Comparison.{AreDifferences, compared_rows, missing_part_rows, side_number};
 ghost use Rattle.fluent_syntax_c.specs.Depth.{EditionReadsDeeper};
-ghost use Rattle.fluent_syntax_c.specs.Outlines.{IsShort};
+ghost use Rattle.fluent_syntax_c.specs.NameIndexes.{IsShort};
 ghost use Rattle.fluent_syntax_c.specs.Rows.{Answers, Gives};
 
 use crate::arguments::edition_of;
-use crate::columns::Places;
-use crate::findings::{FtlFinding, found_row};
-use crate::found_kinds::FoundKind;
-use crate::outlines::{either_outcome, outline};
+use crate::columns::Positions;
+use crate::finding_kinds::FindingKind;
+use crate::findings::{FtlFinding, finding_row_of};
+use crate::name_indexes::{either_outcome, name_index};
 use crate::outputs::give;
 use crate::status::Refusal;
-use fluent_syntax_names::{Lack, Outline, Side, lacks};
+use fluent_syntax_names::{MissingPart, NameIndex, Side, missing_parts};
 use ftl::Outcome;
 use std::alloc::{AllocError, Global};
 
@@ -78,8 +78,8 @@ fn edition_differences(
     if str::from_utf8(reference).is_err() || str::from_utf8(other).is_err() {
         return Err(Refusal::Input);
     }
-    let (reference, found) = outline(alloc, edition, nesting, reference)?;
-    let (other, more) = outline(alloc, edition, nesting, other)?;
+    let (reference, found) = name_index(alloc, edition, nesting, reference)?;
+    let (other, more) = name_index(alloc, edition, nesting, other)?;
     match compared_rows(alloc, &reference, &other) {
         Ok(rows) => Ok((rows, either_outcome(found, more))),
         Err(AllocError) => Err(Refusal::Memory),
@@ -89,52 +89,53 @@ fn edition_differences(
 /// A row for each difference.
 fn compared_rows(
     alloc: Global,
-    reference: &Outline<'_>,
-    other: &Outline<'_>,
+    reference: &NameIndex<'_>,
+    other: &NameIndex<'_>,
 ) -> Result<Vec<FtlFinding>, AllocError>
     requires reference { IsShort reference.now }
     requires other { IsShort other.now }
     ensures { IfOk result (λ rows. rows.items ≡ compared_rows reference.now other.now) }
 {
     let mut rows = Vec::new(alloc);
-    let missing = lacks(alloc, reference, other)?;
-    add_lacks(&mut rows, Side::Reference, reference.text, &missing)?;
-    let more = lacks(alloc, other, reference)?;
-    add_lacks(&mut rows, Side::Other, other.text, &more)?;
+    let missing = missing_parts(alloc, reference, other)?;
+    add_missing_parts(&mut rows, Side::Reference, reference.text, &missing)?;
+    let more = missing_parts(alloc, other, reference)?;
+    add_missing_parts(&mut rows, Side::Other, other.text, &more)?;
     Ok(rows)
 }
 
 /// Adds the rows of what this text has and the other one lacks.
-fn add_lacks(
+fn add_missing_parts(
     rows: &mut Vec<FtlFinding>,
     side: Side,
     text: &str,
-    lacks: &[Lack],
+    missing_parts: &[MissingPart],
 ) -> Result<(), AllocError>
     requires { length text.now + 1 < 2 ^ 63 }
-    ensures { OnOk result (rows.new.items ≡ rows.old.items ++ flat_map (lack_rows side text.now) lacks.now) }
+    ensures { OnOk result (rows.new.items ≡ rows.old.items
+        ++ flat_map (missing_part_rows side text.now) missing_parts.now) }
 {
-    let mut places = Places::new(text);
-    for lack in lacks {
-        add_lack(rows, &mut places, side, lack)?;
+    let mut positions = Positions::new(text);
+    for missing in missing_parts {
+        add_missing_part(rows, &mut positions, side, missing)?;
     }
     Ok(())
 }
 
 /// Adds the row of what this text has and the other one lacks, if it is told.
-fn add_lack<'t>(
+fn add_missing_part<'t>(
     rows: &mut Vec<FtlFinding>,
-    places: &mut Places<'t>,
+    positions: &mut Positions<'t>,
     side: Side,
-    lack: &Lack,
+    missing: &MissingPart,
 ) -> Result<(), AllocError>
-    ensures rows { OnOk result (rows.new.items ≡ rows.old.items ++ lack_rows side places.old lack.now) }
-    ensures text { places.new ≡ places.old }
+    ensures rows { OnOk result (rows.new.items ≡ rows.old.items ++ missing_part_rows side positions.old missing.now) }
+    ensures text { positions.new ≡ positions.old }
 {
-    let Some(difference) = side.difference(lack.part) else {
+    let Some(difference) = side.difference(missing.part) else {
         return Ok(());
     };
-    let kind = FoundKind::Between(difference);
-    rows.push(found_row(places, kind, side_number(side), lack.name, None))?;
+    let kind = FindingKind::Between(difference);
+    rows.push(finding_row_of(positions, kind, side_number(side), missing.name, None))?;
     Ok(())
 }

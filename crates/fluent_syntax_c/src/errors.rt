@@ -1,12 +1,12 @@
 //! Errors as rows.
 ghost use Rattle.std.specs.Prelude.{◌≡◌, ◌+◌, ◌<◌, ◌≤◌, ◌^◌, length, map, All, IfOk};
 ghost use Rattle.std.specs.Str.{IsUtf8};
-ghost use Rattle.ftl.specs.Answer.{told};
+ghost use Rattle.ftl.specs.Answer.{error_fault};
 ghost use Rattle.fluent_syntax_c.specs.Depth.{EditionReadsDeeper};
 ghost use Rattle.fluent_syntax_c.specs.Errors.{are_errors, error_row, row_at};
 ghost use Rattle.fluent_syntax_c.specs.Rows.{AreRows, Gives};
 
-use crate::columns::{Place, Places};
+use crate::columns::{Position, Positions};
 use crate::kinds::kind_number;
 use crate::readings::Reading;
 use crate::rows::{TextRows, give_rows};
@@ -81,25 +81,25 @@ fn error_rows(
 ) -> Result<Vec<FtlError>, AllocError>
     requires short { length text.now + 1 < 2 ^ 63 }
     requires within { All (λ e. e.pos.start ≤ length text.now) errors.now.items }
-    ensures { IfOk result (λ rows. rows.items ≡ map (λ e. error_row text.now (told e)) errors.now.items) }
+    ensures { IfOk result (λ rows. rows.items ≡ map (λ e. error_row text.now (error_fault e)) errors.now.items) }
 {
     let mut rows = Vec::with_capacity(alloc, errors.len())?;
-    let mut places = Places::new(text);
+    let mut positions = Positions::new(text);
     for error in errors {
-        rows.push(row_of(places.place(error.pos.start), error))?;
+        rows.push(row_of(positions.position(error.pos.start), error))?;
     }
     Ok(rows)
 }
 
-fn row_of(place: Place, error: &ParserError) -> FtlError
-    ensures { result ≡ row_at place (told error.now) }
+fn row_of(position: Position, error: &ParserError) -> FtlError
+    ensures { result ≡ row_at position (error_fault error.now) }
 {
     let junk = error.slice.as_ref().unwrap_or(&error.pos);
     FtlError {
-        line: place.line,
-        column: place.column,
-        column_utf16: place.column_utf16,
-        column_characters: place.column_characters,
+        line: position.line,
+        column: position.column,
+        column_utf16: position.column_utf16,
+        column_characters: position.column_characters,
         start: error.pos.start,
         end: error.pos.end,
         junk_start: junk.start,

@@ -3,22 +3,22 @@ ghost use Rattle.std.specs.Prelude.{◌≡◌, ◌↔◌, ◌+◌, ◌<◌, ◌^
 ghost use Rattle.std.specs.List.{All, Any};
 ghost use Rattle.fluent_syntax_names.specs.Findings.{all_findings};
 ghost use Rattle.fluent_syntax_c.specs.Depth.{EditionReadsDeeper};
-ghost use Rattle.fluent_syntax_c.specs.Findings.{AreFindings, finding_row, found_row, place_or_none, span_or_none};
+ghost use Rattle.fluent_syntax_c.specs.Findings.{AreFindings, finding_row, finding_row_of, place_or_none, span_or_none};
 ghost use Rattle.fluent_syntax_c.specs.Findings.{text_at};
-ghost use Rattle.fluent_syntax_c.specs.FoundKinds.{IsFoundKindName, IsNoFoundKind};
-ghost use Rattle.fluent_syntax_c.specs.Output.{Leaves};
-ghost use Rattle.fluent_syntax_c.specs.Outlines.{IsShort, IsText};
+ghost use Rattle.fluent_syntax_c.specs.FindingKinds.{IsFindingKindName, IsNoFindingKind};
+ghost use Rattle.fluent_syntax_c.specs.Output.{LeavesOutput};
+ghost use Rattle.fluent_syntax_c.specs.NameIndexes.{IsShort, IsText};
 ghost use Rattle.fluent_syntax_c.specs.Rows.{Answers, Gives};
 ghost use Rattle.fluent_syntax_c.specs.Status.{EndsAs};
 
 use crate::arguments::edition_of;
-use crate::columns::Places;
-use crate::found_kinds::{FoundKind, found_kind_at};
-use crate::outlines::{FtlText, are_texts, outlines};
+use crate::columns::Positions;
+use crate::finding_kinds::{FindingKind, finding_kind_at};
+use crate::name_indexes::{FtlText, are_texts, name_indexes};
 use crate::outputs::give;
 use crate::status::Refusal;
 use fluent_syntax::spans::Span;
-use fluent_syntax_names::{Finding, Outline, Place, findings};
+use fluent_syntax_names::{Finding, NameIndex, Place, findings};
 use ftl::Outcome;
 use std::alloc::{AllocError, Global};
 
@@ -92,69 +92,72 @@ fn edition_findings(
     if !are_texts(texts) {
         return Err(Refusal::Input);
     }
-    let (outlines, outcome) = outlines(alloc, edition, nesting, texts)?;
-    match finding_rows(alloc, &outlines) {
+    let (name_indexes, outcome) = name_indexes(alloc, edition, nesting, texts)?;
+    match finding_rows(alloc, &name_indexes) {
         Ok(rows) => Ok((rows, outcome)),
         Err(AllocError) => Err(Refusal::Memory),
     }
 }
 
 /// A row for each finding in the texts.
-fn finding_rows(alloc: Global, outlines: &[Outline<'_>]) -> Result<Vec<FtlFinding>, AllocError>
-    requires { All IsShort outlines.now }
-    ensures { IfOk result (λ rows. rows.items ≡ map (finding_row outlines.now) (all_findings outlines.now)) }
+fn finding_rows(
+    alloc: Global,
+    name_indexes: &[NameIndex<'_>],
+) -> Result<Vec<FtlFinding>, AllocError>
+    requires { All IsShort name_indexes.now }
+    ensures { IfOk result (λ rows. rows.items ≡ map (finding_row name_indexes.now) (all_findings name_indexes.now)) }
 {
-    let found = findings(alloc, outlines)?;
+    let found = findings(alloc, name_indexes)?;
     let mut rows = Vec::with_capacity(alloc, found.len())?;
     let mut last = 0;
-    let mut places = Places::new(text_at(outlines, 0));
+    let mut positions = Positions::new(text_at(name_indexes, 0));
     for finding in &found {
-        places = places_in(outlines, last, places, finding.file);
+        positions = positions_in(name_indexes, last, positions, finding.file);
         last = finding.file;
-        rows.push(finding_row(&mut places, finding))?;
+        rows.push(finding_row(&mut positions, finding))?;
     }
     Ok(rows)
 }
 
 /// The places of the text of the number; those of the last one where it is the same.
-fn places_in<'t>(
-    outlines: &[Outline<'t>],
+fn positions_in<'t>(
+    name_indexes: &[NameIndex<'t>],
     last: usize,
-    places: Places<'t>,
+    positions: Positions<'t>,
     number: usize,
-) -> Places<'t>
-    requires last { places ≡ text_at outlines.now last }
-    requires short { All IsShort outlines.now }
-    ensures { result ≡ text_at outlines.now number }
+) -> Positions<'t>
+    requires last { positions ≡ text_at name_indexes.now last }
+    requires short { All IsShort name_indexes.now }
+    ensures { result ≡ text_at name_indexes.now number }
 {
     if number == last {
-        places
+        positions
     } else {
-        Places::new(text_at(outlines, number))
+        Positions::new(text_at(name_indexes, number))
     }
 }
 
 /// The text of the number; none where there is no such text.
-fn text_at<'t>(outlines: &[Outline<'t>], number: usize) -> &'t str
-    requires { All IsShort outlines.now }
-    ensures text { result.now ≡ text_at outlines.now number }
+fn text_at<'t>(name_indexes: &[NameIndex<'t>], number: usize) -> &'t str
+    requires { All IsShort name_indexes.now }
+    ensures text { result.now ≡ text_at name_indexes.now number }
     ensures short { length result.now + 1 < 2 ^ 63 }
 {
-    match outlines.get(number) {
-        Some(outline) => outline.text,
+    match name_indexes.get(number) {
+        Some(name_index) => name_index.text,
         None => "",
     }
 }
 
-fn finding_row<'t>(places: &mut Places<'t>, finding: &Finding) -> FtlFinding
-    ensures row { result ≡ found_row (FoundKind.Within finding.now.kind) finding.now.file places.old
+fn finding_row<'t>(positions: &mut Positions<'t>, finding: &Finding) -> FtlFinding
+    ensures row { result ≡ finding_row_of (FindingKind.Within finding.now.kind) finding.now.file positions.old
         (span_or_none finding.now.place) finding.now.other }
-    ensures text { places.new ≡ places.old }
+    ensures text { positions.new ≡ positions.old }
 {
     let name = span_or_none(finding.place);
-    found_row(
-        places,
-        FoundKind::Within(finding.kind),
+    finding_row_of(
+        positions,
+        FindingKind::Within(finding.kind),
         finding.file,
         name,
         finding.other,
@@ -162,17 +165,17 @@ fn finding_row<'t>(places: &mut Places<'t>, finding: &Finding) -> FtlFinding
 }
 
 /// The row of what is found at a name of the text of the number.
-pub(crate) fn found_row<'t>(
-    places: &mut Places<'t>,
-    kind: FoundKind,
+pub(crate) fn finding_row_of<'t>(
+    positions: &mut Positions<'t>,
+    kind: FindingKind,
     text: usize,
     name: Span,
     other: Option<Place>,
 ) -> FtlFinding
-    ensures row { result ≡ found_row kind text places.old name other }
-    ensures text { places.new ≡ places.old }
+    ensures row { result ≡ finding_row_of kind text positions.old name other }
+    ensures text { positions.new ≡ positions.old }
 {
-    let place = places.place_within(name.start);
+    let place = positions.position_within(name.start);
     let other = place_or_none(other);
     FtlFinding {
         text,
@@ -225,18 +228,18 @@ pub extern "C" fn ftl_finding_kind_name(
     out: &mut [u8],
     needed: &mut usize,
 ) -> u32
-    ensures leaves { EndsAs result (Leaves (IsFoundKindName kind) out.old out.new needed.new) }
-    ensures argument { (result ≡ 2) ↔ IsNoFoundKind kind }
+    ensures leaves { EndsAs result (LeavesOutput (IsFindingKindName kind) out.old out.new needed.new) }
+    ensures argument { (result ≡ 2) ↔ IsNoFindingKind kind }
 {
     give(name_bytes(alloc, kind), out, needed)
 }
 
 /// The bytes of the name of the kind of findings of the number.
 fn name_bytes(alloc: Global, kind: u32) -> Result<(Vec<u8>, Outcome), Refusal>
-    ensures name { IfOk result (λ answer. IsFoundKindName kind answer.0.items answer.1) }
-    ensures argument { (result ≡ Err Refusal.Argument) ↔ IsNoFoundKind kind }
+    ensures name { IfOk result (λ answer. IsFindingKindName kind answer.0.items answer.1) }
+    ensures argument { (result ≡ Err Refusal.Argument) ↔ IsNoFindingKind kind }
 {
-    let Some(kind) = found_kind_at(kind) else {
+    let Some(kind) = finding_kind_at(kind) else {
         return Err(Refusal::Argument);
     };
     match String::from_str(alloc, kind.name()) {

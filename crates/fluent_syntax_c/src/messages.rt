@@ -7,7 +7,7 @@ ghost use Rattle.fluent_syntax_c.specs.Depth.{EditionReadsDeeper};
 ghost use Rattle.fluent_syntax_c.specs.Kinds.{IsNoKind};
 ghost use Rattle.fluent_syntax_c.specs.Messages.{IsKindName, are_messages, kind_message, message_line, shown};
 ghost use Rattle.fluent_syntax_c.specs.Messages.{shown_byte};
-ghost use Rattle.fluent_syntax_c.specs.Output.{Leaves};
+ghost use Rattle.fluent_syntax_c.specs.Output.{LeavesOutput};
 ghost use Rattle.fluent_syntax_c.specs.Rows.{AreRows, Gives};
 ghost use Rattle.fluent_syntax_c.specs.Status.{EndsAs};
 
@@ -27,7 +27,7 @@ use std::alloc::{AllocError, Global};
 /// Otherwise `needed` is 0 and `out` as it was: 2 where no kind has the number, 4 where a growth was refused.
 #[unsafe(no_mangle)]
 pub extern "C" fn ftl_kind_name(alloc: Global, kind: u32, out: &mut [u8], needed: &mut usize) -> u32
-    ensures leaves { EndsAs result (Leaves (IsKindName kind) out.old out.new needed.new) }
+    ensures leaves { EndsAs result (LeavesOutput (IsKindName kind) out.old out.new needed.new) }
     ensures argument { (result ≡ 2) ↔ IsNoKind kind }
 {
     give(name_bytes(alloc, kind), out, needed)

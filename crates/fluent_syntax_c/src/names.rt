@@ -9,12 +9,12 @@ ghost use Rattle.fluent_syntax_c.specs.Depth.{EditionReadsDeeper};
 ghost use Rattle.fluent_syntax_c.specs.Names.{NamesTiles, are_names, entry_rows, name_row, named_number, owner_rows};
 ghost use Rattle.fluent_syntax_c.specs.Rows.{AreRows, Gives};
 
-use crate::columns::Places;
+use crate::columns::Positions;
 use crate::readings::Reading;
 use crate::rows::{TextRows, give_rows};
 use fluent_syntax::ast::{Attribute, Entry};
 use fluent_syntax::parser::Edition;
-use fluent_syntax::spans::{FoundTile, Halt, Span, Tiles};
+use fluent_syntax::spans::{Halt, Span, SpannedTile, Tiles};
 use std::alloc::{AllocError, Global};
 
 /// A name: `struct ftl_name` of `include/fluent.h`.
@@ -110,11 +110,11 @@ fn name_rows(
     ensures { IfOk result (λ rows. NamesTiles edition text.now rows.items) }
 {
     let mut rows = Vec::new(alloc);
-    let mut places = Places::new(text);
+    let mut positions = Positions::new(text);
     let mut tiles = Tiles::new(text, edition, nesting, 0);
     loop {
         match tiles.next_tile(alloc) {
-            Ok(Some(found)) => add_found(&mut rows, &mut places, found)?,
+            Ok(Some(found)) => add_tile(&mut rows, &mut positions, found)?,
             Ok(None) => return Ok(rows),
             // it was read before, so it is not too deep
             Err(Halt::TooDeep | Halt::Memory) => return Err(AllocError),
@@ -123,37 +123,37 @@ fn name_rows(
 }
 
 /// Adds the rows of what was found, which is dropped here and not on each way out of the loop.
-fn add_found<'t>(
+fn add_tile<'t>(
     rows: &mut Vec<FtlName>,
-    places: &mut Places<'t>,
-    found: FoundTile,
+    positions: &mut Positions<'t>,
+    found: SpannedTile,
 ) -> Result<(), AllocError>
-    requires { entry_every (IsPart places.old) (tree_of found.entry) }
+    requires { entry_every (IsPart positions.old) (tree_of found.entry) }
     ensures rows { OnOk result (rows.new.items
-        ≡ rows.old.items ++ entry_rows places.old (vec_len rows.old) found.span (tree_of found.entry)) }
-    ensures text { places.new ≡ places.old }
+        ≡ rows.old.items ++ entry_rows positions.old (vec_len rows.old) found.span (tree_of found.entry)) }
+    ensures text { positions.new ≡ positions.old }
 {
-    add_entry(rows, places, found.span, &found.entry)
+    add_entry(rows, positions, found.span, &found.entry)
 }
 
 /// Adds the rows of an entry that stands there.
 fn add_entry<'t>(
     rows: &mut Vec<FtlName>,
-    places: &mut Places<'t>,
+    positions: &mut Positions<'t>,
     whole: Span,
     entry: &Entry<Span>,
 ) -> Result<(), AllocError>
-    requires { entry_every (IsPart places.old) (tree_of entry.now) }
+    requires { entry_every (IsPart positions.old) (tree_of entry.now) }
     ensures rows { OnOk result (rows.new.items
-        ≡ rows.old.items ++ entry_rows places.old (vec_len rows.old) whole (tree_of entry.now)) }
-    ensures text { places.new ≡ places.old }
+        ≡ rows.old.items ++ entry_rows positions.old (vec_len rows.old) whole (tree_of entry.now)) }
+    ensures text { positions.new ≡ positions.old }
 {
     match entry {
         Entry::Message(message) => {
             let name = message.id.name;
             add_owner(
                 rows,
-                places,
+                positions,
                 Named::Message,
                 whole,
                 name,
@@ -162,7 +162,7 @@ fn add_entry<'t>(
         }
         Entry::Term(term) => {
             let name = term.id.name;
-            add_owner(rows, places, Named::Term, whole, name, &term.attributes)
+            add_owner(rows, positions, Named::Term, whole, name, &term.attributes)
         }
         Entry::Comment(_)
         | Entry::GroupComment(_)
@@ -174,46 +174,46 @@ fn add_entry<'t>(
 /// Adds the rows of a message or a term that stands there, and of its attributes.
 fn add_owner<'t>(
     rows: &mut Vec<FtlName>,
-    places: &mut Places<'t>,
+    positions: &mut Positions<'t>,
     named: Named,
     whole: Span,
     name: Span,
     attributes: &Vec<Attribute<Span>>,
 ) -> Result<(), AllocError>
-    requires name { name.start ≤ length places.old }
-    requires attributes { list_every (attribute_every (IsPart places.old))
+    requires name { name.start ≤ length positions.old }
+    requires attributes { list_every (attribute_every (IsPart positions.old))
         (map (attribute_view (λ s. s)) attributes.now.items) }
     ensures rows { OnOk result (rows.new.items ≡ rows.old.items ++
-        owner_rows places.old named (vec_len rows.old) whole name
+        owner_rows positions.old named (vec_len rows.old) whole name
         (map (attribute_view (λ s. s)) attributes.now.items)) }
-    ensures text { places.new ≡ places.old }
+    ensures text { positions.new ≡ positions.old }
 {
     let owner = rows.len();
-    rows.push(row_of(places, named, owner, whole, name))?;
+    rows.push(row_of(positions, named, owner, whole, name))?;
     for attribute in attributes {
         let name = attribute.id.name;
-        rows.push(row_of(places, Named::Attribute, owner, whole, name))?;
+        rows.push(row_of(positions, Named::Attribute, owner, whole, name))?;
     }
     Ok(())
 }
 
 fn row_of<'t>(
-    places: &mut Places<'t>,
+    positions: &mut Positions<'t>,
     named: Named,
     owner: usize,
     whole: Span,
     name: Span,
 ) -> FtlName
-    requires { name.start ≤ length places.old }
-    ensures row { result ≡ name_row places.old named owner whole name }
-    ensures text { places.new ≡ places.old }
+    requires { name.start ≤ length positions.old }
+    ensures row { result ≡ name_row positions.old named owner whole name }
+    ensures text { positions.new ≡ positions.old }
 {
-    let place = places.place(name.start);
+    let position = positions.position(name.start);
     FtlName {
-        line: place.line,
-        column: place.column,
-        column_utf16: place.column_utf16,
-        column_characters: place.column_characters,
+        line: position.line,
+        column: position.column,
+        column_utf16: position.column_utf16,
+        column_characters: position.column_characters,
         start: name.start,
         end: name.end,
         owner,

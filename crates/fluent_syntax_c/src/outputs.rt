@@ -1,6 +1,6 @@
 //! The caller's array, and the number that tells how much there is.
 ghost use Rattle.std.specs.Prelude.{◌≡◌, ◌↔◌, Err, IsOkAnd};
-ghost use Rattle.fluent_syntax_c.specs.Output.{Leaves};
+ghost use Rattle.fluent_syntax_c.specs.Output.{LeavesOutput};
 ghost use Rattle.fluent_syntax_c.specs.Status.{EndsAs, refusal_number};
 ghost use Rattle.fluent_syntax_c.specs.declared.status.Refusal.{Refusal as Why};
 ghost use Rattle.fluent_syntax_c.specs.declared.status.Status.TheVariants.{Refused};
@@ -16,7 +16,7 @@ pub(crate) fn give<T: Copy>(
     count: &mut usize,
 ) -> u32
     ensures leaves { EndsAs result
-        (Leaves (λ items outcome. IsOkAnd answer (λ given. (given.0.items ≡ items) × (given.1 ≡ outcome)))
+        (LeavesOutput (λ items outcome. IsOkAnd answer (λ given. (given.0.items ≡ items) × (given.1 ≡ outcome)))
         out.old out.new count.new) }
     ensures refused { (why : Why) → (result ≡ refusal_number why) ↔ (answer ≡ Err why) }
 {
@@ -29,7 +29,8 @@ fn give_answer<T: Copy>(
     out: &mut [T],
     count: &mut usize,
 ) -> Status
-    ensures leaves { Leaves (λ items outcome. IsOkAnd answer (λ given. (given.0.items ≡ items) × (given.1 ≡ outcome)))
+    ensures leaves { LeavesOutput (λ items outcome. IsOkAnd answer
+        (λ given. (given.0.items ≡ items) × (given.1 ≡ outcome)))
         out.old out.new count.new result }
     ensures refused { (why : Why) → (result ≡ Refused why) ↔ (answer ≡ Err why) }
 {
@@ -43,7 +44,8 @@ fn give_answer<T: Copy>(
 }
 
 fn give_items<T: Copy>(items: &[T], outcome: Outcome, out: &mut [T], count: &mut usize) -> Status
-    ensures leaves { Leaves (λ given found. (given ≡ items.now) × (found ≡ outcome)) out.old out.new count.new result }
+    ensures leaves { LeavesOutput (λ given found. (given ≡ items.now)
+        × (found ≡ outcome)) out.old out.new count.new result }
     ensures given { (why : Why) → ¬ (result ≡ Refused why) }
 {
     *count = items.len();

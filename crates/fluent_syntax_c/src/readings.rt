@@ -41,7 +41,7 @@ pub(crate) fn read(
 ) -> Result<Reading<'_>, Refusal>
     ensures reading { IfOk result (IsEditionReading edition input.now) }
     ensures short { IfOk result (λ reading. length reading.text.now + 1 < 2 ^ 63) }
-    ensures places { IfOk result (λ reading. All (λ e. e.pos.start ≤ length reading.text.now) reading.errors.items) }
+    ensures positions { IfOk result (λ reading. All (λ e. e.pos.start ≤ length reading.text.now) reading.errors.items) }
     ensures parts { IfOk result (λ reading. ResourceParts reading.text.now reading.tree) }
     ensures argument { (result ≡ Err Refusal.Argument) ↔ IsNoEdition edition }
     ensures input { ¬ (IsNoEdition edition) → ((result ≡ Err Refusal.Input) ↔ ¬ (IsUtf8 input.now)) }
@@ -66,7 +66,7 @@ fn read_text(
     requires { length text.now + 1 < 2 ^ 63 }
     ensures reading { IfOk result (IsReading edition text.now) }
     ensures short { IfOk result (λ reading. length reading.text.now + 1 < 2 ^ 63) }
-    ensures places { IfOk result (λ reading. All (λ e. e.pos.start ≤ length reading.text.now) reading.errors.items) }
+    ensures positions { IfOk result (λ reading. All (λ e. e.pos.start ≤ length reading.text.now) reading.errors.items) }
     ensures parts { IfOk result (λ reading. ResourceParts reading.text.now reading.tree) }
     ensures err { IfErr result (λ refusal. (refusal ≡ Refusal.Memory) ⊎ (refusal ≡ Refusal.Depth)) }
     ensures deep { result ≡ Err Refusal.Depth → nesting < length text.now }

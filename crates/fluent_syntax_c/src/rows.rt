@@ -28,7 +28,7 @@ pub(crate) trait TextRows {
         reading: &Reading<'_>,
     ) -> Result<Vec<Self::Row>, AllocError>
         requires short { length reading.now.text.now + 1 < 2 ^ 63 }
-        requires places { All (λ e. e.pos.start ≤ length reading.now.text.now) reading.now.errors.items }
+        requires positions { All (λ e. e.pos.start ≤ length reading.now.text.now) reading.now.errors.items }
         requires parts { ResourceParts reading.now.text.now reading.now.tree }
         ensures rows { (edition : ByEdition) (t : List ℕ) (read : IsReading edition t reading.now) →
             IfOk result (λ rows. are edition t read.tiles rows.items) };

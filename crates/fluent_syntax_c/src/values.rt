@@ -8,7 +8,7 @@ ghost use Rattle.fluent_syntax_c.specs.Values.{AddsValues, TilesValues, ValuesTi
 use crate::readings::Reading;
 use crate::rows::{TextRows, give_rows};
 use fluent_syntax::parser::Edition;
-use fluent_syntax::spans::{EntryExtents, FoundTile, Halt, Span, Tiles, entry_extents};
+use fluent_syntax::spans::{EntryRanges, Halt, Span, SpannedTile, Tiles, entry_ranges};
 use std::alloc::{AllocError, Global};
 
 /// Where a value stands: `struct ftl_value` of `include/fluent.h`.
@@ -76,7 +76,7 @@ fn value_rows(
     let mut tiles = Tiles::new(text, edition, nesting, 0);
     loop {
         match tiles.next_tile(alloc) {
-            Ok(Some(found)) => add_found(&mut rows, alloc, text, edition, nesting, found)?,
+            Ok(Some(found)) => add_tile(&mut rows, alloc, text, edition, nesting, found)?,
             Ok(None) => return Ok(rows),
             // it was read before, so it is not too deep
             Err(Halt::TooDeep | Halt::Memory) => return Err(AllocError),
@@ -85,13 +85,13 @@ fn value_rows(
 }
 
 /// Adds the rows of what was found, which is dropped here and not on each way out of the loop.
-fn add_found(
+fn add_tile(
     rows: &mut Vec<FtlValue>,
     alloc: Global,
     text: &str,
     edition: Edition,
     nesting: usize,
-    found: FoundTile,
+    found: SpannedTile,
 ) -> Result<(), AllocError>
     requires { found.span.start ≤ length text.now }
     ensures { OnOk result (AddsValues edition text.now found.span.start rows.old.items rows.new.items) }
@@ -111,8 +111,8 @@ fn add_values_at(
     requires { start ≤ length text.now }
     ensures { OnOk result (AddsValues edition text.now start rows.old.items rows.new.items) }
 {
-    match entry_extents(alloc, text, edition, nesting, start) {
-        Ok(Some(extents)) => add_values(rows, &extents),
+    match entry_ranges(alloc, text, edition, nesting, start) {
+        Ok(Some(ranges)) => add_values(rows, &ranges),
         Ok(None) => Ok(()),
         // it was read before, so it is not too deep
         Err(Halt::TooDeep | Halt::Memory) => Err(AllocError),
@@ -120,11 +120,11 @@ fn add_values_at(
 }
 
 /// Adds the rows of a message or a term with these parts.
-fn add_values(rows: &mut Vec<FtlValue>, extents: &EntryExtents) -> Result<(), AllocError>
-    ensures { OnOk result (rows.new.items ≡ rows.old.items ++ entry_values extents.now) }
+fn add_values(rows: &mut Vec<FtlValue>, ranges: &EntryRanges) -> Result<(), AllocError>
+    ensures { OnOk result (rows.new.items ≡ rows.old.items ++ entry_values ranges.now) }
 {
-    rows.push(value_row(extents.value))?;
-    for attribute in &extents.attributes {
+    rows.push(value_row(ranges.value))?;
+    for attribute in &ranges.attributes {
         rows.push(value_row(Some(attribute.value)))?;
     }
     Ok(())

@@ -5,8 +5,8 @@ use Rattle.std.specs.Global.{Global}
 use Rattle.fluent_syntax_tree.specs.declared.edition.Edition.{Edition}
 use Rattle.fluent_syntax_tree.specs.declared.spans.Span.{Span}
 use Rattle.fluent_syntax_edits.specs.Changes.{Change, refusal}
-use Rattle.fluent_syntax_edits.specs.Edits.{Answers, ReadsChanged, new_text, no_memory, no_stretch, read_otherwise}
-use Rattle.fluent_syntax_edits.specs.Places.{StretchOf}
+use Rattle.fluent_syntax_edits.specs.Edits.{Answers, ReadsChanged, new_text, no_memory, no_range, read_otherwise}
+use Rattle.fluent_syntax_edits.specs.EntryPlaces.{RangeOf}
 use Rattle.fluent_syntax_edits.specs.declared.fault.EditFault.{EditFault}
 use Rattle.fluent_syntax_edits.specs.declared.fault.EditFault.TheVariants.{Memory}
 
@@ -19,17 +19,17 @@ module _ (edition : Edition) (t : List ℕ) (n : ℕ) (change : Change) where
 
   -- there is no stretch, or no memory
   pub no_place : (fault : EditFault) → let r : Result Span EditFault = Err fault in
-      (r ≡ Err Memory) ⊎ StretchOf edition t n change r → Answers edition t n change (Err fault)
+      (r ≡ Err Memory) ⊎ RangeOf edition t n change r → Answers edition t n change (Err fault)
   no_place fault (inl e) = let same : fault ≡ Memory = cc in rw same no_memory
-  no_place fault (inr x) = no_stretch x
+  no_place fault (inr x) = no_range x
 
   pub place : (s : Span) → let r : Result Span EditFault = Ok s in
-      (r ≡ Err Memory) ⊎ StretchOf edition t n change r → StretchOf edition t n change r
+      (r ≡ Err Memory) ⊎ RangeOf edition t n change r → RangeOf edition t n change r
   place s (inl e) = cc
   place s (inr x) = x
 
   -- what was made is not read so
-  pub refused : (s : Span) (made : List ℕ) (fault : EditFault) → StretchOf edition t n change (Ok s) →
+  pub refused : (s : Span) (made : List ℕ) (fault : EditFault) → RangeOf edition t n change (Ok s) →
       made ≡ new_text edition t n change s → (ReadsChanged edition t n change s made → ⊥) →
       fault ≡ refusal edition change → Answers edition t n change (Err fault)
   refused s made fault x bytes otherwise e =

@@ -12,7 +12,7 @@ use Rattle.fluent_syntax_grammar.specs.RoundTrip.{tree_of}
 use Rattle.fluent_syntax_grammar.specs.Tiling.{Fault, Tile, Tiling}
 use Rattle.fluent_syntax_grammar.proofs.OneTiling.{one_tile, tiled_same}
 use Rattle.fluent_syntax_parser.specs.Faults.{fault_of}
-use Rattle.fluent_syntax_edits.specs.Changes.{Change, changed, coming}
+use Rattle.fluent_syntax_edits.specs.Changes.{Change, tree_after, replacement_text}
 use Rattle.fluent_syntax_edits.specs.Edits.{ReadAs, ReadsChanged}
 use Rattle.fluent_syntax_edits.specs.Errors.{moved_fault}
 
@@ -38,14 +38,14 @@ one_tiling edition t tiles others a b = tiled_same t _ (one_tile edition t) 0 ti
 
 module _ (edition : Edition) (t u : List ℕ) (n : ℕ) (change : Change) (s : Span) where
   abbrev moved : Fault → Fault
-  moved = moved_fault s (s.start + length (coming change t s.end))
+  moved = moved_fault s (s.start + length (replacement_text change t s.end))
 
   module _ (old new : Resource (String Global)) (errors others : List ParserError) (a : ReadAs edition t old errors)
       (b : ReadAs edition u new others) where
     -- the one tree is the other with the change made, and so are the errors
     abbrev pub IsChanged : Type 0
     IsChanged =
-        (resource_view (λ s. string_bytes s) new ≡ changed change n (resource_view (λ s. string_bytes s) old))
+        (resource_view (λ s. string_bytes s) new ≡ tree_after change n (resource_view (λ s. string_bytes s) old))
         × (map fault_of others ≡ map (option_map moved) (map fault_of errors))
 
     pub compared : IsChanged ↔ ReadsChanged edition t n change s u
@@ -55,7 +55,7 @@ module _ (edition : Edition) (t u : List ℕ) (n : ℕ) (change : Change) (s : S
         others = b.tiles;
         tiling = a.tiling;
         new_tiling = b.tiling;
-        tree = sym b.tree ∙ (so.0 ∙ ap (changed change n) a.tree);
+        tree = sym b.tree ∙ (so.0 ∙ ap (tree_after change n) a.tree);
         errors = without_some _ _
             (sym b.errors
             ∙ (so.1 ∙ (ap (map (option_map moved)) a.errors ∙ sym (some_of_moved moved (faults a.tiles)))));
@@ -64,7 +64,7 @@ module _ (edition : Edition) (t u : List ℕ) (n : ℕ) (change : Change) (s : S
           let same = one_tiling edition t x.tiles a.tiles x.tiling a.tiling in
           let new_same = one_tiling edition u b.tiles x.others b.tiling x.new_tiling in (
             b.tree ∙ (ap (tree_of u) new_same
-                ∙ (x.tree ∙ ap (changed change n) (ap (tree_of t) same ∙ sym a.tree))),
+                ∙ (x.tree ∙ ap (tree_after change n) (ap (tree_of t) same ∙ sym a.tree))),
             b.errors ∙ (ap (λ ts. map Some (faults ts)) new_same
                 ∙ (ap (map Some) x.errors ∙ (some_of_moved moved (faults x.tiles)
                 ∙ ap (map (option_map moved)) (ap (λ ts. map Some (faults ts)) same ∙ sym a.errors)))),

@@ -2,4 +2,4 @@ pub mod Answered
 pub mod Compared
 pub mod Numbered
 pub mod OneEntry
-pub mod PlacesRead
+pub mod EntryPlacesRead

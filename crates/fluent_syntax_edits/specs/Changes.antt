@@ -14,8 +14,8 @@ use Rattle.fluent_syntax_edits.specs.declared.edit.Edit.{Edit}
 use Rattle.fluent_syntax_edits.specs.declared.edit.Edit.TheVariants as edit
 use Rattle.fluent_syntax_edits.specs.declared.fault.EditFault.{EditFault}
 use Rattle.fluent_syntax_edits.specs.declared.fault.EditFault.TheVariants.{NotCanonical, ReadsOtherwise}
-use Rattle.fluent_syntax_edits.specs.declared.stretches.Slot.{Slot}
-use Rattle.fluent_syntax_edits.specs.declared.stretches.Slot.TheVariants.{Attribute, Value}
+use Rattle.fluent_syntax_edits.specs.declared.edited_ranges.ValueTarget.{ValueTarget}
+use Rattle.fluent_syntax_edits.specs.declared.edited_ranges.ValueTarget.TheVariants.{Attribute, Value}
 
 -- what is done at the entry of a number
 pub data Change : Type 0 where
@@ -24,14 +24,14 @@ pub data Change : Type 0 where
   -- it goes
   removes : Change
   -- that pattern comes in the place of its value, or of that of an attribute
-  sets : Slot → PatternTree Text → Change
+  sets : ValueTarget → PatternTree Text → Change
 
 -- what an edit asks for
 abbrev pub change_of : Edit → Change
 change_of (edit.Replace e) = replaces (entry_view (λ s. string_bytes s) e)
 change_of (edit.Insert e) = inserts (entry_view (λ s. string_bytes s) e)
 change_of edit.Remove = removes
-change_of (edit.Set slot v) = sets slot (pattern_view (λ s. string_bytes s) v)
+change_of (edit.Set target v) = sets target (pattern_view (λ s. string_bytes s) v)
 
 -- ---- the tree
 
@@ -45,20 +45,20 @@ at_number f (suc n) (x ∷ xs) = x ∷ at_number f n xs
 abbrev pub with_attribute : ℕ → PatternTree Text → List (AttributeTree Text) → List (AttributeTree Text)
 with_attribute n v attributes = at_number (λ a. record a { value = v }) n attributes
 
--- the entry with that pattern in the slot, if it is a message or a term
-abbrev pub with_slot : Slot → PatternTree Text → EntryTree Text → EntryTree Text
-with_slot Value v (message m) = message (record m { value = Some v })
-with_slot Value v (term m) = term (record m { value = v })
-with_slot (Attribute n) v (message m) = message (record m { attributes = with_attribute n v m.attributes })
-with_slot (Attribute n) v (term m) = term (record m { attributes = with_attribute n v m.attributes })
-with_slot slot v e = e
+-- the entry with that pattern in the target, if it is a message or a term
+abbrev pub with_target : ValueTarget → PatternTree Text → EntryTree Text → EntryTree Text
+with_target Value v (message m) = message (record m { value = Some v })
+with_target Value v (term m) = term (record m { value = v })
+with_target (Attribute n) v (message m) = message (record m { attributes = with_attribute n v m.attributes })
+with_target (Attribute n) v (term m) = term (record m { attributes = with_attribute n v m.attributes })
+with_target target v e = e
 
 -- the tree with the change made at the n-th entry
-abbrev pub changed : Change → (n : ℕ) → BodyTree Text → BodyTree Text
-changed (replaces e) n body = at_number (λ _. e) n body
-changed (inserts e) n body = insert body n e
-changed removes n body = remove body n
-changed (sets slot v) n body = at_number (with_slot slot v) n body
+abbrev pub tree_after : Change → (n : ℕ) → BodyTree Text → BodyTree Text
+tree_after (replaces e) n body = at_number (λ _. e) n body
+tree_after (inserts e) n body = insert body n e
+tree_after removes n body = remove body n
+tree_after (sets target v) n body = at_number (with_target target v) n body
 
 -- ---- the text
 
@@ -89,10 +89,10 @@ with_blank_lines t place text =
 abbrev pub entry_text : EntryTree Text → Text
 entry_text e = written false (e ∷ [])
 
--- a message whose only part is the slot, with that pattern: an attribute is its first one
-abbrev pub probe : Slot → PatternTree Text → EntryTree Text
-probe Value v = message (record { id = 97 ∷ []; value = Some v; attributes = []; comment = None })
-probe (Attribute n) v = message (record {
+-- a message whose only part is the target, with that pattern: an attribute is its first one
+abbrev pub scratch_message : ValueTarget → PatternTree Text → EntryTree Text
+scratch_message Value v = message (record { id = 97 ∷ []; value = Some v; attributes = []; comment = None })
+scratch_message (Attribute n) v = message (record {
   id = 97 ∷ [];
   value = None;
   attributes = record { id = 97 ∷ []; value = v } ∷ [];
@@ -100,21 +100,21 @@ probe (Attribute n) v = message (record {
 })
 
 -- how many bytes of that message stand before the pattern: `a =`, or `a =`, a line end and `    .a =`
-abbrev pub before_pattern : Slot → ℕ
+abbrev pub before_pattern : ValueTarget → ℕ
 before_pattern Value = 3
 before_pattern (Attribute n) = 12
 
 -- what the serializer writes for the pattern behind the `=`
-abbrev pub pattern_text : Slot → PatternTree Text → Text
-pattern_text slot v = drop (before_pattern slot) (entry_text (probe slot v))
+abbrev pub pattern_text : ValueTarget → PatternTree Text → Text
+pattern_text target v = drop (before_pattern target) (entry_text (scratch_message target v))
 
 -- What comes in place of a stretch of the text that ends there. A new entry or pattern has as many blank lines behind
 -- it as the old one had.
-abbrev pub coming : Change → List ℕ → (end : ℕ) → Text
-coming (replaces e) t end = with_blank_lines t end (entry_text e)
-coming (inserts e) t end = entry_text e
-coming removes t end = []
-coming (sets slot v) t end = with_blank_lines t end (pattern_text slot v)
+abbrev pub replacement_text : Change → List ℕ → (end : ℕ) → Text
+replacement_text (replaces e) t end = with_blank_lines t end (entry_text e)
+replacement_text (inserts e) t end = entry_text e
+replacement_text removes t end = []
+replacement_text (sets target v) t end = with_blank_lines t end (pattern_text target v)
 
 -- ---- why the new text would be read otherwise
 
@@ -127,4 +127,4 @@ abbrev pub refusal : Edition → Change → EditFault
 refusal edition (replaces e) = unless_broken (broken_rule edition e)
 refusal edition (inserts e) = unless_broken (broken_rule edition e)
 refusal edition removes = ReadsOtherwise
-refusal edition (sets slot v) = unless_broken (broken_rule edition (probe slot v))
+refusal edition (sets target v) = unless_broken (broken_rule edition (scratch_message target v))

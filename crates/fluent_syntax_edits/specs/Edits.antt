@@ -11,9 +11,9 @@ use Rattle.fluent_syntax_grammar.specs.Body.{faults}
 use Rattle.fluent_syntax_grammar.specs.RoundTrip.{tree_of}
 use Rattle.fluent_syntax_grammar.specs.Tiling.{Tile, Tiling}
 use Rattle.fluent_syntax_parser.specs.Faults.{fault_of}
-use Rattle.fluent_syntax_edits.specs.Changes.{Change, changed, coming, refusal}
+use Rattle.fluent_syntax_edits.specs.Changes.{Change, tree_after, replacement_text, refusal}
 use Rattle.fluent_syntax_edits.specs.Errors.{moved_fault}
-use Rattle.fluent_syntax_edits.specs.Places.{StretchOf}
+use Rattle.fluent_syntax_edits.specs.EntryPlaces.{RangeOf}
 use Rattle.fluent_syntax_edits.specs.declared.fault.EditFault.{EditFault}
 use Rattle.fluent_syntax_edits.specs.declared.fault.EditFault.TheVariants.{Memory}
 
@@ -31,7 +31,7 @@ module _ (edition : Edition) (t : List ℕ) (n : ℕ) (change : Change) where
 
   -- The text with what comes in place of the stretch; around it the bytes are those of the text.
   abbrev pub new_text : Span → List ℕ
-  new_text s = take s.start t ++ (coming change t s.end ++ drop s.end t)
+  new_text s = take s.start t ++ (replacement_text change t s.end ++ drop s.end t)
 
   -- The new text u is read as the tree of the text with the change made in it, and with the text's errors.
   pub record ReadsChanged (s : Span) (u : List ℕ) : Type 0 where
@@ -39,18 +39,18 @@ module _ (edition : Edition) (t : List ℕ) (n : ℕ) (change : Change) where
     pub others : List Tile
     pub tiling : Tiling edition t tiles
     pub new_tiling : Tiling edition u others
-    pub tree : tree_of u others ≡ changed change n (tree_of t tiles)
+    pub tree : tree_of u others ≡ tree_after change n (tree_of t tiles)
     pub errors :
-        faults others ≡ map (moved_fault s (s.start + length (coming change t s.end))) (faults tiles)
+        faults others ≡ map (moved_fault s (s.start + length (replacement_text change t s.end))) (faults tiles)
 
   -- ---- the answer
 
   -- The new text is answered exactly where it is read so. It is refused exactly where the text has no stretch for the
   -- change, or where it would be read otherwise.
   pub data Answers : Result (String Global) EditFault → Type 0 where
-    made : {text : String Global} (s : Span) → StretchOf edition t n change (Ok s) →
+    made : {text : String Global} (s : Span) → RangeOf edition t n change (Ok s) →
         string_bytes text ≡ new_text s → ReadsChanged s (string_bytes text) → Answers (Ok text)
-    no_stretch : {fault : EditFault} → StretchOf edition t n change (Err fault) → Answers (Err fault)
-    read_otherwise : (s : Span) → StretchOf edition t n change (Ok s) → (ReadsChanged s (new_text s) → ⊥) →
+    no_range : {fault : EditFault} → RangeOf edition t n change (Err fault) → Answers (Err fault)
+    read_otherwise : (s : Span) → RangeOf edition t n change (Ok s) → (ReadsChanged s (new_text s) → ⊥) →
         Answers (Err (refusal edition change))
     no_memory : Answers (Err Memory)

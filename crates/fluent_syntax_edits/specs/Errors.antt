@@ -12,10 +12,10 @@ moved_span stays end to s =
     record { start = moved_place stays end to s.start; end = moved_place stays end to s.end }
 
 -- An error whose junk ends before the stretch or where it starts stays. Any other is behind it, and moves.
-abbrev pub moved_fault : (stretch : Span) (to : ℕ) → Fault → Fault
-moved_fault stretch to f =
-    let stays = nat_le f.slice.end stretch.start in record {
+abbrev pub moved_fault : (replaced : Span) (to : ℕ) → Fault → Fault
+moved_fault replaced to f =
+    let stays = nat_le f.slice.end replaced.start in record {
       kind = f.kind;
-      pos = moved_span stays stretch.end to f.pos;
-      slice = moved_span stays stretch.end to f.slice;
+      pos = moved_span stays replaced.end to f.pos;
+      slice = moved_span stays replaced.end to f.slice;
     }

@@ -2,4 +2,4 @@ pub mod Changes
 pub mod Edits
 pub mod Errors
 pub mod Numbers
-pub mod Places
+pub mod EntryPlaces

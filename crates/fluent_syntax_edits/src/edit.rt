@@ -1,13 +1,14 @@
 //! What is asked, and what is written for it.
 ghost use Rattle.std.specs.Prelude.{◌≡◌, ◌≤◌, ◌∷◌, [], length, IfOk, string_bytes};
-ghost use Rattle.fluent_syntax_edits.specs.Changes.{change_of, coming, entry_text, pattern_text, probe, refusal};
+ghost use Rattle.fluent_syntax_edits.specs.Changes.{change_of, replacement_text, entry_text, pattern_text};
+ghost use Rattle.fluent_syntax_edits.specs.Changes.{scratch_message, refusal};
 ghost use Rattle.fluent_syntax_edits.specs.Changes.{before_pattern, unless_broken, is_blank, line_ends_before};
 ghost use Rattle.fluent_syntax_edits.specs.Changes.{with_blank_lines};
 ghost use Rattle.fluent_syntax_writer.specs.Uncanonical.{broken_rule};
 ghost use Rattle.fluent_syntax_tree.specs.View.{entry_view, pattern_view};
 
+use crate::edited_ranges::ValueTarget;
 use crate::fault::EditFault;
-use crate::stretches::Slot;
 use fluent_syntax_grammar::sink::SinkError;
 use fluent_syntax_tree::ast::{Attribute, Entry, Identifier, Message, Pattern};
 use fluent_syntax_tree::edition::Edition;
@@ -25,7 +26,7 @@ pub(crate) enum Edit {
     /// It goes.
     Remove,
     /// That pattern comes in the place of its value, or of that of an attribute.
-    Set(Slot, Pattern<String>),
+    Set(ValueTarget, Pattern<String>),
 }
 
 /// The text that the entry by itself is written as.
@@ -42,30 +43,34 @@ fn entry_text(alloc: Global, entry: &Entry<String>) -> Result<String, AllocError
 }
 
 /// The name of what is written for its pattern alone.
-fn probe_name(alloc: Global) -> Result<Identifier<String>, AllocError>
+fn scratch_name(alloc: Global) -> Result<Identifier<String>, AllocError>
     ensures { IfOk result (λ id. string_bytes id.name ≡ 97 ∷ []) }
 {
     let name = String::from_str(alloc, "a")?;
     Ok(Identifier { name })
 }
 
-/// A message whose only part is the slot, with that pattern: an attribute is its first one.
-fn probe_of(alloc: Global, slot: Slot, value: &Pattern<String>) -> Result<Entry<String>, AllocError>
+/// A message whose only part is the target, with that pattern: an attribute is its first one.
+fn scratch_message(
+    alloc: Global,
+    target: ValueTarget,
+    value: &Pattern<String>,
+) -> Result<Entry<String>, AllocError>
     ensures { IfOk result (λ made. entry_view (λ s. string_bytes s) made
-        ≡ probe slot (pattern_view (λ s. string_bytes s) value.now)) }
+        ≡ scratch_message target (pattern_view (λ s. string_bytes s) value.now)) }
 {
     let mut attributes = Vec::new(alloc);
     let copy = value.try_clone(alloc)?;
-    let value = match slot {
-        Slot::Value => Some(copy),
-        Slot::Attribute(_) => {
-            let id = probe_name(alloc)?;
+    let value = match target {
+        ValueTarget::Value => Some(copy),
+        ValueTarget::Attribute(_) => {
+            let id = scratch_name(alloc)?;
             attributes.push(Attribute { id, value: copy })?;
             None
         }
     };
     Ok(Entry::Message(Message {
-        id: probe_name(alloc)?,
+        id: scratch_name(alloc)?,
         value,
         attributes,
         comment: None,
@@ -73,23 +78,27 @@ fn probe_of(alloc: Global, slot: Slot, value: &Pattern<String>) -> Result<Entry<
 }
 
 /// How many bytes of that message stand before the pattern.
-fn before_pattern(slot: Slot) -> usize
-    ensures { result ≡ before_pattern slot }
+fn before_pattern(target: ValueTarget) -> usize
+    ensures { result ≡ before_pattern target }
 {
-    match slot {
-        Slot::Value => 3,
-        Slot::Attribute(_) => 12,
+    match target {
+        ValueTarget::Value => 3,
+        ValueTarget::Attribute(_) => 12,
     }
 }
 
 /// The text of the pattern, as it is written behind the `=`.
-fn pattern_text(alloc: Global, slot: Slot, value: &Pattern<String>) -> Result<String, AllocError>
+fn pattern_text(
+    alloc: Global,
+    target: ValueTarget,
+    value: &Pattern<String>,
+) -> Result<String, AllocError>
     ensures { IfOk result (λ text. string_bytes text
-        ≡ pattern_text slot (pattern_view (λ s. string_bytes s) value.now)) }
+        ≡ pattern_text target (pattern_view (λ s. string_bytes s) value.now)) }
 {
-    let probe = probe_of(alloc, slot, value)?;
-    let written = entry_text(alloc, &probe)?;
-    let before = before_pattern(slot);
+    let scratch_message = scratch_message(alloc, target, value)?;
+    let written = entry_text(alloc, &scratch_message)?;
+    let before = before_pattern(target);
     if !written.as_str().is_char_boundary(before) {
         // what stands there is ASCII
         return Err(AllocError);
@@ -98,21 +107,21 @@ fn pattern_text(alloc: Global, slot: Slot, value: &Pattern<String>) -> Result<St
 }
 
 /// What comes in place of a stretch of the source that ends there.
-pub(crate) fn coming(
+pub(crate) fn replacement_text(
     alloc: Global,
     source: &[u8],
     end: usize,
     edit: &Edit,
 ) -> Result<String, AllocError>
     requires { end ≤ length source.now }
-    ensures { IfOk result (λ text. string_bytes text ≡ coming (change_of edit.now) source.now end) }
+    ensures { IfOk result (λ text. string_bytes text ≡ replacement_text (change_of edit.now) source.now end) }
 {
     match edit {
         Edit::Replace(entry) => with_blank_lines(source, end, entry_text(alloc, entry)?),
         Edit::Insert(entry) => entry_text(alloc, entry),
         Edit::Remove => Ok(String::new(alloc)),
-        Edit::Set(slot, value) => {
-            let text = pattern_text(alloc, *slot, value)?;
+        Edit::Set(target, value) => {
+            let text = pattern_text(alloc, *target, value)?;
             with_blank_lines(source, end, text)
         }
     }
@@ -136,9 +145,9 @@ pub(crate) fn refusal(alloc: Global, edition: Edition, edit: &Edit) -> Result<Ed
         Edit::Replace(entry) => Ok(unless_broken(alloc, edition, entry)),
         Edit::Insert(entry) => Ok(unless_broken(alloc, edition, entry)),
         Edit::Remove => Ok(EditFault::ReadsOtherwise),
-        Edit::Set(slot, value) => {
-            let probe = probe_of(alloc, *slot, value)?;
-            Ok(unless_broken(alloc, edition, &probe))
+        Edit::Set(target, value) => {
+            let scratch_message = scratch_message(alloc, *target, value)?;
+            Ok(unless_broken(alloc, edition, &scratch_message))
         }
     }
 }

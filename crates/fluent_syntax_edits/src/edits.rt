@@ -2,14 +2,14 @@
 ghost use Rattle.std.specs.Prelude.{◌≡◌, ◌⊎◌, ◌++◌, Err, drop, take, IfOk, string_bytes};
 ghost use Rattle.fluent_syntax_edits.specs.Changes.{change_of, inserts, removes, replaces, sets};
 ghost use Rattle.fluent_syntax_edits.specs.Edits.{Answers};
-ghost use Rattle.fluent_syntax_edits.specs.declared.stretches.Slot.TheVariants.{Attribute, Value};
+ghost use Rattle.fluent_syntax_edits.specs.declared.edited_ranges.ValueTarget.TheVariants.{Attribute, Value};
 ghost use Rattle.fluent_syntax_tree.specs.View.{entry_view, pattern_view};
 ghost use Rattle.std.specs.Str.{IsCharBoundary};
 
-use crate::edit::{Edit, coming, refusal};
+use crate::edit::{Edit, refusal, replacement_text};
+use crate::edited_ranges::{ValueTarget, range_of};
 use crate::fault::EditFault;
 use crate::reading::{Shift, reads_changed};
-use crate::stretches::{Slot, stretch_of};
 use fluent_syntax_tree::ast::{Entry, Identifier, Pattern, Term};
 use fluent_syntax_tree::copied::entries;
 use fluent_syntax_tree::edition::Edition;
@@ -61,20 +61,25 @@ fn own_pattern(alloc: Global, value: &Pattern<&str>) -> Result<Pattern<String>, 
 }
 
 /// The source with the text in place of the stretch.
-fn spliced(alloc: Global, source: &str, stretch: Span, text: &str) -> Result<String, AllocError>
-    requires start { IsCharBoundary source.now stretch.start }
-    requires end { IsCharBoundary source.now stretch.end }
+fn spliced_text(
+    alloc: Global,
+    source: &str,
+    replaced: Span,
+    text: &str,
+) -> Result<String, AllocError>
+    requires start { IsCharBoundary source.now replaced.start }
+    requires end { IsCharBoundary source.now replaced.end }
     ensures { IfOk result (λ made. string_bytes made
-        ≡ take stretch.start source.now ++ (text.now ++ drop stretch.end source.now)) }
+        ≡ take replaced.start source.now ++ (text.now ++ drop replaced.end source.now)) }
 {
-    let mut made = String::from_str(alloc, &source[..stretch.start])?;
+    let mut made = String::from_str(alloc, &source[..replaced.start])?;
     made.push_str(text)?;
-    made.push_str(&source[stretch.end..])?;
+    made.push_str(&source[replaced.end..])?;
     Ok(made)
 }
 
 /// The source with the edit made at the entry of that number.
-fn edited(
+fn edited_text(
     alloc: Global,
     source: &str,
     edition: Edition,
@@ -83,17 +88,17 @@ fn edited(
 ) -> Result<String, EditFault>
     ensures { Answers edition source.now index (change_of edit) result }
 {
-    let stretch = stretch_of(alloc, source, edition, index, &edit)?;
-    let cuts = source.is_char_boundary(stretch.start) && source.is_char_boundary(stretch.end);
+    let replaced = range_of(alloc, source, edition, index, &edit)?;
+    let cuts = source.is_char_boundary(replaced.start) && source.is_char_boundary(replaced.end);
     if !cuts {
         // entries and values begin and end between characters
         return Err(EditFault::Memory);
     }
-    let text = coming(alloc, source.as_bytes(), stretch.end, &edit)?;
+    let text = replacement_text(alloc, source.as_bytes(), replaced.end, &edit)?;
     let refusal = refusal(alloc, edition, &edit)?;
-    let made = spliced(alloc, source, stretch, text.as_str())?;
-    let to = stretch.start + text.len();
-    let shift = Shift { stretch, to };
+    let made = spliced_text(alloc, source, replaced, text.as_str())?;
+    let to = replaced.start + text.len();
+    let shift = Shift { replaced, to };
     if reads_changed(alloc, source, &made, edition, index, edit, shift)? {
         Ok(made)
     } else {
@@ -102,7 +107,7 @@ fn edited(
 }
 
 /// The source with the entry in place of the one of that number, counted from 0 as in the tree, and of the comment that
-/// hangs on that one.
+/// is attached to that one.
 pub fn replace<'s, S: Slice<'s>>(
     alloc: Global,
     source: &str,
@@ -113,11 +118,11 @@ pub fn replace<'s, S: Slice<'s>>(
     ensures { Answers edition source.now index (replaces (entry_view S.text entry.now)) result }
 {
     let entry = own_entry(alloc, entry)?;
-    edited(alloc, source, edition, index, Edit::Replace(entry))
+    edited_text(alloc, source, edition, index, Edit::Replace(entry))
 }
 
 /// The source with the entry before the one of that number, counted from 0 as in the tree, and before the comment that
-/// hangs on that one. With the number behind all it stands at the end of the source.
+/// is attached to that one. With the number behind all it stands at the end of the source.
 pub fn insert<'s, S: Slice<'s>>(
     alloc: Global,
     source: &str,
@@ -128,10 +133,11 @@ pub fn insert<'s, S: Slice<'s>>(
     ensures { Answers edition source.now index (inserts (entry_view S.text entry.now)) result }
 {
     let entry = own_entry(alloc, entry)?;
-    edited(alloc, source, edition, index, Edit::Insert(entry))
+    edited_text(alloc, source, edition, index, Edit::Insert(entry))
 }
 
-/// The source without the entry of that number, counted from 0 as in the tree, the comment that hangs on it and the
+/// The source without the entry of that number, counted from 0 as in the tree, the comment that is attached to it and
+/// the
 /// blank lines behind it.
 pub fn remove(
     alloc: Global,
@@ -141,7 +147,7 @@ pub fn remove(
 ) -> Result<String, EditFault>
     ensures { Answers edition source.now index removes result }
 {
-    edited(alloc, source, edition, index, Edit::Remove)
+    edited_text(alloc, source, edition, index, Edit::Remove)
 }
 
 /// The source with the pattern in place of the value of the message or the term of that number, counted from 0 as in
@@ -156,7 +162,13 @@ pub fn set_value(
     ensures { Answers edition source.now index (sets Value (pattern_view (λ text. text.now) value.now)) result }
 {
     let value = own_pattern(alloc, value)?;
-    edited(alloc, source, edition, index, Edit::Set(Slot::Value, value))
+    edited_text(
+        alloc,
+        source,
+        edition,
+        index,
+        Edit::Set(ValueTarget::Value, value),
+    )
 }
 
 /// The source with the pattern in place of the value of an attribute, which has that number among those of the message
@@ -173,6 +185,6 @@ pub fn set_attribute(
         Answers edition source.now index (sets (Attribute attribute) v) result }
 {
     let value = own_pattern(alloc, value)?;
-    let slot = Slot::Attribute(attribute);
-    edited(alloc, source, edition, index, Edit::Set(slot, value))
+    let target = ValueTarget::Attribute(attribute);
+    edited_text(alloc, source, edition, index, Edit::Set(target, value))
 }

@@ -2,15 +2,15 @@
 //! as it is.
 #![tactic(auto)]
 
-mod applied;
+mod apply_edit;
 mod edit;
+mod edited_ranges;
 #[tactic(auto, using(crate::proofs::Answered::no_growth))]
 mod edits;
+mod entry_places;
 pub mod fault;
 pub mod numbers;
-mod places;
 mod reading;
-mod stretches;
 
 pub use edits::{insert, remove, replace, set_attribute, set_value};
 pub use fault::EditFault;

@@ -1,12 +1,12 @@
 //! Texts that are read and compared.
 ghost use Rattle.std.specs.Prelude.{◌≡◌, ◌+◌, ◌↔◌, length, string_bytes, IfOk, IsTrue, map, option_map};
-ghost use Rattle.fluent_syntax_edits.specs.Changes.{change_of, coming};
+ghost use Rattle.fluent_syntax_edits.specs.Changes.{change_of, replacement_text};
 ghost use Rattle.fluent_syntax_edits.specs.Edits.{ReadAs, ReadsChanged};
 ghost use Rattle.fluent_syntax_edits.specs.Errors.{moved_fault, moved_place};
 ghost use Rattle.fluent_syntax_parser.specs.Faults.{fault_of};
 ghost use Rattle.fluent_syntax_tree.specs.Kind.{kind_of};
 
-use crate::applied::apply;
+use crate::apply_edit::apply;
 use crate::edit::Edit;
 use fluent_syntax_parser::fault::ParseFault;
 use fluent_syntax_parser::options::{Comments, Options};
@@ -23,7 +23,7 @@ use std::ops::Range;
 /// A stretch of a text, and where what stands behind it begins now.
 #[derive(Clone, Copy)]
 pub(crate) struct Shift {
-    pub(crate) stretch: Span,
+    pub(crate) replaced: Span,
     pub(crate) to: usize,
 }
 
@@ -35,18 +35,18 @@ fn is_same_kind(kind: &ErrorKind, other: &ErrorKind) -> bool
 
 /// Whether the other place is where the place is now.
 fn is_moved_place(shift: Shift, stays: bool, place: usize, other: usize) -> bool
-    ensures { IsTrue result ↔ (other ≡ moved_place stays shift.stretch.end shift.to place) }
+    ensures { IsTrue result ↔ (other ≡ moved_place stays shift.replaced.end shift.to place) }
 {
     if stays {
         other == place
     } else {
-        other >= shift.to && other - shift.to == place.saturating_sub(shift.stretch.end)
+        other >= shift.to && other - shift.to == place.saturating_sub(shift.replaced.end)
     }
 }
 
 fn is_moved_range(shift: Shift, stays: bool, range: &Range<usize>, other: &Range<usize>) -> bool
-    ensures { IsTrue result ↔ ((other.now.start ≡ moved_place stays shift.stretch.end shift.to range.now.start)
-        × (other.now.end ≡ moved_place stays shift.stretch.end shift.to range.now.end)) }
+    ensures { IsTrue result ↔ ((other.now.start ≡ moved_place stays shift.replaced.end shift.to range.now.start)
+        × (other.now.end ≡ moved_place stays shift.replaced.end shift.to range.now.end)) }
 {
     is_moved_place(shift, stays, range.start, other.start)
         && is_moved_place(shift, stays, range.end, other.end)
@@ -55,11 +55,11 @@ fn is_moved_range(shift: Shift, stays: bool, range: &Range<usize>, other: &Range
 /// Whether the other error is the one where it is now.
 fn is_moved(shift: Shift, error: &ParserError, other: &ParserError) -> bool
     ensures { IsTrue result ↔ (fault_of other.now
-        ≡ option_map (moved_fault shift.stretch shift.to) (fault_of error.now)) }
+        ≡ option_map (moved_fault shift.replaced shift.to) (fault_of error.now)) }
 {
     match (&error.slice, &other.slice) {
         (Some(slice), Some(other_slice)) => {
-            let stays = slice.end <= shift.stretch.start;
+            let stays = slice.end <= shift.replaced.start;
             is_same_kind(&error.kind, &other.kind)
                 && is_moved_range(shift, stays, &error.pos, &other.pos)
                 && is_moved_range(shift, stays, slice, other_slice)
@@ -72,7 +72,7 @@ fn is_moved(shift: Shift, error: &ParserError, other: &ParserError) -> bool
 /// Whether the other errors are these where they are now.
 pub(crate) fn are_moved(shift: Shift, errors: &[ParserError], others: &[ParserError]) -> bool
     ensures { IsTrue result ↔ (map fault_of others.now
-        ≡ map (option_map (moved_fault shift.stretch shift.to)) (map fault_of errors.now)) }
+        ≡ map (option_map (moved_fault shift.replaced shift.to)) (map fault_of errors.now)) }
 {
     if errors.len() != others.len() {
         return false;
@@ -117,9 +117,10 @@ pub(crate) fn reads_changed(
     edit: Edit,
     shift: Shift,
 ) -> Result<bool, AllocError>
-    requires { shift.to ≡ shift.stretch.start + length (coming (change_of edit) source.now shift.stretch.end) }
+    requires { shift.to ≡ shift.replaced.start + length
+        (replacement_text (change_of edit) source.now shift.replaced.end) }
     ensures { IfOk result (λ so. IsTrue so
-        ↔ ReadsChanged edition source.now index (change_of edit) shift.stretch (string_bytes made.now)) }
+        ↔ ReadsChanged edition source.now index (change_of edit) shift.replaced (string_bytes made.now)) }
 {
     let source = String::from_str(alloc, source)?;
     let (mut tree, errors) = read(alloc, &source, edition)?;

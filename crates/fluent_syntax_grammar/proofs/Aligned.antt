@@ -11,7 +11,7 @@ use Rattle.fluent_syntax_grammar.specs.Bytes.{is_letter}
 use Rattle.fluent_syntax_grammar.specs.Places.{has, has_byte, starts_line, BlankBlock, no_line, line}
 use Rattle.fluent_syntax_grammar.specs.Construct.{Outcome, Read, Refused, stops, goes_on, given, at_place, chosen}
 use Rattle.fluent_syntax_grammar.specs.Construct.{first, second}
-use Rattle.fluent_syntax_grammar.specs.Words.{identifier}
+use Rattle.fluent_syntax_grammar.specs.Tokens.{identifier}
 use Rattle.fluent_syntax_grammar.specs.Entries.{message_entry}
 use Rattle.fluent_syntax_grammar.specs.Comments.{hashes, comment_lines, other_level, no_comment_line, one_more}
 use Rattle.fluent_syntax_grammar.specs.Comments.{comment_entry, level_of}
@@ -32,7 +32,7 @@ use Rattle.fluent_syntax_grammar.proofs.LineEnds.{block_at_end, block_start}
 use Rattle.fluent_syntax_grammar.proofs.WholeLines.{IsLine, line_of, line_to, line_start, line_in_text, no_start}
 use Rattle.fluent_syntax_grammar.proofs.WholeLines.{hash_bytes, comment_whole, hashes_onward}
 use Rattle.fluent_syntax_grammar.proofs.CommentFaults.{IsAt, comment_fault, name_fault, some_hash}
-use Rattle.fluent_syntax_grammar.proofs.Facts.{byte_found, byte_stands, differs, implies, left_true, lt_or_same}
+use Rattle.fluent_syntax_grammar.proofs.Facts.{byte_found, byte_holds, differs, implies, left_true, lt_or_same}
 use Rattle.fluent_syntax_grammar.proofs.Facts.{right_false, right_true, lt_or_le, has_inside}
 
 -- Tiles of the one and of the other that are the same; comments of the one and dropped lines of the other; and junk
@@ -59,7 +59,7 @@ module _ (edition : Edition) (t : List ℕ) where
   Runtime i ys = Tiled t (RuntimeTileAt edition t) i ys
 
   -- what is left of the one tiling from j on, and a step that the other takes meanwhile
-  pub record Rest (j : ℕ) (ys : List Tile) (step : List Tile → List Tile) : Type 0 where
+  pub record AlignedRest (j : ℕ) (ys : List Tile) (step : List Tile → List Tile) : Type 0 where
     pub rest : List Tile
     pub tiled : Runtime j rest
     pub aligned : (xs : List Tile) → Aligned xs rest → Aligned (step xs) ys
@@ -72,7 +72,8 @@ module _ (edition : Edition) (t : List ℕ) where
       next (subst (λ s. BlankBlock t s start) same (block_end t i start c)) l x m
 
   -- a line that begins with `#` is dropped
-  drop_line : (i j : ℕ) (ys : List Tile) → has_byte t 35 i ≡ true → IsLine t i j → Runtime i ys → Rest j ys (λ xs. xs)
+  drop_line : (i j : ℕ) (ys : List Tile) → has_byte t 35 i ≡ true → IsLine t i j → Runtime i ys
+      → AlignedRest j ys (λ xs. xs)
   drop_line i j ys e x (done b) =
       let l = has_inside (λ c. c == 35) t i e in
       differs (hash_there t i e) (block_no_entry t i (length t) i b (omega arith) l)
@@ -87,7 +88,7 @@ module _ (edition : Edition) (t : List ℕ) where
       differs e (subst (λ k. has_byte t 35 k ≡ false) same h)
 
   drop_lines : (level i j : ℕ) (content : List Span) (ys : List Tile) → 1 ≤ level →
-      comment_lines t level i (Read content j) → Runtime i ys → Rest j ys (λ xs. xs)
+      comment_lines t level i (Read content j) → Runtime i ys → AlignedRest j ys (λ xs. xs)
   drop_lines level i j content ys l (other_level x) r = record { rest = ys; tiled = r; aligned = λ xs a. a }
   drop_lines level i j content ys l (no_comment_line e x) r = record { rest = ys; tiled = r; aligned = λ xs a. a }
   drop_lines level i j content ys l (one_more {j = m} {content = c} {rest = more} e x y) r =
@@ -97,7 +98,7 @@ module _ (edition : Edition) (t : List ℕ) where
 
   -- the lines of a comment are dropped
   comment_step : (i j : ℕ) (s : Span) (a : EntryTree Span) (ys : List Tile) → has_byte t 35 i ≡ true →
-      comment_entry t i (Read a j) → Runtime i ys → Rest j ys (λ xs. entry s a ∷ xs)
+      comment_entry t i (Read a j) → Runtime i ys → AlignedRest j ys (λ xs. entry s a ∷ xs)
   comment_step i j s a ys h (chosen (goes_on {j = m} {a = c} x (goes_on {j = n} {a = more} y z))) r =
       let one = some_hash t i h in
       let q = drop_line i m ys h (comment_whole t (hashes t i) i m c refl x) r in
@@ -163,9 +164,9 @@ module _ (edition : Edition) (t : List ℕ) where
       has t is_entry_byte i ≡ false → entry_of edition t (family edition t) b i o → (k : Kind) × (from : ℕ) × (to : ℕ) ×
       (o ≡ Refused k from to) × IsAt i k from to
   entry_there i o None f e x = message_there i o e x
-  entry_there i o (Some b) f e (first g x) = differs (byte_stands is_entry_byte (slice_get t i) b f (hash_entry b g)) e
+  entry_there i o (Some b) f e (first g x) = differs (byte_holds is_entry_byte (slice_get t i) b f (hash_entry b g)) e
   entry_there i o (Some b) f e (second g (first h x)) =
-      differs (byte_stands is_entry_byte (slice_get t i) b f (minus_entry b h)) e
+      differs (byte_holds is_entry_byte (slice_get t i) b f (minus_entry b h)) e
   entry_there i o (Some b) f e (second g (second h x)) = message_there i o e x
 
   -- where no entry may begin, every entry is refused at once
@@ -190,7 +191,7 @@ module _ (edition : Edition) (t : List ℕ) where
   -- junk from the start of a line on: without comments there is junk up to the same place, or nothing
   junk_inside : (m s e end : ℕ) (f : Fault) (tile : Tile) (more ys : List Tile) → IsLineStart t m → BlankBlock t m s →
       m ≤ s → s < e → JunkEnd t m e →
-      RuntimeTileAt edition t s end tile → Runtime end more → tile ∷ more ≡ ys → Rest e ys (λ xs. refused f ∷ xs)
+      RuntimeTileAt edition t s end tile → Runtime end more → tile ∷ more ≡ ys → AlignedRest e ys (λ xs. refused f ∷ xs)
   junk_inside m s e end f tile more ys h b l x j (drops g w) r same =
       differs (hash_there t s g) (no_entry_there m s e h b l x j)
   junk_inside m s e end f tile more ys h b l x j (stands g (reads {e = a} y)) r same =
@@ -214,7 +215,7 @@ module _ (edition : Edition) (t : List ℕ) where
       }
 
   junk_align : (m e : ℕ) (f : Fault) (ys : List Tile) → IsLineStart t m → JunkEnd t m e → Runtime m ys →
-      Rest e ys (λ xs. refused f ∷ xs)
+      AlignedRest e ys (λ xs. refused f ∷ xs)
   junk_align m e f ys h j (done b) =
       let inside = j.in_text in
       let forward = j.forward in
@@ -253,7 +254,7 @@ module _ (edition : Edition) (t : List ℕ) where
   -- the junk of a malformed comment begins on the comment's line
   junk_step : (i e from to : ℕ) (k : Kind) (f : Fault) (ys : List Tile) → has_byte t 35 i ≡ true →
       comment_entry t i (Refused k from to) → JunkEnd t (failing_place k from to) e → Runtime i ys →
-      Rest e ys (λ xs. refused f ∷ xs)
+      AlignedRest e ys (λ xs. refused f ∷ xs)
   junk_step i e from to k f ys h x j r =
       let d = dropped_first i ys h r in
       let at = comment_fault t i from to k x in
@@ -288,7 +289,7 @@ module _ (edition : Edition) (t : List ℕ) where
 
   -- a tile of the one, where a `#` stands or not
   tile_step : (i j : ℕ) (x : Tile) (ys : List Tile) → has_byte t 35 i ≡ true → TileAt edition t i j x → Runtime i ys →
-      Rest j ys (λ xs. x ∷ xs)
+      AlignedRest j ys (λ xs. x ∷ xs)
   tile_step i j x ys h (reads {e = e} y) r =
       comment_step i j (record { start = i; end = j }) e ys h (hash_comment i (Read e j) h y) r
   tile_step i j x ys h (refuses {from = from} {to = to} {k = k} y e) r =
@@ -297,7 +298,7 @@ module _ (edition : Edition) (t : List ℕ) where
       (hash_comment i (Refused k from to) h y) e r
 
   other_step : (i j : ℕ) (x : Tile) (ys : List Tile) → has_byte t 35 i ≡ false → i < length t → BlankBlock t i i →
-      TileAt edition t i j x → Runtime i ys → Rest j ys (λ xs. x ∷ xs)
+      TileAt edition t i j x → Runtime i ys → AlignedRest j ys (λ xs. x ∷ xs)
   other_step i j x ys h l b y (done c) = let same = single_block.same i _ _ c b in absurd (omega arith)
   other_step i j x ys h l b y (next {start = s} c m (drops g w) r) = let same : s ≡ i = single_block.same i _ _ c b in
       differs g (subst (λ k. has_byte t 35 k ≡ false) (sym same) h)
@@ -313,7 +314,7 @@ module _ (edition : Edition) (t : List ℕ) where
       }
 
   step : (i j : ℕ) (x : Tile) (ys : List Tile) (hash : Bool) → has_byte t 35 i ≡ hash → i < length t →
-      BlankBlock t i i → TileAt edition t i j x → Runtime i ys → Rest j ys (λ xs. x ∷ xs)
+      BlankBlock t i i → TileAt edition t i j x → Runtime i ys → AlignedRest j ys (λ xs. x ∷ xs)
   step i j x ys true h l b y r = tile_step i j x ys h y r
   step i j x ys false h l b y r = other_step i j x ys h l b y r
 

@@ -1,4 +1,4 @@
--- An entry that is read where no `#` stands is no comment, and has none hung.
+-- An entry that is read where no `#` stands is no comment, and has none attached.
 use Rattle.std.proofs.Common.{◌≡◌, ℕ, List, [], ◌∷◌, Option, Some, None, true, false, refl}
 use Rattle.std.specs.Prelude.{slice_get, ◌==◌}
 use Rattle.fluent_syntax_tree.specs.Kind.{Kind}

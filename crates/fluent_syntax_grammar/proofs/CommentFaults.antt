@@ -4,7 +4,7 @@ use Rattle.std.specs.Prelude.{not, if◌then◌else◌}
 use Rattle.fluent_syntax_tree.specs.Kind.{Kind}
 use Rattle.fluent_syntax_grammar.specs.Places.{has_byte, after_eol}
 use Rattle.fluent_syntax_grammar.specs.Construct.{Refused, chosen}
-use Rattle.fluent_syntax_grammar.specs.Words.{identifier, spanned, token, past_eol, optional_eol, rest_of_line}
+use Rattle.fluent_syntax_grammar.specs.Tokens.{identifier, spanned, token, past_eol, optional_eol, rest_of_line}
 use Rattle.fluent_syntax_grammar.specs.Comments.{hashes, comment_text, comment_rest, comment_lines, comment_of}
 use Rattle.fluent_syntax_grammar.specs.Comments.{comment_entry}
 use Rattle.fluent_syntax_grammar.proofs.Holds.{Holds, holds_weaker, holds_bind, holds_gives, holds_here, holds_fails}

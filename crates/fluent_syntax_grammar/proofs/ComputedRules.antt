@@ -8,8 +8,8 @@ use Rattle.fluent_syntax_tree.specs.Kind.{InvalidUnicodeEscapeSequence}
 use Rattle.fluent_syntax_grammar.specs.Bytes.{is_space}
 use Rattle.fluent_syntax_grammar.specs.Places.{has, has_byte, after_eol, BlankBlock, no_line, line}
 use Rattle.fluent_syntax_grammar.specs.Construct.{Outcome, Read, Refused}
-use Rattle.fluent_syntax_grammar.specs.Words.{spanned, optional, token, inline_blank, blank, blank_block, past_eol}
-use Rattle.fluent_syntax_grammar.specs.Words.{optional_eol, rest_of_line, digits, identifier, number}
+use Rattle.fluent_syntax_grammar.specs.Tokens.{spanned, optional, token, inline_blank, blank, blank_block, past_eol}
+use Rattle.fluent_syntax_grammar.specs.Tokens.{optional_eol, rest_of_line, digits, identifier, number}
 use Rattle.fluent_syntax_grammar.specs.Strings.{HexDigits, hex_digits, all_there, too_few, after_character, escaped}
 use Rattle.fluent_syntax_grammar.specs.Strings.{string_unit, string_units, before_quote, unit_and_more, bad_unit}
 use Rattle.fluent_syntax_grammar.specs.Strings.{string_literal}

@@ -102,8 +102,8 @@ attributes_alone : IsRead One (codes "h =\n    .title = A\n    .accesskey = T\n"
     }) ∷ [])
 attributes_alone = read One (codes "h =\n    .title = A\n    .accesskey = T\n") _ _ refl
 
--- a comment hangs on the message on the next line
-comment_hangs : IsRead One (codes "# a\nkey = c")
+-- a comment is attached to the message on the next line
+comment_attaches : IsRead One (codes "# a\nkey = c")
     []
     (message (record {
       id = codes "key";
@@ -111,7 +111,7 @@ comment_hangs : IsRead One (codes "# a\nkey = c")
       attributes = [];
       comment = Some ((codes "a") ∷ []);
     }) ∷ [])
-comment_hangs = read One (codes "# a\nkey = c") _ _ refl
+comment_attaches = read One (codes "# a\nkey = c") _ _ refl
 
 -- over a blank line it does not
 comment_over_blank_line : IsRead One (codes "# a\n\nkey = c")

@@ -17,7 +17,7 @@ use Rattle.fluent_syntax_grammar.proofs.Deeper.{deeper_yes}
 use Rattle.fluent_syntax_grammar.proofs.DeeperEntries.{no_tile, none_here}
 use Rattle.fluent_syntax_grammar.proofs.Functional.{functional_here}
 use Rattle.fluent_syntax_grammar.proofs.FunctionalWords.{functional_inline_blank, functional_token}
-use Rattle.fluent_syntax_grammar.specs.Words.{identifier, optional, token}
+use Rattle.fluent_syntax_grammar.specs.Tokens.{identifier, optional, token}
 use Rattle.fluent_syntax_grammar.proofs.ComputedFamily.{computed_within, computed_placeable}
 use Rattle.fluent_syntax_grammar.proofs.Deeper.{deeper_first, deeper_next, deeper_at_each, deeper_no, deeper_item}
 use Rattle.fluent_syntax_grammar.proofs.Deeper.{none_inside, no_list_inside, one_inside, one_list_inside}

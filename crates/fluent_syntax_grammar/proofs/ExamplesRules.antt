@@ -29,7 +29,7 @@ key_and p rest =
 -- ---- readable: entries
 
 -- junk is not written
-there_is_no_junk : tried One (junk (codes "x") ∷ []) ≡ record {
+junk_entry : tried One (junk (codes "x") ∷ []) ≡ record {
   readable = false;
   canonical = false;
   text = [];
@@ -37,10 +37,10 @@ there_is_no_junk : tried One (junk (codes "x") ∷ []) ≡ record {
   back = [];
 }
 unfolding written
-there_is_no_junk = refl
+junk_entry = refl
 
 -- a message has a value or an attribute
-a_message_has_a_field :
+empty_message :
     tried One (message (record { id = codes "k"; value = None; attributes = []; comment = None }) ∷ []) ≡ record {
       readable = false;
       canonical = false;
@@ -49,10 +49,10 @@ a_message_has_a_field :
       back = junk (codes "k =\n") ∷ [];
     }
 unfolding written
-a_message_has_a_field = refl
+empty_message = refl
 
 -- a line of a comment holds no LF
-a_comment_line_holds_no_lf : tried One (comment regular (codes "a\nb" ∷ []) ∷ []) ≡ record {
+lf_in_comment_line : tried One (comment regular (codes "a\nb" ∷ []) ∷ []) ≡ record {
   readable = false;
   canonical = false;
   text = codes "# a\nb\n\n";
@@ -60,12 +60,12 @@ a_comment_line_holds_no_lf : tried One (comment regular (codes "a\nb" ∷ []) �
   back = comment regular (codes "a" ∷ []) ∷ junk (codes "b\n\n") ∷ [];
 }
 unfolding written
-a_comment_line_holds_no_lf = refl
+lf_in_comment_line = refl
 
 -- ---- readable: patterns
 
 -- a pattern has an element
-a_pattern_has_an_element : tried One (key_of no_elements) ≡ record {
+empty_pattern : tried One (key_of no_elements) ≡ record {
   readable = false;
   canonical = false;
   text = codes "k = \n";
@@ -73,10 +73,10 @@ a_pattern_has_an_element : tried One (key_of no_elements) ≡ record {
   back = junk (codes "k = \n") ∷ [];
 }
 unfolding written
-a_pattern_has_an_element = refl
+empty_pattern = refl
 
 -- a text is not empty
-a_text_is_not_empty : tried One (key_of (elements (text_element (codes "")) no_elements)) ≡ record {
+empty_text_element : tried One (key_of (elements (text_element (codes "")) no_elements)) ≡ record {
   readable = false;
   canonical = false;
   text = codes "k = \n";
@@ -84,10 +84,10 @@ a_text_is_not_empty : tried One (key_of (elements (text_element (codes "")) no_e
   back = junk (codes "k = \n") ∷ [];
 }
 unfolding written
-a_text_is_not_empty = refl
+empty_text_element = refl
 
 -- a text holds no brace
-a_text_holds_no_brace : tried One (key_of (elements (text_element (codes "}")) no_elements)) ≡ record {
+brace_in_text : tried One (key_of (elements (text_element (codes "}")) no_elements)) ≡ record {
   readable = false;
   canonical = false;
   text = codes "k = }\n";
@@ -95,10 +95,10 @@ a_text_holds_no_brace : tried One (key_of (elements (text_element (codes "}")) n
   back = junk (codes "k = }\n") ∷ [];
 }
 unfolding written
-a_text_holds_no_brace = refl
+brace_in_text = refl
 
 -- a text holds no CR directly before an LF
-a_text_holds_no_cr_before_an_lf :
+crlf_in_text :
     tried One (key_of (elements (text_element (codes "a\r\n")) (elements (text_element (codes "b")) no_elements)))
     ≡ record {
       readable = false;
@@ -110,10 +110,10 @@ a_text_holds_no_cr_before_an_lf :
           (elements (text_element (codes "\n")) (elements (text_element (codes "b")) no_elements)));
     }
 unfolding written
-a_text_holds_no_cr_before_an_lf = refl
+crlf_in_text = refl
 
 -- a text holds an LF only as its last byte
-an_lf_ends_its_text : tried One (key_of (elements (text_element (codes "a\nb")) no_elements)) ≡ record {
+lf_inside_text : tried One (key_of (elements (text_element (codes "a\nb")) no_elements)) ≡ record {
   readable = false;
   canonical = false;
   text = codes "k =\n    a\nb\n";
@@ -121,10 +121,10 @@ an_lf_ends_its_text : tried One (key_of (elements (text_element (codes "a\nb")) 
   back = key_and (elements (text_element (codes "a")) no_elements) (codes "b\n");
 }
 unfolding written
-an_lf_ends_its_text = refl
+lf_inside_text = refl
 
 -- a text directly follows a text only where that ends in LF
-texts_are_apart :
+adjacent_texts :
     tried One (key_of (elements (text_element (codes "a")) (elements (text_element (codes "b")) no_elements)))
     ≡ record {
       readable = false;
@@ -134,10 +134,10 @@ texts_are_apart :
       back = key_of (elements (text_element (codes "ab")) no_elements);
     }
 unfolding written
-texts_are_apart = refl
+adjacent_texts = refl
 
 -- a first text is nonblank
-a_first_text_shows_something :
+blank_first_text :
     tried One (key_of
     (elements (text_element (codes " "))
     (elements (placeable (inline (variable_reference (codes "x")))) no_elements))) ≡ record {
@@ -148,10 +148,10 @@ a_first_text_shows_something :
       back = key_of (elements (placeable (inline (variable_reference (codes "x")))) no_elements);
     }
 unfolding written
-a_first_text_shows_something = refl
+blank_first_text = refl
 
 -- in a pattern that is not multiline, a first text does not begin with a space
-a_first_text_begins_with_no_space : tried One (key_of (elements (text_element (codes " a")) no_elements)) ≡ record {
+leading_space : tried One (key_of (elements (text_element (codes " a")) no_elements)) ≡ record {
   readable = false;
   canonical = false;
   text = codes "k =  a\n";
@@ -159,10 +159,10 @@ a_first_text_begins_with_no_space : tried One (key_of (elements (text_element (c
   back = key_of (elements (text_element (codes "a")) no_elements);
 }
 unfolding written
-a_first_text_begins_with_no_space = refl
+leading_space = refl
 
 -- a last text does not end in a space, a CR or an LF
-a_last_text_ends_plainly : tried One (key_of (elements (text_element (codes "a ")) no_elements)) ≡ record {
+trailing_space : tried One (key_of (elements (text_element (codes "a ")) no_elements)) ≡ record {
   readable = false;
   canonical = false;
   text = codes "k = a \n";
@@ -170,10 +170,10 @@ a_last_text_ends_plainly : tried One (key_of (elements (text_element (codes "a "
   back = key_of (elements (text_element (codes "a")) no_elements);
 }
 unfolding written
-a_last_text_ends_plainly = refl
+trailing_space = refl
 
 -- a text that begins a line is not spaces alone
-a_line_is_not_indented :
+indented_line :
     tried One (key_of
     (elements (text_element (codes "a\n"))
     (elements (text_element (codes "  "))
@@ -187,10 +187,10 @@ a_line_is_not_indented :
           (elements (placeable (inline (variable_reference (codes "x")))) no_elements));
     }
 unfolding written
-a_line_is_not_indented = refl
+indented_line = refl
 
 -- a text that begins a later line does not begin, after spaces, with `.`, `[` or `*`
-a_later_line_begins_with_no_mark :
+mark_at_line_start :
     tried One (key_of (elements (text_element (codes "a\n")) (elements (text_element (codes ".b")) no_elements)))
     ≡ record {
       readable = false;
@@ -200,12 +200,12 @@ a_later_line_begins_with_no_mark :
       back = key_and (elements (text_element (codes "a")) no_elements) (codes "    .b\n");
     }
 unfolding written
-a_later_line_begins_with_no_mark = refl
+mark_at_line_start = refl
 
 -- ---- readable: selects, expressions, arguments
 
 -- what a selector may be
-a_message_is_no_selector :
+message_as_selector :
     tried One (key_of
     (elements (placeable
     (select (message_reference (codes "m") None)
@@ -218,10 +218,10 @@ a_message_is_no_selector :
       back = junk (codes "k =\n    { m ->\n       *[a] b\n    }\n") ∷ [];
     }
 unfolding written
-a_message_is_no_selector = refl
+message_as_selector = refl
 
 -- a select has at most one default
-one_default_at_most :
+two_default_variants :
     tried One (key_of
     (elements (placeable
     (select (variable_reference (codes "x"))
@@ -235,10 +235,10 @@ one_default_at_most :
       back = junk (codes "k =\n    { $x ->\n       *[a] b\n       *[c] d\n    }\n") ∷ [];
     }
 unfolding written
-one_default_at_most = refl
+two_default_variants = refl
 
 -- an inline expression is no term reference with attribute
-a_term_attribute_is_no_placeable :
+term_attribute_as_placeable :
     tried One (key_of
     (elements (placeable (inline (term_reference (codes "t") (Some (codes "a")) no_arguments))) no_elements))
     ≡ record {
@@ -249,10 +249,10 @@ a_term_attribute_is_no_placeable :
       back = junk (codes "k = { -t.a }\n") ∷ [];
     }
 unfolding written
-a_term_attribute_is_no_placeable = refl
+term_attribute_as_placeable = refl
 
 -- a function's name holds only `A` to `Z`, digits, `_` and `-`
-a_function_is_in_capitals :
+lowercase_function :
     tried One (key_of
     (elements (placeable (inline (function_reference (codes "f") (arguments no_inlines no_named)))) no_elements))
     ≡ record {
@@ -263,10 +263,10 @@ a_function_is_in_capitals :
       back = junk (codes "k = { f() }\n") ∷ [];
     }
 unfolding written
-a_function_is_in_capitals = refl
+lowercase_function = refl
 
 -- what the value of a named argument may be
-a_named_argument_is_simple :
+value_of_named_argument :
     tried One (key_of
     (elements (placeable
     (inline (function_reference (codes "F")
@@ -279,10 +279,10 @@ a_named_argument_is_simple :
       back = junk (codes "k = { F(a: $x) }\n") ∷ [];
     }
 unfolding written
-a_named_argument_is_simple = refl
+value_of_named_argument = refl
 
 -- the names of the arguments of one list are distinct
-names_of_arguments_differ :
+repeated_argument_name :
     tried One (key_of
     (elements (placeable
     (inline (function_reference (codes "F")
@@ -296,12 +296,12 @@ names_of_arguments_differ :
       back = junk (codes "k = { F(a: 1, a: 2) }\n") ∷ [];
     }
 unfolding written
-names_of_arguments_differ = refl
+repeated_argument_name = refl
 
 -- ---- readable: strings, numbers, names
 
 -- how a string is spelled
-a_string_holds_no_quote :
+quote_in_string :
     tried One (key_of (elements (placeable (inline (string_literal (codes "a\"b")))) no_elements)) ≡ record {
       readable = false;
       canonical = false;
@@ -310,10 +310,10 @@ a_string_holds_no_quote :
       back = junk (codes "k = { \"a\"b\" }\n") ∷ [];
     }
 unfolding written
-a_string_holds_no_quote = refl
+quote_in_string = refl
 
 -- how a number is spelled
-a_number_is_digits :
+number_without_digits :
     tried One (key_of (elements (placeable (inline (number_literal (codes "x")))) no_elements)) ≡ record {
       readable = false;
       canonical = false;
@@ -322,10 +322,10 @@ a_number_is_digits :
       back = key_of (elements (placeable (inline (message_reference (codes "x") None))) no_elements);
     }
 unfolding written
-a_number_is_digits = refl
+number_without_digits = refl
 
 -- how a name is spelled
-a_name_begins_with_a_letter :
+name_without_letter :
     tried One (message
     (record {
       id = codes "1";
@@ -340,12 +340,12 @@ a_name_begins_with_a_letter :
       back = junk (codes "1 = a\n") ∷ [];
     }
 unfolding written
-a_name_begins_with_a_letter = refl
+name_without_letter = refl
 
 -- ---- canonical: the four rules more
 
 -- a comment has at least one line
-a_comment_has_a_line : tried One (comment regular [] ∷ []) ≡ record {
+comment_without_line : tried One (comment regular [] ∷ []) ≡ record {
   readable = true;
   canonical = false;
   text = codes "\n";
@@ -353,10 +353,10 @@ a_comment_has_a_line : tried One (comment regular [] ∷ []) ≡ record {
   back = [];
 }
 unfolding written
-a_comment_has_a_line = refl
+comment_without_line = refl
 
 -- a line of a comment is empty, or holds a byte other than space and CR
-a_comment_line_is_plain : tried One (comment regular (codes " " ∷ []) ∷ []) ≡ record {
+blank_comment_line : tried One (comment regular (codes " " ∷ []) ∷ []) ≡ record {
   readable = true;
   canonical = false;
   text = codes "#\n\n";
@@ -364,10 +364,10 @@ a_comment_line_is_plain : tried One (comment regular (codes " " ∷ []) ∷ []) 
   back = comment regular ([] ∷ []) ∷ [];
 }
 unfolding written
-a_comment_line_is_plain = refl
+blank_comment_line = refl
 
 -- in a multiline pattern, a first text does not begin with spaces and then `.`, `[` or `*`
-a_first_text_hides_no_mark :
+hidden_mark :
     tried One (key_of (elements (text_element (codes " .a\n")) (elements (text_element (codes "b")) no_elements)))
     ≡ record {
       readable = true;
@@ -377,10 +377,10 @@ a_first_text_hides_no_mark :
       back = junk (codes "k =\n     .a\n    b\n") ∷ [];
     }
 unfolding written
-a_first_text_hides_no_mark = refl
+hidden_mark = refl
 
 -- in a multiline pattern, some line has no spaces before it
-lines_are_flush :
+lines_not_flush :
     tried One (key_of (elements (text_element (codes " a\n")) (elements (text_element (codes " b")) no_elements)))
     ≡ record {
       readable = true;
@@ -390,10 +390,10 @@ lines_are_flush :
       back = key_of (elements (text_element (codes "a\n")) (elements (text_element (codes "b")) no_elements));
     }
 unfolding written
-lines_are_flush = refl
+lines_not_flush = refl
 
 -- where no line of a pattern counts, each text that begins a line is one LF
-blank_lines_are_lone :
+spaces_on_blank_line :
     tried One (key_of
     (elements (placeable (inline (variable_reference (codes "x"))))
     (elements (text_element (codes "\n"))
@@ -410,10 +410,10 @@ blank_lines_are_lone :
           (elements (placeable (inline (variable_reference (codes "x")))) no_elements))));
     }
 unfolding written
-blank_lines_are_lone = refl
+spaces_on_blank_line = refl
 
 -- a select has a default
-a_select_has_a_default :
+select_without_default :
     tried One (key_of (elements (placeable (select (variable_reference (codes "x")) no_variants)) no_elements))
     ≡ record {
       readable = true;
@@ -423,12 +423,12 @@ a_select_has_a_default :
       back = junk (codes "k =\n    { $x ->\n    }\n") ∷ [];
     }
 unfolding written
-a_select_has_a_default = refl
+select_without_default = refl
 
 -- ---- edition two: spaces that indent a placeable, and lines that begin with one
 
 -- a line that begins with a placeable has no number in edition one
-lines_of_placeables_do_not_count :
+placeable_lines_in_one :
     tried One (key_of
     (elements (placeable (inline (variable_reference (codes "x"))))
     (elements (text_element (codes "\n")) (elements (text_element (codes "  b")) no_elements)))) ≡ record {
@@ -441,10 +441,10 @@ lines_of_placeables_do_not_count :
           (elements (text_element (codes "\n")) (elements (text_element (codes "b")) no_elements)));
     }
 unfolding written
-lines_of_placeables_do_not_count = refl
+placeable_lines_in_one = refl
 
 -- spaces alone may begin a line, before a placeable
-spaces_indent_a_placeable :
+indented_placeable :
     tried Two (key_of
     (elements (text_element (codes "a\n"))
     (elements (text_element (codes "  "))
@@ -459,10 +459,10 @@ spaces_indent_a_placeable :
           (elements (placeable (inline (variable_reference (codes "x")))) no_elements)));
     }
 unfolding written
-spaces_indent_a_placeable = refl
+indented_placeable = refl
 
 -- and also the pattern, if it is multiline
-first_spaces_indent_a_placeable :
+indented_first_placeable :
     tried Two (key_of
     (elements (text_element (codes "  "))
     (elements (placeable (inline (variable_reference (codes "x"))))
@@ -477,10 +477,10 @@ first_spaces_indent_a_placeable :
           (elements (text_element (codes "\n")) (elements (text_element (codes "b")) no_elements))));
     }
 unfolding written
-first_spaces_indent_a_placeable = refl
+indented_first_placeable = refl
 
 -- not if it is not
-one_line_is_not_indented :
+indented_single_line :
     tried Two (key_of
     (elements (text_element (codes "  "))
     (elements (placeable (inline (variable_reference (codes "x")))) no_elements))) ≡ record {
@@ -491,10 +491,10 @@ one_line_is_not_indented :
       back = key_of (elements (placeable (inline (variable_reference (codes "x")))) no_elements);
     }
 unfolding written
-one_line_is_not_indented = refl
+indented_single_line = refl
 
 -- nor where no placeable follows them
-spaces_before_a_text_are_part_of_it :
+spaces_before_text :
     tried Two (key_of
     (elements (text_element (codes "a\n"))
     (elements (text_element (codes "  ")) (elements (text_element (codes "b")) no_elements)))) ≡ record {
@@ -505,10 +505,10 @@ spaces_before_a_text_are_part_of_it :
       back = key_of (elements (text_element (codes "a\n")) (elements (text_element (codes "  b")) no_elements));
     }
 unfolding written
-spaces_before_a_text_are_part_of_it = refl
+spaces_before_text = refl
 
 -- a line that begins with a placeable has the number 0
-lines_of_placeables_count :
+placeable_lines_in_two :
     tried Two (key_of
     (elements (placeable (inline (variable_reference (codes "x"))))
     (elements (text_element (codes "\n")) (elements (text_element (codes "  b")) no_elements)))) ≡ record {
@@ -521,10 +521,10 @@ lines_of_placeables_count :
           (elements (text_element (codes "\n")) (elements (text_element (codes "  b")) no_elements)));
     }
 unfolding written
-lines_of_placeables_count = refl
+placeable_lines_in_two = refl
 
 -- a line that begins with spaces alone has their length
-indented_placeables_count :
+indented_placeables_in_two :
     tried Two (key_of
     (elements (text_element (codes "  "))
     (elements (placeable (inline (variable_reference (codes "x"))))
@@ -539,4 +539,4 @@ indented_placeables_count :
           (elements (text_element (codes "\n")) (elements (text_element (codes "b")) no_elements))));
     }
 unfolding written
-indented_placeables_count = refl
+indented_placeables_in_two = refl

@@ -4,8 +4,9 @@ use Rattle.std.specs.Char.{is_ascii_hexdigit}
 use Rattle.std.specs.Prelude.{slice_get}
 use Rattle.fluent_syntax_grammar.specs.Places.{has}
 use Rattle.fluent_syntax_grammar.specs.Construct.{Outcome}
-use Rattle.fluent_syntax_grammar.specs.Words.{optional, token, inline_blank, blank, blank_block, past_eol, optional_eol}
-use Rattle.fluent_syntax_grammar.specs.Words.{rest_of_line, identifier, number}
+use Rattle.fluent_syntax_grammar.specs.Tokens.{optional, token, inline_blank, blank, blank_block, past_eol}
+use Rattle.fluent_syntax_grammar.specs.Tokens.{optional_eol}
+use Rattle.fluent_syntax_grammar.specs.Tokens.{rest_of_line, identifier, number}
 use Rattle.fluent_syntax_grammar.specs.Strings.{hex_digits, all_there, too_few, escaped, string_unit, string_units}
 use Rattle.fluent_syntax_grammar.specs.Strings.{before_quote, unit_and_more, bad_unit, string_literal}
 use Rattle.fluent_syntax_grammar.specs.Laws.{IsFunctional}

@@ -12,7 +12,8 @@ use Rattle.fluent_syntax_tree.specs.Tree.{ElementTree, elements_of}
 use Rattle.fluent_syntax_tree.specs.Every.{expression_every, element_every, pattern_every, option_every, list_every}
 use Rattle.fluent_syntax_grammar.specs.Layout.{Piece, run, placed, Ending, lf_at, crlf_at, text_end, Line, Layout}
 use Rattle.fluent_syntax_grammar.specs.Layout.{common_indent}
-use Rattle.fluent_syntax_grammar.specs.Elements.{Item, text, filled, with_ending, kept_from, indented, items_from}
+use Rattle.fluent_syntax_grammar.specs.Elements.{Item, text, filled, with_ending, common_indent_end, indented}
+use Rattle.fluent_syntax_grammar.specs.Elements.{items_from}
 use Rattle.fluent_syntax_grammar.specs.Elements.{line_items, opening_items, items, stays, cut_before, cut, trimmed_end}
 use Rattle.fluent_syntax_grammar.specs.Elements.{spelled, if_any, pattern_of}
 use Rattle.fluent_syntax_tree.specs.declared.edition.Edition.{Edition}
@@ -101,8 +102,8 @@ module _ (P : ℕ → Type 0) where
       every-append GoodItem (indented edition kept first) (filled y ∷ with_ending ps x)
       (good_indented edition kept first l p q) (g, good_with first e m ps x h k)
 
-  good_kept : (common : Option ℕ) (l : Line) → GoodLine l → (kept_from common l ≤ l.start + l.spaces) ×
-      P (kept_from common l)
+  good_kept : (common : Option ℕ) (l : Line) → GoodLine l → (common_indent_end common l ≤ l.start + l.spaces) ×
+      P (common_indent_end common l)
   good_kept None l g = (omega arith, g.leading l.spaces (omega arith))
   good_kept (Some c) l g = (omega arith, g.leading (min l.spaces c) (omega arith))
 
@@ -110,7 +111,7 @@ module _ (P : ℕ → Type 0) where
       list_every GoodItem (line_items edition common l)
   good_line_items edition common l g =
       let k = good_kept common l g in
-      good_items_from edition (kept_from common l) (l.start + l.spaces) g.end k.0 g.late k.1
+      good_items_from edition (common_indent_end common l) (l.start + l.spaces) g.end k.0 g.late k.1
       (g.leading l.spaces (omega arith)) l.pieces l.ending g.pieces g.ending
 
   good_opening : (o : Option Line) → option_every GoodLine o → list_every GoodItem (opening_items o)

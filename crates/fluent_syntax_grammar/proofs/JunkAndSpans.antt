@@ -13,7 +13,7 @@ use Rattle.fluent_syntax_grammar.specs.Construct.{Read, chosen, goes_on, first, 
 use Rattle.fluent_syntax_grammar.specs.Comments.{comment_entry, level_of, hashes}
 use Rattle.fluent_syntax_grammar.specs.Tiling.{Fault, Tile, entry, refused, dropped, Tiled, done, next, entry_of}
 use Rattle.fluent_syntax_grammar.specs.Tiling.{TileAt, reads, refuses, RuntimeTileAt, drops, stands}
-use Rattle.fluent_syntax_grammar.specs.Body.{faults, hung, hangs, alone, joined, body}
+use Rattle.fluent_syntax_grammar.specs.Body.{faults, attached, attaches, alone, joined, body}
 use Rattle.fluent_syntax_grammar.specs.Laws.{Ascend, junk_slice, fault_slice, JunkOfErrors, RuntimeJunkOfErrors}
 use Rattle.fluent_syntax_grammar.specs.Laws.{ErrorsAscend, RuntimeErrorsAscend, BodyInText, RuntimeBodyInText}
 use Rattle.fluent_syntax_tree.specs.declared.edition.Edition.{Edition}
@@ -42,31 +42,32 @@ module _ (P : ℕ → Type 0) where
   GoodGiven (refused f) = IsSpan P f.slice
   GoodGiven dropped = Unit {0}
 
-  good_hung : (content : List Span) (e : EntryTree Span) (o : Option (EntryTree Span)) → hung content e ≡ o →
+  good_attached : (content : List Span) (e : EntryTree Span) (o : Option (EntryTree Span)) → attached content e ≡ o →
       list_every (IsSpan P) content → GoodEntry e → (h : EntryTree Span) → o ≡ Some h → GoodEntry h
-  good_hung content (message m) o p c (a, b, d, f) h q =
+  good_attached content (message m) o p c (a, b, d, f) h q =
       let same : message (record m { comment = Some content }) ≡ h = cc in subst GoodEntry same (a, b, d, c)
-  good_hung content (term m) o p c (a, b, d, f) h q = let same : term (record m { comment = Some content }) ≡ h = cc in
+  good_attached content (term m) o p c (a, b, d, f) h q = let same : term (record m { comment = Some content }) ≡ h =
+      cc in
       subst GoodEntry same (a, b, d, c)
-  good_hung content (comment level x) o p c g h q = cc
-  good_hung content (junk s) o p c g h q = cc
+  good_attached content (comment level x) o p c g h q = cc
+  good_attached content (junk s) o p c g h q = cc
 
   good_if : (b : Bool) (content : List Span) (e h : EntryTree Span) → list_every (IsSpan P) content → GoodEntry e →
-      (if b then hung content e else None) ≡ Some h → GoodEntry h
-  good_if true content e h c g p = good_hung content e (hung content e) refl c g h p
+      (if b then attached content e else None) ≡ Some h → GoodEntry h
+  good_if true content e h c g p = good_attached content e (attached content e) refl c g h p
   good_if false content e h c g p = cc
 
-  good_hangs : (x y : Tile) (h : EntryTree Span) → GoodGiven x → GoodGiven y → hangs x y ≡ Some h → GoodEntry h
-  good_hangs (entry s (comment regular c)) (entry r e) h g k p = good_if (s.end == r.start) c e h g k p
-  good_hangs (entry s (comment regular c)) (refused f) h g k p = cc
-  good_hangs (entry s (comment regular c)) dropped h g k p = cc
-  good_hangs (entry s (comment group c)) y h g k p = cc
-  good_hangs (entry s (comment resource c)) y h g k p = cc
-  good_hangs (entry s (message m)) y h g k p = cc
-  good_hangs (entry s (term m)) y h g k p = cc
-  good_hangs (entry s (junk x)) y h g k p = cc
-  good_hangs (refused f) y h g k p = cc
-  good_hangs dropped y h g k p = cc
+  good_attaches : (x y : Tile) (h : EntryTree Span) → GoodGiven x → GoodGiven y → attaches x y ≡ Some h → GoodEntry h
+  good_attaches (entry s (comment regular c)) (entry r e) h g k p = good_if (s.end == r.start) c e h g k p
+  good_attaches (entry s (comment regular c)) (refused f) h g k p = cc
+  good_attaches (entry s (comment regular c)) dropped h g k p = cc
+  good_attaches (entry s (comment group c)) y h g k p = cc
+  good_attaches (entry s (comment resource c)) y h g k p = cc
+  good_attaches (entry s (message m)) y h g k p = cc
+  good_attaches (entry s (term m)) y h g k p = cc
+  good_attaches (entry s (junk x)) y h g k p = cc
+  good_attaches (refused f) y h g k p = cc
+  good_attaches dropped y h g k p = cc
 
   good_alone : (x : Tile) → GoodGiven x → GoodBody (alone x)
   good_alone (entry s e) g = (g, tt)
@@ -77,16 +78,16 @@ module _ (P : ℕ → Type 0) where
   good_append [] ys g h = h
   good_append (x ∷ xs) ys (g, k) h = (g, good_append xs ys k h)
 
-  good_joined : (x y : Tile) (others after : BodyTree Span) (o : Option (EntryTree Span)) → hangs x y ≡ o →
+  good_joined : (x y : Tile) (others after : BodyTree Span) (o : Option (EntryTree Span)) → attaches x y ≡ o →
       GoodGiven x → GoodGiven y → GoodBody others → GoodBody after → GoodBody (joined o (alone x) others after)
   good_joined x y others after None e g h p q = good_append (alone x) others (good_alone x g) p
-  good_joined x y others after (Some z) e g h p q = (good_hangs x y z g h e, q)
+  good_joined x y others after (Some z) e g h p q = (good_attaches x y z g h e, q)
 
   pub good_body : (xs : List Tile) → list_every GoodGiven xs → GoodBody (body xs)
   good_body [] g = tt
   good_body (x ∷ []) (g, h) = good_alone x g
   good_body (x ∷ y ∷ tiles) (g, (h, k)) =
-      good_joined x y (body (y ∷ tiles)) (body tiles) (hangs x y) refl g h (good_body (y ∷ tiles) (h, k))
+      good_joined x y (body (y ∷ tiles)) (body tiles) (attaches x y) refl g h (good_body (y ∷ tiles) (h, k))
       (good_body tiles k)
 
 module _ (edition : Edition) (t : List ℕ) (P : ℕ → Type 0) (cuts : IsCuts t P) where
@@ -226,35 +227,35 @@ alone_junk (entry s e) b = append_nothing (junk_slice e) ∙ no_junk e b
 alone_junk (refused f) b = refl
 alone_junk dropped b = refl
 
-hung_junk : (content : List Span) (e : EntryTree Span) (o : Option (EntryTree Span)) → hung content e ≡ o →
+attached_junk : (content : List Span) (e : EntryTree Span) (o : Option (EntryTree Span)) → attached content e ≡ o →
     (h : EntryTree Span) → o ≡ Some h → junk_slice h ≡ []
-hung_junk content (message m) o p h q = let same : message (record m { comment = Some content }) ≡ h = cc in
+attached_junk content (message m) o p h q = let same : message (record m { comment = Some content }) ≡ h = cc in
     ap junk_slice (sym same)
-hung_junk content (term m) o p h q = let same : term (record m { comment = Some content }) ≡ h = cc in
+attached_junk content (term m) o p h q = let same : term (record m { comment = Some content }) ≡ h = cc in
     ap junk_slice (sym same)
-hung_junk content (comment level c) o p h q = cc
-hung_junk content (junk s) o p h q = cc
+attached_junk content (comment level c) o p h q = cc
+attached_junk content (junk s) o p h q = cc
 
-if_junk : (b : Bool) (content : List Span) (e h : EntryTree Span) → (if b then hung content e else None) ≡ Some h →
+if_junk : (b : Bool) (content : List Span) (e h : EntryTree Span) → (if b then attached content e else None) ≡ Some h →
     junk_slice h ≡ []
-if_junk true content e h p = hung_junk content e (hung content e) refl h p
+if_junk true content e h p = attached_junk content e (attached content e) refl h p
 if_junk false content e h p = cc
 
-hangs_junk : (x y : Tile) (h : EntryTree Span) → hangs x y ≡ Some h → (junk_slice h ≡ []) × (tile_junk x ≡ []) ×
+attaches_junk : (x y : Tile) (h : EntryTree Span) → attaches x y ≡ Some h → (junk_slice h ≡ []) × (tile_junk x ≡ []) ×
     (tile_junk y ≡ [])
-hangs_junk (entry s (comment regular c)) (entry r e) h p = (if_junk (s.end == r.start) c e h p, refl, refl)
-hangs_junk (entry s (comment regular c)) (refused f) h p = cc
-hangs_junk (entry s (comment regular c)) dropped h p = cc
-hangs_junk (entry s (comment group c)) y h p = cc
-hangs_junk (entry s (comment resource c)) y h p = cc
-hangs_junk (entry s (message m)) y h p = cc
-hangs_junk (entry s (term m)) y h p = cc
-hangs_junk (entry s (junk x)) y h p = cc
-hangs_junk (refused f) y h p = cc
-hangs_junk dropped y h p = cc
+attaches_junk (entry s (comment regular c)) (entry r e) h p = (if_junk (s.end == r.start) c e h p, refl, refl)
+attaches_junk (entry s (comment regular c)) (refused f) h p = cc
+attaches_junk (entry s (comment regular c)) dropped h p = cc
+attaches_junk (entry s (comment group c)) y h p = cc
+attaches_junk (entry s (comment resource c)) y h p = cc
+attaches_junk (entry s (message m)) y h p = cc
+attaches_junk (entry s (term m)) y h p = cc
+attaches_junk (entry s (junk x)) y h p = cc
+attaches_junk (refused f) y h p = cc
+attaches_junk dropped y h p = cc
 
 joined_junk : (x y : Tile) (others after : BodyTree Span) (tiles : List Tile) (o : Option (EntryTree Span)) →
-    hangs x y ≡ o → HoldsEntry x →
+    attaches x y ≡ o → HoldsEntry x →
     flat_map junk_slice others ≡ tile_junk y ++ flat_map tile_junk tiles →
     flat_map junk_slice after ≡ flat_map tile_junk tiles →
     flat_map junk_slice (joined o (alone x) others after) ≡ tile_junk x ++ (tile_junk y ++ flat_map tile_junk tiles)
@@ -262,7 +263,7 @@ joined_junk x y others after tiles None e b p q =
     flat_append junk_slice (alone x) others
     ∙ (ap (λ zs. zs ++ flat_map junk_slice others) (alone_junk x b) ∙ ap (λ zs. tile_junk x ++ zs) p)
 joined_junk x y others after tiles (Some h) e b p q =
-    let z = hangs_junk x y h e in
+    let z = attaches_junk x y h e in
     let left : junk_slice h ++ flat_map junk_slice after ≡ flat_map tile_junk tiles =
     ap (λ zs. zs ++ flat_map junk_slice after) z.0 ∙ q in
     let right : tile_junk x ++ (tile_junk y ++ flat_map tile_junk tiles) ≡ flat_map tile_junk tiles =
@@ -273,7 +274,7 @@ body_junk : (xs : List Tile) → list_every HoldsEntry xs → flat_map junk_slic
 body_junk [] b = refl
 body_junk (x ∷ []) (b, c) = alone_junk x b ∙ sym (append_nothing (tile_junk x))
 body_junk (x ∷ y ∷ tiles) (b, (c, d)) =
-    joined_junk x y (body (y ∷ tiles)) (body tiles) tiles (hangs x y) refl b (body_junk (y ∷ tiles) (c, d))
+    joined_junk x y (body (y ∷ tiles)) (body tiles) tiles (attaches x y) refl b (body_junk (y ∷ tiles) (c, d))
     (body_junk tiles d)
 
 junk_faults : (xs : List Tile) → flat_map tile_junk xs ≡ map fault_slice (faults xs)

@@ -5,7 +5,7 @@ use Rattle.std.specs.List.{flat_map}
 use Rattle.fluent_syntax_tree.specs.Entry.{EntryTree, message, term, comment, junk, regular, group, resource, BodyTree}
 use Rattle.fluent_syntax_tree.specs.Every.{list_every}
 use Rattle.fluent_syntax_grammar.specs.Tiling.{Tile, entry, refused, dropped}
-use Rattle.fluent_syntax_grammar.specs.Body.{faults, hung, hangs, alone, joined, body}
+use Rattle.fluent_syntax_grammar.specs.Body.{faults, attached, attaches, alone, joined, body}
 use Rattle.fluent_syntax_grammar.specs.Laws.{bare, without_comments, named, messages_and_terms}
 use Rattle.fluent_syntax_tree.specs.declared.spans.Span.{Span}
 use Rattle.fluent_syntax_grammar.proofs.Aligned.{Aligned, nothing, both, comment_left, dropped_right, junk_left}
@@ -28,41 +28,42 @@ alone_bare (entry s e) = append_nothing (bare e)
 alone_bare (refused f) = refl
 alone_bare dropped = refl
 
-hung_bare : (content : List Span) (e : EntryTree Span) (o : Option (EntryTree Span)) → hung content e ≡ o →
+attached_bare : (content : List Span) (e : EntryTree Span) (o : Option (EntryTree Span)) → attached content e ≡ o →
     (h : EntryTree Span) → o ≡ Some h → bare h ≡ bare e
-hung_bare content (message m) o p h q = let same : message (record m { comment = Some content }) ≡ h = cc in
+attached_bare content (message m) o p h q = let same : message (record m { comment = Some content }) ≡ h = cc in
     ap bare (sym same)
-hung_bare content (term m) o p h q = let same : term (record m { comment = Some content }) ≡ h = cc in
+attached_bare content (term m) o p h q = let same : term (record m { comment = Some content }) ≡ h = cc in
     ap bare (sym same)
-hung_bare content (comment level c) o p h q = cc
-hung_bare content (junk s) o p h q = cc
+attached_bare content (comment level c) o p h q = cc
+attached_bare content (junk s) o p h q = cc
 
-if_hung : (b : Bool) (content : List Span) (e h : EntryTree Span) → (if b then hung content e else None) ≡ Some h →
+if_attached : (b : Bool) (content : List Span) (e h : EntryTree Span)
+    → (if b then attached content e else None) ≡ Some h →
     bare h ≡ bare e
-if_hung true content e h p = hung_bare content e (hung content e) refl h p
-if_hung false content e h p = cc
+if_attached true content e h p = attached_bare content e (attached content e) refl h p
+if_attached false content e h p = cc
 
-hangs_bare : (x y : Tile) (h : EntryTree Span) → hangs x y ≡ Some h → (bare_tile x ≡ []) × (bare h ≡ bare_tile y)
-hangs_bare (entry s (comment regular c)) (entry r e) h p = (refl, if_hung (s.end == r.start) c e h p)
-hangs_bare (entry s (comment regular c)) (refused f) h p = cc
-hangs_bare (entry s (comment regular c)) dropped h p = cc
-hangs_bare (entry s (comment group c)) y h p = cc
-hangs_bare (entry s (comment resource c)) y h p = cc
-hangs_bare (entry s (message m)) y h p = cc
-hangs_bare (entry s (term m)) y h p = cc
-hangs_bare (entry s (junk x)) y h p = cc
-hangs_bare (refused f) y h p = cc
-hangs_bare dropped y h p = cc
+attaches_bare : (x y : Tile) (h : EntryTree Span) → attaches x y ≡ Some h → (bare_tile x ≡ []) × (bare h ≡ bare_tile y)
+attaches_bare (entry s (comment regular c)) (entry r e) h p = (refl, if_attached (s.end == r.start) c e h p)
+attaches_bare (entry s (comment regular c)) (refused f) h p = cc
+attaches_bare (entry s (comment regular c)) dropped h p = cc
+attaches_bare (entry s (comment group c)) y h p = cc
+attaches_bare (entry s (comment resource c)) y h p = cc
+attaches_bare (entry s (message m)) y h p = cc
+attaches_bare (entry s (term m)) y h p = cc
+attaches_bare (entry s (junk x)) y h p = cc
+attaches_bare (refused f) y h p = cc
+attaches_bare dropped y h p = cc
 
 bare_joined : (x y : Tile) (others after : BodyTree Span) (tiles : List Tile) (o : Option (EntryTree Span)) →
-    hangs x y ≡ o →
+    attaches x y ≡ o →
     without_comments others ≡ bare_tile y ++ bare_tiles tiles → without_comments after ≡ bare_tiles tiles →
     without_comments (joined o (alone x) others after) ≡ bare_tile x ++ (bare_tile y ++ bare_tiles tiles)
 bare_joined x y others after tiles None e p q =
     flat_append bare (alone x) others
     ∙ (ap (λ zs. zs ++ without_comments others) (alone_bare x) ∙ ap (λ zs. bare_tile x ++ zs) p)
 bare_joined x y others after tiles (Some h) e p q =
-    let b = hangs_bare x y h e in
+    let b = attaches_bare x y h e in
     ap (λ zs. zs ++ without_comments after) b.1
     ∙ (ap (λ zs. bare_tile y ++ zs) q ∙ sym (ap (λ zs. zs ++ (bare_tile y ++ bare_tiles tiles)) b.0))
 
@@ -71,11 +72,11 @@ pub bare_body : (xs : List Tile) → without_comments (body xs) ≡ bare_tiles x
 bare_body [] = refl
 bare_body (x ∷ []) = alone_bare x ∙ sym (append_nothing (bare_tile x))
 bare_body (x ∷ y ∷ tiles) =
-    bare_joined x y (body (y ∷ tiles)) (body tiles) tiles (hangs x y) refl (bare_body (y ∷ tiles)) (bare_body tiles)
+    bare_joined x y (body (y ∷ tiles)) (body tiles) tiles (attaches x y) refl (bare_body (y ∷ tiles)) (bare_body tiles)
 
 -- ---- the tiling without comments
 
--- no comment, and none hung
+-- no comment, and none attached
 abbrev pub IsBare : EntryTree Span → Type 0
 IsBare (message m) = m.comment ≡ None
 IsBare (term m) = m.comment ≡ None
@@ -95,19 +96,19 @@ bare_alone (entry s (junk x)) b = absurd b
 bare_alone (refused f) b = refl
 bare_alone dropped b = refl
 
-bare_hangs : (x y : Tile) → IsBareTile x → hangs x y ≡ None
-bare_hangs (entry s (message m)) y b = refl
-bare_hangs (entry s (term m)) y b = refl
-bare_hangs (entry s (comment level c)) y b = absurd b
-bare_hangs (entry s (junk x)) y b = refl
-bare_hangs (refused f) y b = refl
-bare_hangs dropped y b = refl
+bare_attaches : (x y : Tile) → IsBareTile x → attaches x y ≡ None
+bare_attaches (entry s (message m)) y b = refl
+bare_attaches (entry s (term m)) y b = refl
+bare_attaches (entry s (comment level c)) y b = absurd b
+bare_attaches (entry s (junk x)) y b = refl
+bare_attaches (refused f) y b = refl
+bare_attaches dropped y b = refl
 
 pub body_bare : (xs : List Tile) → list_every IsBareTile xs → body xs ≡ bare_tiles xs
 body_bare [] b = refl
 body_bare (x ∷ []) (b, c) = bare_alone x b ∙ sym (append_nothing (bare_tile x))
 body_bare (x ∷ y ∷ tiles) (b, c) =
-    ap (λ o. joined o (alone x) (body (y ∷ tiles)) (body tiles)) (bare_hangs x y b) ∙
+    ap (λ o. joined o (alone x) (body (y ∷ tiles)) (body tiles)) (bare_attaches x y b) ∙
     (ap (λ zs. zs ++ body (y ∷ tiles)) (bare_alone x b) ∙ ap (λ zs. bare_tile x ++ zs) (body_bare (y ∷ tiles) c))
 
 -- ---- beside one another

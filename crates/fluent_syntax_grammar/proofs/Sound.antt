@@ -7,8 +7,8 @@ use Rattle.fluent_syntax_grammar.specs.Places.{Stretch, after_eol, Word, Blank, 
 use Rattle.fluent_syntax_grammar.specs.Lines.{is_run_place}
 use Rattle.fluent_syntax_grammar.specs.Construct.{Read, Refused, Construct, ◌>>=◌, stops, goes_on, gives, here}
 use Rattle.fluent_syntax_grammar.specs.Construct.{at_place, fails, over, at_each, either, More, no_item, item, many}
-use Rattle.fluent_syntax_grammar.specs.Words.{spanned, inline_blank, blank, blank_block, past_eol, optional_eol}
-use Rattle.fluent_syntax_grammar.specs.Words.{rest_of_line}
+use Rattle.fluent_syntax_grammar.specs.Tokens.{spanned, inline_blank, blank, blank_block, past_eol, optional_eol}
+use Rattle.fluent_syntax_grammar.specs.Tokens.{rest_of_line}
 use Rattle.fluent_syntax_grammar.specs.Meaning.{kind_means}
 use Rattle.fluent_syntax_tree.specs.declared.spans.Span.{Span}
 use Rattle.fluent_syntax_grammar.proofs.Holds.{Holds, holds_weaker, holds_bind, holds_gives, holds_fails, holds_over}

@@ -11,7 +11,7 @@ use Rattle.fluent_syntax_grammar.specs.Bytes.{is_letter, is_name_byte}
 use Rattle.fluent_syntax_grammar.specs.Places.{Word, has, has_byte}
 use Rattle.fluent_syntax_grammar.specs.Construct.{Read, Refused, Construct, ◌>>=◌, ◌>>◌, stops, goes_on, gives, given}
 use Rattle.fluent_syntax_grammar.specs.Construct.{at_place, passed, chosen, first, second}
-use Rattle.fluent_syntax_grammar.specs.Words.{token, inline_blank, blank_block, identifier}
+use Rattle.fluent_syntax_grammar.specs.Tokens.{token, inline_blank, blank_block, identifier}
 use Rattle.fluent_syntax_grammar.specs.Grammar.{pattern, family}
 use Rattle.fluent_syntax_grammar.specs.Entries.{attribute_with, message_with, term_with, attribute, attributes, no_more}
 use Rattle.fluent_syntax_grammar.specs.Entries.{one_more, message_entry, term_entry}

@@ -38,7 +38,7 @@ use Rattle.fluent_syntax_grammar.proofs.GoodLayout.{earlier_pieces, good_pattern
 use Rattle.fluent_syntax_grammar.proofs.SoundRules.{IsSoundFamily, sound_key, sound_only, sound_end, plain_fault}
 use Rattle.fluent_syntax_grammar.proofs.SoundRules.{sound_arrow, AtArrow, after_arrow, sound_placeable, sound_inline}
 use Rattle.fluent_syntax_grammar.proofs.SoundRules.{sound_arguments}
-use Rattle.fluent_syntax_grammar.proofs.Facts.{byte_stands, two_on, two_on_as_one, one_on_as_two}
+use Rattle.fluent_syntax_grammar.proofs.Facts.{byte_holds, two_on, two_on_as_one, one_on_as_two}
 
 by_test : (P : ℕ → Type 0) (s i : ℕ) (test : Bool) → (test ≡ true → GoodEnding P s (lf_at i)) →
     (test ≡ false → GoodEnding P s (crlf_at i)) → GoodEnding P s (if test then lf_at i else crlf_at i)
@@ -141,7 +141,7 @@ module _ (t : List ℕ) (P : ℕ → Type 0) (cuts : IsCuts t P) (R : Family) (h
         in_text = cuts.in_text i q.place;
         one = refl;
         plain = tt;
-        means = byte_stands (λ c. c == 125) (slice_get t i) b p.0.1 f;
+        means = byte_holds (λ c. c == 125) (slice_get t i) b p.0.1 f;
       }))
       (λ f. holds_either
       (λ g. holds_bind {mid = Ended P s (expression_every (IsSpan P))}

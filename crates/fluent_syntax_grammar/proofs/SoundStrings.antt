@@ -16,7 +16,7 @@ use Rattle.fluent_syntax_grammar.proofs.Cuts.{AsciiAt, IsCuts, ascii_has, ascii_
 use Rattle.fluent_syntax_grammar.proofs.Sound.{IsSpan, Inside, Ended, IsFault, Sound, sound_bind, sound_gives}
 use Rattle.fluent_syntax_grammar.proofs.Sound.{sound_here, sound_spanned}
 use Rattle.fluent_syntax_grammar.proofs.SoundWords.{sound_token}
-use Rattle.fluent_syntax_grammar.proofs.Facts.{byte_stands}
+use Rattle.fluent_syntax_grammar.proofs.Facts.{byte_holds}
 
 -- any place of the text
 abbrev pub InText : List ℕ → ℕ → Type 0
@@ -96,7 +96,7 @@ module _ (t : List ℕ) where
         in_text = q.place;
         one = refl;
         plain = tt;
-        means = byte_stands (λ c. c == lf) (slice_get t i) b p.1 e;
+        means = byte_holds (λ c. c == lf) (slice_get t i) b p.1 e;
       }))
       (λ e. holds_either
       (λ e. holds_at_each

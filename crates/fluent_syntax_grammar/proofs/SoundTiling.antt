@@ -23,7 +23,7 @@ use Rattle.fluent_syntax_grammar.proofs.Sound.{sound_optional_eol}
 use Rattle.fluent_syntax_grammar.proofs.SoundEntries.{IsEntryFault, earlier_fault, message_read, message_refused}
 use Rattle.fluent_syntax_grammar.proofs.SoundEntries.{letter_refused, term_read, term_refused}
 use Rattle.fluent_syntax_grammar.proofs.SoundComments.{comment_read, comment_refused}
-use Rattle.fluent_syntax_grammar.proofs.Facts.{byte_stands, lt_or_same, right_true, byte_of}
+use Rattle.fluent_syntax_grammar.proofs.Facts.{byte_holds, lt_or_same, right_true, byte_of}
 
 ascii_entry : IsAsciiSet is_entry_byte
 ascii_entry = record { small = λ b e. grind (arith, nat_tests) }
@@ -45,9 +45,9 @@ module _ (edition : Edition) (t : List ℕ) (P : ℕ → Type 0) (cuts : IsCuts 
       entry_of edition t (family edition t) o i (Read a j) → Ended P (i + 1) IsGood a j
   entry_read_of i j a None e p x = message_read edition t P cuts i j a p x
   entry_read_of i j a (Some b) e p (first f x) =
-      comment_read t P cuts i j a p (byte_stands (λ c. c == 35) (slice_get t i) b e f) x
+      comment_read t P cuts i j a p (byte_holds (λ c. c == 35) (slice_get t i) b e f) x
   entry_read_of i j a (Some b) e p (second f (first g x)) =
-      term_read edition t P cuts i j a (byte_stands (λ c. c == 45) (slice_get t i) b e g) x
+      term_read edition t P cuts i j a (byte_holds (λ c. c == 45) (slice_get t i) b e g) x
   entry_read_of i j a (Some b) e p (second f (second g x)) = message_read edition t P cuts i j a p x
 
   -- an entry that is read passes over a byte at least, and its texts lie in the source
@@ -58,10 +58,10 @@ module _ (edition : Edition) (t : List ℕ) (P : ℕ → Type 0) (cuts : IsCuts 
       entry_of edition t (family edition t) o i (Refused k from to) → IsEntryFault t i i k from to
   entry_refused_of i from to k None e p x = message_refused edition t P cuts i from to k p x
   entry_refused_of i from to k (Some b) e p (first f x) =
-      weaker i from to k (comment_refused t P cuts i from to k p (byte_stands (λ c. c == 35) (slice_get t i) b e f) x)
+      weaker i from to k (comment_refused t P cuts i from to k p (byte_holds (λ c. c == 35) (slice_get t i) b e f) x)
   entry_refused_of i from to k (Some b) e p (second f (first g x)) =
       weaker i from to k
-      (term_refused edition t P cuts i from to k (byte_stands (λ c. c == 45) (slice_get t i) b e g) x)
+      (term_refused edition t P cuts i from to k (byte_holds (λ c. c == 45) (slice_get t i) b e g) x)
   entry_refused_of i from to k (Some b) e p (second f (second g x)) = message_refused edition t P cuts i from to k p x
 
   pub entry_refused : (i from to : ℕ) (k : Kind) → P i → entry_at edition t i (Refused k from to) →
@@ -72,12 +72,12 @@ module _ (edition : Edition) (t : List ℕ) (P : ℕ → Type 0) (cuts : IsCuts 
       entry_of edition t (family edition t) o i (Refused k from to) → IsEntryFault t i (i + 1) k from to
   entry_onward_of i from to k None e p h x = absurd (no_byte_of is_entry_byte (slice_get t i) e h)
   entry_onward_of i from to k (Some b) e p h (first f x) =
-      comment_refused t P cuts i from to k p (byte_stands (λ c. c == 35) (slice_get t i) b e f) x
+      comment_refused t P cuts i from to k p (byte_holds (λ c. c == 35) (slice_get t i) b e f) x
   entry_onward_of i from to k (Some b) e p h (second f (first g x)) =
-      term_refused edition t P cuts i from to k (byte_stands (λ c. c == 45) (slice_get t i) b e g) x
+      term_refused edition t P cuts i from to k (byte_holds (λ c. c == 45) (slice_get t i) b e g) x
   entry_onward_of i from to k (Some b) e p h (second f (second g x)) =
       letter_refused edition t P cuts i from to k p
-      (byte_stands is_letter (slice_get t i) b e (entry_letter b f g (byte_of is_entry_byte (slice_get t i) b e h)))
+      (byte_holds is_letter (slice_get t i) b e (entry_letter b f g (byte_of is_entry_byte (slice_get t i) b e h)))
       x
 
   -- where an entry may begin, a refusal's failing place is after its first byte

@@ -5,7 +5,7 @@ use Rattle.std.proofs.lemmas.Bool.Decides.{nat_tests}
 use Rattle.fluent_syntax_tree.specs.Kind.{ExpectedCharRange}
 use Rattle.fluent_syntax_grammar.specs.Places.{has_byte}
 use Rattle.fluent_syntax_grammar.specs.Construct.{fails}
-use Rattle.fluent_syntax_grammar.specs.Words.{optional, token, digits, identifier, number}
+use Rattle.fluent_syntax_grammar.specs.Tokens.{optional, token, digits, identifier, number}
 use Rattle.fluent_syntax_grammar.proofs.Holds.{Holds, holds_weaker, holds_bind, holds_gives, holds_fails, holds_over}
 use Rattle.fluent_syntax_grammar.proofs.Holds.{holds_at_each, holds_either}
 use Rattle.fluent_syntax_grammar.proofs.Cuts.{IsCuts, ascii_byte, ascii_digit, ascii_name}

@@ -197,8 +197,8 @@ module _ (t : List ℕ) where
 
 module _ (edition : Edition) (t : List ℕ) (R : Family) (h : IsIncludedFamily R (family edition t)) (low : ℕ)
     (patterns : (s : ℕ) → low ≤ s → Both t s (pattern edition t R)) where
-  hash_stands : (i b : ℕ) → slice_get t i ≡ Some b → (b == 35) ≡ true → has_byte t 35 i ≡ true
-  hash_stands i b e f = rw e f
+  hash_holds : (i b : ℕ) → slice_get t i ≡ Some b → (b == 35) ≡ true → has_byte t 35 i ≡ true
+  hash_holds i b e f = rw e f
 
   entry_other : (i b : ℕ) (minus : Bool) → low ≤ i → i ≤ length t → (b == 45) ≡ minus → (o : Outcome (EntryTree Span)) ×
       either (b == 45) (term_of edition t R) (message_of edition t R) i o
@@ -211,7 +211,7 @@ module _ (edition : Edition) (t : List ℕ) (R : Family) (h : IsIncludedFamily R
 
   entry_choice : (i b : ℕ) (hash : Bool) → low ≤ i → i ≤ length t → slice_get t i ≡ Some b → (b == 35) ≡ hash →
       (o : Outcome (EntryTree Span)) × entry_of edition t R (Some b) i o
-  entry_choice i b true g l e f = let x = comment_has t i l (hash_stands i b e f) in (x.0, first f x.1)
+  entry_choice i b true g l e f = let x = comment_has t i l (hash_holds i b e f) in (x.0, first f x.1)
   entry_choice i b false g l e f = let x = entry_other i b (b == 45) g l refl in (x.0, second f x.1)
 
   entry_has_of : (i : ℕ) (o : Option ℕ) → low ≤ i → i ≤ length t → slice_get t i ≡ o → (p : Outcome (EntryTree Span)) ×

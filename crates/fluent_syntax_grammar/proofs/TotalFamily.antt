@@ -8,7 +8,7 @@ use Rattle.fluent_syntax_grammar.specs.Bytes.{is_space}
 use Rattle.fluent_syntax_grammar.specs.Places.{after_eol, has_byte, InlineBlank, Steps}
 use Rattle.fluent_syntax_grammar.specs.Construct.{Outcome, Read, Construct, ◌>>=◌, goes_on, gives, at_place, passed}
 use Rattle.fluent_syntax_grammar.specs.Construct.{at_each, either, fails, More, no_item, item}
-use Rattle.fluent_syntax_grammar.specs.Words.{optional, blank, blank_block, inline_blank}
+use Rattle.fluent_syntax_grammar.specs.Tokens.{optional, blank, blank_block, inline_blank}
 use Rattle.fluent_syntax_grammar.specs.Family.{Family}
 use Rattle.fluent_syntax_grammar.specs.Grammar.{family, within}
 use Rattle.fluent_syntax_grammar.specs.Grammar as grammar

@@ -8,8 +8,8 @@ use Rattle.fluent_syntax_grammar.specs.Bytes.{is_space, is_digit, is_name_byte}
 use Rattle.fluent_syntax_grammar.specs.Places.{Stretch, Word, Steps, has, has_byte, after_eol, is_blank_place}
 use Rattle.fluent_syntax_grammar.specs.Places.{is_line_place, InlineBlank, BlankBlock, no_line, line}
 use Rattle.fluent_syntax_grammar.specs.Construct.{Outcome, Read, Refused, Construct, over}
-use Rattle.fluent_syntax_grammar.specs.Words.{spanned, optional, token, inline_blank, blank, blank_block, past_eol}
-use Rattle.fluent_syntax_grammar.specs.Words.{optional_eol, rest_of_line, digits, identifier, number}
+use Rattle.fluent_syntax_grammar.specs.Tokens.{spanned, optional, token, inline_blank, blank, blank_block, past_eol}
+use Rattle.fluent_syntax_grammar.specs.Tokens.{optional_eol, rest_of_line, digits, identifier, number}
 use Rattle.fluent_syntax_grammar.specs.Strings.{hex_digits, all_there, escaped, string_unit, string_units, before_quote}
 use Rattle.fluent_syntax_grammar.specs.Strings.{unit_and_more, bad_unit, string_literal}
 use Rattle.fluent_syntax_grammar.specs.Lines.{is_run_place}

@@ -8,7 +8,7 @@ use Rattle.std.proofs.lemmas.Option.{slice_get_within, slice_get_cases}
 use Rattle.fluent_syntax_grammar.specs.Bytes.{lf, cr}
 use Rattle.fluent_syntax_grammar.specs.Places.{holds, Stretch, has_byte, has_eol, after_eol, is_line_place, starts_line}
 use Rattle.fluent_syntax_grammar.specs.Construct.{Read, goes_on, given, at_place, passed, chosen, first, second}
-use Rattle.fluent_syntax_grammar.specs.Words.{token, optional_eol, past_eol}
+use Rattle.fluent_syntax_grammar.specs.Tokens.{token, optional_eol, past_eol}
 use Rattle.fluent_syntax_grammar.specs.Tiling.{whole_line}
 use Rattle.fluent_syntax_grammar.specs.Comments.{hashes, comment_text, comment_rest, comment_line}
 use Rattle.fluent_syntax_tree.specs.declared.spans.Span.{Span}
@@ -23,15 +23,15 @@ pub record IsLine (t : List ℕ) (i j : ℕ) : Type 0 where
   pub stretch : Stretch (is_line_place t) i end
   pub eol : (after_eol t end ≡ Some j) ⊎ ((after_eol t end ≡ None) × (j ≡ end))
 
-no_byte_stands : (o : Option ℕ) (e : Bool) → (is_some o && not e) ≡ false → e ≡ false → o ≡ None
-no_byte_stands None e h g = refl
-no_byte_stands (Some b) true h g = cc
-no_byte_stands (Some b) false h g = cc
+no_byte_holds : (o : Option ℕ) (e : Bool) → (is_some o && not e) ≡ false → e ≡ false → o ≡ None
+no_byte_holds None e h g = refl
+no_byte_holds (Some b) true h g = cc
+no_byte_holds (Some b) false h g = cc
 
-byte_stands : (o : Option ℕ) (e : Bool) → (is_some o && not e) ≡ true → (e ≡ false) × ((b : ℕ) × (o ≡ Some b))
-byte_stands None e h = cc
-byte_stands (Some b) true h = cc
-byte_stands (Some b) false h = (refl, (b, refl))
+byte_holds : (o : Option ℕ) (e : Bool) → (is_some o && not e) ≡ true → (e ≡ false) × ((b : ℕ) × (o ≡ Some b))
+byte_holds None e h = cc
+byte_holds (Some b) true h = cc
+byte_holds (Some b) false h = (refl, (b, refl))
 
 cr_byte : (b : ℕ) → (b == cr) ≡ true → (b == lf) ≡ false
 cr_byte b e = grind (arith, nat_tests)
@@ -66,10 +66,10 @@ module _ (t : List ℕ) where
       (chosen (past_to l.end j (after_eol t l.end) refl l.eol))
 
   place_inside : (k : ℕ) → is_line_place t k ≡ true → k < length t
-  place_inside k e = let b = byte_stands (slice_get t k) (has_eol t k) e in slice_get_within t k b.1.0 b.1.1
+  place_inside k e = let b = byte_holds (slice_get t k) (has_eol t k) e in slice_get_within t k b.1.0 b.1.1
 
   place_no_lf : (k : ℕ) → is_line_place t k ≡ true → has_byte t lf k ≡ false
-  place_no_lf k e = let b = byte_stands (slice_get t k) (has_eol t k) e in
+  place_no_lf k e = let b = byte_holds (slice_get t k) (has_eol t k) e in
       neither_left (has_byte t lf k) (has_byte t cr k && has_byte t lf (k + 1)) b.0
 
   stretch_inside : (i k : ℕ) → i ≤ length t → Stretch (is_line_place t) i k → k ≤ length t
@@ -87,7 +87,7 @@ module _ (t : List ℕ) where
   line_none i k l s e =
       let inside = stretch_inside i k l s in
       let past =
-      no_byte_at k (no_byte_stands (slice_get t k) (has_eol t k) s.longest
+      no_byte_at k (no_byte_holds (slice_get t k) (has_eol t k) s.longest
       (after_none t k e)) in
       omega arith
 

@@ -13,7 +13,7 @@ pub use Rattle.fluent_syntax_grammar.specs.Family.{call_arguments}
 pub use Rattle.fluent_syntax_grammar.specs.Inline.{accessor}
 use Rattle.fluent_syntax_grammar.specs.Construct.{Construct, ◌>>=◌, ◌>>◌, gives, fails, at_each, either, More, no_item}
 use Rattle.fluent_syntax_grammar.specs.Construct.{item, many}
-use Rattle.fluent_syntax_grammar.specs.Words.{optional, token, blank}
+use Rattle.fluent_syntax_grammar.specs.Tokens.{optional, token, blank}
 use Rattle.fluent_syntax_grammar.specs.Starts.{Start, quote, digit, letter, start}
 use Rattle.fluent_syntax_grammar.specs.Family.{Family}
 use Rattle.fluent_syntax_grammar.specs.Inline.{inline_expression}

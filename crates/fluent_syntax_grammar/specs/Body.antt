@@ -12,16 +12,16 @@ faults (refused f ∷ tiles) = f ∷ faults tiles
 faults (dropped ∷ tiles) = faults tiles
 
 -- the entry with the comment, where it is a message or a term
-abbrev pub hung : List Span → EntryTree Span → Option (EntryTree Span)
-hung content (message m) = Some (message (record m { comment = Some content }))
-hung content (term m) = Some (term (record m { comment = Some content }))
-hung content _ = None
+abbrev pub attached : List Span → EntryTree Span → Option (EntryTree Span)
+attached content (message m) = Some (message (record m { comment = Some content }))
+attached content (term m) = Some (term (record m { comment = Some content }))
+attached content _ = None
 
 -- What two tiles give together: a comment of level 1 becomes the comment of a message or a term whose tile begins where
 -- the comment's tile ends.
-abbrev pub hangs : Tile → Tile → Option (EntryTree Span)
-hangs (entry s (comment regular content)) (entry r e) = if s.end == r.start then hung content e else None
-hangs x y = None
+abbrev pub attaches : Tile → Tile → Option (EntryTree Span)
+attaches (entry s (comment regular content)) (entry r e) = if s.end == r.start then attached content e else None
+attaches x y = None
 
 -- what a tile gives by itself
 abbrev pub alone : Tile → List (EntryTree Span)
@@ -39,4 +39,4 @@ joined (Some e) first others after = e ∷ after
 abbrev pub body : List Tile → BodyTree Span
 body [] = []
 body (x ∷ []) = alone x
-body (x ∷ y ∷ tiles) = joined (hangs x y) (alone x) (body (y ∷ tiles)) (body tiles)
+body (x ∷ y ∷ tiles) = joined (attaches x y) (alone x) (body (y ∷ tiles)) (body tiles)

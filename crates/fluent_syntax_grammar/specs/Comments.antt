@@ -7,7 +7,7 @@ use Rattle.fluent_syntax_tree.specs.Entry.{EntryTree, comment, Level, regular, g
 use Rattle.fluent_syntax_tree.specs.Kind.{Kind}
 use Rattle.fluent_syntax_grammar.specs.Construct.{Outcome, Read, Refused, Construct, ◌>>=◌, ◌>>◌, gives, here, over}
 use Rattle.fluent_syntax_grammar.specs.Construct.{at_each}
-use Rattle.fluent_syntax_grammar.specs.Words.{spanned, token, optional_eol, rest_of_line}
+use Rattle.fluent_syntax_grammar.specs.Tokens.{spanned, token, optional_eol, rest_of_line}
 use Rattle.fluent_syntax_tree.specs.declared.spans.Span.{Span}
 
 -- the level that a number of hashes makes

@@ -36,9 +36,9 @@ with_ending (placed e ∷ ps) ending = filled e ∷ with_ending ps ending
 
 -- Where the leading spaces of a line beyond the common indent begin. Where there is no common indent, none are beyond
 -- it.
-abbrev pub kept_from : {E : Type 0} → Option ℕ → LineOf E → ℕ
-kept_from None l = l.start + l.spaces
-kept_from (Some common) l = l.start + min l.spaces common
+abbrev pub common_indent_end : {E : Type 0} → Option ℕ → LineOf E → ℕ
+common_indent_end None l = l.start + l.spaces
+common_indent_end (Some common) l = l.start + min l.spaces common
 
 -- Leading spaces before a placeable are dropped. In edition two those beyond the common indent, if there are any, are a
 -- text.
@@ -58,7 +58,7 @@ items_from edition kept first (placed e ∷ ps) ending = indented edition kept f
 
 -- the items of a line that is not the opening line, under a common indent
 abbrev pub line_items : {E : Type 0} → Edition → Option ℕ → LineOf E → List (ItemOf E)
-line_items edition common l = items_from edition (kept_from common l) (l.start + l.spaces) l.pieces l.ending
+line_items edition common l = items_from edition (common_indent_end common l) (l.start + l.spaces) l.pieces l.ending
 
 -- the items of the opening line, which has no leading spaces
 abbrev pub opening_items : {E : Type 0} → Option (LineOf E) → List (ItemOf E)

@@ -7,7 +7,7 @@ use Rattle.fluent_syntax_tree.specs.Entry.{AttributeTree, EntryTree, message, te
 use Rattle.fluent_syntax_tree.specs.Kind.{Kind, ExpectedMessageField, ExpectedTermField, MissingValue}
 use Rattle.fluent_syntax_grammar.specs.Construct.{Outcome, Read, Refused, Construct, ◌>>=◌, ◌>>◌, gives, here, fails}
 use Rattle.fluent_syntax_grammar.specs.Construct.{fails_from}
-use Rattle.fluent_syntax_grammar.specs.Words.{token, inline_blank, blank_block, identifier}
+use Rattle.fluent_syntax_grammar.specs.Tokens.{token, inline_blank, blank_block, identifier}
 use Rattle.fluent_syntax_grammar.specs.Family.{Family}
 use Rattle.fluent_syntax_grammar.specs.Grammar.{family}
 use Rattle.fluent_syntax_grammar.specs.Patterns.{pattern}

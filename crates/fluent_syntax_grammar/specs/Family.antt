@@ -3,7 +3,7 @@ use Rattle.std.specs.Prelude.{ℕ, List}
 use Rattle.fluent_syntax_tree.specs.Tree.{ArgumentsTree, ExpressionTree, MaybeArguments, no_arguments, some_arguments}
 use Rattle.fluent_syntax_grammar.specs.Bytes.{left_brace, left_parenthesis, right_brace}
 use Rattle.fluent_syntax_grammar.specs.Construct.{Construct, ◌>>=◌, ◌>>◌, gives, either}
-use Rattle.fluent_syntax_grammar.specs.Words.{optional, token, inline_blank, blank}
+use Rattle.fluent_syntax_grammar.specs.Tokens.{optional, token, inline_blank, blank}
 use Rattle.fluent_syntax_tree.specs.declared.spans.Span.{Span}
 
 -- What may stand inside: in the braces of a placeable an expression, and in the parentheses of an argument list the

@@ -8,7 +8,7 @@ use Rattle.fluent_syntax_tree.specs.Tree.{message_reference, term_reference, var
 use Rattle.fluent_syntax_tree.specs.Tree.{MaybeArguments, no_arguments, some_arguments}
 use Rattle.fluent_syntax_tree.specs.Kind.{ForbiddenCallee, ExpectedInlineExpression}
 use Rattle.fluent_syntax_grammar.specs.Construct.{Construct, ◌>>=◌, ◌>>◌, gives, fails, at_each, either}
-use Rattle.fluent_syntax_grammar.specs.Words.{optional, token, identifier, number}
+use Rattle.fluent_syntax_grammar.specs.Tokens.{optional, token, identifier, number}
 use Rattle.fluent_syntax_grammar.specs.Strings as strings
 use Rattle.fluent_syntax_grammar.specs.Starts.{Start, quote, digit, term, minus, dollar, letter, brace, other, start}
 use Rattle.fluent_syntax_grammar.specs.Family.{Family, call_arguments, placeable}

@@ -6,7 +6,7 @@ use Rattle.fluent_syntax_tree.specs.Entry.{EntryTree, message, term, comment, ju
 use Rattle.fluent_syntax_tree.specs.Every.{list_every, body_every}
 use Rattle.fluent_syntax_tree.specs.Spans.{IsPart}
 use Rattle.fluent_syntax_grammar.specs.Construct.{Outcome, Construct}
-use Rattle.fluent_syntax_grammar.specs.Words as words
+use Rattle.fluent_syntax_grammar.specs.Tokens as words
 use Rattle.fluent_syntax_grammar.specs.Strings as strings
 use Rattle.fluent_syntax_grammar.specs.Arguments as arguments
 use Rattle.fluent_syntax_grammar.specs.Variants as variants
@@ -27,14 +27,14 @@ pub record IsFunctional {A : Type 0} (c : Construct A) : Type 0 where
 
 -- ---- the tree without comments
 
--- an entry with no comment hung; a comment by itself is left out
+-- an entry with no comment attached; a comment by itself is left out
 abbrev pub bare : EntryTree Span → BodyTree Span
 bare (message m) = message (record m { comment = None }) ∷ []
 bare (term m) = term (record m { comment = None }) ∷ []
 bare (comment level content) = []
 bare (junk s) = junk s ∷ []
 
--- a body without its comments, free or hung
+-- a body without its comments, free or attached
 abbrev pub without_comments : BodyTree Span → BodyTree Span
 without_comments = flat_map bare
 
@@ -162,11 +162,11 @@ module _ (edition : Edition) (t : List ℕ) where
   RuntimeBodyInText =
       (tiles : List Tile) → IsUtf8 t → RuntimeTiling edition t tiles → body_every (IsPart t) (body tiles)
 
-  -- the tiling without comments gives no comment, and hangs none, also where it has errors
+  -- the tiling without comments gives no comment, and attaches none, also where it has errors
   abbrev pub HasNoComments : Type 0
   HasNoComments = (tiles : List Tile) → RuntimeTiling edition t tiles → body tiles ≡ without_comments (body tiles)
 
-  -- the messages and terms of the tiling without comments are those of the tiling, in order, with no comment hung
+  -- the messages and terms of the tiling without comments are those of the tiling, in order, with no comment attached
   abbrev pub SameMessagesAndTerms : Type 0
   SameMessagesAndTerms = (xs ys : List Tile) → Tiling edition t xs → RuntimeTiling edition t ys →
       messages_and_terms (body ys) ≡ messages_and_terms (without_comments (body xs))

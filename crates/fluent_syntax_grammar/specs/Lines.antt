@@ -6,7 +6,7 @@ use Rattle.fluent_syntax_grammar.specs.Places.{Stretch, Reaches, has, has_byte, 
 use Rattle.fluent_syntax_tree.specs.Kind.{UnbalancedClosingBrace}
 use Rattle.fluent_syntax_grammar.specs.Construct.{Outcome, Read, Construct, ◌>>=◌, ◌>>◌, gives, here, fails, over}
 use Rattle.fluent_syntax_grammar.specs.Construct.{at_each, either, More, no_item, item, list_of}
-use Rattle.fluent_syntax_grammar.specs.Words.{inline_blank}
+use Rattle.fluent_syntax_grammar.specs.Tokens.{inline_blank}
 use Rattle.fluent_syntax_grammar.specs.Layout.{Piece, run, placed, Ending, lf_at, crlf_at, text_end, Line}
 use Rattle.fluent_syntax_grammar.specs.Family.{Family, placeable}
 

@@ -3,7 +3,7 @@ use Rattle.std.specs.Prelude.{ℕ, List, Option, Some, None}
 use Rattle.fluent_syntax_grammar.specs.Places.{Reaches, after_eol}
 use Rattle.fluent_syntax_tree.specs.Tree.{PatternTree}
 use Rattle.fluent_syntax_grammar.specs.Construct.{Construct, ◌>>=◌, ◌>>◌, gives, here, over, at_each}
-use Rattle.fluent_syntax_grammar.specs.Words.{inline_blank, blank_block}
+use Rattle.fluent_syntax_grammar.specs.Tokens.{inline_blank, blank_block}
 use Rattle.fluent_syntax_grammar.specs.Layout.{Layout}
 use Rattle.fluent_syntax_grammar.specs.Elements.{pattern_of}
 use Rattle.fluent_syntax_grammar.specs.Family.{Family}

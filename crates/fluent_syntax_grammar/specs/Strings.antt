@@ -9,7 +9,7 @@ use Rattle.fluent_syntax_tree.specs.Kind.{Kind, ExpectedToken, UnterminatedStrin
 use Rattle.fluent_syntax_tree.specs.Kind.{InvalidUnicodeEscapeSequence}
 use Rattle.fluent_syntax_grammar.specs.Construct.{Outcome, Read, Refused, Construct, ◌>>=◌, ◌>>◌, gives, here, fails}
 use Rattle.fluent_syntax_grammar.specs.Construct.{over, at_each, either}
-use Rattle.fluent_syntax_grammar.specs.Words.{spanned, token}
+use Rattle.fluent_syntax_grammar.specs.Tokens.{spanned, token}
 use Rattle.fluent_syntax_tree.specs.declared.spans.Span.{Span}
 
 module _ (t : List ℕ) where

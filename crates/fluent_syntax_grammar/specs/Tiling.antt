@@ -5,7 +5,7 @@ use Rattle.fluent_syntax_grammar.specs.Bytes.{is_letter, hash, hyphen}
 use Rattle.fluent_syntax_grammar.specs.Places.{has, has_byte, starts_line, BlankBlock}
 use Rattle.fluent_syntax_tree.specs.Kind.{Kind, ExpectedMessageField, ExpectedTermField}
 use Rattle.fluent_syntax_grammar.specs.Construct.{Read, Refused, Construct, ◌>>◌, at_each, either}
-use Rattle.fluent_syntax_grammar.specs.Words.{rest_of_line, optional_eol}
+use Rattle.fluent_syntax_grammar.specs.Tokens.{rest_of_line, optional_eol}
 use Rattle.fluent_syntax_tree.specs.Entry.{EntryTree}
 use Rattle.fluent_syntax_grammar.specs.Entries.{message_of, term_of}
 use Rattle.fluent_syntax_grammar.specs.Family.{Family}

@@ -7,7 +7,7 @@ use Rattle.fluent_syntax_tree.specs.Tree.{no_variants, variants, variant}
 use Rattle.fluent_syntax_tree.specs.Kind.{MissingDefaultVariant, MissingValue, MultipleDefaultVariants}
 use Rattle.fluent_syntax_grammar.specs.Construct.{Construct, ◌>>=◌, ◌>>◌, gives, fails, at_each, either, More}
 use Rattle.fluent_syntax_grammar.specs.Construct.{no_item, item, many}
-use Rattle.fluent_syntax_grammar.specs.Words.{optional, token, blank, identifier, number}
+use Rattle.fluent_syntax_grammar.specs.Tokens.{optional, token, blank, identifier, number}
 use Rattle.fluent_syntax_grammar.specs.Family.{Family}
 use Rattle.fluent_syntax_grammar.specs.Patterns.{pattern}
 use Rattle.fluent_syntax_tree.specs.declared.spans.Span.{Span}

@@ -9,11 +9,11 @@ ghost use Rattle.fluent_syntax_grammar.specs.RoundTrip.{WrittenAgain};
 /// Where the joined tree is canonical, the formatted text has no error and reads as the joined tree. Formatted again it
 /// is the text that the joined tree is written as, which reads as the joined tree too; so formatting once more changes
 /// nothing. Where the text has no error, formatting again changes nothing already.
-pub fn formats_again(text: &str)
+pub fn formatting_is_idempotent(text: &str)
     ensures { WrittenAgain text.now }
 {}
 
 #[test]
 fn formats_a_text_again() {
-    formats_again("a = b\n");
+    formatting_is_idempotent("a = b\n");
 }

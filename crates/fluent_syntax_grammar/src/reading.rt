@@ -33,10 +33,11 @@ ghost use Rattle.fluent_syntax_tree.specs.declared.edition.Edition.{Edition};
 /// - `errors`, `runtime_errors`: these stretches are nonempty and ascend, disjoint, within the text; each error's place
 ///   begins within its stretch, both ends included.
 /// - `body`, `runtime_body`: each text of the tree is an ordered range of the source between character boundaries.
-/// - `no_comments`: the tiling without comments gives no comment and hangs none, with errors or without.
-/// - `same_entries`: the messages and terms without comments are those of the tiling, in order, with no comment hung.
+/// - `no_comments`: the tiling without comments gives no comment and attaches none, with errors or without.
+/// - `same_entries`: the messages and terms without comments are those of the tiling, in order, with no comment
+/// attached.
 /// - `no_new_errors`, `same_body`: where the tiling has no error, the one without comments has none, and its body is
-///   that of the tiling without comment entries and with no comment hung.
+///   that of the tiling without comment entries and with no comment attached.
 pub fn unique_reading(text: &str)
     ensures one_reading { (edition : Edition) → OneReading edition text.now }
     ensures some_tiling { (edition : Edition) → SomeTiling edition text.now }

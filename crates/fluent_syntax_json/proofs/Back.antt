@@ -164,17 +164,21 @@ value-back : (o : Option (PatternTree Text)) → maybe pattern_in (unless_null (
 value-back None = refl
 value-back (Some p) = rw (pattern-back p)
 
-hung-back : (o : Option (List Text)) → maybe comment_in (unless_null (or_null comment_form o)) ≡ Some o
-hung-back None = refl
-hung-back (Some xs) = rw (lines-back xs)
+attached-back : (o : Option (List Text)) → maybe comment_in (unless_null (or_null comment_form o)) ≡ Some o
+attached-back None = refl
+attached-back (Some xs) = rw (lines-back xs)
 
 message-back : (m : MessageTree Text) → message_in (message_form m) ≡ Some m
 message-back m =
-    rw (value-back m.value, items-back attribute_in attribute_form attribute-back m.attributes, hung-back m.comment)
+    rw (value-back m.value, items-back attribute_in attribute_form attribute-back m.attributes, attached-back m.comment)
 
 term-back : (m : TermTree Text) → term_in (term_form m) ≡ Some m
 term-back m =
-    rw (pattern-back m.value, items-back attribute_in attribute_form attribute-back m.attributes, hung-back m.comment)
+    rw (
+      pattern-back m.value,
+      items-back attribute_in attribute_form attribute-back m.attributes,
+      attached-back m.comment,
+    )
 
 entry-back : (e : EntryTree Text) → entry_in (entry_form e) ≡ Some e
 entry-back (message m) = ap (option_map message) (message-back m)

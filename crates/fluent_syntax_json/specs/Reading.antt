@@ -293,8 +293,8 @@ abbrev pub comment_in : Data → Option (List Text)
 comment_in d = at lines_in (codes "content") d
 
 -- the comment of a message or a term, which may be absent or null
-abbrev pub hung_in : Data → Option (Option (List Text))
-hung_in d = maybe comment_in (present (codes "comment") d)
+abbrev pub attached_in : Data → Option (Option (List Text))
+attached_in d = maybe comment_in (present (codes "comment") d)
 
 -- an attribute
 abbrev pub attribute_in : Data → Option (AttributeTree Text)
@@ -313,7 +313,7 @@ message_in d = do
   x ← at name_in (codes "id") d
   p ← value_in d
   attributes ← at (list_by attribute_in) (codes "attributes") d
-  c ← hung_in d
+  c ← attached_in d
   Some (record { id = x; value = p; attributes = attributes; comment = c })
 
 -- a term
@@ -322,7 +322,7 @@ term_in d = do
   x ← at name_in (codes "id") d
   p ← at pattern_in (codes "value") d
   attributes ← at (list_by attribute_in) (codes "attributes") d
-  c ← hung_in d
+  c ← attached_in d
   Some (record { id = x; value = p; attributes = attributes; comment = c })
 
 -- an entry, of which the name of its type is known

@@ -10,12 +10,12 @@ use Rattle.fluent_syntax_tree.specs.declared.spans.Span.{Span}
 use Rattle.fluent_syntax_names.proofs.Adding.{drop_next}
 use Rattle.fluent_syntax_names.specs.Mentions.{Mentions}
 use Rattle.fluent_syntax_names.specs.declared.mention.Mention.{Mention}
-use Rattle.fluent_syntax_names.specs.declared.outline.Outline.{Outline}
-use Rattle.fluent_syntax_names.specs.declared.spelled.EntryName.{EntryName}
+use Rattle.fluent_syntax_names.specs.declared.name_index.NameIndex.{NameIndex}
+use Rattle.fluent_syntax_names.specs.declared.qualified_names.EntryName.{EntryName}
 use Rattle.fluent_syntax_names.specs.Findings.{put, gathered, defined_in, owner_after, defined_by}
-use Rattle.fluent_syntax_names.specs.Spelled.{Text, nameless}
+use Rattle.fluent_syntax_names.specs.QualifiedNames.{Text, nameless}
 use Rattle.fluent_syntax_names.specs.Findings.{is_defined}
-use Rattle.fluent_syntax_names.specs.Places.{first_of, Notes}
+use Rattle.fluent_syntax_names.specs.FirstPlaces.{first_of, Notes}
 use Rattle.fluent_syntax_names.specs.Tables.{Lookup, has_name, NotesNames, LeavesNames}
 
 -- ---- One name
@@ -74,7 +74,7 @@ pub noted_alone : (old new : Lookup) → ((name : Text) → old name ≡ None) �
 noted_alone old new none all notes = λ name.
     or_false (has_name new name) ∙ notes [] name ∙ ap (λ o. is_some o || list_any (bytes_eq name) (all [])) (none name)
 
-module _ (files : List Outline) (now next : Lookup) (i : ℕ) where
+module _ (files : List NameIndex) (now next : Lookup) (i : ℕ) where
   abbrev pub left_of_files : Lookup → ℕ → Type 0
   left_of_files known n = (name : Text) →
       (has_name known name || list_any (bytes_eq name) (defined_by (drop n files))) ≡ is_defined files name
@@ -82,7 +82,7 @@ module _ (files : List Outline) (now next : Lookup) (i : ℕ) where
   pub files_begin : ((name : Text) → now name ≡ None) → left_of_files now 0
   files_begin none = λ name. ap (λ o. is_some o || is_defined files name) (none name)
 
-  pub files_next : (file : Outline) → i < length files → file ≡ get_or files i file → left_of_files now i
+  pub files_next : (file : NameIndex) → i < length files → file ≡ get_or files i file → left_of_files now i
       → NotesNames now next (defined_in file.text.now nameless file.mentions.items) → left_of_files next (i + 1)
   files_next file within is left notes = λ name.
       let cut = drop_next files i file file within is in

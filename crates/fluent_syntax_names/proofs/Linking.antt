@@ -10,27 +10,28 @@ use Rattle.std.proofs.lemmas.List.Folds.{list_any-append}
 use Rattle.fluent_syntax_tree.specs.declared.spans.Span.{Span}
 use Rattle.fluent_syntax_names.proofs.Adding.{drop_next, leaves_rest, leaves_nothing}
 use Rattle.fluent_syntax_names.specs.Growing.{Leaves}
-use Rattle.fluent_syntax_names.specs.Graph.{Graph, Leads, edges}
-use Rattle.fluent_syntax_names.specs.Circles.{Link, is_link, leads, links_in, link_to, links, pattern_after, referred}
-use Rattle.fluent_syntax_names.specs.Circles.{no_pattern}
-use Rattle.fluent_syntax_names.specs.Drawings.{Drawn, IsDrawn, DrawsLinks}
+use Rattle.fluent_syntax_names.specs.Graph.{Graph, HasEdge, edges}
+use Rattle.fluent_syntax_names.specs.Cycles.{Link, is_link, links_to, links_in, link_to, links, pattern_after}
+use Rattle.fluent_syntax_names.specs.Cycles.{referenced_pattern}
+use Rattle.fluent_syntax_names.specs.Cycles.{no_pattern}
+use Rattle.fluent_syntax_names.specs.ReferenceGraphs.{HasEdges, IsReferenceGraph, AddsLinks}
 use Rattle.fluent_syntax_names.specs.Mentions.{Mentions}
 use Rattle.fluent_syntax_names.specs.NamedLists.{AddsItem, AddsName, IsNew, Numbering, Within, lists_of, numbers_of}
-use Rattle.fluent_syntax_names.specs.Places.{place_of}
-use Rattle.fluent_syntax_names.specs.Spelled.{Text}
-use Rattle.fluent_syntax_names.specs.declared.drawing.Drawing.{Drawing}
+use Rattle.fluent_syntax_names.specs.FirstPlaces.{place_of}
+use Rattle.fluent_syntax_names.specs.QualifiedNames.{Text}
+use Rattle.fluent_syntax_names.specs.declared.reference_graph.ReferenceGraph.{ReferenceGraph}
 use Rattle.fluent_syntax_names.specs.declared.mention.Mention.{Mention}
 use Rattle.fluent_syntax_names.specs.declared.named_lists.NamedLists.{NamedLists}
-use Rattle.fluent_syntax_names.specs.declared.places.Places.{Places}
-use Rattle.fluent_syntax_names.specs.declared.outline.Outline.{Outline}
-use Rattle.fluent_syntax_names.specs.declared.spelled.PatternName.{PatternName}
+use Rattle.fluent_syntax_names.specs.declared.first_places.FirstPlaces.{FirstPlaces}
+use Rattle.fluent_syntax_names.specs.declared.name_index.NameIndex.{NameIndex}
+use Rattle.fluent_syntax_names.specs.declared.qualified_names.PatternName.{PatternName}
 use Rattle.fluent_syntax_names.proofs.Numbered.{apart_more, name_stays, none_apart, none_within, within_more}
 use Rattle.fluent_syntax_names.proofs.Ways.{or_left, or_right, link_names, is_own_link}
 
 -- ---- A new name
 
 module _ (all : List Link) (old new : NamedLists ℕ) (name : Text) (node : ℕ) (is : IsNew old new name node)
-    (drawn : Drawn all (numbers_of old) (lists_of old)) where
+    (has_edges : HasEdges all (numbers_of old) (lists_of old)) where
   abbrev g : Graph
   g = lists_of old
 
@@ -49,12 +50,12 @@ module _ (all : List Link) (old new : NamedLists ℕ) (name : Text) (node : ℕ)
     | inr n ↦ get_or_past more u [] (omega (arith, n, length_push g []))
   ]
 
-  leads_still : (u v : ℕ) → u < length g → Leads g u v → Leads more u v
+  leads_still : (u v : ℕ) → u < length g → HasEdge g u v → HasEdge more u v
   leads_still u v h leads_on =
       subst (λ (l : List ℕ). (k : ℕ) × (k < length l) × (get_or l k 0 ≡ v)) (sym (same_edges u h)) leads_on
 
-  led_before : (u v : ℕ) → Leads more u v → Leads g u v
-  led_before u v leads_on = elim (cases_lt u (length g)) [
+  reachable_before : (u v : ℕ) → HasEdge more u v → HasEdge g u v
+  reachable_before u v leads_on = elim (cases_lt u (length g)) [
     | inl w ↦ subst (λ (l : List ℕ). (k : ℕ) × (k < length l) × (get_or l k 0 ≡ v)) (same_edges u w) leads_on
     | inr w ↦
         let none : leads_on.0 < 0 =
@@ -62,36 +63,39 @@ module _ (all : List Link) (old new : NamedLists ℕ) (name : Text) (node : ℕ)
         absurd (omega arith)
   ]
 
-  new_name : Drawn all (numbers_of new) more
+  new_name : HasEdges all (numbers_of new) more
   new_name = record {
     within = subst (Within (numbers_of new)) (sym (length_push g []))
-        (within_more (numbers_of old) (numbers_of new) name node is.absent is.notes (length g) is.last drawn.within);
-    apart = apart_more (numbers_of old) (numbers_of new) name node is.absent is.notes (length g) is.last drawn.within
-        drawn.apart;
-    drawn = λ x y e.
-        let d = drawn.drawn x y e in (
+        (within_more (numbers_of old) (numbers_of new) name node is.absent is.notes
+        (length g) is.last has_edges.within);
+    apart = apart_more (numbers_of old) (numbers_of new) name node is.absent is.notes
+        (length g) is.last has_edges.within
+        has_edges.apart;
+    has_edges = λ x y e.
+        let d = has_edges.has_edges x y e in (
           d.0,
           d.1,
           stays x d.0 d.2,
           stays y d.1 d.3,
-          leads_still d.0 d.1 (drawn.within x d.0 d.2) d.4,
+          leads_still d.0 d.1 (has_edges.within x d.0 d.2) d.4,
         );
     named = λ u v leads_on.
-        let d = drawn.named u v (led_before u v leads_on) in
+        let d = has_edges.named u v (reachable_before u v leads_on) in
         (d.0, d.1, stays d.0 u d.2, stays d.1 v d.3, d.4);
   }
 
 pub named_more : (all : List Link) (old new : NamedLists ℕ) (name : Text) (node : ℕ) → AddsName old new name node
-    → Drawn all (numbers_of old) (lists_of old) → Drawn all (numbers_of new) (lists_of new)
-named_more all old new name node adds drawn = elim adds.adds [
-  | inl same ↦ subst (λ (n : NamedLists ℕ). Drawn all (numbers_of n) (lists_of n)) (sym same) drawn
+    → HasEdges all (numbers_of old) (lists_of old) → HasEdges all (numbers_of new) (lists_of new)
+named_more all old new name node adds has_edges = elim adds.adds [
+  | inl same ↦ subst (λ (n : NamedLists ℕ). HasEdges all (numbers_of n) (lists_of n)) (sym same) has_edges
   | inr is ↦
-      subst (λ (h : Graph). Drawn all (numbers_of new) h) (sym is.longer) (new_name all old new name node is drawn)
+      subst (λ (h : Graph). HasEdges all (numbers_of new) h) (sym is.longer)
+      (new_name all old new name node is has_edges)
 ]
 
 -- ---- A new link
 
-module _ (all : List Link) (node : Numbering) (g : Graph) (drawn : Drawn all node g) (link : Link) (u v : ℕ)
+module _ (all : List Link) (node : Numbering) (g : Graph) (has_edges : HasEdges all node g) (link : Link) (u v : ℕ)
     (from : node link.from ≡ Some u) (to : node link.to ≡ Some v) where
   abbrev longer : List ℕ
   longer = edges g u ++ v ∷ []
@@ -103,7 +107,7 @@ module _ (all : List Link) (node : Numbering) (g : Graph) (drawn : Drawn all nod
   with_link = all ++ link ∷ []
 
   u_in : u < length g
-  u_in = drawn.within link.from u from
+  u_in = has_edges.within link.from u from
 
   edges_there : edges linked u ≡ longer
   edges_there = get_or-set_same g u longer [] u_in
@@ -114,23 +118,23 @@ module _ (all : List Link) (node : Numbering) (g : Graph) (drawn : Drawn all nod
   abbrev ListLeads : List ℕ → ℕ → Type 0
   ListLeads l q = (k : ℕ) × (k < length l) × (get_or l k 0 ≡ q)
 
-  leads_longer : (q : ℕ) → Leads g u q → ListLeads longer q
+  leads_longer : (q : ℕ) → HasEdge g u q → ListLeads longer q
   leads_longer q leads_on = (
     leads_on.0,
     omega (arith, leads_on.1, length_push (edges g u) v),
     get_or_append_left (edges g u) (v ∷ []) 0 leads_on.0 leads_on.1 ∙ leads_on.2,
   )
 
-  leads_still_on : (p q : ℕ) → Leads g p q → Leads linked p q
+  leads_still_on : (p q : ℕ) → HasEdge g p q → HasEdge linked p q
   leads_still_on p q leads_on = elim (cases_eq p u) [
     | inl e ↦
-        let at_u = leads_longer q (subst (λ (x : ℕ). Leads g x q) e leads_on) in
-        subst (λ (x : ℕ). Leads linked x q) (sym e)
+        let at_u = leads_longer q (subst (λ (x : ℕ). HasEdge g x q) e leads_on) in
+        subst (λ (x : ℕ). HasEdge linked x q) (sym e)
         (subst (λ (l : List ℕ). ListLeads l q) (sym edges_there) at_u)
     | inr n ↦ subst (λ (l : List ℕ). ListLeads l q) (sym (edges_other p n)) leads_on
   ]
 
-  leads_new : Leads linked u v
+  leads_new : HasEdge linked u v
   leads_new =
       let last : ListLeads longer v = (
         length (edges g u),
@@ -139,8 +143,8 @@ module _ (all : List Link) (node : Numbering) (g : Graph) (drawn : Drawn all nod
       ) in
       subst (λ (l : List ℕ). ListLeads l v) (sym edges_there) last
 
-  led_longer : (q : ℕ) → ListLeads longer q → Leads g u q ⊎ (q ≡ v)
-  led_longer q leads_on = elim (cases_lt leads_on.0 (length (edges g u))) [
+  reachable_longer : (q : ℕ) → ListLeads longer q → HasEdge g u q ⊎ (q ≡ v)
+  reachable_longer q leads_on = elim (cases_lt leads_on.0 (length (edges g u))) [
     | inl w ↦
         inl (leads_on.0, w, sym (get_or_append_left (edges g u) (v ∷ []) 0 leads_on.0 w) ∙ leads_on.2)
     | inr w ↦
@@ -148,26 +152,26 @@ module _ (all : List Link) (node : Numbering) (g : Graph) (drawn : Drawn all nod
         inr (sym leads_on.2 ∙ get_or_push (edges g u) v 0 leads_on.0 is)
   ]
 
-  led_before_on : (p q : ℕ) → Leads linked p q → Leads g p q ⊎ ((p ≡ u) × (q ≡ v))
-  led_before_on p q leads_on = elim (cases_eq p u) [
+  reachable_before_on : (p q : ℕ) → HasEdge linked p q → HasEdge g p q ⊎ ((p ≡ u) × (q ≡ v))
+  reachable_before_on p q leads_on = elim (cases_eq p u) [
     | inl e ↦
-        let at_u = subst (λ (x : ℕ). Leads linked x q) e leads_on in
-        elim (led_longer q (subst (λ (l : List ℕ). ListLeads l q) edges_there at_u)) [
-          | inl w ↦ inl (subst (λ (x : ℕ). Leads g x q) (sym e) w)
+        let at_u = subst (λ (x : ℕ). HasEdge linked x q) e leads_on in
+        elim (reachable_longer q (subst (λ (l : List ℕ). ListLeads l q) edges_there at_u)) [
+          | inl w ↦ inl (subst (λ (x : ℕ). HasEdge g x q) (sym e) w)
           | inr w ↦ inr (e, w)
         ]
     | inr n ↦ inl (subst (λ (l : List ℕ). ListLeads l q) (edges_other p n) leads_on)
   ]
 
-  leads_split : (x y : Text) → leads with_link x y ≡ (leads all x y || leads (link ∷ []) x y)
+  leads_split : (x y : Text) → links_to with_link x y ≡ (links_to all x y || links_to (link ∷ []) x y)
   leads_split x y = list_any-append (is_link x y) all (link ∷ [])
 
-  new_link : Drawn with_link node linked
+  new_link : HasEdges with_link node linked
   new_link = record {
-    within = λ x w e. omega (arith, drawn.within x w e, length-set g u longer);
-    apart = drawn.apart;
-    drawn = λ x y e. elim (or_cases (leads all x y) (leads (link ∷ []) x y) (sym (leads_split x y) ∙ e)) [
-      | inl w ↦ let d = drawn.drawn x y w in (d.0, d.1, d.2, d.3, leads_still_on d.0 d.1 d.4)
+    within = λ x w e. omega (arith, has_edges.within x w e, length-set g u longer);
+    apart = has_edges.apart;
+    has_edges = λ x y e. elim (or_cases (links_to all x y) (links_to (link ∷ []) x y) (sym (leads_split x y) ∙ e)) [
+      | inl w ↦ let d = has_edges.has_edges x y w in (d.0, d.1, d.2, d.3, leads_still_on d.0 d.1 d.4)
       | inr w ↦ elim (or_cases (is_link x y link) false w) [
         | inl is ↦
             let names = link_names x y link is in
@@ -175,14 +179,14 @@ module _ (all : List Link) (node : Numbering) (g : Graph) (drawn : Drawn all nod
         | inr never ↦ absurd (cc)
       ]
     ];
-    named = λ p q leads_on. elim (led_before_on p q leads_on) [
+    named = λ p q leads_on. elim (reachable_before_on p q leads_on) [
       | inl w ↦
-          let d = drawn.named p q w in (
+          let d = has_edges.named p q w in (
             d.0,
             d.1,
             d.2,
             d.3,
-            leads_split d.0 d.1 ∙ or_left (leads all d.0 d.1) (leads (link ∷ []) d.0 d.1) d.4,
+            leads_split d.0 d.1 ∙ or_left (links_to all d.0 d.1) (links_to (link ∷ []) d.0 d.1) d.4,
           )
       | inr w ↦ (
         link.from,
@@ -190,53 +194,55 @@ module _ (all : List Link) (node : Numbering) (g : Graph) (drawn : Drawn all nod
         from ∙ ap Some (sym w.0),
         to ∙ ap Some (sym w.1),
         leads_split link.from link.to
-            ∙ or_right (leads all link.from link.to) (leads (link ∷ []) link.from link.to)
+            ∙ or_right (links_to all link.from link.to) (links_to (link ∷ []) link.from link.to)
             (or_left (is_link link.from link.to link) false (is_own_link link)),
       )
     ];
   }
 
-pub linked_more : (all : List Link) (old new : NamedLists ℕ) → Drawn all (numbers_of old) (lists_of old)
+pub linked_more : (all : List Link) (old new : NamedLists ℕ) → HasEdges all (numbers_of old) (lists_of old)
     → (link : Link) (u v : ℕ) → numbers_of old link.from ≡ Some u → numbers_of old link.to ≡ Some v
-    → AddsItem old new u v → Drawn (all ++ link ∷ []) (numbers_of new) (lists_of new)
-linked_more all old new drawn link u v from to adds =
-    let linked = new_link all (numbers_of old) (lists_of old) drawn link u v from to in
-    subst (λ (n : Places ℕ). Drawn (all ++ link ∷ []) (place_of n.table) (lists_of new)) (sym adds.same)
-    (subst (λ (g : Graph). Drawn (all ++ link ∷ []) (numbers_of old) g) (sym adds.longer) linked)
+    → AddsItem old new u v → HasEdges (all ++ link ∷ []) (numbers_of new) (lists_of new)
+linked_more all old new has_edges link u v from to adds =
+    let linked = new_link all (numbers_of old) (lists_of old) has_edges link u v from to in
+    subst (λ (n : FirstPlaces ℕ). HasEdges (all ++ link ∷ []) (place_of n.table) (lists_of new)) (sym adds.same)
+    (subst (λ (g : Graph). HasEdges (all ++ link ∷ []) (numbers_of old) g) (sym adds.longer) linked)
 
 -- before anything is drawn
-pub nothing_drawn : (node : Numbering) → ((x : Text) → node x ≡ None) → Drawn [] node []
-nothing_drawn node none = record {
+pub no_links : (node : Numbering) → ((x : Text) → node x ≡ None) → HasEdges [] node []
+no_links node none = record {
   within = none_within node none;
   apart = none_apart node none;
-  drawn = λ x y e. absurd (cc);
+  has_edges = λ x y e. absurd (cc);
   named = λ u v leads_on. absurd (omega (arith, leads_on.1));
 }
 
 -- ---- The mentions of a file
 
-module _ (text : Text) (all : List Link → List Link) (old now : Drawing) (ms : Mentions Span) (i : ℕ) where
-  abbrev pub LeavesLinks : Drawing → PatternName → ℕ → Type 0
-  LeavesLinks drawing pattern n = (before : List Link) → IsDrawn before old → (list : List Link)
-      × IsDrawn list drawing
+module _ (text : Text) (all : List Link → List Link) (old now : ReferenceGraph) (ms : Mentions Span) (i : ℕ) where
+  abbrev pub LeavesLinks : ReferenceGraph → PatternName → ℕ → Type 0
+  LeavesLinks reference_graph pattern n = (before : List Link) → IsReferenceGraph before old → (list : List Link)
+      × IsReferenceGraph list reference_graph
       × Leaves before list (links_in text pattern (drop n ms)) all
 
-  pub links_next : (next : Drawing) (pattern : PatternName) (m d : Mention Span) → i < length ms → m ≡ get_or ms i d
-      → LeavesLinks now pattern i → DrawsLinks now next (link_to text pattern (referred m))
+  pub links_next : (next : ReferenceGraph) (pattern : PatternName) (m d : Mention Span) → i < length ms
+      → m ≡ get_or ms i d
+      → LeavesLinks now pattern i → AddsLinks now next (link_to text pattern (referenced_pattern m))
       → LeavesLinks next (pattern_after pattern m) (i + 1)
-  links_next next pattern m d within is left draws = λ before drawn.
-      let first = left before drawn in
-      let second = draws first.0 first.1 in (
+  links_next next pattern m d within is left adds_links = λ before has_edges.
+      let first = left before has_edges in
+      let second = adds_links first.0 first.1 in (
         second.0,
         second.1,
         leaves_rest before first.0 second.0 (links_in text pattern (drop i ms))
-            (link_to text pattern (referred m)) (links_in text (pattern_after pattern m) (drop (i + 1) ms)) all
+            (link_to text pattern (referenced_pattern m)) (links_in text (pattern_after pattern m)
+            (drop (i + 1) ms)) all
             (λ tail. ap (λ l. links_in text pattern l tail) (drop_next ms i m d within is)) first.2 second.2,
       )
 
-  pub links_none : (pattern : PatternName) → length ms ≤ i → LeavesLinks now pattern i → DrawsLinks old now all
-  links_none pattern end left = λ before drawn.
-      let first = left before drawn in (
+  pub links_none : (pattern : PatternName) → length ms ≤ i → LeavesLinks now pattern i → AddsLinks old now all
+  links_none pattern end left = λ before has_edges.
+      let first = left before has_edges in (
         first.0,
         first.1,
         leaves_nothing before first.0 (links_in text pattern (drop i ms)) all
@@ -245,25 +251,26 @@ module _ (text : Text) (all : List Link → List Link) (old now : Drawing) (ms :
 
 -- ---- The files
 
-module _ (files : List Outline) (now : Drawing) (i : ℕ) where
-  abbrev pub LeavesLinkFiles : Drawing → ℕ → Type 0
-  LeavesLinkFiles drawing n = (list : List Link) × IsDrawn list drawing × (list ++ links (drop n files) ≡ links files)
+module _ (files : List NameIndex) (now : ReferenceGraph) (i : ℕ) where
+  abbrev pub LeavesLinkFiles : ReferenceGraph → ℕ → Type 0
+  LeavesLinkFiles reference_graph n = (list : List Link) × IsReferenceGraph list reference_graph
+      × (list ++ links (drop n files) ≡ links files)
 
-  pub link_files_next : (next : Drawing) (file : Outline) → i < length files → file ≡ get_or files i file
-      → LeavesLinkFiles now i → DrawsLinks now next (links_in file.text.now no_pattern file.mentions.items)
+  pub link_files_next : (next : ReferenceGraph) (file : NameIndex) → i < length files → file ≡ get_or files i file
+      → LeavesLinkFiles now i → AddsLinks now next (links_in file.text.now no_pattern file.mentions.items)
       → LeavesLinkFiles next (i + 1)
-  link_files_next next file within is left draws =
+  link_files_next next file within is left adds_links =
       let cut = drop_next files i file file within is in
-      let second = draws left.0 left.1 in (
+      let second = adds_links left.0 left.1 in (
         second.0,
         second.1,
         second.2 (links (drop (i + 1) files))
-            ∙ ap (λ (l : List Outline). left.0 ++ links l) (sym cut)
+            ∙ ap (λ (l : List NameIndex). left.0 ++ links l) (sym cut)
             ∙ left.2,
       )
 
-  pub link_files_none : length files ≤ i → LeavesLinkFiles now i → IsDrawn (links files) now
+  pub link_files_none : length files ≤ i → LeavesLinkFiles now i → IsReferenceGraph (links files) now
   link_files_none end left =
       let same : left.0 ≡ links files =
-      sym (append-nil left.0) ∙ ap (λ (l : List Outline). left.0 ++ links l) (sym (drop_all i files end)) ∙ left.2 in
-      subst (λ (l : List Link). IsDrawn l now) same left.1
+      sym (append-nil left.0) ∙ ap (λ (l : List NameIndex). left.0 ++ links l) (sym (drop_all i files end)) ∙ left.2 in
+      subst (λ (l : List Link). IsReferenceGraph l now) same left.1

@@ -5,8 +5,8 @@ use Rattle.std.specs.Prelude.{if◌then◌else◌}
 use Rattle.std.specs.Str.{bytes_eq}
 use Rattle.std.proofs.lemmas.Slice.Eq.{bytes_eq-Decides}
 use Rattle.fluent_syntax_names.specs.NamedLists.{Numbering, Within, Apart}
-use Rattle.fluent_syntax_names.specs.Places.{Notes, first_of, place_where}
-use Rattle.fluent_syntax_names.specs.Spelled.{Text}
+use Rattle.fluent_syntax_names.specs.FirstPlaces.{Notes, first_of, place_where}
+use Rattle.fluent_syntax_names.specs.QualifiedNames.{Text}
 use Rattle.fluent_syntax_names.proofs.Ways.{same_name}
 
 some_is : (u v : ℕ) → Some u ≡ Some v → u ≡ v

@@ -11,7 +11,7 @@ use Rattle.std.specs.declared.alloc.Global.{Global}
 use Rattle.std.specs.declared.cmp.Ordering.{Ordering}
 use Rattle.std.specs.declared.cmp.Ordering.TheVariants.{Equal, Greater, Less}
 use Rattle.std.proofs.lemmas.Map.Text.{is_eq-slice_cmp}
-use Rattle.fluent_syntax_names.specs.Places.{first_of, place_where}
+use Rattle.fluent_syntax_names.specs.FirstPlaces.{first_of, place_where}
 
 abbrev pub Key : Type 0
 Key = Vec ℕ Global

@@ -5,8 +5,9 @@ use Rattle.std.specs.List.{list_any}
 use Rattle.std.specs.Str.{bytes_eq}
 use Rattle.std.proofs.lemmas.Bool.{or_cases}
 use Rattle.std.proofs.lemmas.Slice.Eq.{bytes_eq-Decides}
-use Rattle.fluent_syntax_names.specs.Circles.{Link, is_link, leads, Reaches, next, onward, reaches_by, targets, reaches}
-use Rattle.fluent_syntax_names.specs.Spelled.{Text}
+use Rattle.fluent_syntax_names.specs.Cycles.{Link, is_link, links_to, Reaches, next, onward, reaches_by, targets}
+use Rattle.fluent_syntax_names.specs.Cycles.{reaches}
+use Rattle.fluent_syntax_names.specs.QualifiedNames.{Text}
 
 -- ---- Tests
 
@@ -38,9 +39,9 @@ is_own_link link =
     both (bytes_eq link.from link.from) (bytes_eq link.to link.to) (same_name link.from) (same_name link.to)
 
 -- what is led to is a target
-leads_to_target : (all : List Link) (x y : Text) → leads all x y ≡ true → list_any (bytes_eq y) (targets all) ≡ true
+leads_to_target : (all : List Link) (x y : Text) → links_to all x y ≡ true → list_any (bytes_eq y) (targets all) ≡ true
 leads_to_target [] x y e = e
-leads_to_target (link ∷ all) x y e = elim (or_cases (is_link x y link) (leads all x y) e) [
+leads_to_target (link ∷ all) x y e = elim (or_cases (is_link x y link) (links_to all x y) e) [
   | inl w ↦
       or_left (bytes_eq y link.to) (list_any (bytes_eq y) (targets all))
       ((bytes_eq-Decides y link.to).1 (link_names x y link w).1)
@@ -51,8 +52,8 @@ leads_to_target (link ∷ all) x y e = elim (or_cases (is_link x y link) (leads 
 module _ (all : List Link) where
   -- by way of these names alone
   data Via (ways : List Text) : Text → Text → Type 0 where
-    hop : (x y : Text) → leads all x y ≡ true → Via ways x y
-    through : (x w y : Text) → leads all x w ≡ true → list_any (bytes_eq w) ways ≡ true → Via ways w y → Via ways x y
+    hop : (x y : Text) → links_to all x y ≡ true → Via ways x y
+    through : (x w y : Text) → links_to all x w ≡ true → list_any (bytes_eq w) ways ≡ true → Via ways w y → Via ways x y
 
   via_more : (way : Text) (ways : List Text) (x y : Text) → Via ways x y → Via (way ∷ ways) x y
   via_more way ways x y (hop x' y' e) = hop x y e
@@ -91,7 +92,7 @@ module _ (all : List Link) where
         | inl is ↦
             let same : w ≡ way = (bytes_eq-Decides w way).0 is in
             let to_way : reaches_by all ways x way ≡ true =
-            complete x way (hop x way (ap (λ (v : Text). leads all x v) (sym same) ∙ e)) in
+            complete x way (hop x way (ap (λ (v : Text). links_to all x v) (sym same) ∙ e)) in
             elim (or_cases (left w) (right w) later) [
               | inl v ↦
                   or_right (left x) (right x)

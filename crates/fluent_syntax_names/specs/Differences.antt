@@ -2,8 +2,8 @@
 use Rattle.std.specs.Prelude.{ℕ, List, Option, None, Some, codes}
 use Rattle.fluent_syntax_names.specs.declared.finding.Severity.{Severity}
 use Rattle.fluent_syntax_names.specs.declared.finding.Severity.TheVariants.{Error, Warning}
-use Rattle.fluent_syntax_names.specs.declared.lack.Part.{Part}
-use Rattle.fluent_syntax_names.specs.declared.lack.Part.TheVariants as part
+use Rattle.fluent_syntax_names.specs.declared.missing_part.Part.{Part}
+use Rattle.fluent_syntax_names.specs.declared.missing_part.Part.TheVariants as part
 use Rattle.fluent_syntax_names.specs.declared.differences.Difference.{Difference}
 use Rattle.fluent_syntax_names.specs.declared.differences.Difference.TheVariants as differs
 use Rattle.fluent_syntax_names.specs.declared.differences.Side.{Side}

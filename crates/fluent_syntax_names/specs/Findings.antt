@@ -9,16 +9,16 @@ use Rattle.fluent_syntax_names.specs.declared.finding.Finding.{Finding}
 use Rattle.fluent_syntax_names.specs.declared.finding.Place.{Place}
 use Rattle.fluent_syntax_names.specs.declared.finding.Kind.{Kind}
 use Rattle.fluent_syntax_names.specs.declared.finding.Kind.TheVariants as kind
-use Rattle.fluent_syntax_names.specs.declared.outline.Outline.{Outline}
-use Rattle.fluent_syntax_names.specs.declared.spelled.EntryName.{EntryName}
-use Rattle.fluent_syntax_names.specs.declared.spelled.PatternName.{PatternName}
+use Rattle.fluent_syntax_names.specs.declared.name_index.NameIndex.{NameIndex}
+use Rattle.fluent_syntax_names.specs.declared.qualified_names.EntryName.{EntryName}
+use Rattle.fluent_syntax_names.specs.declared.qualified_names.PatternName.{PatternName}
 use Rattle.fluent_syntax_names.specs.Mentions.{Mentions}
-use Rattle.fluent_syntax_names.specs.Places.{first_of, place_where}
-use Rattle.fluent_syntax_names.specs.Severities.{stands_alone}
-use Rattle.fluent_syntax_names.specs.Spelled.{Text, message_name, term_name, nameless, name_at, spelled}
-use Rattle.fluent_syntax_names.specs.Spelled.{spelled_attribute}
-use Rattle.fluent_syntax_names.specs.Spelled.{spelled_value, spelled_pattern}
-use Rattle.fluent_syntax_names.specs.Circles.{pattern_after, referred, no_pattern, links, comes_back}
+use Rattle.fluent_syntax_names.specs.FirstPlaces.{first_of, place_where}
+use Rattle.fluent_syntax_names.specs.Severities.{is_local}
+use Rattle.fluent_syntax_names.specs.QualifiedNames.{Text, message_name, term_name, nameless, name_at, qualified_name}
+use Rattle.fluent_syntax_names.specs.QualifiedNames.{qualified_attribute}
+use Rattle.fluent_syntax_names.specs.QualifiedNames.{qualified_value, qualified_pattern}
+use Rattle.fluent_syntax_names.specs.Cycles.{pattern_after, referenced_pattern, no_pattern, links, is_cyclic}
 
 -- ---- What the files define
 
@@ -30,15 +30,15 @@ owner_after owner _ = owner
 
 -- a message, and its value where it has one
 abbrev pub message_defines : Text → EntryName → Bool → List Text → List Text
-message_defines text message true tail = spelled text message ∷ (spelled_value text message ∷ tail)
-message_defines text message false tail = spelled text message ∷ tail
+message_defines text message true tail = qualified_name text message ∷ (qualified_value text message ∷ tail)
+message_defines text message false tail = qualified_name text message ∷ tail
 
 -- what the mention defines, as it is spelled, before others: `name`, `name=`, `-name`, `name.attribute`,
 -- `-name.attribute`
 abbrev pub defines : Text → EntryName → Mention Span → List Text → List Text
 defines text owner (says.Message x v) tail = message_defines text (message_name x) v tail
-defines text owner (says.Term x) tail = spelled text (term_name x) ∷ tail
-defines text owner (says.Attribute x) tail = spelled_attribute text owner x ∷ tail
+defines text owner (says.Term x) tail = qualified_name text (term_name x) ∷ tail
+defines text owner (says.Attribute x) tail = qualified_attribute text owner x ∷ tail
 defines text owner _ tail = tail
 
 -- what each mention adds before others, where it is known whose attributes stand there
@@ -55,12 +55,12 @@ abbrev pub put : {A : Type 0} → Option A → List A → List A
 put None tail = tail
 put (Some x) tail = x ∷ tail
 
-abbrev pub defined_by : List Outline → List Text
+abbrev pub defined_by : List NameIndex → List Text
 defined_by [] = []
 defined_by (file ∷ files) = defined_in file.text.now nameless file.mentions.items (defined_by files)
 
 -- whether some file defines the name, spelled so
-abbrev pub is_defined : List Outline → Text → Bool
+abbrev pub is_defined : List NameIndex → Text → Bool
 is_defined files name = list_any (bytes_eq name) (defined_by files)
 
 -- ---- What a file has defined so far
@@ -81,9 +81,9 @@ noted known name place = λ n. first_of (known n) (place_where n name place)
 
 abbrev pub after : Text → Known → Mention Span → Known
 after text known (says.Message x v) =
-    record { names = noted known.names (spelled text (message_name x)) x; attributes = λ name. None }
+    record { names = noted known.names (qualified_name text (message_name x)) x; attributes = λ name. None }
 after text known (says.Term x) =
-    record { names = noted known.names (spelled text (term_name x)) x; attributes = λ name. None }
+    record { names = noted known.names (qualified_name text (term_name x)) x; attributes = λ name. None }
 after text known (says.Attribute x) =
     record { names = known.names; attributes = noted known.attributes (name_at text x) x }
 after text known _ = known
@@ -100,14 +100,14 @@ twice kind file place (Some first) = Some (finding_at kind file place (Some (rec
 
 abbrev pub undefined_attribute : (Text → Bool) → ℕ → Text → EntryName → Span → Option Finding
 undefined_attribute is_defined file text entry a =
-    if is_defined (spelled_attribute text entry a) then None
+    if is_defined (qualified_attribute text entry a) then None
     else Some (finding_at kind.UndefinedAttribute file a None)
 
 -- a term has a value
 abbrev pub undefined_value : (Text → Bool) → ℕ → Text → EntryName → Option Finding
 undefined_value is_defined file text entry =
     if entry.is_term then None
-    else if is_defined (spelled_value text entry) then None
+    else if is_defined (qualified_value text entry) then None
     else Some (finding_at kind.UndefinedValue file entry.name None)
 
 -- of an entry that some file defines: its value, or an attribute
@@ -118,70 +118,70 @@ undefined_part is_defined file text entry (Some a) = undefined_attribute is_defi
 -- of a reference to the entry, or to an attribute of it
 abbrev pub undefined : (Text → Bool) → ℕ → Text → Kind → EntryName → Option Span → Option Finding
 undefined is_defined file text kind entry attribute =
-    if is_defined (spelled text entry) then undefined_part is_defined file text entry attribute
+    if is_defined (qualified_name text entry) then undefined_part is_defined file text entry attribute
     else Some (finding_at kind file entry.name None)
 
-abbrev pub found : (Text → Bool) → ℕ → Text → Known → Mention Span → Option Finding
-found is_defined file text known (says.Message x v) =
-    twice kind.DefinedTwice file x (known.names (spelled text (message_name x)))
-found is_defined file text known (says.Term x) =
-    twice kind.DefinedTwice file x (known.names (spelled text (term_name x)))
-found is_defined file text known (says.Attribute x) =
+abbrev pub finding_of : (Text → Bool) → ℕ → Text → Known → Mention Span → Option Finding
+finding_of is_defined file text known (says.Message x v) =
+    twice kind.DefinedTwice file x (known.names (qualified_name text (message_name x)))
+finding_of is_defined file text known (says.Term x) =
+    twice kind.DefinedTwice file x (known.names (qualified_name text (term_name x)))
+finding_of is_defined file text known (says.Attribute x) =
     twice kind.AttributeTwice file x (known.attributes (name_at text x))
-found is_defined file text known (says.MessageReference x a) =
+finding_of is_defined file text known (says.MessageReference x a) =
     undefined is_defined file text kind.UndefinedMessage (message_name x) a
-found is_defined file text known (says.TermReference x a) =
+finding_of is_defined file text known (says.TermReference x a) =
     undefined is_defined file text kind.UndefinedTerm (term_name x) a
-found is_defined file text known _ = None
+finding_of is_defined file text known _ = None
 
 -- a reference to the target that stands in the pattern, where it comes back
-abbrev pub circle_to : (Text → Text → Bool) → ℕ → Text → PatternName → Option PatternName → Option Finding
-circle_to comes_back file text pattern None = None
-circle_to comes_back file text pattern (Some target) =
-    if comes_back (spelled_pattern text pattern) (spelled_pattern text target)
+abbrev pub cycle_to : (Text → Text → Bool) → ℕ → Text → PatternName → Option PatternName → Option Finding
+cycle_to is_cyclic file text pattern None = None
+cycle_to is_cyclic file text pattern (Some target) =
+    if is_cyclic (qualified_pattern text pattern) (qualified_pattern text target)
     then Some (finding_at kind.CyclicReference file target.entry.name None)
     else None
 
-abbrev pub circle : (Text → Text → Bool) → ℕ → Text → PatternName → Mention Span → Option Finding
-circle comes_back file text pattern mention = circle_to comes_back file text pattern (referred mention)
+abbrev pub cycle : (Text → Text → Bool) → ℕ → Text → PatternName → Mention Span → Option Finding
+cycle is_cyclic file text pattern mention = cycle_to is_cyclic file text pattern (referenced_pattern mention)
 
 -- ---- All that is found, in the order of the files and of their mentions
 
 -- what is known of all files: which names they define, and which references come back
 pub record Set : Type 0 where
   pub defines : Text → Bool
-  pub comes_back : Text → Text → Bool
+  pub is_cyclic : Text → Text → Bool
 
-abbrev pub found_in : Set → ℕ → Text → Known → PatternName → Mentions Span → List Finding → List Finding
-found_in all file text known pattern [] tail = tail
-found_in all file text known pattern (m ∷ ms) tail =
-    put (found all.defines file text known m)
-    (put (circle all.comes_back file text pattern m)
-    (found_in all file text (after text known m) (pattern_after pattern m) ms tail))
+abbrev pub findings_in : Set → ℕ → Text → Known → PatternName → Mentions Span → List Finding → List Finding
+findings_in all file text known pattern [] tail = tail
+findings_in all file text known pattern (m ∷ ms) tail =
+    put (finding_of all.defines file text known m)
+    (put (cycle all.is_cyclic file text pattern m)
+    (findings_in all file text (after text known m) (pattern_after pattern m) ms tail))
 
-abbrev pub found_from : Set → ℕ → List Outline → List Finding → List Finding
-found_from all number [] tail = tail
-found_from all number (file ∷ files) tail =
-    found_in all number file.text.now nothing no_pattern file.mentions.items
-    (found_from all (number + 1) files tail)
+abbrev pub findings_from : Set → ℕ → List NameIndex → List Finding → List Finding
+findings_from all number [] tail = tail
+findings_from all number (file ∷ files) tail =
+    findings_in all number file.text.now nothing no_pattern file.mentions.items
+    (findings_from all (number + 1) files tail)
 
-abbrev pub set_of : List Outline → Set
-set_of files = record { defines = is_defined files; comes_back = comes_back (links files) }
+abbrev pub set_of : List NameIndex → Set
+set_of files = record { defines = is_defined files; is_cyclic = is_cyclic (links files) }
 
-abbrev pub all_findings : List Outline → List Finding
-all_findings files = found_from (set_of files) 0 files []
+abbrev pub all_findings : List NameIndex → List Finding
+all_findings files = findings_from (set_of files) 0 files []
 
 -- what is known of files beside others, of which it is known whether they define a name
-abbrev pub set_beside : List Outline → (Text → Bool) → Set
-set_beside files others = record {
+abbrev pub set_with_externals : List NameIndex → (Text → Bool) → Set
+set_with_externals files others = record {
   defines = λ name. is_defined files name || others name;
-  comes_back = comes_back (links files);
+  is_cyclic = is_cyclic (links files);
 }
 
 -- what is found in the files, where others may define what they refer to
-abbrev pub findings_beside : List Outline → (Text → Bool) → List Finding
-findings_beside files others = found_from (set_beside files others) 0 files []
+abbrev pub findings_with_externals : List NameIndex → (Text → Bool) → List Finding
+findings_with_externals files others = findings_from (set_with_externals files others) 0 files []
 
 -- what is found in a file by itself that is found whatever stands in other files
-abbrev pub own_findings : Outline → List Finding
-own_findings file = filter (λ f. stands_alone f.kind) (all_findings (file ∷ []))
+abbrev pub local_findings : NameIndex → List Finding
+local_findings file = filter (λ f. is_local f.kind) (all_findings (file ∷ []))

@@ -20,13 +20,13 @@ abbrev pub IsGraph : Graph → Type 0
 IsGraph g = (u k : ℕ) → k < length (edges g u) → target g u k < length g
 
 -- some edge of the one leads to the other
-abbrev pub Leads : Graph → ℕ → ℕ → Type 0
-Leads g u v = (k : ℕ) × (k < length (edges g u)) × (target g u k ≡ v)
+abbrev pub HasEdge : Graph → ℕ → ℕ → Type 0
+HasEdge g u v = (k : ℕ) × (k < length (edges g u)) × (target g u k ≡ v)
 
 -- a node reaches itself, and what those reach that its edges lead to
 pub data Reaches (g : Graph) : ℕ → ℕ → Type 0 where
   here : (u : ℕ) → Reaches g u u
-  onward : (u v w : ℕ) → Leads g u v → Reaches g v w → Reaches g u w
+  onward : (u v w : ℕ) → HasEdge g u v → Reaches g v w → Reaches g u w
 
 -- two nodes have one number exactly where each reaches the other
 abbrev pub SameComponents : Graph → List ℕ → Type 0

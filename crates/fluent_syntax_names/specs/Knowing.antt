@@ -6,8 +6,8 @@ use Rattle.std.specs.Str.{bytes_eq}
 use Rattle.fluent_syntax_tree.specs.declared.spans.Span.{Span}
 use Rattle.fluent_syntax_names.specs.Findings.{defined_in}
 use Rattle.fluent_syntax_names.specs.Mentions.{Mentions}
-use Rattle.fluent_syntax_names.specs.Places.{place_of}
-use Rattle.fluent_syntax_names.specs.Spelled.{Text, nameless}
+use Rattle.fluent_syntax_names.specs.FirstPlaces.{place_of}
+use Rattle.fluent_syntax_names.specs.QualifiedNames.{Text, nameless}
 use Rattle.fluent_syntax_names.specs.Tables.{has_name}
 use Rattle.fluent_syntax_names.specs.declared.defined_names.DefinedNames.{DefinedNames}
 use Rattle.fluent_syntax_names.specs.declared.known_names.KnownNames.{KnownNames}

@@ -137,5 +137,5 @@ mention_map f (says.Variable x) = says.Variable (f x)
 mention_map f (says.Function x) = says.Function (f x)
 
 -- the range so many bytes on
-abbrev pub span_on : ℕ → Span → Span
-span_on base s = record { start = base + s.start; end = base + s.end }
+abbrev pub shifted_span : ℕ → Span → Span
+shifted_span base s = record { start = base + s.start; end = base + s.end }

@@ -1,7 +1,7 @@
 -- Names, each with a list.
 use Rattle.std.specs.Prelude.{◌≡◌, ◌⊎◌, ◌<◌, ℕ, List, [], ◌∷◌, ◌++◌, length, map, get_or, set, Option, Some, None}
-use Rattle.fluent_syntax_names.specs.Places.{Notes, place_of}
-use Rattle.fluent_syntax_names.specs.Spelled.{Text}
+use Rattle.fluent_syntax_names.specs.FirstPlaces.{Notes, place_of}
+use Rattle.fluent_syntax_names.specs.QualifiedNames.{Text}
 use Rattle.fluent_syntax_names.specs.declared.named_lists.NamedLists.{NamedLists}
 
 -- which number a name has

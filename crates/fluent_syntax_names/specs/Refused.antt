@@ -5,11 +5,11 @@ use Rattle.std.specs.Str.{bytes_eq}
 use Rattle.fluent_syntax_tree.specs.Bytes.{hyphen, underscore}
 use Rattle.fluent_syntax_tree.specs.declared.spans.Span.{Span}
 use Rattle.fluent_syntax_names.specs.Mentions.{Mentions}
-use Rattle.fluent_syntax_names.specs.Places.{first_of, place_of, place_where}
-use Rattle.fluent_syntax_names.specs.Spelled.{Text, name_at}
+use Rattle.fluent_syntax_names.specs.FirstPlaces.{first_of, place_of, place_where}
+use Rattle.fluent_syntax_names.specs.QualifiedNames.{Text, name_at}
 use Rattle.fluent_syntax_names.specs.declared.mention.Mention.{Mention}
 use Rattle.fluent_syntax_names.specs.declared.mention.Mention.TheVariants as says
-use Rattle.fluent_syntax_names.specs.declared.outline.Outline.{Outline}
+use Rattle.fluent_syntax_names.specs.declared.name_index.NameIndex.{NameIndex}
 use Rattle.fluent_syntax_names.specs.declared.refused_names.RefusedNames.{RefusedNames}
 
 -- letters, digits, `-` and `_`
@@ -17,12 +17,12 @@ abbrev pub is_name_byte : ℕ → Bool
 is_name_byte b = is_ascii_alphanumeric b || b == hyphen || b == underscore
 
 -- the name with which the bytes begin, a term's with its `-`: no byte of a name follows
-abbrev pub begun_name : Text → Text
-begun_name bytes = take_while is_name_byte bytes
+abbrev pub name_prefix : Text → Text
+name_prefix bytes = take_while is_name_byte bytes
 
 -- the range of the mention, where it is junk that begins with the name
 abbrev pub junk_named : Text → Mention Span → (name : Text) → Option Span
-junk_named text (says.Junk x) name = place_where name (begun_name (name_at text x)) x
+junk_named text (says.Junk x) name = place_where name (name_prefix (name_at text x)) x
 junk_named text _ name = None
 
 abbrev pub refused_in : Text → Mentions Span → (name : Text) → Option Span
@@ -30,7 +30,7 @@ refused_in text [] name = None
 refused_in text (m ∷ ms) name = first_of (junk_named text m name) (refused_in text ms name)
 
 -- the first junk of the file that begins with the name of this entry, a term's with its `-`
-abbrev pub refused_at : Outline → (entry : Text) → Option Span
+abbrev pub refused_at : NameIndex → (entry : Text) → Option Span
 refused_at file entry = refused_in file.text.now file.mentions.items entry
 
 -- the range of a name with the `-` before it, where one stands there

@@ -25,11 +25,11 @@ name_of kind.UndefinedValue = codes "undefined-value"
 name_of kind.CyclicReference = codes "cyclic-reference"
 
 -- whether one in a file is one whatever stands in other files
-abbrev pub stands_alone : Kind → Bool
-stands_alone kind.DefinedTwice = true
-stands_alone kind.AttributeTwice = true
-stands_alone kind.UndefinedMessage = false
-stands_alone kind.UndefinedTerm = false
-stands_alone kind.UndefinedAttribute = false
-stands_alone kind.UndefinedValue = false
-stands_alone kind.CyclicReference = true
+abbrev pub is_local : Kind → Bool
+is_local kind.DefinedTwice = true
+is_local kind.AttributeTwice = true
+is_local kind.UndefinedMessage = false
+is_local kind.UndefinedTerm = false
+is_local kind.UndefinedAttribute = false
+is_local kind.UndefinedValue = false
+is_local kind.CyclicReference = true

@@ -5,8 +5,8 @@ use Rattle.std.specs.Str.{bytes_eq}
 use Rattle.fluent_syntax_tree.specs.declared.spans.Span.{Span}
 use Rattle.fluent_syntax_names.specs.declared.mention.Mention.{Mention}
 use Rattle.fluent_syntax_names.specs.Findings.{Known, after}
-use Rattle.fluent_syntax_names.specs.Spelled.{Text}
-use Rattle.fluent_syntax_names.specs.Places.{Notes}
+use Rattle.fluent_syntax_names.specs.QualifiedNames.{Text}
+use Rattle.fluent_syntax_names.specs.FirstPlaces.{Notes}
 
 -- names with their places
 abbrev pub Lookup : Type 0

@@ -3,15 +3,15 @@ ghost use Rattle.std.specs.Prelude.{◌≡◌, List, ℕ, false, OnOk};
 ghost use Rattle.fluent_syntax_names.specs.Knowing.{AddsDefined, defines_name};
 
 use crate::definitions::note_definitions;
+use crate::first_places::FirstPlaces;
 use crate::mention::Mention;
-use crate::places::Places;
 use fluent_syntax_tree::spans::Span;
 use std::alloc::{AllocError, Global};
 
 /// The names that some files define, to look up references of others. A clause tells by `defines_name` which they are.
 #[derive(Drop)]
 pub struct DefinedNames {
-    places: Places<Span>,
+    places: FirstPlaces<Span>,
 }
 
 impl DefinedNames {
@@ -20,7 +20,7 @@ impl DefinedNames {
         ensures { (name : List ℕ) → defines_name result name ≡ false }
     {
         DefinedNames {
-            places: Places::new(alloc),
+            places: FirstPlaces::new(alloc),
         }
     }
 

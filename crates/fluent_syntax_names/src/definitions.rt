@@ -1,14 +1,14 @@
 //! What a set of files defines.
 ghost use Rattle.std.specs.Prelude.{◌≡◌, true, false, Some, OnOk};
 ghost use Rattle.fluent_syntax_names.specs.Findings.{owner_after, defines, defined_in, put, message_defines};
-ghost use Rattle.fluent_syntax_names.specs.Spelled.{nameless};
-ghost use Rattle.fluent_syntax_names.specs.Places.{place_of};
-ghost use Rattle.fluent_syntax_names.specs.Spelled.{spelled, spelled_attribute, spelled_value};
+ghost use Rattle.fluent_syntax_names.specs.QualifiedNames.{nameless};
+ghost use Rattle.fluent_syntax_names.specs.FirstPlaces.{place_of};
+ghost use Rattle.fluent_syntax_names.specs.QualifiedNames.{qualified_name, qualified_attribute, qualified_value};
 ghost use Rattle.fluent_syntax_names.specs.Tables.{NotesNames};
 
+use crate::first_places::FirstPlaces;
 use crate::mention::Mention;
-use crate::places::Places;
-use crate::spelled::{EntryName, spelled, spelled_attribute, spelled_value};
+use crate::qualified_names::{EntryName, qualified_attribute, qualified_name, qualified_value};
 use fluent_syntax_tree::spans::Span;
 use std::alloc::{AllocError, Global};
 
@@ -41,7 +41,7 @@ pub(crate) fn term_name(name: Span) -> EntryName
 /// Notes the names of all that the mentions of a file define.
 pub(crate) fn note_definitions(
     alloc: Global,
-    table: &mut Places<Span>,
+    table: &mut FirstPlaces<Span>,
     text: &str,
     mentions: &[Mention<Span>],
 ) -> Result<(), AllocError>
@@ -59,7 +59,7 @@ pub(crate) fn note_definitions(
 /// Notes the name that the mention defines, if it defines one.
 fn note_definition(
     alloc: Global,
-    table: &mut Places<Span>,
+    table: &mut FirstPlaces<Span>,
     text: &str,
     owner: EntryName,
     mention: &Mention<Span>,
@@ -79,7 +79,7 @@ fn note_definition(
 
 fn note_message(
     alloc: Global,
-    table: &mut Places<Span>,
+    table: &mut FirstPlaces<Span>,
     text: &str,
     message: EntryName,
     has_value: bool,
@@ -97,43 +97,43 @@ fn note_message(
 
 fn note_value(
     alloc: Global,
-    table: &mut Places<Span>,
+    table: &mut FirstPlaces<Span>,
     text: &str,
     message: EntryName,
 ) -> Result<(), AllocError>
     ensures { OnOk result (NotesNames (place_of table.old.table) (place_of table.new.table)
-        (put (Some (spelled_value text.now message)))) }
+        (put (Some (qualified_value text.now message)))) }
 {
-    let name = spelled_value(alloc, text, message)?;
+    let name = qualified_value(alloc, text, message)?;
     table.note(name, message.name)?;
     Ok(())
 }
 
 fn note_entry(
     alloc: Global,
-    table: &mut Places<Span>,
+    table: &mut FirstPlaces<Span>,
     text: &str,
     entry: EntryName,
 ) -> Result<(), AllocError>
     ensures { OnOk result (NotesNames (place_of table.old.table) (place_of table.new.table)
-        (put (Some (spelled text.now entry)))) }
+        (put (Some (qualified_name text.now entry)))) }
 {
-    let name = spelled(alloc, text, entry)?;
+    let name = qualified_name(alloc, text, entry)?;
     table.note(name, entry.name)?;
     Ok(())
 }
 
 fn note_attribute(
     alloc: Global,
-    table: &mut Places<Span>,
+    table: &mut FirstPlaces<Span>,
     text: &str,
     owner: EntryName,
     attribute: Span,
 ) -> Result<(), AllocError>
     ensures { OnOk result (NotesNames (place_of table.old.table) (place_of table.new.table)
-        (put (Some (spelled_attribute text.now owner attribute)))) }
+        (put (Some (qualified_attribute text.now owner attribute)))) }
 {
-    let name = spelled_attribute(alloc, text, owner, attribute)?;
+    let name = qualified_attribute(alloc, text, owner, attribute)?;
     table.note(name, attribute)?;
     Ok(())
 }

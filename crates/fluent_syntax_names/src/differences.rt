@@ -3,7 +3,7 @@ ghost use Rattle.std.specs.Prelude.{◌≡◌};
 ghost use Rattle.fluent_syntax_names.specs.Differences.{difference_name, difference_severity, side_difference};
 
 use crate::finding::Severity;
-use crate::lack::Part;
+use crate::missing_part::Part;
 
 /// One of two files that are compared.
 #[derive(Clone, Copy, Debug, PartialEq, Eq)]

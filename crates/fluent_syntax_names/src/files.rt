@@ -1,25 +1,25 @@
 //! All that is found in a set of files.
 ghost use Rattle.std.specs.Prelude.{◌≡◌, ◌↔◌, ℕ, List, [], None, OnOk, IfOk, IsTrue};
-ghost use Rattle.fluent_syntax_names.specs.Circles.{Reaches, links, no_pattern, reaches};
-ghost use Rattle.fluent_syntax_names.specs.Drawings.{set_by};
-ghost use Rattle.fluent_syntax_names.specs.Findings.{nothing, found_in, found_from, all_findings, put};
-ghost use Rattle.fluent_syntax_names.specs.Findings.{findings_beside, is_defined, own_findings};
+ghost use Rattle.fluent_syntax_names.specs.Cycles.{Reaches, links, no_pattern, reaches};
+ghost use Rattle.fluent_syntax_names.specs.ReferenceGraphs.{set_by};
+ghost use Rattle.fluent_syntax_names.specs.Findings.{nothing, findings_in, findings_from, all_findings, put};
+ghost use Rattle.fluent_syntax_names.specs.Findings.{findings_with_externals, is_defined, local_findings};
 ghost use Rattle.fluent_syntax_names.specs.Knowing.{knows, others_define};
-ghost use Rattle.fluent_syntax_names.specs.Places.{place_of};
+ghost use Rattle.fluent_syntax_names.specs.FirstPlaces.{place_of};
 ghost use Rattle.fluent_syntax_names.specs.Growing.{Adds};
 ghost use Rattle.fluent_syntax_names.specs.Tables.{has_name};
 
-use crate::circles::{Circles, circles_of};
+use crate::cycles::{Cycles, cycles_of};
 use crate::defined_names::DefinedNames;
+use crate::defined_so_far::DefinedSoFar;
 use crate::definitions::note_definitions;
 use crate::finding::Finding;
-use crate::found::Here;
+use crate::first_places::FirstPlaces;
 use crate::known_names::KnownNames;
 use crate::mention::Mention;
-use crate::noted::Noted;
-use crate::outline::Outline;
-use crate::places::Places;
-use crate::referring::{NO_PATTERN, pattern_after};
+use crate::mention_findings::FileContext;
+use crate::name_index::NameIndex;
+use crate::pattern_references::{NO_PATTERN, pattern_after};
 use fluent_syntax_tree::spans::Span;
 use std::alloc::{AllocError, Global};
 use std::slice::from_ref;
@@ -32,12 +32,12 @@ use std::slice::from_ref;
 ///
 /// Takes the memory of tables of all names and references, and of the list; `AllocError` where there is none. The time
 /// is that of looking each name up in a sorted table.
-pub fn findings(alloc: Global, files: &[Outline<'_>]) -> Result<Vec<Finding>, AllocError>
+pub fn findings(alloc: Global, files: &[NameIndex<'_>]) -> Result<Vec<Finding>, AllocError>
     ensures findings { IfOk result (λ list. list.items ≡ all_findings files.now) }
     ensures reached { (from to : List ℕ) →
         IsTrue (reaches (links files.now) from to) ↔ Reaches (links files.now) from to }
 {
-    findings_beside(alloc, files, &[])
+    findings_with_externals(alloc, files, &[])
 }
 
 /// All that is found in the files of one language, where others define names too, which are no findings here: the
@@ -45,47 +45,47 @@ pub fn findings(alloc: Global, files: &[Outline<'_>]) -> Result<Vec<Finding>, Al
 ///
 /// Takes the memory of tables of all names and references, and of the list; `AllocError` where there is none. The time
 /// is that of looking each name up in a sorted table, and each reference that no file defines in each of the others.
-pub fn findings_beside(
+pub fn findings_with_externals(
     alloc: Global,
-    files: &[Outline<'_>],
+    files: &[NameIndex<'_>],
     others: &[&DefinedNames],
 ) -> Result<Vec<Finding>, AllocError>
-    ensures { IfOk result (λ list. list.items ≡ findings_beside files.now (others_define others.now)) }
+    ensures { IfOk result (λ list. list.items ≡ findings_with_externals files.now (others_define others.now)) }
 {
-    let mut own = Places::new(alloc);
+    let mut own = FirstPlaces::new(alloc);
     note_files(alloc, &mut own, files)?;
-    let circles = circles_of(alloc, files)?;
+    let cycles = cycles_of(alloc, files)?;
     let known = KnownNames { own: &own, others };
-    found_in_files(alloc, known, &circles, files)
+    findings_in_files(alloc, known, &cycles, files)
 }
 
 /// What is found in a file by itself, whatever stands in other files, in the order of its text: a name or an attribute
 /// that is given twice, and a reference that comes back. The findings are of the file 0.
 ///
 /// Takes the memory of tables of its names and references, and of the list; `AllocError` where there is none.
-pub fn own_findings(alloc: Global, file: &Outline<'_>) -> Result<Vec<Finding>, AllocError>
-    ensures { IfOk result (λ list. list.items ≡ own_findings file.now) }
+pub fn local_findings(alloc: Global, file: &NameIndex<'_>) -> Result<Vec<Finding>, AllocError>
+    ensures { IfOk result (λ list. list.items ≡ local_findings file.now) }
 {
     let files = from_ref(file);
-    let circles = circles_of(alloc, files)?;
+    let cycles = cycles_of(alloc, files)?;
     // Where no name is known, each reference is found missing, and none of these findings stands alone.
-    let unknown = Places::new(alloc);
+    let unknown = FirstPlaces::new(alloc);
     let known = KnownNames {
         own: &unknown,
         others: &[],
     };
-    let all = found_in_files(alloc, known, &circles, files)?;
+    let all = findings_in_files(alloc, known, &cycles, files)?;
     all.iter()
         .copied()
-        .filter(|finding| finding.kind.stands_alone())
+        .filter(|finding| finding.kind.is_local())
         .collect(alloc)
 }
 
 /// Notes all names that the files define.
 fn note_files(
     alloc: Global,
-    table: &mut Places<Span>,
-    files: &[Outline<'_>],
+    table: &mut FirstPlaces<Span>,
+    files: &[NameIndex<'_>],
 ) -> Result<(), AllocError>
     requires { (name : List ℕ) → place_of table.old.table name ≡ None }
     ensures { OnOk result ((name : List ℕ) → has_name (place_of table.new.table) name ≡ is_defined files.now name) }
@@ -97,46 +97,46 @@ fn note_files(
 }
 
 /// What is found in each file, where all names that they define and all references that come back are known.
-fn found_in_files(
+fn findings_in_files(
     alloc: Global,
     known: KnownNames<'_>,
-    circles: &Circles,
-    files: &[Outline<'_>],
+    cycles: &Cycles,
+    files: &[NameIndex<'_>],
 ) -> Result<Vec<Finding>, AllocError>
     ensures { IfOk result (λ list.
-        list.items ≡ found_from (set_by (knows known.entry) circles.now) 0 files.now []) }
+        list.items ≡ findings_from (set_by (knows known.entry) cycles.now) 0 files.now []) }
 {
     let mut list = Vec::new(alloc);
     for (number, file) in files.iter().enumerate() {
-        let here = Here {
+        let here = FileContext {
             alloc,
             known,
-            circles,
+            cycles,
             file: number,
             text: file.text,
         };
-        add_found(&here, &file.mentions, &mut list)?;
+        add_findings(&here, &file.mentions, &mut list)?;
     }
     Ok(list)
 }
 
 /// Adds what is found in a file.
-fn add_found(
-    here: &Here<'_>,
+fn add_findings(
+    here: &FileContext<'_>,
     mentions: &[Mention<Span>],
     list: &mut Vec<Finding>,
 ) -> Result<(), AllocError>
     ensures { OnOk result (Adds list.old.items list.new.items
-        (found_in (set_by (knows here.now.known) here.now.circles.now) here.now.file
+        (findings_in (set_by (knows here.now.known) here.now.cycles.now) here.now.file
         here.now.text.now nothing no_pattern mentions.now)) }
 {
-    let mut noted = Noted::new(here.alloc);
+    let mut noted = DefinedSoFar::new(here.alloc);
     let mut pattern = NO_PATTERN;
     for mention in mentions {
-        let finding = here.found(&mut noted, mention)?;
+        let finding = here.finding_of(&mut noted, mention)?;
         add_finding(list, finding)?;
-        let circle = here.circle(pattern, mention)?;
-        add_finding(list, circle)?;
+        let cycle = here.cycle(pattern, mention)?;
+        add_finding(list, cycle)?;
         pattern = pattern_after(pattern, mention);
     }
     Ok(())

@@ -1,6 +1,6 @@
 //! What is found.
 ghost use Rattle.std.specs.Prelude.{◌≡◌};
-ghost use Rattle.fluent_syntax_names.specs.Severities.{severity_of, name_of, stands_alone};
+ghost use Rattle.fluent_syntax_names.specs.Severities.{severity_of, name_of, is_local};
 
 use fluent_syntax_tree::spans::Span;
 
@@ -82,8 +82,8 @@ impl Kind {
 
     /// Whether a finding of this kind in a file is one whatever stands in other files. What no file defines may be
     /// defined in one more.
-    pub fn stands_alone(self) -> bool
-        ensures { result ≡ stands_alone self }
+    pub fn is_local(self) -> bool
+        ensures { result ≡ is_local self }
     {
         match self {
             Kind::DefinedTwice | Kind::AttributeTwice | Kind::CyclicReference => true,

@@ -1,5 +1,5 @@
-//! Which nodes of a directed graph lie on a circle together.
-mod parting;
+//! Which nodes of a directed graph lie on a cycle together.
+mod component_numbers;
 mod search;
 
-pub use parting::components;
+pub use component_numbers::components;

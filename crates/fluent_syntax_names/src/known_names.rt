@@ -3,13 +3,13 @@ ghost use Rattle.std.specs.Prelude.{◌≡◌};
 ghost use Rattle.fluent_syntax_names.specs.Knowing.{knows, others_define};
 
 use crate::defined_names::DefinedNames;
-use crate::places::Places;
+use crate::first_places::FirstPlaces;
 use fluent_syntax_tree::spans::Span;
 
 /// The names that files define, and those that others do.
 #[derive(Clone, Copy)]
 pub(crate) struct KnownNames<'a> {
-    pub(crate) own: &'a Places<Span>,
+    pub(crate) own: &'a FirstPlaces<Span>,
     pub(crate) others: &'a [&'a DefinedNames],
 }
 

@@ -2,14 +2,14 @@
 ghost use Rattle.std.specs.Prelude.{◌≡◌, ◌<◌, List, ℕ, None, [], IfOk, OnOk, length};
 ghost use Rattle.fluent_syntax_names.specs.NamedLists.{AddsItem, AddsName, lists_of, numbers_of};
 
-use crate::places::Places;
+use crate::first_places::FirstPlaces;
 use std::alloc::{AllocError, Global};
 
 /// Names, each with a list.
 #[derive(Drop)]
 pub(crate) struct NamedLists<T> {
     /// Which of the lists is that of a name.
-    pub(crate) numbers: Places<usize>,
+    pub(crate) numbers: FirstPlaces<usize>,
     pub(crate) lists: Vec<Vec<T>>,
 }
 
@@ -20,7 +20,7 @@ impl<T: Drop> NamedLists<T> {
         ensures lists { lists_of result ≡ [] }
     {
         NamedLists {
-            numbers: Places::new(alloc),
+            numbers: FirstPlaces::new(alloc),
             lists: Vec::new(alloc),
         }
     }

@@ -1,11 +1,11 @@
 //! The entries of a file that became junk.
 ghost use Rattle.std.specs.Prelude.{◌≡◌, List, ℕ, None, IfOk, OnOk};
-ghost use Rattle.fluent_syntax_names.specs.Places.{Notes};
-ghost use Rattle.fluent_syntax_names.specs.Refused.{begun_name, entry_at, is_name_byte, refused_place, with_hyphen};
-ghost use Rattle.fluent_syntax_names.specs.Spelled.{name_at};
+ghost use Rattle.fluent_syntax_names.specs.FirstPlaces.{Notes};
+ghost use Rattle.fluent_syntax_names.specs.Refused.{name_prefix, entry_at, is_name_byte, refused_place, with_hyphen};
+ghost use Rattle.fluent_syntax_names.specs.QualifiedNames.{name_at};
 
-use crate::places::Places;
-use crate::spelled::name_at;
+use crate::first_places::FirstPlaces;
+use crate::qualified_names::name_at;
 use fluent_syntax_tree::spans::Span;
 use std::alloc::{AllocError, Global};
 
@@ -14,7 +14,7 @@ use std::alloc::{AllocError, Global};
 /// `refused_place` which they are.
 #[derive(Drop)]
 pub struct RefusedNames<X> {
-    places: Places<X>,
+    places: FirstPlaces<X>,
 }
 
 impl<X: Copy> RefusedNames<X> {
@@ -23,7 +23,7 @@ impl<X: Copy> RefusedNames<X> {
         ensures { (entry : List ℕ) → refused_place result entry ≡ None }
     {
         RefusedNames {
-            places: Places::new(alloc),
+            places: FirstPlaces::new(alloc),
         }
     }
 
@@ -40,9 +40,9 @@ impl<X: Copy> RefusedNames<X> {
         place: X,
     ) -> Result<(), AllocError>
         ensures { OnOk result (Notes (refused_place self.old) (refused_place self.new)
-            (begun_name (name_at text.now junk)) place) }
+            (name_prefix (name_at text.now junk)) place) }
     {
-        let name = begun_name(alloc, name_at(text, junk))?;
+        let name = name_prefix(alloc, name_at(text, junk))?;
         self.places.note(name, place)?;
         Ok(())
     }
@@ -57,8 +57,8 @@ impl<X: Copy> RefusedNames<X> {
 }
 
 /// The name with which the bytes begin.
-fn begun_name(alloc: Global, bytes: &[u8]) -> Result<Vec<u8>, AllocError>
-    ensures { IfOk result (λ name. name.items ≡ begun_name bytes.now) }
+fn name_prefix(alloc: Global, bytes: &[u8]) -> Result<Vec<u8>, AllocError>
+    ensures { IfOk result (λ name. name.items ≡ name_prefix bytes.now) }
 {
     bytes
         .iter()

@@ -1,23 +1,23 @@
 //! What the entries of a file use.
 ghost use Rattle.std.specs.Prelude.{◌≡◌, Some, OnOk};
 ghost use Rattle.fluent_syntax_names.specs.Findings.{put};
-ghost use Rattle.fluent_syntax_names.specs.Spelled.{nameless, message_name};
-ghost use Rattle.fluent_syntax_names.specs.Lacks.{uses, used_in};
-ghost use Rattle.fluent_syntax_names.specs.Places.{place_of};
-ghost use Rattle.fluent_syntax_names.specs.Spelled.{spelled_reference, spelled_variable};
+ghost use Rattle.fluent_syntax_names.specs.QualifiedNames.{nameless, message_name};
+ghost use Rattle.fluent_syntax_names.specs.MissingParts.{uses, used_in};
+ghost use Rattle.fluent_syntax_names.specs.FirstPlaces.{place_of};
+ghost use Rattle.fluent_syntax_names.specs.QualifiedNames.{qualified_reference, qualified_variable};
 ghost use Rattle.fluent_syntax_names.specs.Tables.{NotesNames};
 
 use crate::definitions::{NAMELESS, message_name, owner_after, term_name};
+use crate::first_places::FirstPlaces;
 use crate::mention::Mention;
-use crate::places::Places;
-use crate::spelled::{EntryName, spelled_reference, spelled_variable};
+use crate::qualified_names::{EntryName, qualified_reference, qualified_variable};
 use fluent_syntax_tree::spans::Span;
 use std::alloc::{AllocError, Global};
 
 /// Notes all that the entries of a file use, each with the entry's name.
 pub(crate) fn note_uses(
     alloc: Global,
-    table: &mut Places<Span>,
+    table: &mut FirstPlaces<Span>,
     text: &str,
     mentions: &[Mention<Span>],
 ) -> Result<(), AllocError>
@@ -35,7 +35,7 @@ pub(crate) fn note_uses(
 /// Notes what the mention uses, if it uses anything.
 fn note_use(
     alloc: Global,
-    table: &mut Places<Span>,
+    table: &mut FirstPlaces<Span>,
     text: &str,
     owner: EntryName,
     mention: &Mention<Span>,
@@ -57,30 +57,30 @@ fn note_use(
 
 fn note_reference(
     alloc: Global,
-    table: &mut Places<Span>,
+    table: &mut FirstPlaces<Span>,
     text: &str,
     owner: EntryName,
     target: EntryName,
 ) -> Result<(), AllocError>
     ensures { OnOk result (NotesNames (place_of table.old.table) (place_of table.new.table)
-        (put (Some (spelled_reference text.now owner target)))) }
+        (put (Some (qualified_reference text.now owner target)))) }
 {
-    let name = spelled_reference(alloc, text, owner, target)?;
+    let name = qualified_reference(alloc, text, owner, target)?;
     table.note(name, target.name)?;
     Ok(())
 }
 
 fn note_variable(
     alloc: Global,
-    table: &mut Places<Span>,
+    table: &mut FirstPlaces<Span>,
     text: &str,
     owner: EntryName,
     variable: Span,
 ) -> Result<(), AllocError>
     ensures { OnOk result (NotesNames (place_of table.old.table) (place_of table.new.table)
-        (put (Some (spelled_variable text.now owner variable)))) }
+        (put (Some (qualified_variable text.now owner variable)))) }
 {
-    let name = spelled_variable(alloc, text, owner, variable)?;
+    let name = qualified_variable(alloc, text, owner, variable)?;
     table.note(name, variable)?;
     Ok(())
 }

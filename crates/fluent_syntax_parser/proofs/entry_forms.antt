@@ -4,5 +4,5 @@ pub mod EntryForms
 pub mod ExtentForms
 pub mod ExtentRanges
 pub mod FieldForms
-pub mod HangsOn
+pub mod AttachesOn
 pub mod MadeEntries

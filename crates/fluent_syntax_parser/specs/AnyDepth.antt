@@ -8,7 +8,7 @@ use Rattle.fluent_syntax_grammar.specs.Construct.{Read}
 use Rattle.fluent_syntax_grammar.specs.Entries.{attributes_of, message_of}
 use Rattle.fluent_syntax_grammar.specs.Grammar.{within}
 use Rattle.fluent_syntax_grammar.specs.Places.{InlineBlank}
-use Rattle.fluent_syntax_grammar.specs.Words.{identifier, token}
+use Rattle.fluent_syntax_grammar.specs.Tokens.{identifier, token}
 
 -- From the one place to the other a name, an inline blank, `=`, and an inline blank that opens a pattern.
 pub record OpensPattern (t : List ℕ) (i j : ℕ) : Type 0 where

@@ -36,9 +36,9 @@ module _ {S : Type 0} where
 
 module _ {E : Type 0} where
   -- a run that waits for what follows it, and what follows
-  abbrev pub waiting : Option (ℕ × ℕ) → List (PieceOf E) → List (PieceOf E)
-  waiting None ps = ps
-  waiting (Some r) ps = run r.0 r.1 ∷ ps
+  abbrev pub pending_run : Option (ℕ × ℕ) → List (PieceOf E) → List (PieceOf E)
+  pending_run None ps = ps
+  pending_run (Some r) ps = run r.0 r.1 ∷ ps
 
   -- the pieces, of which a run that begins them begins at another place, if one is given
   abbrev pub leading : Option ℕ → List (PieceOf E) → List (PieceOf E)
@@ -71,9 +71,9 @@ kept_place None start spaces = start + spaces
 kept_place (Some common) start spaces = start + min spaces common
 
 -- the number, if there is one
-abbrev pub listed : Option ℕ → List ℕ
-listed None = []
-listed (Some n) = n ∷ []
+abbrev pub flat_parts : Option ℕ → List ℕ
+flat_parts None = []
+flat_parts (Some n) = n ∷ []
 
 module _ {X : Type 0} (f : Span → X) where
   -- the element that an item is which others follow

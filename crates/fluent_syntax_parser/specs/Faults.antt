@@ -5,7 +5,7 @@ use Rattle.fluent_syntax_tree.specs.declared.errors.ParserError.{ParserError}
 use Rattle.fluent_syntax_tree.specs.declared.spans.Span.{Span}
 use Rattle.fluent_syntax_grammar.specs.Tiling.{Fault}
 use Rattle.fluent_syntax_parser.specs.declared.fault.Refusal.{Refusal}
-use Rattle.fluent_syntax_parser.specs.Meets.{kind_at, from_of, to_of}
+use Rattle.fluent_syntax_parser.specs.Outcomes.{kind_at, from_of, to_of}
 
 -- the fault that an error tells of, where it tells which stretch became junk
 abbrev pub fault_of : ParserError → Option Fault

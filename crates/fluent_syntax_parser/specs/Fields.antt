@@ -10,7 +10,7 @@ use Rattle.fluent_syntax_grammar.specs.Construct.{Construct, ◌>>=◌, ◌>>◌
 use Rattle.fluent_syntax_grammar.specs.Entries.{attributes_of}
 use Rattle.fluent_syntax_grammar.specs.Family.{Family}
 use Rattle.fluent_syntax_grammar.specs.Patterns.{pattern}
-use Rattle.fluent_syntax_grammar.specs.Words.{blank_block, inline_blank, token}
+use Rattle.fluent_syntax_grammar.specs.Tokens.{blank_block, inline_blank, token}
 use Rattle.fluent_syntax_parser.specs.declared.entry.messages.Fields.{Fields}
 
 -- an optional pattern and attributes

@@ -4,7 +4,7 @@ pub mod Boxed
 pub mod CommentLines
 pub mod Elements
 pub mod Endings
-pub mod Extents
+pub mod PartRanges
 pub mod Faults
 pub mod Fields
 pub mod Gathered
@@ -13,7 +13,7 @@ pub mod Layouts
 pub mod Lines
 pub mod Made
 pub mod MadeEntries
-pub mod Meets
+pub mod Outcomes
 pub mod OneLine
 pub mod Opened
 pub mod Parts

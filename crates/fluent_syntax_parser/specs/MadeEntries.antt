@@ -10,7 +10,7 @@ use Rattle.fluent_syntax_tree.specs.declared.edition.Edition.{Edition}
 use Rattle.fluent_syntax_tree.specs.declared.errors.ParserError.{ParserError}
 use Rattle.fluent_syntax_tree.specs.declared.spans.Span.{Span}
 use Rattle.fluent_syntax_parser.specs.Faults.{fault_of, refused_as}
-use Rattle.fluent_syntax_parser.specs.Rest.{EntryAt, GivesTile, Hangs, Rest, faults_of}
+use Rattle.fluent_syntax_parser.specs.Rest.{EntryAt, GivesTile, Attaches, Rest, faults_of}
 use Rattle.fluent_syntax_parser.specs.declared.fault.Refusal.{Refusal}
 use Rattle.fluent_syntax_parser.specs.declared.options.Comments.{Comments}
 
@@ -31,15 +31,16 @@ ends_with_comment [] = false
 ends_with_comment (e ∷ []) = is_comment e
 ends_with_comment (e ∷ d ∷ es) = ends_with_comment (d ∷ es)
 
--- The comment hangs on the entry behind it, and both are one; or it can't, and the entry is dropped.
-abbrev pub HungLast : {S : Type 0} → (before : List (Entry S)) → Comment S → Entry S → (new : List (Entry S)) → Bool →
+-- The comment is attached to the entry behind it, and both are one; or it can't, and the entry is dropped.
+abbrev pub AttachedLast : {S : Type 0} → (before : List (Entry S)) → Comment S → Entry S → (new : List (Entry S)) → Bool
+    →
     Type 0
-HungLast before c e new true = (x : Entry _) × (commented c e ≡ Some x) × (new ≡ before ++ x ∷ [])
-HungLast before c e new false = (commented c e ≡ None) × (new ≡ before ++ entries.Comment c ∷ [])
+AttachedLast before c e new true = (x : Entry _) × (commented c e ≡ Some x) × (new ≡ before ++ x ∷ [])
+AttachedLast before c e new false = (commented c e ≡ None) × (new ≡ before ++ entries.Comment c ∷ [])
 
 module _ {S X : Type 0} (f : Span → X) (v : S → X) where
   -- A tile that nests no deeper than n stands from i to j, and gives that entry and that error, if there is one.
-  pub record MadeTile (edition : Edition) (t : List ℕ) (n i j : ℕ) (e : Entry S) (error : Option ParserError) :
+  pub record MappedTile (edition : Edition) (t : List ℕ) (n i j : ℕ) (e : Entry S) (error : Option ParserError) :
       Type 0 where
     pub tree : EntryTree Span
     pub gives : GivesTile edition t n i j tree error
@@ -47,17 +48,17 @@ module _ {S X : Type 0} (f : Span → X) (v : S → X) where
 
   -- Behind that comment of level 1, which ends at the place, there is that entry, with it or it itself, and the rest
   -- from the other place on.
-  abbrev pub HangsMade : Edition → List ℕ → Comment S → ℕ → Entry S → ℕ → Type 0
-  HangsMade edition t c ptr e j =
+  abbrev pub AttachesMade : Edition → List ℕ → Comment S → ℕ → Entry S → ℕ → Type 0
+  AttachesMade edition t c ptr e j =
       (content : List Span) → comment_view v c ≡ map f content →
-      (tree : EntryTree Span) × Hangs edition t content ptr tree j × (entry_view v e ≡ entry_map f tree)
+      (tree : EntryTree Span) × Attaches edition t content ptr tree j × (entry_view v e ≡ entry_map f tree)
 
   -- Behind the comment of level 1 that the entries end with, and that ends at the place, that entry is there in its
   -- place, with it or it itself, and the rest from the other place on.
-  abbrev pub HangsLast : Edition → List ℕ → (ptr end : ℕ) → (old new : List (Entry S)) → Type 0
-  HangsLast edition t ptr end old new =
+  abbrev pub AttachesLast : Edition → List ℕ → (ptr end : ℕ) → (old new : List (Entry S)) → Type 0
+  AttachesLast edition t ptr end old new =
       (before : List (Entry S)) (c : Comment S) → old ≡ before ++ entries.Comment c ∷ [] →
-      (e : Entry S) × (new ≡ before ++ e ∷ []) × HangsMade edition t c ptr e end
+      (e : Entry S) × (new ≡ before ++ e ∷ []) × AttachesMade edition t c ptr e end
 
   -- Junk stands from i to j, which is added with the error of the refusal.
   pub record AddsJunk (t : List ℕ) (refusal : Refusal) (i j : ℕ) (old new : List (Entry S))
@@ -65,7 +66,7 @@ module _ {S X : Type 0} (f : Span → X) (v : S → X) where
     pub entry : Entry S
     pub error : ParserError
     pub added : new ≡ old ++ entry ∷ []
-    pub tells : told ≡ errors ++ error ∷ []
+    pub errors_are : told ≡ errors ++ error ∷ []
     pub same : entry_view v entry ≡ junk (f (record { start = i; end = j }))
     pub fault : fault_of error ≡ Some (refused_as t refusal (record { start = i; end = j }))
 
@@ -75,8 +76,8 @@ module _ {S X : Type 0} (f : Span → X) (v : S → X) where
     pub entry : Entry S
     pub error : Option ParserError
     pub added : new ≡ old ++ entry ∷ []
-    pub tells : told ≡ errors ++ option_to_list error
-    pub tile : MadeTile edition t n i j entry error
+    pub errors_are : told ≡ errors ++ option_to_list error
+    pub tile : MappedTile edition t n i j entry error
 
   -- An entry that comes next from i on stands from the start to j, before whatever the rest is from there on, and is
   -- added, and its error, if there is one.
@@ -85,7 +86,7 @@ module _ {S X : Type 0} (f : Span → X) (v : S → X) where
     pub entry : Entry S
     pub error : Option ParserError
     pub added : new ≡ old ++ entry ∷ []
-    pub tells : told ≡ errors ++ option_to_list error
+    pub errors_are : told ≡ errors ++ option_to_list error
     pub tree : EntryTree Span
     pub stands : EntryAt comments edition t i start j tree (faults_of error)
     pub same : entry_view v entry ≡ entry_map f tree

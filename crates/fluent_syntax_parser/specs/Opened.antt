@@ -11,7 +11,7 @@ use Rattle.fluent_syntax_parser.specs.Elements.{item_view}
 use Rattle.fluent_syntax_grammar.specs.Elements.{opening_items}
 use Rattle.fluent_syntax_parser.specs.Layouts.{line_of}
 use Rattle.fluent_syntax_parser.specs.Lines.{line_view}
-use Rattle.fluent_syntax_parser.specs.Meets.{Fails}
+use Rattle.fluent_syntax_parser.specs.Outcomes.{Fails}
 use Rattle.fluent_syntax_parser.specs.declared.fault.ReadFault.{ReadFault}
 use Rattle.fluent_syntax_parser.specs.declared.pattern.line.Line as rows
 use Rattle.fluent_syntax_parser.specs.declared.pattern.line.Piece.{Piece}

@@ -31,9 +31,9 @@ faults_of None = []
 faults_of (Some error) = fault_of error ∷ []
 
 -- whether the entry is a comment of level 1
-abbrev pub may_hang : {X : Type 0} → EntryTree X → Bool
-may_hang (comment regular content) = true
-may_hang e = false
+abbrev pub may_attach : {X : Type 0} → EntryTree X → Bool
+may_attach (comment regular content) = true
+may_attach e = false
 
 -- whether comments are dropped
 abbrev pub are_dropped : Comments → Bool
@@ -59,30 +59,30 @@ pub record Rest (comments : Comments) (edition : Edition) (t : List ℕ) (i : �
   pub tiles : List Tile
   pub tiled : Tiled t (TileIn comments edition t (family edition t)) i tiles
   pub gives : body tiles ≡ entries
-  pub tells : map Some (faults tiles) ≡ errors
+  pub errors_are : map Some (faults tiles) ≡ errors
 
 -- the tiles from a place on, at which no blank block is left
-pub data Standing (t : List ℕ) (at : (i j : ℕ) → Tile → Type 0) : ℕ → List Tile → Type 0 where
-  at_end : {i : ℕ} → i ≡ length t → Standing t at i []
+pub data TiledHere (t : List ℕ) (at : (i j : ℕ) → Tile → Type 0) : ℕ → List Tile → Type 0 where
+  at_end : {i : ℕ} → i ≡ length t → TiledHere t at i []
   at_tile : {i end : ℕ} {tile : Tile} {tiles : List Tile} → i < length t → at i end tile → Tiled t at end tiles →
-      Standing t at i (tile ∷ tiles)
+      TiledHere t at i (tile ∷ tiles)
 
 -- From a place on, at which no blank block is left, the tiles nest deeper than n.
 abbrev pub TileDeeper : Edition → (t : List ℕ) → (at : Family → (i j : ℕ) → Tile → Type 0) → (n i : ℕ) → Type 0
-TileDeeper edition t at n i = (tiles : List Tile) → Standing t (at (within edition t n)) i tiles → ⊥
+TileDeeper edition t at n i = (tiles : List Tile) → TiledHere t (at (within edition t n)) i tiles → ⊥
 
 -- The rest from a place on, at which no blank block is left.
 pub record RestAt (comments : Comments) (edition : Edition) (t : List ℕ) (i : ℕ) (entries : BodyTree Span)
     (errors : List (Option Fault)) : Type 0 where
   pub tiles : List Tile
-  pub standing : Standing t (TileIn comments edition t (family edition t)) i tiles
+  pub tiled_here : TiledHere t (TileIn comments edition t (family edition t)) i tiles
   pub gives : body tiles ≡ entries
-  pub tells : map Some (faults tiles) ≡ errors
+  pub errors_are : map Some (faults tiles) ≡ errors
 
 -- Behind a comment of level 1 that ends at the place there is that entry, with it or it itself, and the rest from the
 -- other place on.
-abbrev pub Hangs : Edition → List ℕ → List Span → ℕ → EntryTree Span → ℕ → Type 0
-Hangs edition t content ptr e j =
+abbrev pub Attaches : Edition → List ℕ → List Span → ℕ → EntryTree Span → ℕ → Type 0
+Attaches edition t content ptr e j =
     (i : ℕ) (entries : BodyTree Span) (errors : List (Option Fault)) → Rest Kept edition t j entries errors →
     (tiles : List Tile) × Tiled t (TileAt edition t) ptr tiles ×
     (body (entry (record { start = i; end = ptr }) (comment regular content) ∷ tiles) ≡ e ∷ entries) ×

@@ -9,7 +9,7 @@ use Rattle.fluent_syntax_grammar.specs.Family.{Family}
 use Rattle.fluent_syntax_grammar.specs.Placeables.{arrow_line_end}
 use Rattle.fluent_syntax_grammar.specs.Places.{Steps, after_eol}
 use Rattle.fluent_syntax_grammar.specs.Variants.{more_variants}
-use Rattle.fluent_syntax_grammar.specs.Words.{blank, inline_blank}
+use Rattle.fluent_syntax_grammar.specs.Tokens.{blank, inline_blank}
 
 -- `->`, an inline blank, a line end and a blank, behind a selector. What is no selector is refused there.
 abbrev pub select_start : List ℕ → Option Kind → Construct (Unit {0})

@@ -8,7 +8,7 @@ use Rattle.fluent_syntax_grammar.specs.Body.{alone, faults}
 use Rattle.fluent_syntax_grammar.specs.Places.{BlankBlock}
 use Rattle.fluent_syntax_grammar.specs.Tiling.{Tile, TileAt}
 use Rattle.fluent_syntax_parser.specs.Rest.{faults_of, tree_of}
-use Rattle.fluent_syntax_parser.specs.declared.tiles.FoundTile.{FoundTile}
+use Rattle.fluent_syntax_parser.specs.declared.tiles.SpannedTile.{SpannedTile}
 
 -- The tile gives that entry by itself, and that error, if there is one.
 pub record Gives (tile : Tile) (e : Entry Span) (error : Option ParserError) : Type 0 where
@@ -16,7 +16,7 @@ pub record Gives (tile : Tile) (e : Entry Span) (error : Option ParserError) : T
   pub errors : map Some (faults (tile ∷ [])) ≡ faults_of error
 
 -- From the one place to the other stands a blank block, and then what was found.
-pub record TileTo (edition : Edition) (t : List ℕ) (i j : ℕ) (found : FoundTile) : Type 0 where
+pub record TileTo (edition : Edition) (t : List ℕ) (i j : ℕ) (found : SpannedTile) : Type 0 where
   pub tile : Tile
   pub blank : BlankBlock t i found.span.start
   pub inside : found.span.start < length t
@@ -25,6 +25,6 @@ pub record TileTo (edition : Edition) (t : List ℕ) (i j : ℕ) (found : FoundT
   pub ends : j ≡ found.span.end
 
 -- What comes next from the place on: what was found, up to the other place; or nothing but a blank block is left.
-abbrev pub NextTile : Edition → List ℕ → (i j : ℕ) → Option FoundTile → Type 0
+abbrev pub NextTile : Edition → List ℕ → (i j : ℕ) → Option SpannedTile → Type 0
 NextTile edition t i j None = BlankBlock t i (length t)
 NextTile edition t i j (Some found) = TileTo edition t i j found

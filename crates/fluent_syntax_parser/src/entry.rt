@@ -4,7 +4,7 @@ ghost use Rattle.fluent_syntax_tree.specs.Entry.{entry_map};
 ghost use Rattle.fluent_syntax_tree.specs.View.{entry_view};
 ghost use Rattle.fluent_syntax_grammar.specs.Grammar.{within};
 ghost use Rattle.fluent_syntax_grammar.specs.Tiling.{entry_in};
-ghost use Rattle.fluent_syntax_parser.specs.Made.{Adds};
+ghost use Rattle.fluent_syntax_parser.specs.Made.{AddsParsed};
 
 pub(crate) mod attributes;
 pub(crate) mod comment;
@@ -27,7 +27,7 @@ impl<'s, 't, M: MakeTexts> Reader<'s, 't, M> {
     ) -> Result<usize, ReadFault>
         requires { start ≤ length self.now.source.bytes.now }
         ensures adds { let t = self.now.source.bytes.now in
-            Adds t (entry_map (M.source self.now.texts.now))
+            AddsParsed t (entry_map (M.source self.now.texts.now))
             (entry_in self.now.edition t (within self.now.edition t nesting)) (entry_view M.made) body.old.items
             body.new.items start result }
         ensures within { IfOk result (λ end. (start < end) × (end ≤ length self.now.source.bytes.now)) }

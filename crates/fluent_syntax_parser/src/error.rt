@@ -3,7 +3,7 @@ ghost use Rattle.std.specs.Prelude.{◌≡◌, ◌+◌, ◌^◌, ◌<◌, IfOk, 
 ghost use Rattle.fluent_syntax_grammar.specs.Strings.{after_character};
 ghost use Rattle.fluent_syntax_tree.specs.Kind.{kind_of};
 ghost use Rattle.fluent_syntax_parser.specs.Faults.{fault_of, refused_as};
-ghost use Rattle.fluent_syntax_parser.specs.Meets.{from_of, kind_at, to_of};
+ghost use Rattle.fluent_syntax_parser.specs.Outcomes.{from_of, kind_at, to_of};
 
 use crate::fault::{Fault, Refusal};
 use crate::source::Source;

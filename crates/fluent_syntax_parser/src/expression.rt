@@ -9,8 +9,8 @@ ghost use Rattle.fluent_syntax_grammar.specs.Placeables.{arrow_line_end, express
 ghost use Rattle.fluent_syntax_grammar.specs.Places.{after_eol};
 ghost use Rattle.fluent_syntax_grammar.specs.Starts.{brace, letter, start, term};
 ghost use Rattle.fluent_syntax_parser.specs.Boxed.{boxed_expression_view, mapped_inline};
-ghost use Rattle.fluent_syntax_parser.specs.Made.{Makes};
-ghost use Rattle.fluent_syntax_parser.specs.Meets.{MeetsEnd};
+ghost use Rattle.fluent_syntax_parser.specs.Made.{Parses};
+ghost use Rattle.fluent_syntax_parser.specs.Outcomes.{ParsesEnd};
 
 pub(crate) mod argument_names;
 pub(crate) mod arguments;
@@ -42,8 +42,8 @@ impl<'s> Source<'s> {
     /// The end of the line end that has to follow an arrow.
     pub(crate) fn arrow_line_end(&self, ptr: usize) -> Result<usize, Refusal>
         requires { ptr ≤ length self.now.bytes.now }
-        ensures meets { let t = self.now.bytes.now in
-            MeetsEnd t (at_each (after_eol t) arrow_line_end) ptr result }
+        ensures parses { let t = self.now.bytes.now in
+            ParsesEnd t (at_each (after_eol t) arrow_line_end) ptr result }
         ensures within { IfOk result (λ end. (ptr < end) × (end ≤ length self.now.bytes.now)) }
     {
         match self.eol_end(ptr) {
@@ -68,8 +68,8 @@ impl<'s, 't, M: MakeTexts> Reader<'s, 't, M> {
     ) -> Result<(Box<Expression<M::Text>>, usize), ReadFault>
         requires within { ptr ≤ length self.now.source.bytes.now }
         requires starts { term ≡ start self.now.source.bytes.now ptr }
-        ensures meets { let t = self.now.source.bytes.now in
-            Makes t (mapped_inline (M.source self.now.texts.now))
+        ensures parses { let t = self.now.source.bytes.now in
+            Parses t (mapped_inline (M.source self.now.texts.now))
             (inline_expression t (within self.now.edition t nesting)) (boxed_expression_view M.made) ptr result }
         ensures within { IfOk result (λ read. (ptr < read.1) × (read.1 ≤ length self.now.source.bytes.now)) }
     {
@@ -91,8 +91,8 @@ impl<'s, 't, M: MakeTexts> Reader<'s, 't, M> {
     ) -> Result<(Box<Expression<M::Text>>, usize), ReadFault>
         requires within { ptr ≤ length self.now.source.bytes.now }
         requires starts { letter ≡ start self.now.source.bytes.now ptr }
-        ensures meets { let t = self.now.source.bytes.now in
-            Makes t (mapped_inline (M.source self.now.texts.now))
+        ensures parses { let t = self.now.source.bytes.now in
+            Parses t (mapped_inline (M.source self.now.texts.now))
             (inline_expression t (within self.now.edition t nesting)) (boxed_expression_view M.made) ptr result }
         ensures within { IfOk result (λ read. (ptr < read.1) × (read.1 ≤ length self.now.source.bytes.now)) }
     {
@@ -126,8 +126,8 @@ impl<'s, 't, M: MakeTexts> Reader<'s, 't, M> {
     ) -> Result<(Box<Expression<M::Text>>, usize), ReadFault>
         requires within { ptr ≤ length self.now.source.bytes.now }
         requires starts { brace ≡ start self.now.source.bytes.now ptr }
-        ensures meets { let t = self.now.source.bytes.now in
-            Makes t (mapped_inline (M.source self.now.texts.now))
+        ensures parses { let t = self.now.source.bytes.now in
+            Parses t (mapped_inline (M.source self.now.texts.now))
             (inline_expression t (within self.now.edition t nesting)) (boxed_expression_view M.made) ptr result }
         ensures within { IfOk result (λ read. (ptr < read.1) × (read.1 ≤ length self.now.source.bytes.now)) }
     {
@@ -145,8 +145,8 @@ impl<'s, 't, M: MakeTexts> Reader<'s, 't, M> {
         ptr: usize,
     ) -> Result<(Box<Expression<M::Text>>, usize), ReadFault>
         requires { ptr ≤ length self.now.source.bytes.now }
-        ensures meets { let t = self.now.source.bytes.now in
-            Makes t (mapped_inline (M.source self.now.texts.now))
+        ensures parses { let t = self.now.source.bytes.now in
+            Parses t (mapped_inline (M.source self.now.texts.now))
             (inline_expression t (within self.now.edition t nesting)) (boxed_expression_view M.made) ptr result }
         ensures within { IfOk result (λ read. (ptr < read.1) × (read.1 ≤ length self.now.source.bytes.now)) }
     {
@@ -173,8 +173,8 @@ impl<'s, 't, M: MakeTexts> Reader<'s, 't, M> {
         ptr: usize,
     ) -> Result<(Box<Expression<M::Text>>, usize), ReadFault>
         requires { ptr ≤ length self.now.source.bytes.now }
-        ensures meets { let t = self.now.source.bytes.now in
-            Makes t (expression_map (M.source self.now.texts.now))
+        ensures parses { let t = self.now.source.bytes.now in
+            Parses t (expression_map (M.source self.now.texts.now))
             (expression self.now.edition t (within self.now.edition t nesting)) (boxed_expression_view M.made) ptr
             result }
         ensures within { IfOk result (λ read. (ptr < read.1) × (read.1 ≤ length self.now.source.bytes.now)) }
@@ -202,8 +202,8 @@ impl<'s, 't, M: MakeTexts> Reader<'s, 't, M> {
         ptr: usize,
     ) -> Result<(Box<Expression<M::Text>>, usize), ReadFault>
         requires { ptr ≤ length self.now.source.bytes.now }
-        ensures meets { let t = self.now.source.bytes.now in
-            Makes t (expression_map (M.source self.now.texts.now)) (placeable t (within self.now.edition t nesting))
+        ensures parses { let t = self.now.source.bytes.now in
+            Parses t (expression_map (M.source self.now.texts.now)) (placeable t (within self.now.edition t nesting))
             (boxed_expression_view M.made) ptr result }
         ensures within { IfOk result (λ read. (ptr < read.1) × (read.1 ≤ length self.now.source.bytes.now)) }
     {

@@ -7,17 +7,17 @@ pub mod entries;
 mod entry;
 mod error;
 mod expression;
-pub mod extents;
 pub mod fault;
 mod lists;
 pub mod options;
 mod pattern;
+pub mod ranges;
 mod reader;
 mod source;
 mod spans;
 pub mod texts;
 pub mod tiles;
-mod words;
+mod tokens;
 
 pub use spans::{
     parse_runtime_spans, parse_runtime_spans_edition, parse_runtime_spans_within, parse_spans,

@@ -7,7 +7,7 @@ use thiserror::Error;
 /// Whether comments are read.
 #[derive(Clone, Copy, Debug)]
 pub enum Comments {
-    /// They are entries, or hang on the entries after them.
+    /// They are entries, or are attached to the entries after them.
     Kept,
     /// Where an entry would begin with `#`, the rest of that line is dropped.
     Dropped,

@@ -10,7 +10,7 @@ ghost use Rattle.fluent_syntax_grammar.specs.Places.{BlankBlock, InlineBlank};
 ghost use Rattle.fluent_syntax_parser.specs.Elements.{item_view};
 ghost use Rattle.fluent_syntax_grammar.specs.Elements.{with_ending};
 ghost use Rattle.fluent_syntax_parser.specs.Lines.{piece_view};
-ghost use Rattle.fluent_syntax_parser.specs.Made.{Makes};
+ghost use Rattle.fluent_syntax_parser.specs.Made.{Parses};
 ghost use Rattle.fluent_syntax_parser.specs.OneLine.{EndsBlank, EndsLine, OpensAs, text_pattern};
 ghost use Rattle.fluent_syntax_parser.specs.Opened.{LaysOut, Opens};
 
@@ -179,7 +179,7 @@ impl<'s, 't, M: MakeTexts> Reader<'s, 't, M> {
         requires within { ptr ≤ length self.now.source.bytes.now }
         requires no_items { items.old.items ≡ [] }
         requires no_lines { lines.old.items ≡ [] }
-        ensures meets { let t = self.now.source.bytes.now in
+        ensures parses { let t = self.now.source.bytes.now in
             LaysOut t (within self.now.edition t nesting) (M.source self.now.texts.now) M.made ptr items.new.items
             lines.new.items result }
         ensures behind { IfOk result (λ end. BlankBlock self.now.source.bytes.now end end) }
@@ -202,8 +202,8 @@ impl<'s, 't, M: MakeTexts> Reader<'s, 't, M> {
     ) -> Result<(Option<Pattern<M::Text>>, usize), ReadFault>
         requires within { start ≤ length self.now.source.bytes.now }
         requires blank { InlineBlank self.now.source.bytes.now ptr start }
-        ensures meets { let t = self.now.source.bytes.now in
-            Makes t (option_map (pattern_map (M.source self.now.texts.now)))
+        ensures parses { let t = self.now.source.bytes.now in
+            Parses t (option_map (pattern_map (M.source self.now.texts.now)))
             (pattern self.now.edition t (within self.now.edition t nesting)) (option_map (pattern_view M.made)) ptr
             result }
         ensures behind { IfOk result (λ read. BlankBlock self.now.source.bytes.now read.1 read.1) }
@@ -226,8 +226,8 @@ impl<'s, 't, M: MakeTexts> Reader<'s, 't, M> {
         ptr: usize,
     ) -> Result<(Option<Pattern<M::Text>>, usize), ReadFault>
         requires { ptr ≤ length self.now.source.bytes.now }
-        ensures meets { let t = self.now.source.bytes.now in
-            Makes t (option_map (pattern_map (M.source self.now.texts.now)))
+        ensures parses { let t = self.now.source.bytes.now in
+            Parses t (option_map (pattern_map (M.source self.now.texts.now)))
             (pattern self.now.edition t (within self.now.edition t nesting)) (option_map (pattern_view M.made)) ptr
             result }
         ensures behind { IfOk result (λ read. BlankBlock self.now.source.bytes.now read.1 read.1) }

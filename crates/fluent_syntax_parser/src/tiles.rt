@@ -19,11 +19,11 @@ use std::alloc::Global;
 
 /// An entry of a text, or junk with its error, and where it stands.
 #[derive(Debug, Drop)]
-pub struct FoundTile {
+pub struct SpannedTile {
     /// From its first byte to its end. Blank lines directly behind a message or a term are in it, those behind a
     /// comment are not. Junk ends where the next line begins like an entry.
     pub span: Span,
-    /// A comment stands by itself, also where it hangs on the entry that begins where it ends.
+    /// A comment stands by itself, also where it is attached to the entry that begins where it ends.
     pub entry: Entry<Span>,
     /// The error, where it is junk.
     pub error: Option<ParserError>,
@@ -64,7 +64,7 @@ impl<'s> Tiles<'s> {
     /// Reads the next entry or junk; `None` where only blank lines are left.
     ///
     /// After a `Halt` it stands where it stood. It is never `TooDeep` where as many may nest as bytes are left.
-    pub fn next_tile(&mut self, alloc: Global) -> Result<Option<FoundTile>, Halt>
+    pub fn next_tile(&mut self, alloc: Global) -> Result<Option<SpannedTile>, Halt>
         ensures text { self.new.source ≡ self.old.source }
         ensures edition { self.new.edition ≡ self.old.edition }
         ensures nesting { self.new.nesting ≡ self.old.nesting }
@@ -94,6 +94,6 @@ impl<'s> Tiles<'s> {
             return Ok(None);
         };
         let error = only_item(errors);
-        Ok(Some(FoundTile { span, entry, error }))
+        Ok(Some(SpannedTile { span, entry, error }))
     }
 }

@@ -1,5 +1,5 @@
 //! Tests of edits: a table of edits with the texts that they give, and edits of many texts.
-mod asked;
+mod calls;
 mod many;
 mod numbers;
 mod table;

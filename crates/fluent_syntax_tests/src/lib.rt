@@ -16,12 +16,12 @@ mod made;
 #[cfg(test)]
 mod names;
 #[cfg(test)]
-mod outline;
-#[cfg(test)]
 mod parser;
 #[cfg(test)]
 mod surface;
 #[cfg(test)]
 mod tree;
+#[cfg(test)]
+mod tree_text;
 #[cfg(test)]
 mod writer;

@@ -1,8 +1,8 @@
-//! What files say of names, what is found in them, and the graph that circles are sought in.
+//! What files say of names, what is found in them, and the graph that cycles are sought in.
 
 mod components;
 mod entries;
 mod findings;
-mod lacks;
-mod own;
-mod refused;
+mod junk_names;
+mod local;
+mod missing_parts;

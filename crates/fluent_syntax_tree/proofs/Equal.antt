@@ -590,10 +590,10 @@ module _ {X : Type 0} (S : RattleType) (E : Ghosts S.Denot) (dict : Dict) (lawfu
       (map (attribute_view text) xs ≡ map (attribute_view text) ys)
   attributes_decide xs ys = list_decide (attribute_eq.ghosts S E dict).eq (attribute_view text) by_trees-Attribute xs ys
 
-  hung_decide : (o p : Option (Comment S.Denot)) →
+  attached_decide : (o p : Option (Comment S.Denot)) →
       Decides (option_eq (comment_eq.ghosts S E dict).eq o p)
       (option_map (comment_view text) o ≡ option_map (comment_view text) p)
-  hung_decide o p = option_decide (comment_eq.ghosts S E dict).eq (comment_view text) by_trees-Comment o p
+  attached_decide o p = option_decide (comment_eq.ghosts S E dict).eq (comment_view text) by_trees-Comment o p
 
   pub by_trees-Message : (a b : Message S.Denot) →
       Decides ((message_eq.ghosts S E dict).eq a b) (message_view text a ≡ message_view text b)
@@ -602,7 +602,7 @@ module _ {X : Type 0} (S : RattleType) (E : Ghosts S.Denot) (dict : Dict) (lawfu
       (decides_and _ _ (by_text a.id.name b.id.name)
       (decides_and _ _ (value_decide a.value b.value)
       (decides_and _ _ (attributes_decide a.attributes.items b.attributes.items)
-      (hung_decide a.comment b.comment))))
+      (attached_decide a.comment b.comment))))
       (λ h. cc) (λ q. (ap (λ x. x.id) q, (ap (λ x. x.value) q, (ap (λ x. x.attributes) q, ap (λ x. x.comment) q))))
 
   pub by_trees-Term : (a b : Term S.Denot) →
@@ -612,7 +612,7 @@ module _ {X : Type 0} (S : RattleType) (E : Ghosts S.Denot) (dict : Dict) (lawfu
       (decides_and _ _ (by_text a.id.name b.id.name)
       (decides_and _ _ (by_trees-Pattern a.value b.value)
       (decides_and _ _ (attributes_decide a.attributes.items b.attributes.items)
-      (hung_decide a.comment b.comment))))
+      (attached_decide a.comment b.comment))))
       (λ h. cc) (λ q. (ap (λ x. x.id) q, (ap (λ x. x.value) q, (ap (λ x. x.attributes) q, ap (λ x. x.comment) q))))
 
   pub by_trees-Entry : (a b : Entry S.Denot) →

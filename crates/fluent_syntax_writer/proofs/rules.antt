@@ -5,6 +5,6 @@ pub mod Lines
 pub mod Named
 pub mod Nodes
 pub mod Plain
-pub mod Stands
+pub mod Positions
 pub mod Steps
 pub mod Strings

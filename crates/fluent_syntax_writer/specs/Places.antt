@@ -3,25 +3,25 @@ use Rattle.std.specs.Prelude.{ℕ, List, [], Option, Some, None, Bool, true, fal
 use Rattle.fluent_syntax_tree.specs.Tree.{ElementTree, text_element, placeable, PatternTree}
 use Rattle.fluent_syntax_tree.specs.declared.edition.Edition.{Edition}
 use Rattle.fluent_syntax_grammar.specs.Readable as grammar
-use Rattle.fluent_syntax_grammar.specs.Readable.{is_text, stands_well, ends_well, is_line_start, stand_after}
+use Rattle.fluent_syntax_grammar.specs.Readable.{is_text, is_well_placed, ends_well, is_line_start, position_after}
 use Rattle.fluent_syntax_grammar.specs.Canonical.{text_numbers, placeable_numbers}
 use Rattle.fluent_syntax_grammar.specs.PatternTexts.{is_lone_lf, begins_with_space, after_spaces}
 use Rattle.fluent_syntax_grammar.specs.Written.{Text, begins_with_mark}
-use Rattle.fluent_syntax_writer.specs.Alone.{text_keeps}
+use Rattle.fluent_syntax_writer.specs.SingleRule.{text_keeps}
 use Rattle.fluent_syntax_writer.specs.declared.canonical.rules.Rule.{Rule}
-use Rattle.fluent_syntax_writer.specs.declared.canonical.elements.Stand.{Stand}
-use Rattle.fluent_syntax_writer.specs.declared.canonical.elements.Stand.TheVariants as code
+use Rattle.fluent_syntax_writer.specs.declared.canonical.elements.ElementPosition.{ElementPosition}
+use Rattle.fluent_syntax_writer.specs.declared.canonical.elements.ElementPosition.TheVariants as code
 
-abbrev pub stand_of : Stand → grammar.Stand
-stand_of code.Opening = grammar.opening
-stand_of code.AfterLine = grammar.after_line
-stand_of code.WithinLine = grammar.within_line
-stand_of code.AfterPlaceable = grammar.after_placeable
+abbrev pub position_of : ElementPosition → grammar.ElementPosition
+position_of code.Opening = grammar.opening
+position_of code.AfterLine = grammar.after_line
+position_of code.WithinLine = grammar.within_line
+position_of code.AfterPlaceable = grammar.after_placeable
 
 -- where the element stands that follows this one
-abbrev pub stand_past : ElementTree Text → grammar.Stand
-stand_past (text_element v) = stand_after v
-stand_past (placeable e) = grammar.after_placeable
+abbrev pub position_past : ElementTree Text → grammar.ElementPosition
+position_past (text_element v) = position_after v
+position_past (placeable e) = grammar.after_placeable
 
 abbrev pub is_placeable : ElementTree Text → Bool
 is_placeable (text_element v) = false
@@ -29,14 +29,14 @@ is_placeable (placeable e) = true
 
 -- the rules of one element, by those that follow it
 abbrev pub is_element :
-    Edition → (multiline : Bool) → grammar.Stand → ElementTree Text → (rest : PatternTree Text) → Bool
+    Edition → (multiline : Bool) → grammar.ElementPosition → ElementTree Text → (rest : PatternTree Text) → Bool
 is_element edition multiline s (text_element v) rest =
-    is_text v && (stands_well edition multiline s v rest && ends_well v rest)
+    is_text v && (is_well_placed edition multiline s v rest && ends_well v rest)
 is_element edition multiline s (placeable e) rest = true
 
 -- one rule of one element, by those that follow it
 abbrev pub element_keeps :
-    Edition → Rule → (multiline : Bool) → grammar.Stand → ElementTree Text → (rest : PatternTree Text) → Bool
+    Edition → Rule → (multiline : Bool) → grammar.ElementPosition → ElementTree Text → (rest : PatternTree Text) → Bool
 element_keeps edition rule multiline s (text_element v) rest = text_keeps edition rule multiline s v rest
 element_keeps edition rule multiline s (placeable e) rest = true
 
@@ -46,7 +46,7 @@ element_numbers edition (text_element v) = text_numbers edition v
 element_numbers edition (placeable e) = placeable_numbers edition
 
 -- the numbers of the line that begins at the element
-abbrev pub numbers_at : Edition → grammar.Stand → ElementTree Text → List ℕ
+abbrev pub numbers_at : Edition → grammar.ElementPosition → ElementTree Text → List ℕ
 numbers_at edition s e = if is_line_start s then element_numbers edition e else []
 
 -- the lesser of two numbers, or the one that is there
@@ -66,5 +66,5 @@ is_lone (text_element v) = is_lone_lf v
 is_lone (placeable e) = true
 
 -- the rule of one element where no line has a number
-abbrev pub stands_lone : grammar.Stand → ElementTree Text → Bool
-stands_lone s e = not (is_line_start s) || is_lone e
+abbrev pub is_lone_at_line_start : grammar.ElementPosition → ElementTree Text → Bool
+is_lone_at_line_start s e = not (is_line_start s) || is_lone e

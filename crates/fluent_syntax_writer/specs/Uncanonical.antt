@@ -5,8 +5,8 @@ use Rattle.fluent_syntax_tree.specs.Entry.{EntryTree, BodyTree}
 use Rattle.fluent_syntax_tree.specs.declared.edition.Edition.{Edition}
 use Rattle.fluent_syntax_grammar.specs.Canonical.{is_canonical}
 use Rattle.fluent_syntax_grammar.specs.Written.{Text}
-use Rattle.fluent_syntax_writer.specs.Alone.{every_rule, entry_keeps}
-use Rattle.fluent_syntax_writer.specs.declared.canonical.first.Uncanonical.{Uncanonical}
+use Rattle.fluent_syntax_writer.specs.SingleRule.{every_rule, entry_keeps}
+use Rattle.fluent_syntax_writer.specs.declared.canonical.broken_rules.Uncanonical.{Uncanonical}
 use Rattle.fluent_syntax_writer.specs.declared.canonical.rules.Rule.{Rule}
 
 -- the first of these rules that the entry breaks

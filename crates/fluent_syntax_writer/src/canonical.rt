@@ -9,32 +9,32 @@ ghost use Rattle.fluent_syntax_grammar.specs.Canonical.{is_canonical, canonical_
 ghost use Rattle.fluent_syntax_grammar.specs.Rules.{entry_obeys};
 ghost use Rattle.fluent_syntax_writer.specs.Uncanonical.{broken_rule, first_uncanonical, IsFirstBroken};
 
-mod alone;
 mod argument_names;
 mod arguments;
-mod asked;
+mod broken_rules;
+mod check_options;
 mod comments;
 mod elements;
 mod entries;
 mod expressions;
-mod first;
 mod flush;
 pub mod patterns;
 mod plain;
+mod rule_set;
 mod rules;
+mod single_rule;
 mod spellings;
-mod standard;
 pub mod texts;
 mod walk;
 
-use asked::Asked;
-pub use first::Uncanonical;
+pub use broken_rules::Uncanonical;
+use check_options::CheckOptions;
 use fluent_syntax_tree::ast::{Entry, Resource};
 use fluent_syntax_tree::edition::Edition;
 use fluent_syntax_tree::slice::Slice;
 use fluent_syntax_tree::texts::BySlice;
+use rule_set::RuleSet;
 pub use rules::Rule;
-use standard::Standard;
 use std::alloc::Global;
 use walk::body_obeys;
 
@@ -45,8 +45,8 @@ use walk::body_obeys;
 pub fn is_canonical<'s, S: Slice<'s>>(r: &Resource<S>, edition: Edition) -> bool
     ensures exact { result ≡ is_canonical edition (resource_view S.text r.now) }
 {
-    let canonical = Asked {
-        standard: Standard::Canonical(edition),
+    let canonical = CheckOptions {
+        rule_set: RuleSet::Canonical(edition),
         alloc: None,
     };
     body_obeys::<S, BySlice<'s>>(canonical, &r.body)
@@ -58,8 +58,8 @@ pub fn is_canonical<'s, S: Slice<'s>>(r: &Resource<S>, edition: Edition) -> bool
 pub fn is_readable<'s, S: Slice<'s>>(r: &Resource<S>, edition: Edition) -> bool
     ensures exact { result ≡ is_readable edition (resource_view S.text r.now) }
 {
-    let readable = Asked {
-        standard: Standard::Readable(edition),
+    let readable = CheckOptions {
+        rule_set: RuleSet::Readable(edition),
         alloc: None,
     };
     body_obeys::<S, BySlice<'s>>(readable, &r.body)
@@ -114,7 +114,7 @@ fn first_uncanonical_by<'s, S: Slice<'s>>(
     ensures none { is_none result ≡ is_canonical edition (resource_view S.text tree.now) }
     ensures first { IfSome result (λ found. IsFirstBroken edition (resource_view S.text tree.now) found) }
 {
-    first::first_uncanonical::<S, BySlice<'s>>(alloc, edition, &tree.body)
+    broken_rules::first_uncanonical::<S, BySlice<'s>>(alloc, edition, &tree.body)
 }
 
 /// The first rule of canonical trees that the entry breaks in the edition; `None` where it breaks none. A tree is
@@ -149,5 +149,5 @@ fn broken_rule_by<'s, S: Slice<'s>>(
     ensures exact { result ≡ broken_rule edition (entry_view S.text entry.now) }
     ensures none { is_none result ≡ entry_obeys (canonical_rules edition) (entry_view S.text entry.now) }
 {
-    first::broken_rule::<S, BySlice<'s>>(alloc, edition, entry)
+    broken_rules::broken_rule::<S, BySlice<'s>>(alloc, edition, entry)
 }

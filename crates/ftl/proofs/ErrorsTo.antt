@@ -28,7 +28,7 @@ module _ (edition : Edition) (t : List ℕ) where
       HasErrors edition t errors
   all_errors i errors so_far none =
       let whole = so_far.rest [] [] none in
-      (whole.tiles, whole.tiled, sym (whole.tells ∙ append-nil (map fault_of errors)))
+      (whole.tiles, whole.tiled, sym (whole.errors_are ∙ append-nil (map fault_of errors)))
 
   -- with the next one, if there is one, they are those up to where that entry ends
   pub errors_on : (i j : ℕ) (errors : List ParserError) (e : EntryTree Span) (error : Option ParserError) →

@@ -6,11 +6,11 @@ use Rattle.fluent_syntax_tree.specs.declared.errors.ParserError.{ParserError}
 use Rattle.fluent_syntax_tree.specs.Kind.{Kind, kind_of}
 use Rattle.fluent_syntax_grammar.specs.Tiling.{Fault}
 use Rattle.fluent_syntax_parser.specs.Faults.{fault_of}
-use Rattle.ftl.specs.Answer.{told}
+use Rattle.ftl.specs.Answer.{error_fault}
 
 -- ---- errors that tell of faults
 
-told_by : {R : Type 0} (kind : Kind) (pos : R) (junk : Option R) (start end : R → ℕ) (f : Fault) →
+fault_by : {R : Type 0} (kind : Kind) (pos : R) (junk : Option R) (start end : R → ℕ) (f : Fault) →
     option_map (λ s.
     record {
       kind = kind;
@@ -22,26 +22,26 @@ told_by : {R : Type 0} (kind : Kind) (pos : R) (junk : Option R) (start end : R 
       pos = record { start = start pos; end = end pos };
       slice = record { start = start (unwrap_or junk pos); end = end (unwrap_or junk pos) };
     } ≡ f
-told_by kind pos None start end f e = absurd cc
-told_by kind pos (Some s) start end f e = cc
+fault_by kind pos None start end f e = absurd cc
+fault_by kind pos (Some s) start end f e = cc
 
-told_is : (e : ParserError) (f : Fault) → fault_of e ≡ Some f → told e ≡ f
-told_is e f h = told_by (kind_of e.kind) e.pos e.slice (λ r. r.start) (λ r. r.end) f h
+error_fault_is : (e : ParserError) (f : Fault) → fault_of e ≡ Some f → error_fault e ≡ f
+error_fault_is e f h = fault_by (kind_of e.kind) e.pos e.slice (λ r. r.start) (λ r. r.end) f h
 
 -- errors tell of just the faults that they tell of
-pub told_faults : (errors : List ParserError) (fs : List Fault) → map fault_of errors ≡ map Some fs →
-    map told errors ≡ fs
-told_faults [] [] h = refl
-told_faults [] (f ∷ fs) h = absurd cc
-told_faults (e ∷ errors) [] h = absurd cc
-told_faults (e ∷ errors) (f ∷ fs) h =
+pub error_faults : (errors : List ParserError) (fs : List Fault) → map fault_of errors ≡ map Some fs →
+    map error_fault errors ≡ fs
+error_faults [] [] h = refl
+error_faults [] (f ∷ fs) h = absurd cc
+error_faults (e ∷ errors) [] h = absurd cc
+error_faults (e ∷ errors) (f ∷ fs) h =
     let first : fault_of e ≡ Some f = cc in
     let others : map fault_of errors ≡ map Some fs = cc in
-    let same = told_is e f first in
-    let rest = told_faults errors fs others in
+    let same = error_fault_is e f first in
+    let rest = error_faults errors fs others in
     cc
 
 -- what is made of what errors tell is what is made of the faults
 pub made_of_faults : {X : Type 0} (made : Fault → X) (errors : List ParserError) (fs : List Fault) →
-    map fault_of errors ≡ map Some fs → map (λ e. made (told e)) errors ≡ map made fs
-made_of_faults made errors fs h = sym (map-map made told errors) ∙ ap (map made) (told_faults errors fs h)
+    map fault_of errors ≡ map Some fs → map (λ e. made (error_fault e)) errors ≡ map made fs
+made_of_faults made errors fs h = sym (map-map made error_fault errors) ∙ ap (map made) (error_faults errors fs h)

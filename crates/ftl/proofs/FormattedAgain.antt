@@ -42,8 +42,8 @@ module _ (t : Text) (tree : BodyTree Text) (reads : ReadsAs One t tree) (text : 
   answered_text : text ≡ written false tree
   answered_text = answer.text_is ∙ ap (written false) answered_tree
 
-pub formats_again : (t : Text) → FormatsAgain t
-formats_again t formatted again outcome next first second canonical =
+pub formatting_is_idempotent : (t : Text) → FormatsAgain t
+formatting_is_idempotent t formatted again outcome next first second canonical =
     let tree = tree_of t first.tiles in
     let whole = joined_body tree in
     let law = written_again t first.tiles first.has_tiles canonical in

@@ -3,4 +3,4 @@ pub mod ErrorsTo
 pub mod FaultLines
 pub mod FormattedAgain
 pub mod ReadTo
-pub mod Came
+pub mod WroteEntries

@@ -18,20 +18,20 @@ use Rattle.ftl.specs.declared.outcome.Outcome.{Outcome}
 use Rattle.ftl.specs.declared.outcome.Outcome.TheVariants.{Clean, SyntaxErrors}
 
 -- the outcome where these errors were told of
-abbrev outcome_told : List (Option Fault) → Outcome
-outcome_told [] = Clean
-outcome_told (f ∷ fs) = SyntaxErrors
+abbrev errors_outcome : List (Option Fault) → Outcome
+errors_outcome [] = Clean
+errors_outcome (f ∷ fs) = SyntaxErrors
 
-outcome_told-faults : (fs : List Fault) → outcome_told (map Some fs) ≡ outcome_with fs
-outcome_told-faults [] = refl
-outcome_told-faults (f ∷ fs) = refl
+errors_outcome-faults : (fs : List Fault) → errors_outcome (map Some fs) ≡ outcome_with fs
+errors_outcome-faults [] = refl
+errors_outcome-faults (f ∷ fs) = refl
 
-outcome_told-last : (fs : List (Option Fault)) (error : Option ParserError)
-    → outcome_behind (outcome_told fs) error ≡ outcome_told (fs ++ faults_of error)
-outcome_told-last [] None = refl
-outcome_told-last [] (Some error) = refl
-outcome_told-last (f ∷ fs) None = refl
-outcome_told-last (f ∷ fs) (Some error) = refl
+errors_outcome-last : (fs : List (Option Fault)) (error : Option ParserError)
+    → outcome_behind (errors_outcome fs) error ≡ errors_outcome (fs ++ faults_of error)
+errors_outcome-last [] None = refl
+errors_outcome-last [] (Some error) = refl
+errors_outcome-last (f ∷ fs) None = refl
+errors_outcome-last (f ∷ fs) (Some error) = refl
 
 module _ (comments : Comments) (edition : Edition) (t : List ℕ) where
   -- The text was read up to the place, and these are its entries with their texts, and the outcome so far.
@@ -39,7 +39,7 @@ module _ (comments : Comments) (edition : Edition) (t : List ℕ) where
     pub spans : BodyTree Span
     pub errors : List (Option Fault)
     pub tree_is : tree ≡ body_map (bytes_at t) spans
-    pub outcome_is : outcome ≡ outcome_told errors
+    pub outcome_is : outcome ≡ errors_outcome errors
     pub rest : (entries : BodyTree Span) (others : List (Option Fault)) → Rest comments edition t i entries others →
         Rest comments edition t 0 (spans ++ entries) (errors ++ others)
 
@@ -60,11 +60,11 @@ module _ (comments : Comments) (edition : Edition) (t : List ℕ) where
     all_read none =
         let whole = before.rest [] [] none in
         let gives = whole.gives ∙ append-nil before.spans in
-        let tells = whole.tells ∙ append-nil before.errors in (
+        let errors_are = whole.errors_are ∙ append-nil before.errors in (
           whole.tiles,
           whole.tiled,
           before.tree_is ∙ ap (body_map (bytes_at t)) (sym gives),
-          before.outcome_is ∙ ap outcome_told (sym tells) ∙ outcome_told-faults (faults whole.tiles),
+          before.outcome_is ∙ ap errors_outcome (sym errors_are) ∙ errors_outcome-faults (faults whole.tiles),
         )
 
     -- with the next entry, the text is read up to where that ends
@@ -76,7 +76,7 @@ module _ (comments : Comments) (edition : Edition) (t : List ℕ) where
       errors = before.errors ++ faults_of error;
       tree_is = ap (λ es. es ++ entry_map (bytes_at t) e ∷ []) before.tree_is
           ∙ sym (map-append (entry_map (bytes_at t)) before.spans (e ∷ []));
-      outcome_is = ap (λ o. outcome_behind o error) before.outcome_is ∙ outcome_told-last before.errors error;
+      outcome_is = ap (λ o. outcome_behind o error) before.outcome_is ∙ errors_outcome-last before.errors error;
       rest = λ entries others rest. rw (
         append_assoc before.spans (e ∷ []) entries,
         append_assoc before.errors (faults_of error) others,

@@ -33,8 +33,8 @@ error_text line column f =
     kind_name f.kind ++ codes "\n"
 
 -- what an error tells, with its place for the junk where it tells of none
-abbrev pub told : ParserError → Fault
-told e = record {
+abbrev pub error_fault : ParserError → Fault
+error_fault e = record {
   kind = kind_of e.kind;
   pos = record { start = e.pos.start; end = e.pos.end };
   slice = record { start = (unwrap_or e.slice e.pos).start; end = (unwrap_or e.slice e.pos).end };

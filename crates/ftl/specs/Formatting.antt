@@ -12,18 +12,18 @@ use Rattle.fluent_syntax_writer.specs.declared.serializer.entry_writer.EntryWrit
 use Rattle.ftl.specs.declared.writers.NormalWriter.{NormalWriter}
 
 -- The writer was made of that text, and these entries came to it.
-abbrev pub HasCome : String Global → BodyTree Text → EntryWriter (String Global) → Type 0
-HasCome start tree writer = normal.HasWritten (λ (s : String Global). string_bytes s) (λ s. 0) start tree writer
+abbrev pub WroteNormal : String Global → BodyTree Text → EntryWriter (String Global) → Type 0
+WroteNormal start tree writer = normal.HasWritten (λ (s : String Global). string_bytes s) (λ s. 0) start tree writer
 
 -- the same of a writer of JSON
-abbrev pub HasComeAsJson : String Global → BodyTree Text → BodyWriter (String Global) → Type 0
-HasComeAsJson start tree writer = json.HasWritten (λ (s : String Global). string_bytes s) (λ s. 0) start tree writer
+abbrev pub WroteJson : String Global → BodyTree Text → BodyWriter (String Global) → Type 0
+WroteJson start tree writer = json.HasWritten (λ (s : String Global). string_bytes s) (λ s. 0) start tree writer
 
 -- The writer was made of an empty text, and the entries of the tree came to it.
 pub record HasNormal (edition : Edition) (tree : BodyTree Text) (writer : NormalWriter) : Type 0 where
   pub start : String Global
   pub is_empty : string_bytes start ≡ []
-  pub came : HasCome start tree writer.writer
+  pub wrote : WroteNormal start tree writer.writer
   pub no_junk : writer.writer.options.with_junk ≡ false
   pub by_edition : writer.edition ≡ edition
   pub canonical : writer.all_canonical ≡ true → is_canonical edition tree ≡ true
@@ -32,7 +32,7 @@ pub record HasNormal (edition : Edition) (tree : BodyTree Text) (writer : Normal
 pub record HasJson (tree : BodyTree Text) (writer : BodyWriter (String Global)) : Type 0 where
   pub start : String Global
   pub is_empty : string_bytes start ≡ []
-  pub came : HasComeAsJson start tree writer
+  pub wrote : WroteJson start tree writer
 
 -- Behind the entries that had come to the writer, this one came too.
 pub record AddsNormal (old : NormalWriter) (e : EntryTree Text) (new : NormalWriter) : Type 0 where

@@ -7,5 +7,5 @@ pub mod Run
 pub mod Formatted
 pub mod Formatting
 pub mod FromJson
-pub mod Safe
+pub mod Lossless
 pub mod OneByOne

@@ -14,7 +14,7 @@ ghost use Rattle.fluent_syntax_parser.specs.Halts.{HaltsWithin, OnHalt};
 ghost use Rattle.fluent_syntax_parser.specs.Rest.{TileIn};
 ghost use Rattle.fluent_syntax_parser.specs.declared.fault.ParseFault.TheVariants.{Memory};
 ghost use Rattle.ftl.specs.Answer.{IsAnswer, ReadsDeeper, error_line, error_lines, error_text, json_text};
-ghost use Rattle.ftl.specs.Answer.{normal_text, outcome_of, outcome_with, range_text, told};
+ghost use Rattle.ftl.specs.Answer.{normal_text, outcome_of, outcome_with, range_text, error_fault};
 
 use crate::command::Command;
 use crate::errors::errors_within;
@@ -107,7 +107,7 @@ fn check(
 
 /// Whether there are errors.
 fn outcome_of(errors: &[ParserError]) -> Outcome
-    ensures { result ≡ outcome_with (map told errors.now) }
+    ensures { result ≡ outcome_with (map error_fault errors.now) }
 {
     if errors.is_empty() {
         Outcome::Clean
@@ -120,7 +120,7 @@ fn outcome_of(errors: &[ParserError]) -> Outcome
 fn error_lines(alloc: Global, text: &str, errors: &[ParserError]) -> Result<String, AllocError>
     requires short { length text.now + 1 < 2 ^ 64 }
     requires places { All (λ e. e.pos.start ≤ length text.now) errors.now }
-    ensures { IfOk result (λ lines. string_bytes lines ≡ flat_map (error_line text.now) (map told errors.now)) }
+    ensures { IfOk result (λ lines. string_bytes lines ≡ flat_map (error_line text.now) (map error_fault errors.now)) }
 {
     let mut places = Lines::new(text);
     let mut out = String::new(alloc);
@@ -139,7 +139,8 @@ fn write_line(
     column: usize,
     error: &ParserError,
 ) -> Result<(), AllocError>
-    ensures { OnOk result (string_bytes out.new ≡ string_bytes out.old ++ error_text line column (told error.now)) }
+    ensures { OnOk result (string_bytes out.new ≡ string_bytes out.old
+        ++ error_text line column (error_fault error.now)) }
 {
     let place = Span {
         start: error.pos.start,
@@ -163,7 +164,7 @@ fn write_range(out: &mut String, range: Span) -> Result<(), AllocError>
 
 /// The bytes that became junk, or the error's place where it tells of none.
 fn junk_of(error: &ParserError) -> Span
-    ensures { result ≡ (told error.now).slice }
+    ensures { result ≡ (error_fault error.now).slice }
 {
     match &error.slice {
         Some(junk) => Span {

@@ -9,6 +9,6 @@ ghost use Rattle.ftl.specs.Formatted.{FormatsAgain};
 /// Where the joined tree is canonical, the formatted text has no error and reads as the joined tree: it has the same
 /// messages and terms in the same order. Formatted again it is the text of the joined tree, and that is the same text
 /// where the first had no error. Formatting once more changes nothing.
-pub fn formats_again(text: &[u8])
+pub fn formatting_is_idempotent(text: &[u8])
     ensures { FormatsAgain text.now }
 {}

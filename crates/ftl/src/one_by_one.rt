@@ -11,7 +11,7 @@ ghost use Rattle.fluent_syntax_grammar.specs.Written.{Text};
 ghost use Rattle.fluent_syntax_parser.specs.Halts.{HaltsWithin, OnHalt};
 ghost use Rattle.fluent_syntax_parser.specs.Rest.{TileIn};
 ghost use Rattle.ftl.specs.Answer.{outcome_behind, outcome_of};
-ghost use Rattle.ftl.specs.OneByOne.{Came};
+ghost use Rattle.ftl.specs.OneByOne.{WroteEntries};
 
 use crate::outcome::Outcome;
 use fluent_syntax::ast::Entry;
@@ -38,7 +38,8 @@ pub fn write_one_by_one<W: WriteEntries>(
 ) -> Result<Outcome, Halt>
     ensures written { let t = text.now in IfOk result (λ outcome. (tiles : List Tile)
         × Tiled t (TileIn options.comments options.edition t (family options.edition t)) 0 tiles
-        × Came W.writes writer.old (body_map (bytes_at t) (body tiles)) writer.new × (outcome ≡ outcome_of tiles)) }
+        × WroteEntries W.writes writer.old (body_map (bytes_at t) (body tiles)) writer.new
+        × (outcome ≡ outcome_of tiles)) }
     ensures nests { IfErr result (HaltsWithin options.nesting (length text.now)) }
     ensures deeper { let t = text.now in let at = TileIn options.comments options.edition t in
         IfErr result (OnHalt (TextDeeper options.edition t at options.nesting 0)) }

@@ -4,9 +4,10 @@ use Rattle.std.specs.Str.{bytes_eq}
 use Rattle.std.proofs.lemmas.Slice.Eq.{bytes_eq-Decides}
 
 -- the path, by the folder and by what is below it, where the path without the folder is a `/` and that
-pub below_folder : (above beside below path : List ℕ) (n : ℕ) → path ≡ above ++ drop n path → beside ≡ drop n path →
-    beside ≡ 47 ∷ below → path ≡ above ++ codes "/" ++ below
-below_folder above beside below path n from behind slash =
+pub below_folder : (above temporary below path : List ℕ) (n : ℕ) → path ≡ above ++ drop n path → temporary ≡ drop n path
+    →
+    temporary ≡ 47 ∷ below → path ≡ above ++ codes "/" ++ below
+below_folder above temporary below path n from behind slash =
     from ∙ rw (sym behind, slash, append_assoc above (codes "/") below) refl
 
 -- what a test says of two names that are not the same

@@ -4,11 +4,11 @@ use Rattle.std.proofs.Common.{inr, ⊎_elim, refl, sym, ap}
 use Rattle.std.proofs.lemmas.Option.{MatchOption-at_some}
 use Rattle.ftl_files.specs.Files.{Changes, Files, GoesOn, IsDurable, IsNamed, IsSynced, at_free_paths}
 use Rattle.ftl_files.specs.Files.{at_path, filled, nowhere, renamed, replaced}
-use Rattle.ftl_files.specs.Store.{AllStand, Becomes}
+use Rattle.ftl_files.specs.Store.{AllUnchanged, Becomes}
 use Rattle.ftl_files.proofs.Steps.{IsPartOf, then}
 
 -- what a call that changes nothing has left
-pub stands : (old new : Files) → GoesOn old new nowhere → AllStand old.bytes_at new.bytes_at
+pub stands : (old new : Files) → GoesOn old new nowhere → AllUnchanged old.bytes_at new.bytes_at
 stands old new one path = ⊎_elim (λ same. same) (λ none. absurd none) (one.bytes path)
 
 known : (o : Option (List ℕ)) (P : Type 0) → IfSome o (λ _. P) → (o ≡ None) ⊎ P
@@ -19,11 +19,11 @@ each_known : (o : Option (List ℕ)) (P Q : Type 0) → IfSome o (λ _. P) → (
 each_known None P Q is so = tt
 each_known (Some bytes) P Q is so = so is
 
-module _ (old synced : Files) (beside path text : List ℕ) where
+module _ (old synced : Files) (temporary path text : List ℕ) where
   -- what a rename brings is the text, behind the bytes that were known
-  pub renamed_part : ((bytes : List ℕ) → old.bytes_at beside ≡ Some bytes → synced.bytes_at beside ≡ Some (bytes
+  pub renamed_part : ((bytes : List ℕ) → old.bytes_at temporary ≡ Some bytes → synced.bytes_at temporary ≡ Some (bytes
       ++ text)) →
-      IsSynced synced beside → IsPartOf (renamed synced beside path) (filled old beside path text)
+      IsSynced synced temporary → IsPartOf (renamed synced temporary path) (filled old temporary path text)
   renamed_part written is_synced at left (inl same) = inl same
   renamed_part written is_synced at left (inr (same, (bytes, is, inl stood))) =
       inr (same, λ had known. is ∙ sym stood ∙ written had known)
@@ -31,55 +31,55 @@ module _ (old synced : Files) (beside path text : List ℕ) where
       inr (same, λ had known. is ∙ ap Some (is_synced (had ++ text) (written had known) bytes held))
 
 -- the file was filled and has the name
-pub filling : (old written synced new : Files) (beside path text : List ℕ) → GoesOn old written (at_path beside) →
-    GoesOn written synced nowhere → GoesOn synced new (renamed synced beside path) →
-    ((bytes : List ℕ) → old.bytes_at beside ≡ Some bytes → written.bytes_at beside ≡ Some (bytes ++ text)) →
-    IsSynced synced beside → GoesOn old new (filled old beside path text)
-filling old written synced new beside path text write sync rename has_text is_synced =
-    let part = renamed_part old synced beside path text
-    (λ bytes known. stands written synced sync beside ∙ has_text bytes known) is_synced in
-    let two = then old written synced (at_path beside) nowhere (filled old beside path text) write sync
+pub filling : (old written synced new : Files) (temporary path text : List ℕ) → GoesOn old written (at_path temporary) →
+    GoesOn written synced nowhere → GoesOn synced new (renamed synced temporary path) →
+    ((bytes : List ℕ) → old.bytes_at temporary ≡ Some bytes → written.bytes_at temporary ≡ Some (bytes ++ text)) →
+    IsSynced synced temporary → GoesOn old new (filled old temporary path text)
+filling old written synced new temporary path text write sync rename has_text is_synced =
+    let part = renamed_part old synced temporary path text
+    (λ bytes known. stands written synced sync temporary ∙ has_text bytes known) is_synced in
+    let two = then old written synced (at_path temporary) nowhere (filled old temporary path text) write sync
     (λ p left is. inl is) (λ p left none. absurd none) in
-    then old synced new (filled old beside path text)
-    (renamed synced beside path) (filled old beside path text) two rename
+    then old synced new (filled old temporary path text)
+    (renamed synced temporary path) (filled old temporary path text) two rename
     (λ p left is. is) part
 
 -- the file that is filled stood nowhere, and was empty if the old one's bytes were known
-pub filled_part : (old made : Files) (beside path text : List ℕ) → old.bytes_at beside ≡ None →
-    IfSome (old.bytes_at path) (λ _. made.bytes_at beside ≡ Some []) →
-    IsPartOf (filled made beside path text) (replaced old path text)
-filled_part old made beside path text free empty at left (inl same) = inl (ap old.bytes_at same ∙ free)
-filled_part old made beside path text free empty at left (inr (same, comes)) = ⊎_elim
+pub filled_part : (old made : Files) (temporary path text : List ℕ) → old.bytes_at temporary ≡ None →
+    IfSome (old.bytes_at path) (λ _. made.bytes_at temporary ≡ Some []) →
+    IsPartOf (filled made temporary path text) (replaced old path text)
+filled_part old made temporary path text free empty at left (inl same) = inl (ap old.bytes_at same ∙ free)
+filled_part old made temporary path text free empty at left (inr (same, comes)) = ⊎_elim
     (λ none. inl (ap old.bytes_at same ∙ none)) (λ is_empty. inr (same, comes [] is_empty))
-    (known (old.bytes_at path) (made.bytes_at beside ≡ Some []) empty)
+    (known (old.bytes_at path) (made.bytes_at temporary ≡ Some []) empty)
 
 -- what stood nowhere is removed
-pub removed_part : (old : Files) (beside path text : List ℕ) → old.bytes_at beside ≡ None →
-    IsPartOf (at_path beside) (replaced old path text)
-removed_part old beside path text free at left same = inl (ap old.bytes_at same ∙ free)
+pub removed_part : (old : Files) (temporary path text : List ℕ) → old.bytes_at temporary ≡ None →
+    IsPartOf (at_path temporary) (replaced old path text)
+removed_part old temporary path text free at left same = inl (ap old.bytes_at same ∙ free)
 
 pub becomes : (old new : Option (List ℕ)) (text : List ℕ) → IfSome old (λ _. new ≡ Some text) → Becomes old new text
 becomes None new text is = tt
 becomes (Some bytes) new text is = is
 
 -- a file was made, filled and named, and a call more was made
-pub replacing : (old made mid new : Files) (beside path text : List ℕ) (last : Changes) →
-    GoesOn old made (at_free_paths old) → GoesOn made mid (filled made beside path text) → GoesOn mid new last →
-    IsPartOf last (replaced old path text) → old.bytes_at beside ≡ None →
-    IfSome (old.bytes_at path) (λ _. made.bytes_at beside ≡ Some []) → GoesOn old new (replaced old path text)
-replacing old made mid new beside path text last first second third is_part free empty =
+pub replacing : (old made mid new : Files) (temporary path text : List ℕ) (last : Changes) →
+    GoesOn old made (at_free_paths old) → GoesOn made mid (filled made temporary path text) → GoesOn mid new last →
+    IsPartOf last (replaced old path text) → old.bytes_at temporary ≡ None →
+    IfSome (old.bytes_at path) (λ _. made.bytes_at temporary ≡ Some []) → GoesOn old new (replaced old path text)
+replacing old made mid new temporary path text last first second third is_part free empty =
     let all = replaced old path text in
-    let two = then old made mid (at_free_paths old) (filled made beside path text) all first second
-    (λ p left none. inl none) (filled_part old made beside path text free empty) in
+    let two = then old made mid (at_free_paths old) (filled made temporary path text) all first second
+    (λ p left none. inl none) (filled_part old made temporary path text free empty) in
     then old mid new all last all two third (λ p left is. is) is_part
 
 -- the text is on the disk, and so is its name
-pub durable : (old made mid new : Files) (beside path text : List ℕ) →
-    IfSome (old.bytes_at path) (λ _. made.bytes_at beside ≡ Some []) →
-    IfSome (made.bytes_at beside) (λ _. IsSynced mid path) → GoesOn mid new nowhere → IsNamed new path →
+pub durable : (old made mid new : Files) (temporary path text : List ℕ) →
+    IfSome (old.bytes_at path) (λ _. made.bytes_at temporary ≡ Some []) →
+    IfSome (made.bytes_at temporary) (λ _. IsSynced mid path) → GoesOn mid new nowhere → IsNamed new path →
     IfSome (old.bytes_at path) (λ _. IsDurable new path)
-durable old made mid new beside path text empty synced last named =
-    each_known (old.bytes_at path) (made.bytes_at beside ≡ Some []) (IsDurable new path) empty
+durable old made mid new temporary path text empty synced last named =
+    each_known (old.bytes_at path) (made.bytes_at temporary ≡ Some []) (IsDurable new path) empty
     (λ is_empty bytes is left leaves.
     let kept = named bytes is left leaves in
     let held = ⊎_elim (λ was. was) (λ none. absurd none) (last.hold path kept.0 kept.2) in

@@ -69,10 +69,10 @@ abbrev pub replaced : (old : Files) → (path text : List ℕ) → Changes
 replaced old only text path left = (old.bytes_at path ≡ None) ⊎ ((path ≡ only) × (left ≡ Some text))
 
 -- The file is filled and takes the name: its bytes were known, and then the text behind them comes to the name.
-abbrev pub filled : (old : Files) → (beside only text : List ℕ) → Changes
-filled old beside only text path left =
-    (path ≡ beside) ⊎
-    ((path ≡ only) × ((bytes : List ℕ) → old.bytes_at beside ≡ Some bytes → left ≡ Some (bytes ++ text)))
+abbrev pub filled : (old : Files) → (temporary only text : List ℕ) → Changes
+filled old temporary only text path left =
+    (path ≡ temporary) ⊎
+    ((path ≡ only) × ((bytes : List ℕ) → old.bytes_at temporary ≡ Some bytes → left ≡ Some (bytes ++ text)))
 
 -- where the file's bytes are known, these are all that a crash may leave in it
 abbrev pub IsSynced : (now : Files) → (path : List ℕ) → Type 0

@@ -7,9 +7,9 @@ Becomes None new text = Unit {0}
 Becomes (Some bytes) new text = new ≡ Some text
 
 -- each file is what it was
-abbrev pub AllStand : (old new : List ℕ → Option (List ℕ)) → Type 0
-AllStand old new = (path : List ℕ) → new path ≡ old path
+abbrev pub AllUnchanged : (old new : List ℕ → Option (List ℕ)) → Type 0
+AllUnchanged old new = (path : List ℕ) → new path ≡ old path
 
 -- each file but that of the path is what it was; where none was, one may have come
-abbrev pub OthersStand : (old new : List ℕ → Option (List ℕ)) → List ℕ → Type 0
-OthersStand old new path = (other : List ℕ) → (new other ≡ old other) ⊎ (other ≡ path) ⊎ (old other ≡ None)
+abbrev pub OthersUnchanged : (old new : List ℕ → Option (List ℕ)) → List ℕ → Type 0
+OthersUnchanged old new path = (other : List ℕ) → (new other ≡ old other) ⊎ (other ≡ path) ⊎ (old other ≡ None)

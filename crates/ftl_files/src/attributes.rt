@@ -9,7 +9,7 @@ use std::rt::Files;
 ///
 /// `InvalidInput`: it is no regular file, or has other names, which would keep the old bytes. `PermissionDenied`:
 /// nobody may write it, which a rename would not ask.
-pub(crate) fn replaceable<R: Files>(rt: &R, path: &str) -> io::Result<Metadata> {
+pub(crate) fn replaceable_metadata<R: Files>(rt: &R, path: &str) -> io::Result<Metadata> {
     let file = fs::metadata(rt, path)?;
     if !file.is_file() {
         return Err(io::Error::new(ErrorKind::InvalidInput, "not a regular file"));

@@ -2,7 +2,7 @@
 ghost use Rattle.std.specs.Prelude.{string_bytes};
 ghost use Rattle.ftl_files.specs.Files.{unknown};
 
-use crate::attributes::{keep_attributes, replaceable};
+use crate::attributes::{keep_attributes, replaceable_metadata};
 use crate::file_system::FileSystem;
 use crate::folders::Folders;
 use crate::listing::{Listing, list_within_limits};
@@ -54,7 +54,7 @@ impl<R: Files + AllocGlobal> FileSystem for Disk<'_, R> {
     /// Nobody else reads the file before it has the mode of the old one. Where it can't be given the mode and the
     /// owner, it is removed.
     fn create(&mut self, path: &str, like: &str) -> io::Result<DiskFile<R::File>> {
-        let old = replaceable(self.rt, like)?;
+        let old = replaceable_metadata(self.rt, like)?;
         let name = String::from_str(self.rt.alloc(), path)?;
         let file = OpenOptions::new()
             .write(true)

@@ -1,7 +1,7 @@
 //! What a file is replaced by: new files, syncs and renames, and a crash that may come at any moment.
 ghost use Rattle.std.specs.Prelude.{◌≡◌, ◌++◌, ◌≤◌, [], ℕ, List, Option, None, Some, IfOk, IfSome, OnErr, OnOk};
 ghost use Rattle.ftl_files.specs.Files.{Files, GoesOn, IsNamed, IsSynced, at_free_path, at_path, nowhere, renamed};
-ghost use Rattle.ftl_files.specs.Store.{AllStand};
+ghost use Rattle.ftl_files.specs.Store.{AllUnchanged};
 
 use std::io;
 
@@ -40,7 +40,7 @@ pub trait FileSystem {
         ensures made { OnOk result (IfSome ((files self.old).bytes_at like.now)
             (λ _. (files self.new).bytes_at path.now ≡ Some [])) }
         ensures changes { GoesOn (files self.old) (files self.new) (at_free_path (files self.old) path.now) }
-        ensures failed { OnErr result (AllStand (files self.old).bytes_at (files self.new).bytes_at) };
+        ensures failed { OnErr result (AllUnchanged (files self.old).bytes_at (files self.new).bytes_at) };
 
     /// Writes the bytes behind those that the file has.
     fn write(&mut self, file: &mut Self::File, bytes: &[u8]) -> io::Result<()>

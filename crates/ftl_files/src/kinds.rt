@@ -6,7 +6,7 @@ ghost use Rattle.fluent_syntax_names.specs.Severities.{name_of};
 use fluent_syntax_names::Kind;
 
 /// The kind of finding that has the name, as `lint` tells it. `None` where none has it.
-pub fn kind_named(name: &str) -> Option<Kind>
+pub fn kind_of_name(name: &str) -> Option<Kind>
     ensures named { IfSome result (λ kind. name_of kind ≡ name.now) }
     ensures none { result ≡ None → (kind : Kind) → name_of kind ≢ name.now }
 {

@@ -53,7 +53,7 @@ pub enum Color {
 }
 
 /// The form that has the name. `None` where none has it.
-pub fn output_named(name: &str) -> Option<Output>
+pub fn output_of_name(name: &str) -> Option<Output>
     ensures named { IfSome result (λ output. output_name output ≡ name.now) }
     ensures none { result ≡ None → (output : Output) → output_name output ≢ name.now }
 {
@@ -67,7 +67,7 @@ pub fn output_named(name: &str) -> Option<Output>
 }
 
 /// When there are colours, by its name. `None` where nothing has it.
-pub fn color_named(name: &str) -> Option<Color>
+pub fn color_of_name(name: &str) -> Option<Color>
     ensures named { IfSome result (λ color. color_name color ≡ name.now) }
     ensures none { result ≡ None → (color : Color) → color_name color ≢ name.now }
 {

@@ -1,7 +1,7 @@
 //! How a file's bytes are replaced, so that whenever a crash comes the old ones or the new ones stand, each whole.
 ghost use Rattle.std.specs.Prelude.{◌≡◌, ◌⊎◌, ◌++◌, [], ℕ, List, None, Some, IfOk, IfSome, OnErr, OnOk, string_bytes};
 ghost use Rattle.ftl_files.specs.Files.{GoesOn, IsDurable, IsSynced, at_free_paths, filled, replaced};
-ghost use Rattle.ftl_files.specs.Store.{AllStand, Becomes, OthersStand};
+ghost use Rattle.ftl_files.specs.Store.{AllUnchanged, Becomes, OthersUnchanged};
 
 use crate::file_system::FileSystem;
 use std::alloc::Global;
@@ -32,19 +32,19 @@ pub fn replace_file<F: FileSystem>(
     ensures durable { OnOk result (IfSome ((F.files system.old).bytes_at path.now)
         (λ _. IsDurable (F.files system.new) path.now)) }
 {
-    let (beside, file) = create_beside(alloc, system, path)?;
-    match fill_and_rename(system, file, beside.as_str(), path, text) {
+    let (temporary, file) = create_temporary(alloc, system, path)?;
+    match fill_and_rename(system, file, temporary.as_str(), path, text) {
         Ok(()) => system.sync_name(path),
         Err(error) => {
             // the first failure is the one to tell
-            let _ = system.remove(beside.as_str());
+            let _ = system.remove(temporary.as_str());
             Err(error)
         }
     }
 }
 
 /// A new file in the folder of the path, and its own path before it.
-fn create_beside<F: FileSystem>(
+fn create_temporary<F: FileSystem>(
     alloc: Global,
     system: &mut F,
     path: &str,
@@ -62,9 +62,9 @@ fn create_beside<F: FileSystem>(
         None => "",
     };
     for number in 0..NAMES {
-        let beside = format!(in alloc; "{folder}/.ftl-new-{number}")?;
-        match system.create(beside.as_str(), path) {
-            Ok(file) => return Ok((beside, file)),
+        let temporary = format!(in alloc; "{folder}/.ftl-new-{number}")?;
+        match system.create(temporary.as_str(), path) {
+            Ok(file) => return Ok((temporary, file)),
             Err(error) if error.kind() == ErrorKind::AlreadyExists => (),
             Err(error) => return Err(error),
         }
@@ -76,21 +76,21 @@ fn create_beside<F: FileSystem>(
 fn fill_and_rename<F: FileSystem>(
     system: &mut F,
     mut file: F::File,
-    beside: &str,
+    temporary: &str,
     path: &str,
     text: &[u8],
 ) -> io::Result<()>
-    requires { F.path_of file ≡ beside.now }
+    requires { F.path_of file ≡ temporary.now }
     ensures any_moment { GoesOn (F.files system.old) (F.files system.new)
-        (filled (F.files system.old) beside.now path.now text.now) }
-    ensures came { OnOk result (IfSome ((F.files system.old).bytes_at beside.now)
+        (filled (F.files system.old) temporary.now path.now text.now) }
+    ensures came { OnOk result (IfSome ((F.files system.old).bytes_at temporary.now)
         (λ bytes. (F.files system.new).bytes_at path.now ≡ Some (bytes ++ text.now))) }
-    ensures synced { OnOk result (IfSome ((F.files system.old).bytes_at beside.now)
+    ensures synced { OnOk result (IfSome ((F.files system.old).bytes_at temporary.now)
         (λ _. IsSynced (F.files system.new) path.now)) }
-    ensures gone { OnOk result ((F.files system.new).bytes_at beside.now ≡ None) }
+    ensures gone { OnOk result ((F.files system.new).bytes_at temporary.now ≡ None) }
 {
     system.write(&mut file, text)?;
     // the bytes are on the disk before the name leads to them
     system.sync(&mut file)?;
-    system.rename(beside, path)
+    system.rename(temporary, path)
 }

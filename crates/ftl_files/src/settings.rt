@@ -15,8 +15,8 @@ ghost use Rattle.ftl_files.specs.declared.options.Color.{Color};
 ghost use Rattle.ftl_files.specs.declared.options.Output.{Output};
 ghost use Rattle.fluent_syntax_names.specs.Severities.{name_of};
 
-use crate::kinds::kind_named;
-use crate::options::{Color, Output, color_named, output_named};
+use crate::kinds::kind_of_name;
+use crate::options::{Color, Output, color_of_name, output_of_name};
 use crate::settings_fault::SettingsFault;
 use fluent_syntax_names::Kind;
 use fluent_syntax_tree::edition::Edition;
@@ -73,7 +73,7 @@ pub fn settings_of(alloc: Global, text: &str) -> Result<Settings, SettingsFault>
     let table = match toml::table_from_str(alloc, text) {
         Ok(table) => table,
         Err(error) if error.is_memory() => return Err(SettingsFault::Memory),
-        Err(error) => return Err(SettingsFault::Toml(words_of(alloc, &error)?)),
+        Err(error) => return Err(SettingsFault::Toml(message_of(alloc, &error)?)),
     };
     check_keys(alloc, &table)?;
     let reference = reference_of(alloc, table.get("reference"))?;
@@ -93,7 +93,7 @@ pub fn settings_of(alloc: Global, text: &str) -> Result<Settings, SettingsFault>
 }
 
 /// What the error says, on one line.
-fn words_of(alloc: Global, error: &toml::de::Error) -> Result<String, AllocError> {
+fn message_of(alloc: Global, error: &toml::de::Error) -> Result<String, AllocError> {
     let words = format!(in alloc; "{error}")?;
     match words.as_str().trim_end().split_once('\n') {
         Some((place, what)) => format!(in alloc; "{place}: {what}"),
@@ -170,7 +170,7 @@ fn kind_of(value: &Value) -> Result<Kind, SettingsFault>
     let Value::String(name) = value else {
         return Err(SettingsFault::Ignore);
     };
-    kind_named(name.as_str()).ok_or(SettingsFault::Ignore)
+    kind_of_name(name.as_str()).ok_or(SettingsFault::Ignore)
 }
 
 fn edition_of(value: Option<&Value>) -> Result<Option<Edition>, SettingsFault>
@@ -197,7 +197,7 @@ fn output_of(value: Option<&Value>) -> Result<Option<Output>, SettingsFault>
     let Value::String(name) = value else {
         return Err(SettingsFault::Output);
     };
-    match output_named(name.as_str()) {
+    match output_of_name(name.as_str()) {
         Some(output) => Ok(Some(output)),
         None => Err(SettingsFault::Output),
     }
@@ -228,7 +228,7 @@ fn color_of(value: Option<&Value>) -> Result<Option<Color>, SettingsFault>
     let Value::String(name) = value else {
         return Err(SettingsFault::Color);
     };
-    match color_named(name.as_str()) {
+    match color_of_name(name.as_str()) {
         Some(color) => Ok(Some(color)),
         None => Err(SettingsFault::Color),
     }

@@ -1,7 +1,7 @@
 //! Files by path, as a run sees them.
 ghost use Rattle.std.specs.Prelude.{◌≡◌, ◌⊎◌, ℕ, List, Option, None, IfErr, IfOk, IfSome, OnOk};
 ghost use Rattle.std.specs.declared.io.Error.{Error};
-ghost use Rattle.ftl_files.specs.Store.{AllStand, Becomes, OthersStand};
+ghost use Rattle.ftl_files.specs.Store.{AllUnchanged, Becomes, OthersUnchanged};
 
 use std::io;
 
@@ -21,7 +21,7 @@ pub trait Store {
     fn read(&mut self, path: &str) -> io::Result<Vec<u8>>
         ensures read { IfOk result (λ read. IfSome (bytes_at self.old path.now) (λ bytes. read.items ≡ bytes)) }
         ensures failed { IfErr result (fails (bytes_at self.old path.now)) }
-        ensures stand { AllStand (bytes_at self.old) (bytes_at self.new) };
+        ensures stand { AllUnchanged (bytes_at self.old) (bytes_at self.new) };
 
     /// Puts the text in the place of the file's bytes. After a failure the old bytes stand, or the text does.
     fn replace(&mut self, path: &str, text: &[u8]) -> io::Result<()>
@@ -29,5 +29,5 @@ pub trait Store {
         ensures failed { IfErr result (fails (bytes_at self.old path.now)) }
         ensures whole { (bytes_at self.new path.now ≡ bytes_at self.old path.now)
             ⊎ Becomes (bytes_at self.old path.now) (bytes_at self.new path.now) text.now }
-        ensures others { OthersStand (bytes_at self.old) (bytes_at self.new) path.now };
+        ensures others { OthersUnchanged (bytes_at self.old) (bytes_at self.new) path.now };
 }

@@ -3,28 +3,28 @@ use Rattle.std.proofs.Common.{◌≡◌, ℕ, suc, ◌+◌, ◌<◌, ◌≤◌, 
 use Rattle.std.proofs.Common.{◌==◌, ◌&&◌, ◌||◌, Bool, true, false, not, ◌⊎◌, refl, sym, ap, ◌∙◌, subst, arith, inl, inr}
 use Rattle.std.proofs.lemmas.Str.{IsCharBoundary-end}
 use Rattle.fluent_syntax_grammar.specs.Bytes.{lf, cr}
-use Rattle.ftl_lsp.specs.Places.{ends_line, utf16_units, next_line, next_character, line_at, character_at}
-use Rattle.ftl_lsp.specs.Places.{place_at}
+use Rattle.ftl_lsp.specs.Positions.{ends_line, utf16_units, next_line, next_character, line_at, character_at}
+use Rattle.ftl_lsp.specs.Positions.{position_at}
 use Rattle.ftl_lsp.specs.Offsets.{BeginsLine, is_break, is_reached, stops_at, IsByteOf, IsInLine}
 use Rattle.ftl_lsp.specs.Offsets.{IsBehindAll}
-use Rattle.ftl_lsp.specs.declared.places.Place.{Place}
+use Rattle.ftl_lsp.specs.declared.positions.Position.{Position}
 
 -- The place is not passed before the byte.
-pub record IsAhead (t : List ℕ) (place : Place) (byte : ℕ) : Type 0 where
-  pub line : line_at t byte ≤ place.line
-  pub column : line_at t byte ≡ place.line → character_at t byte ≤ place.character
+pub record IsAhead (t : List ℕ) (position : Position) (byte : ℕ) : Type 0 where
+  pub line : line_at t byte ≤ position.line
+  pub column : line_at t byte ≡ position.line → character_at t byte ≤ position.character
 
-abbrev in_line : (line character : ℕ) → Place
+abbrev in_line : (line character : ℕ) → Position
 in_line line character = record { line = line; character = character }
 
 -- the place where a line begins
-pub starts_at : (t : List ℕ) (number at : ℕ) → BeginsLine t number at → in_line number 0 ≡ place_at t at
+pub starts_at : (t : List ℕ) (number at : ℕ) → BeginsLine t number at → in_line number 0 ≡ position_at t at
 starts_at t number at begins =
     ap (λ n. in_line n 0) (sym begins.line) ∙ ap (λ n. in_line (line_at t at) n) (sym begins.character)
 
 -- it is not passed before its line's first byte
-pub ahead_of_line : (t : List ℕ) (place : Place) (at : ℕ) → BeginsLine t place.line at → IsAhead t place at
-ahead_of_line t place at begins =
+pub ahead_of_line : (t : List ℕ) (position : Position) (at : ℕ) → BeginsLine t position.line at → IsAhead t position at
+ahead_of_line t position at begins =
     record { line = omega (arith, begins.line); column = λ e. omega (arith, begins.character) }
 
 -- a line ends with a byte at which its text ends
@@ -51,59 +51,61 @@ stop_false b character column e f = grind (arith, e, f)
 fits : (b character column : ℕ) → stops_at b character column ≡ false → character + utf16_units b ≤ column
 fits b character column e = grind (arith, e)
 
-module _ (t : List ℕ) (place : Place) (at : ℕ) where
+module _ (t : List ℕ) (position : Position) (at : ℕ) where
   ends_at_break : ends_line t at ≡ true → is_break (slice_index t at) ≡ true
   ends_at_break e = break_of (slice_index t at == lf) (slice_index t at == cr) (slice_index t (at + 1) == lf) e
 
-  module _ (ahead : IsAhead t place at) where
+  module _ (ahead : IsAhead t position at) where
     -- where the place is reached before a byte, it is there
-    pub there : at < length t → is_reached (slice_index t at) (place_at t at) place ≡ true → IsByteOf t place at
+    pub there : at < length t → is_reached (slice_index t at) (position_at t at) position ≡ true
+        → IsByteOf t position at
     there l e =
-        let h = both (line_at t at == place.line) (stops_at (slice_index t at) (character_at t at) place.character) e in
-        let line : line_at t at ≡ place.line = grind (arith, h.0) in
+        let h = both (line_at t at == position.line) (stops_at (slice_index t at)
+        (character_at t at) position.character) e in
+        let line : line_at t at ≡ position.line = grind (arith, h.0) in
         record {
           boundary = (
             omega arith,
-            λ m. lead_of (slice_index t at) (character_at t at) place.character
+            λ m. lead_of (slice_index t at) (character_at t at) position.character
                 (ahead.column line) h.1,
           );
           there = inl (record { line = line; column = ahead.column line; reached = inr h.1 });
         }
 
     -- where it is not reached before a byte, it is not passed behind it
-    module _ (goes_on : is_reached (slice_index t at) (place_at t at) place ≡ false) where
-      not_stopped : line_at t at ≡ place.line →
-          stops_at (slice_index t at) (character_at t at) place.character ≡ false
+    module _ (goes_on : is_reached (slice_index t at) (position_at t at) position ≡ false) where
+      not_stopped : line_at t at ≡ position.line →
+          stops_at (slice_index t at) (character_at t at) position.character ≡ false
       not_stopped e = grind (arith, goes_on, e)
 
       behind : (ends : Bool) → ends_line t at ≡ ends →
-          (next_line ends (line_at t at) ≤ place.line) × (next_line ends (line_at t at) ≡ place.line →
-          next_character ends (utf16_units (slice_index t at)) (character_at t at) ≤ place.character)
+          (next_line ends (line_at t at) ≤ position.line) × (next_line ends (line_at t at) ≡ position.line →
+          next_character ends (utf16_units (slice_index t at)) (character_at t at) ≤ position.character)
       behind true e =
-          let low : line_at t at ≤ place.line = ahead.line in
-          let other : line_at t at ≡ place.line → ⊥ = λ same.
-          stop_false (slice_index t at) (character_at t at) place.character (not_stopped same) (ends_at_break e) in
+          let low : line_at t at ≤ position.line = ahead.line in
+          let other : line_at t at ≡ position.line → ⊥ = λ same.
+          stop_false (slice_index t at) (character_at t at) position.character (not_stopped same) (ends_at_break e) in
           (grind (arith, low, other), λ same. omega arith)
       behind false e =
-          (ahead.line, λ same. fits (slice_index t at) (character_at t at) place.character (not_stopped same))
+          (ahead.line, λ same. fits (slice_index t at) (character_at t at) position.character (not_stopped same))
 
-      pub still_ahead : IsAhead t place (at + 1)
+      pub still_ahead : IsAhead t position (at + 1)
       still_ahead =
           let h = behind (ends_line t at) refl in
           let next : suc at ≡ at + 1 = omega arith in
-          subst (IsAhead t place) next (record { line = h.0; column = h.1 })
+          subst (IsAhead t position) next (record { line = h.0; column = h.1 })
 
 -- a place that is not passed with the text is at its end
-pub at_the_end : (t : List ℕ) (place : Place) → IsAhead t place (length t) → IsByteOf t place (length t)
-at_the_end t place ahead = record {
+pub at_the_end : (t : List ℕ) (position : Position) → IsAhead t position (length t) → IsByteOf t position (length t)
+at_the_end t position ahead = record {
   boundary = IsCharBoundary-end t;
-  there = by_line (nat_le place.line (line_at t (length t))) refl;
+  there = by_line (nat_le position.line (line_at t (length t))) refl;
 }
   where
-    by_line : (b : Bool) → nat_le place.line (line_at t (length t)) ≡ b →
-        IsInLine t place (length t) ⊎ IsBehindAll t place (length t)
+    by_line : (b : Bool) → nat_le position.line (line_at t (length t)) ≡ b →
+        IsInLine t position (length t) ⊎ IsBehindAll t position (length t)
     by_line true e =
-        let low : line_at t (length t) ≤ place.line = ahead.line in
-        let line : line_at t (length t) ≡ place.line = grind (arith, e, low) in
+        let low : line_at t (length t) ≤ position.line = ahead.line in
+        let line : line_at t (length t) ≡ position.line = grind (arith, e, low) in
         inl (record { line = line; column = ahead.column line; reached = inl refl })
     by_line false e = inr (record { line = grind (arith, e); end = refl })

@@ -3,7 +3,7 @@ pub mod ChangeLemmas
 pub mod FrameLemmas
 pub mod FramesMore
 pub mod InboxLemmas
-pub mod OpenedLemmas
-pub mod PlaceLemmas
+pub mod OpenDocumentLemmas
+pub mod PositionLemmas
 pub mod ServedLemmas
 pub mod SessionLemmas

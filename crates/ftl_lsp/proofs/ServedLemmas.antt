@@ -9,9 +9,9 @@ use Rattle.serde_json.specs.Data.{Data}
 use Rattle.ftl_lsp.specs.Served.{Ends, IsFresh, IsUnsent, Serves, begins, has_no_frame, has_no_memory}
 use Rattle.ftl_lsp.specs.Outbox.{Sends}
 use Rattle.ftl_lsp.specs.Phases.{ending_of}
-use Rattle.ftl_lsp.specs.Served.{GoesOn, Stops, TakesStep, is_not_written, is_untold, stops}
-use Rattle.ftl_lsp.specs.Served.{takes, tells, tells_unwritten, tells_without_memory}
-use Rattle.ftl_lsp.specs.Sessions.{Answers, Session, TellsAnew}
+use Rattle.ftl_lsp.specs.Served.{GoesOn, Stops, TakesStep, is_not_written, is_unpublished, stops}
+use Rattle.ftl_lsp.specs.Served.{takes, republishes, publishes_unwritten, has_no_memory_to_publish}
+use Rattle.ftl_lsp.specs.Sessions.{Answers, Session, Republishes}
 use Rattle.ftl_lsp.specs.declared.endings.Ending.{Ending}
 use Rattle.ftl_lsp.specs.declared.endings.Ending.TheVariants.{Input, Memory, Output}
 use Rattle.ftl_lsp.specs.declared.phases.Phase.{Phase}
@@ -73,7 +73,7 @@ is_exit_of Left = refl
 pub ends_by_no_input : (phase : Phase) → ending_of phase ≢ Some Input
 ends_by_no_input phase is = true≢false (sym (is_exit_of phase) ∙ ap is_exit is)
 
--- ---- What is told anew
+-- ---- What is published again
 
 -- behind what changes nothing of the session a step is one of the session
 pub takes_behind : {X Y : Type 0} (r : Result X Y) (old mid now : Session)
@@ -84,11 +84,11 @@ takes_behind (Ok x) old mid now left after written sent_on same step =
 takes_behind (Err e) old mid now left after written sent_on same step = step
 
 -- a document of which was told
-pub tells_behind : {X Y : Type 0} (r : Result X Y) (old mid : Session) (left written sent_on : Option (List ℕ))
-    (value : Data) → mid ≡ old → TellsAnew old value → OnOk r (Sends written sent_on (Some value)) →
+pub republishes_behind : {X Y : Type 0} (r : Result X Y) (old mid : Session) (left written sent_on : Option (List ℕ))
+    (value : Data) → mid ≡ old → Republishes old value → OnOk r (Sends written sent_on (Some value)) →
     OnOk r (GoesOn old mid left left written sent_on)
-tells_behind (Ok x) old mid left written sent_on value same anew sends = tells value anew same refl sends
-tells_behind (Err e) old mid left written sent_on value same anew sends = sends
+republishes_behind (Ok x) old mid left written sent_on value same anew sends = republishes value anew same refl sends
+republishes_behind (Err e) old mid left written sent_on value same anew sends = sends
 
 -- why a session stops behind what changes nothing of it
 pub stops_behind : {X : Type 0} (r : Result X Ending) (old mid : Session) (left written now : Option (List ℕ)) →
@@ -98,13 +98,13 @@ stops_behind r old mid left written now same stopped =
     subst (λ (s : Session). IfErr r (λ ending. Stops s left written ending now)) same stopped
 
 -- a document of which could not be told
-pub untold : {Y : Type 0} (r : Result Y Ending) (before : Session) (left written now : Option (List ℕ))
-    (value : Data) → TellsAnew before value → IfErr r (λ ending. (ending ≡ Memory) ⊎ (ending ≡ Output)) →
+pub not_published : {Y : Type 0} (r : Result Y Ending) (before : Session) (left written now : Option (List ℕ))
+    (value : Data) → Republishes before value → IfErr r (λ ending. (ending ≡ Memory) ⊎ (ending ≡ Output)) →
     (r ≡ Err Memory → now ≡ written) → IfErr r (λ ending. Stops before left written ending now)
-untold (Ok x) before left written now value anew fault same = fault
-untold (Err e) before left written now value anew (inl is) same =
+not_published (Ok x) before left written now value anew fault same = fault
+not_published (Err e) before left written now value anew (inl is) same =
     subst (λ (ending : Ending). Stops before left written ending now) (sym is)
-    (is_untold Memory now (tells_without_memory now (same (ap Err is))))
-untold (Err e) before left written now value anew (inr is) same =
+    (is_unpublished Memory now (has_no_memory_to_publish now (same (ap Err is))))
+not_published (Err e) before left written now value anew (inr is) same =
     subst (λ (ending : Ending). Stops before left written ending now) (sym is)
-    (is_untold Output now (tells_unwritten now value anew))
+    (is_unpublished Output now (publishes_unwritten now value anew))

@@ -14,16 +14,16 @@ use Rattle.serde_json.specs.View.{items_view, view}
 use Rattle.serde_json.specs.declared.value.Value.{Value}
 use Rattle.ftl_lsp.specs.Edits.{Edit, edits_in}
 use Rattle.ftl_lsp.specs.Messages.{message_in, request, notification}
-use Rattle.ftl_lsp.specs.Opened.{MakesOpen, OpenText, Sets, SetsMade}
+use Rattle.ftl_lsp.specs.OpenDocuments.{MakesOpen, OpenText, Sets, SetsMade}
 use Rattle.ftl_lsp.specs.Params.{changes_in, opened_text_in, uri_in, version_in}
 use Rattle.ftl_lsp.specs.Phases.{after_notification, after_request, refusal_of}
 use Rattle.ftl_lsp.specs.Replies.{Reply, IsSent, diagnosed, silence, watch, withdrawn, diagnostics_form}
 use Rattle.ftl_lsp.specs.Replies.{sends_diagnostics, sends_none, sends_withdrawal}
 use Rattle.ftl_lsp.specs.Diagnostics.{DiagnosesText, shown}
-use Rattle.ftl_lsp.specs.Told.{TellsBeside, TellsDocument, error_form}
+use Rattle.ftl_lsp.specs.DiagnosticForms.{IsLintDiagnostic, PublishesDiagnostics, error_form}
 use Rattle.ftl_lsp.specs.declared.diagnostics.Diagnostic.{Diagnostic}
-use Rattle.ftl_lsp.specs.Sessions.{Answers, AnswersNotification, AnswersRequest, AnswersRunning, Follows}
-use Rattle.ftl_lsp.specs.Sessions.{Finds, IsFound, TellsAnew, fits}
+use Rattle.ftl_lsp.specs.Sessions.{Answers, AnswersNotification, AnswersRequest, AnswersRunning, HandlesNotification}
+use Rattle.ftl_lsp.specs.Sessions.{Finds, HasResponse, Republishes, fits}
 use Rattle.ftl_lsp.specs.Sessions.{IsMethod, Session, TakesRequest, concerns}
 use Rattle.ftl_lsp.specs.Asking.{IsResult, names_open}
 use Rattle.ftl_lsp.specs.Sessions.{changes, published, requested, notified, opens, passes, runs}
@@ -107,23 +107,23 @@ unpublished old mid uri same none =
     subst at same (subst (λ (o : Option OpenText). IsSent (published uri o) None) none sends_none)
 
 pub is_published : (old mid : Session) (uri : List ℕ) (found : OpenText) (value : Data) (list : List Data) →
-    mid ≡ old → Some found ≡ mid.texts uri → value ≡ diagnostics_form uri list → TellsDocument found.text list →
+    mid ≡ old → Some found ≡ mid.texts uri → value ≡ diagnostics_form uri list → PublishesDiagnostics found.text list →
     IsSent (published uri (old.texts uri)) (Some value)
-is_published old mid uri found value list same open' is tells_all =
+is_published old mid uri found value list same open' is publishes_all =
     let at : Session → Type 0 = λ s. IsSent (published uri (s.texts uri)) (Some value) in
-    let sent = sent_as (diagnosed uri found.text) value _ is (sends_diagnostics uri found.text list tells_all) in
+    let sent = sent_as (diagnosed uri found.text) value _ is (sends_diagnostics uri found.text list publishes_all) in
     subst at same (subst (λ (o : Option OpenText). IsSent (published uri o) (Some value)) open' sent)
 
 -- what is told of a document: its errors, and then what is told beside
-pub tells_document : (t : List ℕ) (errors : List Diagnostic) (values others all : List Value) →
+pub publishes_document : (t : List ℕ) (errors : List Diagnostic) (values others all : List Value) →
     ∥ DiagnosesText t (map shown errors) ∥₁ → map view values ≡ map error_form errors →
-    All TellsBeside (map view others) → all ≡ values ++ others → TellsDocument t (map view all)
-tells_document t errors values others all diagnoses told beside is = record {
+    All IsLintDiagnostic (map view others) → all ≡ values ++ others → PublishesDiagnostics t (map view all)
+publishes_document t errors values others all diagnoses told lint_diagnostics is = record {
   errors = errors;
   diagnoses = diagnoses;
   others = map view others;
-  beside = beside;
-  told_each = ap (map view) is ∙ map-append view values others ∙ ap (λ l. l ++ map view others) told;
+  lint_diagnostics = lint_diagnostics;
+  publishes_each = ap (map view) is ∙ map-append view values others ∙ ap (λ l. l ++ map view others) told;
 }
 
 -- that there are none any more
@@ -133,12 +133,13 @@ is_withdrawn uri value list is none =
     sent_as (withdrawn uri) value _ (is ∙ ap (diagnostics_form uri) none) (sends_withdrawal uri)
 
 -- the diagnostics of a document that is open are told, behind what was done before
-pub tells : {Y : Type 0} (r : Result (Option Value) Y) (old : List ℕ → Option OpenText) (d : Data)
+pub republishes : {Y : Type 0} (r : Result (Option Value) Y) (old : List ℕ → Option OpenText) (d : Data)
     (method : Option Method) (uri : List ℕ) (found : OpenText) (mid new : Session) → mid.texts uri ≡ Some found →
-    ((texts : List ℕ → Option OpenText) → texts ≡ mid.texts → Follows old d method (diagnosed uri found.text) texts) →
+    ((texts : List ℕ → Option OpenText) → texts ≡ mid.texts
+    → HandlesNotification old d method (diagnosed uri found.text) texts) →
     OnOk r (new ≡ mid) → IfOk r (λ sent. IsSent (published uri (mid.texts uri)) (option_map view sent)) →
     IfOk r (λ sent. AnswersRunning old d method (option_map view sent) new.texts)
-tells r old d method uri found mid new open' follows same sent =
+republishes r old d method uri found mid new open' follows same sent =
     ok_with r _ _ _
     (λ e x h. (
       diagnosed uri found.text,
@@ -148,15 +149,15 @@ tells r old d method uri found mid new open' follows same sent =
     same sent
 
 -- a document that was opened
-pub tells_opened : {Y : Type 0} (r : Result (Option Value) Y) (d : Data) (uri text : List ℕ) (version : Option ℤ)
+pub publishes_opened : {Y : Type 0} (r : Result (Option Value) Y) (d : Data) (uri text : List ℕ) (version : Option ℤ)
     (old mid new : Session) → uri_in d ≡ Some uri → opened_text_in d ≡ Some text → version ≡ version_in d →
     Sets old.texts uri (Some (record { text = text; version = version })) mid.texts → OnOk r (new ≡ mid) →
     IfOk r (λ sent. IsSent (published uri (mid.texts uri)) (option_map view sent)) →
     IfOk r (λ sent. AnswersRunning old.texts d (Some DidOpen) (option_map view sent) new.texts)
-tells_opened r d uri text version old mid new named told numbered sets same sent =
+publishes_opened r d uri text version old mid new named told numbered sets same sent =
     let made = subst
     (λ (n : Option ℤ). Sets old.texts uri (Some (record { text = text; version = n })) mid.texts) numbered sets in
-    tells r old.texts d (Some DidOpen) uri (record { text = text; version = version }) mid new
+    republishes r old.texts d (Some DidOpen) uri (record { text = text; version = version }) mid new
     (is_open old.texts mid.texts uri _ sets)
     (λ now e. opens uri text now named told
     (subst
@@ -165,20 +166,20 @@ tells_opened r d uri text version old mid new named told numbered sets same sent
     same sent
 
 -- a document that was changed
-pub tells_changed : {Y : Type 0} (r : Result (Option Value) Y) (d : Data) (uri : List ℕ) (items : Items)
+pub publishes_changed : {Y : Type 0} (r : Result (Option Value) Y) (d : Data) (uri : List ℕ) (items : Items)
     (edits : List Edit) (version : Option ℤ) (found : Bool) (old mid new : Session) → uri_in d ≡ Some uri →
     changes_in d ≡ Some items → edits_in items ≡ Some edits → version ≡ version_in d →
     is_some (old.texts uri) ≡ true → SetsMade old.texts uri version edits found mid.texts → OnOk r (new ≡ mid) →
     IfOk r (λ sent. IsSent (published uri (mid.texts uri)) (option_map view sent)) →
     IfOk r (λ sent. AnswersRunning old.texts d (Some DidChange) (option_map view sent) new.texts)
-tells_changed r d uri items edits version true old mid new named told is_read numbered open'
+publishes_changed r d uri items edits version true old mid new named told is_read numbered open'
     (before, after, was, makes, sets) same sent =
-    tells r old.texts d (Some DidChange) uri after mid new (is_open old.texts mid.texts uri after sets)
+    republishes r old.texts d (Some DidChange) uri after mid new (is_open old.texts mid.texts uri after sets)
     (λ now e. changes uri items edits before after now named told is_read was
     (subst (λ (n : Option ℤ). MakesOpen before n edits after) numbered makes)
     (subst (λ (t : List ℕ → Option OpenText). Sets old.texts uri (Some after) t) (sym e) sets))
     same sent
-tells_changed r d uri items edits version false old mid new named told is_read numbered open' h same sent =
+publishes_changed r d uri items edits version false old mid new named told is_read numbered open' h same sent =
     absurd (true≢false (sym open' ∙ ap is_some h.0))
 
 -- a document that is saved
@@ -190,11 +191,11 @@ saved old new d uri sent (Some found) open' named same is =
 saved old new d uri sent None open' named same is =
     (silence, is, passes (Some DidSave) new (named_open old d uri named ∙ ap is_some open') same)
 
-pub tells_saved : {Y : Type 0} (r : Result (Option Value) Y) (d : Data) (uri : List ℕ) (old new : Session) →
+pub publishes_saved : {Y : Type 0} (r : Result (Option Value) Y) (d : Data) (uri : List ℕ) (old new : Session) →
     uri_in d ≡ Some uri → OnOk r (new ≡ old) →
     IfOk r (λ sent. IsSent (published uri (old.texts uri)) (option_map view sent)) →
     IfOk r (λ sent. AnswersRunning old.texts d (Some DidSave) (option_map view sent) new.texts)
-tells_saved r d uri old new named same sent =
+publishes_saved r d uri old new named same sent =
     ok_with r _ _ _ (λ e x h. saved old.texts new.texts d uri _ _ refl named (ap (λ s. s.texts) e) h) same sent
 
 mapped_some : (found : Option Value) → is_some found ≡ is_some (option_map view found)
@@ -203,13 +204,13 @@ mapped_some (Some value) = refl
 
 -- what is found for a request, where it is known whether that is a value
 pub finds_of : (old : Session) (d : Data) (method : Option Method) (found value : Option Value) →
-    refusal_of old.phase method ≡ None → IsFound method (fits old.texts d method) (is_some found) →
+    refusal_of old.phase method ≡ None → HasResponse method (fits old.texts d method) (is_some found) →
     IsResult old.texts d method (option_map view found) → found ≡ value → Finds old d method (option_map view value)
 finds_of old d method found value allowed fitting is_result is =
     subst (λ (o : Option Value). Finds old d method (option_map view o)) is
     (record {
       allowed = allowed;
-      fitting = subst (IsFound method (fits old.texts d method)) (mapped_some found) fitting;
+      fitting = subst (HasResponse method (fits old.texts d method)) (mapped_some found) fitting;
       is_result = is_result;
     })
 
@@ -261,7 +262,7 @@ pub watched : (old : List ℕ → Option OpenText) (d : Data) (method : Option M
     (sent : Option Data) → method ≡ Some known → known ≡ Initialized → IsSent watch sent ⊎ IsSent silence sent →
     AnswersRunning old d method sent old
 watched old d method known sent is named (inl watches') =
-    let follows = subst (λ (m : Option Method). Follows old d m watch old) (sym (is ∙ ap Some named))
+    let follows = subst (λ (m : Option Method). HandlesNotification old d m watch old) (sym (is ∙ ap Some named))
     (watches old refl) in
     (watch, watches', follows)
 watched old d method known sent is named (inr none) =
@@ -275,7 +276,7 @@ followed : (old mid : Session) (d : Data) (method : Option Method) (sent : Optio
 followed old mid d method sent phase last new is_running same kept after (reply, is, follows) = (
   reply,
   is,
-  runs reply _ is_running (subst (λ (s : Session). Follows s.texts d method reply new) same follows)
+  runs reply _ is_running (subst (λ (s : Session). HandlesNotification s.texts d method reply new) same follows)
       (after ∙ ap (λ (p : Phase). after_notification p method) (kept ∙ ap (λ (s : Session). s.phase) same)),
 )
 
@@ -291,19 +292,20 @@ notified_running old mid behind noted d method sent last is_running same kept sa
     (sym same_noted)
     (λ e. followed old mid d method sent behind.phase last behind.texts is_running same kept e answers) after
 
--- ---- What is told anew
+-- ---- What is published again
 
-told_if_open : (session : Session) (uri : List ℕ) (found : Option OpenText) (value : Data) →
+published_if_open : (session : Session) (uri : List ℕ) (found : Option OpenText) (value : Data) →
     session.phase ≡ Running → session.texts uri ≡ found → IsSent (published uri found) (Some value) →
-    TellsAnew session value
-told_if_open session uri (Some found) value running open' sent =
-    record { runs = running; uri = uri; found = found; is_open = open'; told = sent }
-told_if_open session uri None value running open' sent = elim sent [ ]
+    Republishes session value
+published_if_open session uri (Some found) value running open' sent =
+    record { runs = running; uri = uri; found = found; is_open = open'; diagnostics = sent }
+published_if_open session uri None value running open' sent = elim sent [ ]
 
 -- what is published of a document is told of one that is open
-pub tells_open : {Y : Type 0} (r : Result (Option Value) Y) (session : Session) (uri : List ℕ) →
+pub publishes_open : {Y : Type 0} (r : Result (Option Value) Y) (session : Session) (uri : List ℕ) →
     session.phase ≡ Running → IfOk r (λ sent. IsSent (published uri (session.texts uri)) (option_map view sent)) →
-    IfOk r (λ sent. IfSome sent (λ value. TellsAnew session (view value)))
-tells_open (Ok (Some value)) session uri running sent = told_if_open session uri _ (view value) running refl sent
-tells_open (Ok None) session uri running sent = tt
-tells_open (Err e) session uri running sent = sent
+    IfOk r (λ sent. IfSome sent (λ value. Republishes session (view value)))
+publishes_open (Ok (Some value)) session uri running sent =
+    published_if_open session uri _ (view value) running refl sent
+publishes_open (Ok None) session uri running sent = tt
+publishes_open (Err e) session uri running sent = sent

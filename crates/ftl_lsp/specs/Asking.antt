@@ -1,9 +1,9 @@
 -- What a request asks of, and what stands in its answer.
 use Rattle.std.specs.Prelude.{◌≡◌, ◌&&◌, ℕ, List, ⊤, Bool, Option, Some, is_some, option_and_then}
 use Rattle.serde_json.specs.Data.{Data, null}
-use Rattle.ftl_lsp.specs.Edits.{asked_place_in}
+use Rattle.ftl_lsp.specs.Edits.{position_param_in}
 use Rattle.ftl_lsp.specs.Formatting.{FormatsText}
-use Rattle.ftl_lsp.specs.Opened.{OpenText}
+use Rattle.ftl_lsp.specs.OpenDocuments.{OpenText}
 use Rattle.ftl_lsp.specs.Params.{new_name_in, uri_in}
 use Rattle.ftl_lsp.specs.declared.methods.Method.{Method}
 use Rattle.ftl_lsp.specs.declared.methods.Method.TheVariants.{Formatting, Shutdown}
@@ -13,12 +13,12 @@ abbrev pub names_open : (texts : List ℕ → Option OpenText) → Data → Bool
 names_open texts d = is_some (option_and_then texts (uri_in d))
 
 -- and a place
-abbrev pub names_place : (texts : List ℕ → Option OpenText) → Data → Bool
-names_place texts d = names_open texts d && is_some (asked_place_in d)
+abbrev pub names_position : (texts : List ℕ → Option OpenText) → Data → Bool
+names_position texts d = names_open texts d && is_some (position_param_in d)
 
 -- and another name for what stands there
-abbrev pub renames_place : (texts : List ℕ → Option OpenText) → Data → Bool
-renames_place texts d = names_place texts d && is_some (new_name_in d)
+abbrev pub renames_position : (texts : List ℕ → Option OpenText) → Data → Bool
+renames_position texts d = names_position texts d && is_some (new_name_in d)
 
 -- What is found is the formatting of the document.
 abbrev pub IsFormattingOf : (document : Option OpenText) → (result : Option Data) → Type 0

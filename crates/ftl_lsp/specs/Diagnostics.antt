@@ -6,15 +6,15 @@ use Rattle.fluent_syntax_tree.specs.declared.errors.ParserError.{ParserError}
 use Rattle.fluent_syntax_grammar.specs.Body.{faults}
 use Rattle.fluent_syntax_grammar.specs.Nesting.{NestsDeeper}
 use Rattle.fluent_syntax_grammar.specs.Tiling.{Fault, Tile, Tiling}
-use Rattle.ftl_lsp.specs.Places.{place_at}
+use Rattle.ftl_lsp.specs.Positions.{position_at}
 use Rattle.ftl_lsp.specs.declared.diagnostics.Diagnostic.{Diagnostic}
 use Rattle.ftl_lsp.specs.declared.limits.TheConstants.{NESTING_LIMIT}
-use Rattle.ftl_lsp.specs.declared.places.Place.{Place}
+use Rattle.ftl_lsp.specs.declared.positions.Position.{Position}
 
 -- where something is shown, and the name of its kind
 pub record Shown : Type 0 where
-  pub start : Place
-  pub end : Place
+  pub start : Position
+  pub end : Position
   pub code : List ℕ
 
 abbrev pub shown : Diagnostic → Shown
@@ -24,7 +24,7 @@ shown d = record { start = d.start; end = d.end; code = d.code.now }
 module _ (t : List ℕ) where
   abbrev pub shown_at : (from to : ℕ) → List ℕ → Shown
   shown_at from to code =
-      record { start = place_at t from; end = place_at t (max (min to (length t)) from); code = code }
+      record { start = position_at t from; end = position_at t (max (min to (length t)) from); code = code }
 
   -- of an error
   abbrev pub diagnostic_of : ParserError → Shown

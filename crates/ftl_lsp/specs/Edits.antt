@@ -2,14 +2,14 @@
 use Rattle.std.specs.Prelude.{ℕ, List, [], ◌∷◌, codes, Option, Some, None, option_and_then, option_map}
 use Rattle.serde_json.specs.Data.{Data, null, Items, no_items, item}
 use Rattle.serde_json.specs.Find.{get, as_number, as_str, as_u64, pointer}
-use Rattle.ftl_lsp.specs.declared.places.Place.{Place}
+use Rattle.ftl_lsp.specs.declared.positions.Position.{Position}
 use Rattle.ftl_lsp.specs.declared.changes.Change.{Change}
 use Rattle.ftl_lsp.specs.declared.changes.Change.TheVariants.{Whole, Between}
 
 -- A change: another text, or another stretch between two places.
 pub data Edit : Type 0 where
   whole : (text : List ℕ) → Edit
-  between : (start end : Place) → (text : List ℕ) → Edit
+  between : (start end : Position) → (text : List ℕ) → Edit
 
 abbrev pub edit_of : Change → Edit
 edit_of (Whole text) = whole text.now
@@ -19,21 +19,21 @@ abbrev pub number_at : (key : List ℕ) → Data → Option ℕ
 number_at key d = option_and_then (λ v. option_and_then as_u64 (as_number v)) (get key d)
 
 -- the place that a value tells of
-abbrev pub place_in : Data → Option Place
-place_in d =
+abbrev pub position_in : Data → Option Position
+position_in d =
     option_and_then
     (λ line. option_map (λ n. record { line = line; character = n }) (number_at (codes "character") d))
     (number_at (codes "line") d)
 
-abbrev pub end_of_range : Data → Option Place
-end_of_range d = option_and_then place_in (get (codes "end") d)
+abbrev pub end_of_range : Data → Option Position
+end_of_range d = option_and_then position_in (get (codes "end") d)
 
 -- the change of what stands in a range
 abbrev pub between_in : (range : Data) → (text : List ℕ) → Option Edit
 between_in range text =
     option_and_then
     (λ start. option_map (λ end. between start end text) (end_of_range range))
-    (option_and_then place_in (get (codes "start") range))
+    (option_and_then position_in (get (codes "start") range))
 
 -- where there is no range, or null, the whole text changes
 abbrev pub edit_in_range : (range : Option Data) → (text : List ℕ) → Option Edit
@@ -51,5 +51,5 @@ edits_in no_items = Some []
 edits_in (item d ds) = option_and_then (λ edit. option_map (λ edits. edit ∷ edits) (edits_in ds)) (edit_in d)
 
 -- the place that a message asks of
-abbrev pub asked_place_in : Data → Option Place
-asked_place_in d = option_and_then place_in (pointer (codes "/params/position") d)
+abbrev pub position_param_in : Data → Option Position
+position_param_in d = option_and_then position_in (pointer (codes "/params/position") d)

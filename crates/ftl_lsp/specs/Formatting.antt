@@ -7,7 +7,7 @@ use Rattle.fluent_syntax_grammar.specs.RoundTrip.{tree_of}
 use Rattle.fluent_syntax_grammar.specs.Tiling.{Tile, Tiling}
 use Rattle.serde_json.specs.Data.{Data, null, array, item, no_items}
 use Rattle.ftl.specs.Answer.{normal_text}
-use Rattle.ftl.specs.Safe.{is_safe}
+use Rattle.ftl.specs.Lossless.{is_lossless}
 use Rattle.ftl_lsp.specs.Locations.{edit_form}
 use Rattle.ftl_lsp.specs.declared.limits.TheConstants.{NESTING_LIMIT}
 
@@ -16,14 +16,14 @@ use Rattle.ftl_lsp.specs.declared.limits.TheConstants.{NESTING_LIMIT}
 abbrev pub IsFormatted : (t written : List ℕ) → Type 0
 IsFormatted t written =
     (tiles : List Tile) × Tiling One t tiles × (faults tiles ≡ []) × (written ≡ normal_text t tiles) ×
-    (is_safe One (tree_of t tiles) ≡ true) × (NestsDeeper One t NESTING_LIMIT → ⊥)
+    (is_lossless One (tree_of t tiles) ≡ true) × (NestsDeeper One t NESTING_LIMIT → ⊥)
 
 -- What is left as it is: a text that has errors, one whose tree is not safe to write, or one that nests deeper than the
 -- limit and has more bytes than that.
 abbrev pub IsLeft : List ℕ → Type 0
 IsLeft t =
     ((tiles : List Tile) × Tiling One t tiles
-    × ((faults tiles ≢ []) ⊎ (is_safe One (tree_of t tiles) ≡ false)) × (NestsDeeper One t NESTING_LIMIT → ⊥)) ⊎
+    × ((faults tiles ≢ []) ⊎ (is_lossless One (tree_of t tiles) ≡ false)) × (NestsDeeper One t NESTING_LIMIT → ⊥)) ⊎
     ((NESTING_LIMIT < length t) × NestsDeeper One t NESTING_LIMIT)
 
 -- the edit that sets the whole text

@@ -12,12 +12,12 @@ pub mod Locations
 pub mod Messages
 pub mod Methods
 pub mod Offsets
-pub mod Opened
+pub mod OpenDocuments
 pub mod Outbox
 pub mod Params
 pub mod Phases
-pub mod Places
+pub mod Positions
 pub mod Replies
 pub mod Served
 pub mod Sessions
-pub mod Told
+pub mod DiagnosticForms

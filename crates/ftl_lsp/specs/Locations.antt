@@ -2,22 +2,22 @@
 use Rattle.std.specs.Prelude.{ℕ, List, length, min, codes}
 use Rattle.serde_json.specs.Data.{Data, number, unsigned, string, object, member, no_members}
 use Rattle.fluent_syntax_tree.specs.declared.spans.Span.{Span}
-use Rattle.ftl_lsp.specs.Places.{place_at}
-use Rattle.ftl_lsp.specs.declared.places.Place.{Place}
+use Rattle.ftl_lsp.specs.Positions.{position_at}
+use Rattle.ftl_lsp.specs.declared.positions.Position.{Position}
 
-abbrev pub place_form : Place → Data
-place_form place =
-    object (member (codes "character") (number (unsigned place.character))
-    (member (codes "line") (number (unsigned place.line)) no_members))
+abbrev pub position_form : Position → Data
+position_form position =
+    object (member (codes "character") (number (unsigned position.character))
+    (member (codes "line") (number (unsigned position.line)) no_members))
 
-abbrev pub range_form : (start end : Place) → Data
+abbrev pub range_form : (start end : Position) → Data
 range_form start end =
-    object (member (codes "end") (place_form end) (member (codes "start") (place_form start) no_members))
+    object (member (codes "end") (position_form end) (member (codes "start") (position_form start) no_members))
 
 -- the range of a stretch of the text: what lies beyond the text counts as its end
 abbrev pub span_form : List ℕ → Span → Data
 span_form t span =
-    range_form (place_at t (min span.start (length t))) (place_at t (min span.end (length t)))
+    range_form (position_at t (min span.start (length t))) (position_at t (min span.end (length t)))
 
 -- the edit that puts a text in place of a stretch
 abbrev pub edit_form : (t new : List ℕ) → Span → Data

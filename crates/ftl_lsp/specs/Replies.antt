@@ -4,7 +4,7 @@ use Rattle.serde_json.specs.Data.{Data, number, string, array, object, member, n
 use Rattle.serde_json.specs.Find.{of_integer}
 use Rattle.serde_json.specs.View.{items_of}
 use Rattle.ftl_lsp.specs.Phases.{number_of, text_of}
-use Rattle.ftl_lsp.specs.Told.{TellsDocument}
+use Rattle.ftl_lsp.specs.DiagnosticForms.{PublishesDiagnostics}
 use Rattle.ftl_lsp.specs.declared.phases.ErrorCode.{ErrorCode}
 
 -- What is sent for a message.
@@ -57,7 +57,7 @@ pub data IsSent : Reply → Option Data → Type 0 where
   sends_none : IsSent silence None
   sends_answer : (id result : Data) → IsSent (answered id result) (Some (answer_form id result))
   sends_refusal : (id : Data) (code : ErrorCode) → IsSent (refused id code) (Some (refusal_form id code))
-  sends_diagnostics : (uri text : List ℕ) (list : List Data) → TellsDocument text list →
+  sends_diagnostics : (uri text : List ℕ) (list : List Data) → PublishesDiagnostics text list →
       IsSent (diagnosed uri text) (Some (diagnostics_form uri list))
   sends_withdrawal : (uri : List ℕ) → IsSent (withdrawn uri) (Some (diagnostics_form uri []))
   sends_watch : (params : Data) → IsSent watch (Some (register_form params))

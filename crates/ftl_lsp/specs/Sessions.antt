@@ -4,11 +4,11 @@ use Rattle.std.specs.Prelude.{IfSome, IfNone, is_some, option_and_then}
 use Rattle.std.specs.Str.{IsUtf8}
 use Rattle.serde_json.specs.Data.{Data, Items, null}
 use Rattle.serde_json.specs.Read.{read}
-use Rattle.ftl_lsp.specs.Asking.{IsResult, names_open, names_place, renames_place}
+use Rattle.ftl_lsp.specs.Asking.{IsResult, names_open, names_position, renames_position}
 use Rattle.ftl_lsp.specs.Edits.{Edit, edits_in}
 use Rattle.ftl_lsp.specs.Messages.{message_in, request, notification, response, invalid}
 use Rattle.ftl_lsp.specs.Methods.{name_of}
-use Rattle.ftl_lsp.specs.Opened.{MakesOpen, OpenText, Sets, texts}
+use Rattle.ftl_lsp.specs.OpenDocuments.{MakesOpen, OpenText, Sets, texts}
 use Rattle.ftl_lsp.specs.Params.{changes_in, opened_text_in, uri_in, version_in}
 use Rattle.ftl_lsp.specs.Phases.{after_notification, after_request, refusal_of}
 use Rattle.ftl_lsp.specs.Replies.{IsSent, Reply, silence, answered, refused, diagnosed, withdrawn, watch}
@@ -43,31 +43,31 @@ fits texts d (Some DocumentSymbol) = names_open texts d
 fits texts d (Some Formatting) = names_open texts d
 fits texts d (Some FoldingRange) = names_open texts d
 fits texts d (Some SemanticTokens) = names_open texts d
-fits texts d (Some Definition) = names_place texts d
-fits texts d (Some References) = names_place texts d
-fits texts d (Some DocumentHighlight) = names_place texts d
-fits texts d (Some Hover) = names_place texts d
-fits texts d (Some Completion) = names_place texts d
-fits texts d (Some Rename) = renames_place texts d
+fits texts d (Some Definition) = names_position texts d
+fits texts d (Some References) = names_position texts d
+fits texts d (Some DocumentHighlight) = names_position texts d
+fits texts d (Some Hover) = names_position texts d
+fits texts d (Some Completion) = names_position texts d
+fits texts d (Some Rename) = renames_position texts d
 fits texts d _ = true
 
 -- A result is found where the parameters fit; a renaming may have none then too, by what stands at the place.
-abbrev pub IsFound : Option Method → (fitting found : Bool) → Type 0
-IsFound (Some Rename) fitting found = found ≡ true → fitting ≡ true
-IsFound _ fitting found = found ≡ fitting
+abbrev pub HasResponse : Option Method → (fitting found : Bool) → Type 0
+HasResponse (Some Rename) fitting found = found ≡ true → fitting ≡ true
+HasResponse _ fitting found = found ≡ fitting
 
 -- What is found for a request of the method, where its phase has none against it.
 pub record Finds (old : Session) (d : Data) (method : Option Method) (result : Option Data) :
     Type 0 where
   pub allowed : refusal_of old.phase method ≡ None
-  pub fitting : IsFound method (fits old.texts d method) (is_some result)
+  pub fitting : HasResponse method (fits old.texts d method) (is_some result)
   pub is_result : IsResult old.texts d method result
 
 -- What a request of the method, with that identifier, does: it is refused, by its phase or for its parameters, and
 -- nothing changes; or it is answered by what is found.
 pub data TakesRequest (old : Session) (id d : Data) (method : Option Method) :
     Reply → (new : Session) → Type 0 where
-  has_no_place : (code : ErrorCode) (new : Session) → refusal_of old.phase method ≡ Some code → new ≡ old →
+  is_out_of_phase : (code : ErrorCode) (new : Session) → refusal_of old.phase method ≡ Some code → new ≡ old →
       TakesRequest old id d method (refused id code) new
   finds_none : (new : Session) → Finds old d method None → new ≡ old →
       TakesRequest old id d method (refused id InvalidParams) new
@@ -85,21 +85,21 @@ concerns texts d _ = false
 
 -- What a notification of the method makes of the open documents while the session runs, and what is sent for it.
 module _ (old : List ℕ → Option OpenText) (d : Data) where
-  pub data Follows : Option Method → Reply → (new : List ℕ → Option OpenText) → Type 0 where
+  pub data HandlesNotification : Option Method → Reply → (new : List ℕ → Option OpenText) → Type 0 where
     opens : (uri text : List ℕ) (new : List ℕ → Option OpenText) → uri_in d ≡ Some uri →
         opened_text_in d ≡ Some text → Sets old uri (Some (record { text = text; version = version_in d })) new →
-        Follows (Some DidOpen) (diagnosed uri text) new
+        HandlesNotification (Some DidOpen) (diagnosed uri text) new
     changes : (uri : List ℕ) (items : Items) (edits : List Edit) (before after : OpenText)
         (new : List ℕ → Option OpenText) → uri_in d ≡ Some uri → changes_in d ≡ Some items →
         edits_in items ≡ Some edits → old uri ≡ Some before → MakesOpen before (version_in d) edits after →
-        Sets old uri (Some after) new → Follows (Some DidChange) (diagnosed uri after.text) new
+        Sets old uri (Some after) new → HandlesNotification (Some DidChange) (diagnosed uri after.text) new
     closes : (uri : List ℕ) (new : List ℕ → Option OpenText) → uri_in d ≡ Some uri → is_some (old uri) ≡ true →
-        Sets old uri None new → Follows (Some DidClose) (withdrawn uri) new
+        Sets old uri None new → HandlesNotification (Some DidClose) (withdrawn uri) new
     saves : (uri : List ℕ) (found : OpenText) (new : List ℕ → Option OpenText) → uri_in d ≡ Some uri →
-        old uri ≡ Some found → new ≡ old → Follows (Some DidSave) (diagnosed uri found.text) new
-    watches : (new : List ℕ → Option OpenText) → new ≡ old → Follows (Some Initialized) watch new
+        old uri ≡ Some found → new ≡ old → HandlesNotification (Some DidSave) (diagnosed uri found.text) new
+    watches : (new : List ℕ → Option OpenText) → new ≡ old → HandlesNotification (Some Initialized) watch new
     passes : (method : Option Method) (new : List ℕ → Option OpenText) → concerns old d method ≡ false → new ≡ old →
-        Follows method silence new
+        HandlesNotification method silence new
 
 -- the diagnostics of a document that is open, if it is
 abbrev pub published : (uri : List ℕ) → Option OpenText → Reply
@@ -109,7 +109,8 @@ published uri None = silence
 -- What a notification of the method does: it may lead to another phase; while the session runs it is followed, and else
 -- nothing else changes and nothing is sent.
 pub data TakesNotification (old : Session) (d : Data) (method : Option Method) : Reply → (new : Session) → Type 0 where
-  runs : (reply : Reply) (new : Session) → old.phase ≡ Running → Follows old.texts d method reply new.texts →
+  runs : (reply : Reply) (new : Session) → old.phase ≡ Running → HandlesNotification old.texts d method reply new.texts
+      →
       new.phase ≡ after_notification old.phase method → TakesNotification old d method reply new
   rests : (new : Session) → old.phase ≢ Running →
       new ≡ record { phase = after_notification old.phase method; texts = old.texts } →
@@ -129,12 +130,12 @@ pub data Steps (old : Session) (body : List ℕ) : Reply → (new : Session) →
       Steps old body (refused null InvalidRequest) old
 
 -- The session runs, and the value has the diagnostics of a document that is open in it.
-pub record TellsAnew (session : Session) (value : Data) : Type 0 where
+pub record Republishes (session : Session) (value : Data) : Type 0 where
   pub runs : session.phase ≡ Running
   pub uri : List ℕ
   pub found : OpenText
   pub is_open : session.texts uri ≡ Some found
-  pub told : IsSent (diagnosed uri found.text) (Some value)
+  pub diagnostics : IsSent (diagnosed uri found.text) (Some value)
 
 -- The same, where that value is sent for it, if any is.
 abbrev pub AnswersRequest : (old : Session) → (id d : Data) → Option Method → Option Data →
@@ -148,7 +149,7 @@ AnswersNotification old d method sent new =
 
 abbrev pub AnswersRunning : (old : List ℕ → Option OpenText) → Data → Option Method → Option Data →
     (new : List ℕ → Option OpenText) → Type 0
-AnswersRunning old d method sent new = (reply : Reply) × IsSent reply sent × Follows old d method reply new
+AnswersRunning old d method sent new = (reply : Reply) × IsSent reply sent × HandlesNotification old d method reply new
 
 abbrev pub Answers : (old : Session) → (body : List ℕ) → Option Data → (new : Session) → Type 0
 Answers old body sent new = (reply : Reply) × IsSent reply sent × Steps old body reply new

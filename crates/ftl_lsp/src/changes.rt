@@ -2,12 +2,12 @@
 ghost use Rattle.std.specs.Prelude.{◌≡◌, map, option_and_then, option_map, string_bytes, IfOk};
 ghost use Rattle.serde_json.specs.Find.{as_number, as_u64};
 ghost use Rattle.serde_json.specs.View.{items_view, view};
-ghost use Rattle.ftl_lsp.specs.Edits.{edit_in, edit_of, edits_in, place_in};
+ghost use Rattle.ftl_lsp.specs.Edits.{edit_in, edit_of, edits_in, position_in};
 ghost use Rattle.ftl_lsp.specs.Changes.{ChangesBetween, MakesEdit, MakesEdits};
 ghost use Rattle.ftl_lsp.specs.Offsets.{IsByteOf};
 
 use crate::offsets::byte_of;
-use crate::places::Place;
+use crate::positions::Position;
 use serde_json::Value;
 use std::alloc::{AllocError, Global};
 
@@ -16,8 +16,8 @@ use std::alloc::{AllocError, Global};
 pub enum Change<'m> {
     Whole(&'m str),
     Between {
-        start: Place,
-        end: Place,
+        start: Position,
+        end: Position,
         text: &'m str,
     },
 }
@@ -30,8 +30,8 @@ pub fn change_of(value: &Value) -> Option<Change<'_>>
     match value.get("range") {
         None | Some(Value::Null) => Some(Change::Whole(text)),
         Some(range) => Some(Change::Between {
-            start: place_of(range.get("start")?)?,
-            end: place_of(range.get("end")?)?,
+            start: position_of(range.get("start")?)?,
+            end: position_of(range.get("end")?)?,
             text,
         }),
     }
@@ -54,10 +54,10 @@ pub fn changes_of(alloc: Global, values: &[Value]) -> Result<Option<Vec<Change<'
 }
 
 /// The place that a value tells of. None where it tells of none.
-pub fn place_of(value: &Value) -> Option<Place>
-    ensures { result ≡ place_in (view value.now) }
+pub fn position_of(value: &Value) -> Option<Position>
+    ensures { result ≡ position_in (view value.now) }
 {
-    Some(Place {
+    Some(Position {
         line: number_of(value.get("line")?)?,
         character: number_of(value.get("character")?)?,
     })
@@ -71,7 +71,7 @@ fn number_of(value: &Value) -> Option<usize>
 
 impl Change<'_> {
     /// The text with the change made. `AllocError` where a growth was refused.
-    fn made_in(&self, alloc: Global, text: &str) -> Result<String, AllocError>
+    fn text_made_of(&self, alloc: Global, text: &str) -> Result<String, AllocError>
         ensures { IfOk result (λ made. MakesEdit text.now (edit_of self.now) (string_bytes made)) }
     {
         match self {
@@ -80,17 +80,17 @@ impl Change<'_> {
                 start,
                 end,
                 text: new,
-            } => changed_between(alloc, text, *start, *end, new),
+            } => text_after_range(alloc, text, *start, *end, new),
         }
     }
 }
 
 /// The text with another in place of what stands between two places, in whichever order they come.
-fn changed_between(
+fn text_after_range(
     alloc: Global,
     text: &str,
-    start: Place,
-    end: Place,
+    start: Position,
+    end: Position,
     new: &str,
 ) -> Result<String, AllocError>
     ensures { IfOk result (λ made. ChangesBetween text.now start end new.now (string_bytes made)) }
@@ -104,7 +104,7 @@ fn changed_between(
 }
 
 /// The byte of the place where a range ends that begins at another, whose byte is known: mostly these are the same.
-fn end_byte(text: &str, start: Place, first: usize, end: Place) -> usize
+fn end_byte(text: &str, start: Position, first: usize, end: Position) -> usize
     requires { IsByteOf text.now start first }
     ensures { IsByteOf text.now end result }
 {
@@ -116,12 +116,12 @@ fn end_byte(text: &str, start: Place, first: usize, end: Place) -> usize
 }
 
 /// The text with the changes made, one after another. `AllocError` where a growth was refused.
-pub fn changed(alloc: Global, text: &str, changes: &[Change<'_>]) -> Result<String, AllocError>
+pub fn text_after(alloc: Global, text: &str, changes: &[Change<'_>]) -> Result<String, AllocError>
     ensures { IfOk result (λ made. MakesEdits text.now (map edit_of changes.now) (string_bytes made)) }
 {
     let mut made = String::from_str(alloc, text)?;
     for change in changes {
-        made = change.made_in(alloc, made.as_str())?;
+        made = change.text_made_of(alloc, made.as_str())?;
     }
     Ok(made)
 }

@@ -1,8 +1,8 @@
 //! The names that may stand at a place.
 
-use crate::asked::Asked;
 use crate::occurrences::{NameKind, Occurrence, is_name_byte, name_of};
 use crate::replies::item_form;
+use crate::request_context::RequestContext;
 use serde_json::Value;
 use std::alloc::{AllocError, Global};
 use std::collections::BTreeMap;
@@ -92,16 +92,16 @@ fn label_of(
 }
 
 /// The names that may stand at the place, each once, in the order of their bytes.
-pub fn completion(alloc: Global, asked: &Asked<'_>) -> Result<Value, AllocError> {
+pub fn completion(alloc: Global, context: &RequestContext<'_>) -> Result<Value, AllocError> {
     let mut list = Vec::new(alloc);
-    let Some(here) = asked.here() else {
+    let Some(here) = context.here() else {
         return Ok(Value::Array(list));
     };
-    let expected = expected_at(here.text, asked.byte);
+    let expected = expected_at(here.text, context.byte);
     let mut labels = BTreeMap::new(alloc);
-    for known in &asked.documents {
-        for occurrence in known.occurrences() {
-            if let Some(label) = label_of(alloc, known.text, occurrence, expected)? {
+    for document in &context.documents {
+        for occurrence in document.occurrences() {
+            if let Some(label) = label_of(alloc, document.text, occurrence, expected)? {
                 drop(labels.insert(label, occurrence.kind)?);
             }
         }

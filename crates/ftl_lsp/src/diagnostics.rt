@@ -2,15 +2,15 @@
 ghost use Rattle.std.specs.Prelude.{◌≡◌, ◌≤◌, [], ◌∷◌, length, map, All, IfOk};
 ghost use Rattle.ftl_lsp.specs.Diagnostics.{deep_diagnostic, diagnostic_of, shown};
 
-use crate::places::{Place, Places};
+use crate::positions::{Position, Positions};
 use fluent_syntax::parser::ParserError;
 use std::alloc::{AllocError, Global};
 
 /// An error of a text: where it is, its kind, and what is said of it.
 #[derive(Drop)]
 pub struct Diagnostic {
-    pub start: Place,
-    pub end: Place,
+    pub start: Position,
+    pub end: Position,
     pub code: &'static str,
     pub message: String,
 }
@@ -19,7 +19,7 @@ pub struct Diagnostic {
 pub(crate) fn too_deep(alloc: Global) -> Result<Vec<Diagnostic>, AllocError>
     ensures { IfOk result (λ found. map shown found.items ≡ deep_diagnostic ∷ []) }
 {
-    let start = Place {
+    let start = Position {
         line: 0,
         character: 0,
     };
@@ -43,10 +43,10 @@ pub(crate) fn diagnostics_of(
     requires { All (λ e. e.pos.start ≤ length text.now) errors.now.items }
     ensures { IfOk result (λ found. map shown found.items ≡ map (diagnostic_of text.now) errors.now.items) }
 {
-    let mut places = Places::new(text);
+    let mut positions = Positions::new(text);
     let mut found = Vec::new(alloc);
     for error in errors {
-        let diagnostic = diagnose(alloc, &mut places, text.len(), error)?;
+        let diagnostic = diagnose(alloc, &mut positions, text.len(), error)?;
         found.push(diagnostic)?;
     }
     Ok(found)
@@ -55,18 +55,18 @@ pub(crate) fn diagnostics_of(
 /// The diagnostic of an error. Where the error's place ends beyond the text, it ends with the text.
 fn diagnose(
     alloc: Global,
-    places: &mut Places<'_>,
+    positions: &mut Positions<'_>,
     size: usize,
     error: &ParserError,
 ) -> Result<Diagnostic, AllocError>
-    requires within { error.now.pos.start ≤ length places.old }
-    requires size { size ≡ length places.old }
-    ensures text { places.new ≡ places.old }
-    ensures shown { IfOk result (λ found. shown found ≡ diagnostic_of places.old error.now) }
+    requires within { error.now.pos.start ≤ length positions.old }
+    requires size { size ≡ length positions.old }
+    ensures text { positions.new ≡ positions.old }
+    ensures shown { IfOk result (λ found. shown found ≡ diagnostic_of positions.old error.now) }
 {
     let from = error.pos.start;
-    let start = places.place(from);
-    let end = places.place(error.pos.end.min(size).max(from));
+    let start = positions.position(from);
+    let end = positions.position(error.pos.end.min(size).max(from));
     let message = format!(in alloc; "{}", error.kind)?;
     Ok(Diagnostic {
         start,

@@ -3,12 +3,12 @@ ghost use Rattle.std.specs.Prelude.{◌≡◌, IfOk, map, string_bytes};
 ghost use Rattle.ftl_lsp.specs.Diagnostics.{DiagnosesText, shown};
 
 use crate::diagnostics::{Diagnostic, diagnostics_of, too_deep};
+use crate::entry_ranges::entry_range_at;
 use crate::limits::NESTING_LIMIT;
-use crate::stretches::stretch_at;
 use fluent_syntax::ast::{Entry, Resource};
 use fluent_syntax::parser::{Edition, ParseFault, TooDeep};
 use fluent_syntax::spans::{Span, parse_spans_within};
-use fluent_syntax_names::{Outline, outline_of};
+use fluent_syntax_names::{NameIndex, name_index_of};
 use std::alloc::{AllocError, Global};
 
 /// A text with what was read of it. Behind each change it is made anew.
@@ -93,13 +93,13 @@ impl Document {
     }
 
     /// The text with what its entries say of names. `AllocError` where a growth was refused.
-    pub fn outline(&self, alloc: Global) -> Result<Outline<'_>, AllocError> {
-        outline_of(alloc, self.text.as_str(), &self.body)
+    pub fn name_index(&self, alloc: Global) -> Result<NameIndex<'_>, AllocError> {
+        name_index_of(alloc, self.text.as_str(), &self.body)
     }
 
     /// The message or term in which the byte stands, with its comment. None where none is.
     pub fn entry_at(&self, byte: usize) -> Option<&str> {
-        let Span { start, end } = stretch_at(self.text.as_str(), &self.body, byte)?;
+        let Span { start, end } = entry_range_at(self.text.as_str(), &self.body, byte)?;
         self.text.get(start..end)
     }
 }

@@ -4,23 +4,23 @@ ghost use Rattle.serde_json.specs.View.{view};
 ghost use Rattle.ftl_lsp.specs.Formatting.{FormatsText, IsFormatted, IsLeft, whole_edit_form};
 
 use crate::limits::NESTING_LIMIT;
-use crate::places::Places;
+use crate::positions::Positions;
 use crate::replies::{edit_form, null};
 use fluent_syntax::parser::{Edition, ParseFault, TooDeep, parse_within};
 use fluent_syntax::serializer::serialize;
 use fluent_syntax::spans::Span;
-use ftl::first_unsafe;
+use ftl::first_lossy_entry;
 use serde_json::{Value, json};
 use std::alloc::{AllocError, Global};
 
 /// The text formatted. None of a text that has an error, since its junk would be lost, of one that would not read back
 /// once it is formatted, and of one that nests deeper than `NESTING_LIMIT`. `AllocError` where a growth was refused.
-pub fn formatted(alloc: Global, text: &str) -> Result<Option<String>, AllocError>
+pub fn formatted_text(alloc: Global, text: &str) -> Result<Option<String>, AllocError>
     ensures { IfOk result
         (λ found. MatchOption found (IsLeft text.now) (λ written. IsFormatted text.now (string_bytes written))) }
 {
     match parse_within(alloc, text, Edition::One, NESTING_LIMIT) {
-        Ok(Ok(tree)) => match first_unsafe(alloc, &tree, Edition::One)? {
+        Ok(Ok(tree)) => match first_lossy_entry(alloc, &tree, Edition::One)? {
             None => Ok(Some(serialize(alloc, &tree)?)),
             Some(_) => Ok(None),
         },
@@ -35,7 +35,7 @@ pub fn formatted(alloc: Global, text: &str) -> Result<Option<String>, AllocError
 pub fn formatting_of(alloc: Global, text: &str) -> Result<Value, AllocError>
     ensures { IfOk result (λ value. FormatsText text.now (view value)) }
 {
-    let Some(written) = formatted(alloc, text)? else {
+    let Some(written) = formatted_text(alloc, text)? else {
         return Ok(null());
     };
     if written.as_str() == text {
@@ -52,6 +52,6 @@ fn whole_edit(alloc: Global, text: &str, written: &str) -> Result<Value, AllocEr
         start: 0,
         end: text.len(),
     };
-    let edit = edit_form(alloc, &mut Places::new(text), whole, written)?;
+    let edit = edit_form(alloc, &mut Positions::new(text), whole, written)?;
     json!(in alloc; [edit])
 }

@@ -37,7 +37,7 @@ impl Occurrence {
     }
 
     /// Where it stands.
-    pub fn place(&self) -> Span {
+    pub fn span(&self) -> Span {
         match self.attribute {
             None => self.name,
             Some(attribute) => attribute,
@@ -46,8 +46,8 @@ impl Occurrence {
 
     /// Whether it stands at the byte or ends there.
     pub fn is_at(&self, byte: usize) -> bool {
-        let place = self.place();
-        place.start <= byte && byte <= place.end
+        let span = self.span();
+        span.start <= byte && byte <= span.end
     }
 }
 

@@ -1,9 +1,9 @@
 //! The byte of a place that the protocol names.
 ghost use Rattle.std.specs.Prelude.{◌≡◌, ◌-◌, ◌^◌, ◌<◌, length, IfNone, IfSome};
 ghost use Rattle.ftl_lsp.specs.Offsets.{BeginsLine, is_break, is_reached, IsByteOf, stops_at};
-ghost use Rattle.ftl_lsp.specs.Places.{line_at};
+ghost use Rattle.ftl_lsp.specs.Positions.{line_at};
 
-use crate::places::{Place, is_line_end, place_behind, units};
+use crate::positions::{Position, is_line_end, position_behind, units};
 
 /// Whether a line's text ends before the byte: an LF or a CR.
 fn is_break(byte: u8) -> bool
@@ -22,11 +22,11 @@ fn stops_at(byte: u8, character: usize, column: usize) -> bool
 }
 
 /// Whether the place is reached before the byte, which has the place `here`.
-fn is_reached(byte: u8, here: Place, place: Place) -> bool
+fn is_reached(byte: u8, here: Position, position: Position) -> bool
     requires { here.character < 2 ^ 64 - 2 }
-    ensures { result ≡ is_reached byte here place }
+    ensures { result ≡ is_reached byte here position }
 {
-    here.line == place.line && stops_at(byte, here.character, place.character)
+    here.line == position.line && stops_at(byte, here.character, position.character)
 }
 
 /// Where the line of the number begins. None where the text has fewer lines.
@@ -51,22 +51,22 @@ fn line_start(bytes: &[u8], number: usize) -> Option<usize>
 
 /// The byte of a place of the text. Where the line has fewer UTF-16 units, the line's end, and where the text has fewer
 /// lines, the text's end. Within a character that has two units, the character's first byte.
-pub fn byte_of(text: &str, place: Place) -> usize
-    ensures { IsByteOf text.now place result }
+pub fn byte_of(text: &str, position: Position) -> usize
+    ensures { IsByteOf text.now position result }
 {
     let bytes = text.as_bytes();
-    let Some(start) = line_start(bytes, place.line) else {
+    let Some(start) = line_start(bytes, position.line) else {
         return bytes.len();
     };
-    let mut here = Place {
-        line: place.line,
+    let mut here = Position {
+        line: position.line,
         character: 0,
     };
     for at in start..bytes.len() {
-        if is_reached(bytes[at], here, place) {
+        if is_reached(bytes[at], here, position) {
             return at;
         }
-        here = place_behind(bytes, at, here);
+        here = position_behind(bytes, at, here);
     }
     bytes.len()
 }

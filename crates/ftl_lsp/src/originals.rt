@@ -1,8 +1,8 @@
 //! The files of the reference language, of which the others are to be translations.
 
-use crate::closed::Closed;
-use crate::opened::Open;
-use fluent_syntax_names::Outline;
+use crate::closed_files::ClosedFile;
+use crate::open_documents::OpenDocument;
+use fluent_syntax_names::NameIndex;
 use ftl_files::original_of;
 use std::alloc::{AllocError, Global};
 use std::collections::BTreeMap;
@@ -18,7 +18,11 @@ pub struct Reference {
 
 impl Reference {
     /// The reference that a folder names so. None where it names none. `AllocError` where a growth was refused.
-    pub fn named(alloc: Global, folder: &str, name: &str) -> Result<Option<Reference>, AllocError> {
+    pub fn in_folder(
+        alloc: Global,
+        folder: &str,
+        name: &str,
+    ) -> Result<Option<Reference>, AllocError> {
         let name = name.trim_start_matches("./").trim_end_matches('/');
         let path = format!(in alloc; "{folder}/{name}")?;
         match path.rsplit_once('/') {
@@ -41,7 +45,7 @@ impl Reference {
 #[derive(Drop)]
 pub struct Original<'d> {
     pub uri: &'d str,
-    pub outline: Outline<'d>,
+    pub name_index: NameIndex<'d>,
 }
 
 /// The file at the path, open or closed. None where there is none, or it nests too deeply. `AllocError` where a growth
@@ -49,8 +53,8 @@ pub struct Original<'d> {
 pub fn original_at<'d>(
     alloc: Global,
     path: &str,
-    documents: &'d BTreeMap<String, Open>,
-    files: &'d BTreeMap<String, Closed>,
+    documents: &'d BTreeMap<String, OpenDocument>,
+    files: &'d BTreeMap<String, ClosedFile>,
 ) -> Result<Option<Original<'d>>, AllocError> {
     for (uri, open) in documents.iter() {
         if open.path.as_deref() == Some(path) {
@@ -59,7 +63,7 @@ pub fn original_at<'d>(
             }
             return Ok(Some(Original {
                 uri: uri.as_str(),
-                outline: open.document.outline(alloc)?,
+                name_index: open.document.name_index(alloc)?,
             }));
         }
     }
@@ -68,6 +72,6 @@ pub fn original_at<'d>(
     };
     Ok(Some(Original {
         uri: file.uri.as_str(),
-        outline: file.outline(alloc)?,
+        name_index: file.name_index(alloc)?,
     }))
 }

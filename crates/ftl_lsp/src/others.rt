@@ -1,9 +1,9 @@
 //! What is defined and said beside a document.
 
 use crate::limits::FINDINGS_LIMIT;
-use crate::opened::Open;
+use crate::open_documents::OpenDocument;
 use crate::workspace::{Workspace, is_open};
-use fluent_syntax_names::{DefinedNames, Outline};
+use fluent_syntax_names::{DefinedNames, NameIndex};
 use std::alloc::{AllocError, Global};
 use std::collections::BTreeMap;
 
@@ -14,20 +14,20 @@ use std::collections::BTreeMap;
 pub fn look_up_others(
     alloc: Global,
     uri: &str,
-    documents: &BTreeMap<String, Open>,
+    documents: &BTreeMap<String, OpenDocument>,
     defined: &mut BTreeMap<String, DefinedNames>,
     workspace: &mut Workspace,
 ) -> Result<(), AllocError> {
     for (other, open) in documents.iter() {
         let name = other.as_str();
         if name != uri && !defined.contains_key(name) {
-            let outline = open.document.outline(alloc)?;
+            let name_index = open.document.name_index(alloc)?;
             let mut names = DefinedNames::new(alloc);
-            names.add(alloc, outline.text, &outline.mentions)?;
+            names.add(alloc, name_index.text, &name_index.mentions)?;
             drop(defined.insert(String::from_str(alloc, name)?, names)?);
         }
     }
-    workspace.look_up_defined(alloc, documents)
+    workspace.look_up_defined_names(alloc, documents)
 }
 
 /// The names that the other documents and the closed files define, as they were looked up. None where more may be
@@ -37,11 +37,11 @@ pub fn look_up_others(
 pub fn others_of<'d>(
     alloc: Global,
     uri: &str,
-    documents: &'d BTreeMap<String, Open>,
+    documents: &'d BTreeMap<String, OpenDocument>,
     defined: &'d BTreeMap<String, DefinedNames>,
     workspace: &'d Workspace,
 ) -> Result<Option<Vec<&'d DefinedNames>>, AllocError> {
-    let Some(closed) = workspace.defined() else {
+    let Some(closed) = workspace.defined_names() else {
         return Ok(None);
     };
     let mut others = Vec::new(alloc);
@@ -61,34 +61,34 @@ pub fn others_of<'d>(
 /// `FINDINGS_LIMIT` bytes, or one of them nests too deeply.
 ///
 /// `AllocError` where a growth was refused.
-pub fn outlines_of<'d>(
+pub fn name_indexes_of<'d>(
     alloc: Global,
     uri: &str,
-    documents: &'d BTreeMap<String, Open>,
+    documents: &'d BTreeMap<String, OpenDocument>,
     workspace: &'d Workspace,
-) -> Result<Option<Vec<Outline<'d>>>, AllocError> {
+) -> Result<Option<Vec<NameIndex<'d>>>, AllocError> {
     if bytes_of_all(documents, workspace) > FINDINGS_LIMIT {
         return Ok(None);
     }
-    let mut outlines = Vec::new(alloc);
+    let mut name_indexes = Vec::new(alloc);
     for (other, open) in documents.iter() {
         if open.document.is_too_deep() {
             return Ok(None);
         }
         if other.as_str() != uri {
-            outlines.push(open.document.outline(alloc)?)?;
+            name_indexes.push(open.document.name_index(alloc)?)?;
         }
     }
     for (path, file) in workspace.files().iter() {
         if !is_open(documents, path.as_str()) {
-            outlines.push(file.outline(alloc)?)?;
+            name_indexes.push(file.name_index(alloc)?)?;
         }
     }
-    Ok(Some(outlines))
+    Ok(Some(name_indexes))
 }
 
 /// How many bytes the documents and the closed files have together.
-fn bytes_of_all(documents: &BTreeMap<String, Open>, workspace: &Workspace) -> usize {
+fn bytes_of_all(documents: &BTreeMap<String, OpenDocument>, workspace: &Workspace) -> usize {
     let mut sum = 0usize;
     for open in documents.values() {
         sum = sum.saturating_add(open.document.text().len());

@@ -1,13 +1,13 @@
 //! The parameters of a message.
 ghost use Rattle.std.specs.Prelude.{◌≡◌, option_map};
 ghost use Rattle.serde_json.specs.View.{items_view, view};
-ghost use Rattle.ftl_lsp.specs.Edits.{asked_place_in};
+ghost use Rattle.ftl_lsp.specs.Edits.{position_param_in};
 ghost use Rattle.ftl_lsp.specs.Params.{changes_in, new_name_in, opened_text_in, uri_in};
 ghost use Rattle.ftl_lsp.specs.Params.{version_in};
 
-use crate::changes::place_of;
-use crate::known::Wanted;
-use crate::places::Place;
+use crate::changes::position_of;
+use crate::index::OccurrenceFilter;
+use crate::positions::Position;
 use serde_json::Value;
 
 /// Whether an editor that says this of itself takes related information of a diagnostic.
@@ -55,23 +55,23 @@ pub fn version_of(message: &Value) -> Option<i64>
 }
 
 /// The place that a message asks of.
-pub fn asked_place(message: &Value) -> Option<Place>
-    ensures { result ≡ asked_place_in (view message.now) }
+pub fn position_param(message: &Value) -> Option<Position>
+    ensures { result ≡ position_param_in (view message.now) }
 {
     match message.pointer("/params/position") {
-        Some(value) => place_of(value),
+        Some(value) => position_of(value),
         None => None,
     }
 }
 
 /// Which places of a name are asked for.
-pub fn wanted_by(message: &Value) -> Wanted {
+pub fn occurrence_filter(message: &Value) -> OccurrenceFilter {
     let declared = message
         .pointer("/params/context/includeDeclaration")
         .and_then(Value::as_bool);
     match declared {
-        Some(false) => Wanted::References,
-        _ => Wanted::All,
+        Some(false) => OccurrenceFilter::References,
+        _ => OccurrenceFilter::All,
     }
 }
 

@@ -1,22 +1,22 @@
 //! What is told of a document.
 ghost use Rattle.std.specs.Prelude.{◌≡◌, map, option_map, All, IfOk, OnOk};
 ghost use Rattle.serde_json.specs.View.{view};
-ghost use Rattle.ftl_lsp.specs.Opened.{texts};
+ghost use Rattle.ftl_lsp.specs.OpenDocuments.{texts};
 ghost use Rattle.ftl_lsp.specs.Replies.{IsSent};
 ghost use Rattle.ftl_lsp.specs.Sessions.{published, session_of};
-ghost use Rattle.ftl_lsp.specs.Told.{TellsBeside};
+ghost use Rattle.ftl_lsp.specs.DiagnosticForms.{IsLintDiagnostic};
 
+use crate::diagnostic_forms::{LintDiagnostic, error_list, lint_diagnostic_list};
+use crate::differences::differences_of;
 use crate::documents::Document;
 use crate::limits::FINDINGS_LIMIT;
-use crate::mismatches::mismatches_of;
-use crate::opened::Open;
+use crate::lint_diagnostics::finding_diagnostics;
+use crate::open_documents::OpenDocument;
 use crate::originals::original_at;
-use crate::others::{look_up_others, others_of, outlines_of};
-use crate::remarks::remarks_of;
+use crate::others::{look_up_others, name_indexes_of, others_of};
 use crate::replies::diagnostics_notification;
 use crate::server::Server;
-use crate::told::{Told, error_list, told_list};
-use fluent_syntax_names::{Finding, Outline, findings, findings_beside, own_findings};
+use fluent_syntax_names::{Finding, NameIndex, findings, findings_with_externals, local_findings};
 use serde_json::Value;
 use std::alloc::{AllocError, Global};
 use std::slice::from_ref;
@@ -28,21 +28,21 @@ impl Server {
         ensures sent { let found = texts self.old.documents uri.now in
             IfOk result (λ sent. IsSent (published uri.now found) (option_map view sent)) }
     {
-        self.look_up_beside(uri)?;
+        self.look_up_names(uri)?;
         let Some(open) = self.documents.get(uri) else {
             return Ok(None);
         };
         let mut list = error_list(self.alloc, open.document.diagnostics())?;
-        let mut others = self.told_beside(uri, open)?;
+        let mut others = self.lint_diagnostics(uri, open)?;
         list.append(&mut others)?;
         Ok(Some(diagnostics_notification(self.alloc, uri, list)?))
     }
 
     /// Looks up what is defined beside a document, if its findings are sought there.
-    fn look_up_beside(&mut self, uri: &str) -> Result<(), AllocError>
+    fn look_up_names(&mut self, uri: &str) -> Result<(), AllocError>
         ensures same { OnOk result (session_of self.new ≡ session_of self.old) }
     {
-        if self.is_surrounded(uri) {
+        if self.has_complete_workspace(uri) {
             look_up_others(
                 self.alloc,
                 uri,
@@ -56,24 +56,28 @@ impl Server {
 
     /// What is told of a document beside its errors: what is found in it, and then how it differs from its original.
     /// Nothing of one that is too long or nests too deeply.
-    fn told_beside(&self, uri: &str, open: &Open) -> Result<Vec<Value>, AllocError>
-        ensures { IfOk result (λ list. All TellsBeside (map view list.items)) }
+    fn lint_diagnostics(&self, uri: &str, open: &OpenDocument) -> Result<Vec<Value>, AllocError>
+        ensures { IfOk result (λ list. All IsLintDiagnostic (map view list.items)) }
     {
-        if !is_sought_in(&open.document) {
+        if !is_linted(&open.document) {
             return Ok(Vec::new(self.alloc));
         }
-        let outline = open.document.outline(self.alloc)?;
-        let differences = self.mismatches(open, &outline)?;
-        let findings = self.findings_told(uri, outline)?;
-        let remarks = remarks_of(self.alloc, uri, open.document.text(), &findings)?;
-        let mut list = told_list(self.alloc, &remarks, self.related)?;
-        let mut behind = told_list(self.alloc, &differences, self.related)?;
+        let name_index = open.document.name_index(self.alloc)?;
+        let differences = self.differences(open, &name_index)?;
+        let findings = self.reported_findings(uri, name_index)?;
+        let diagnostics = finding_diagnostics(self.alloc, uri, open.document.text(), &findings)?;
+        let mut list = lint_diagnostic_list(self.alloc, &diagnostics, self.related)?;
+        let mut behind = lint_diagnostic_list(self.alloc, &differences, self.related)?;
         list.append(&mut behind)?;
         Ok(list)
     }
 
     /// What a document and its original don't have alike; nothing of one that has none, or one that is too long.
-    fn mismatches(&self, open: &Open, outline: &Outline<'_>) -> Result<Vec<Told<'_>>, AllocError> {
+    fn differences(
+        &self,
+        open: &OpenDocument,
+        name_index: &NameIndex<'_>,
+    ) -> Result<Vec<LintDiagnostic<'_>>, AllocError> {
         let none = Vec::new(self.alloc);
         let Some(path) = &open.path else {
             return Ok(none);
@@ -86,39 +90,43 @@ impl Server {
         let Some(original) = found else {
             return Ok(none);
         };
-        if original.outline.text.len() > FINDINGS_LIMIT {
+        if original.name_index.text.len() > FINDINGS_LIMIT {
             return Ok(none);
         }
-        let shown = self.workspace.shown(there.as_str());
-        mismatches_of(self.alloc, outline, &original, shown)
+        let shown = self.workspace.display_path(there.as_str());
+        differences_of(self.alloc, name_index, &original, shown)
     }
 
     /// Whether the document's findings are sought, and all files are known that may define what it refers to.
-    fn is_surrounded(&self, uri: &str) -> bool {
+    fn has_complete_workspace(&self, uri: &str) -> bool {
         match self.documents.get(uri) {
             Some(
-                Open {
+                OpenDocument {
                     path: Some(path),
                     document,
                     ..
                 },
-            ) => is_sought_in(document) && self.workspace.surrounds(path.as_str()),
+            ) => is_linted(document) && self.workspace.is_complete_for(path.as_str()),
             _ => false,
         }
     }
 
     /// What is found in a document, but for the kinds that are not told of it.
-    fn findings_told(&self, uri: &str, outline: Outline<'_>) -> Result<Vec<Finding>, AllocError> {
+    fn reported_findings(
+        &self,
+        uri: &str,
+        name_index: NameIndex<'_>,
+    ) -> Result<Vec<Finding>, AllocError> {
         let ignored = match self.documents.get(uri) {
             Some(
-                Open {
+                OpenDocument {
                     path: Some(path),
                     ..
                 },
             ) => self.workspace.ignored_at(self.alloc, path.as_str())?,
             _ => Vec::new(self.alloc),
         };
-        self.findings(uri, outline)?
+        self.findings(uri, name_index)?
             .iter()
             .copied()
             .filter(|finding| !ignored.contains(&finding.kind))
@@ -127,26 +135,26 @@ impl Server {
 
     /// What is found in a document: by itself; where all others are known, among them, or beside them where they are
     /// long.
-    fn findings(&self, uri: &str, outline: Outline<'_>) -> Result<Vec<Finding>, AllocError> {
+    fn findings(&self, uri: &str, name_index: NameIndex<'_>) -> Result<Vec<Finding>, AllocError> {
         let (alloc, workspace) = (self.alloc, &self.workspace);
         let documents = self.documents.by_name();
-        if self.is_surrounded(uri) {
-            if let Some(others) = outlines_of(alloc, uri, documents, workspace)? {
-                return findings_among(alloc, outline, others);
+        if self.has_complete_workspace(uri) {
+            if let Some(others) = name_indexes_of(alloc, uri, documents, workspace)? {
+                return workspace_findings(alloc, name_index, others);
             }
             if let Some(others) = others_of(alloc, uri, documents, &self.defined, workspace)? {
-                return findings_beside(alloc, from_ref(&outline), &others);
+                return findings_with_externals(alloc, from_ref(&name_index), &others);
             }
         }
-        own_findings(alloc, &outline)
+        local_findings(alloc, &name_index)
     }
 }
 
 /// What is found in a file where it and others are one set.
-fn findings_among<'o>(
+fn workspace_findings<'o>(
     alloc: Global,
-    file: Outline<'o>,
-    mut others: Vec<Outline<'o>>,
+    file: NameIndex<'o>,
+    mut others: Vec<NameIndex<'o>>,
 ) -> Result<Vec<Finding>, AllocError> {
     let mut files = Vec::new(alloc);
     files.push(file)?;
@@ -159,6 +167,6 @@ fn findings_among<'o>(
 }
 
 /// Whether the findings of a document are sought, which takes the longer the longer it is.
-fn is_sought_in(document: &Document) -> bool {
+fn is_linted(document: &Document) -> bool {
     document.text().len() <= FINDINGS_LIMIT && !document.is_too_deep()
 }

@@ -1,10 +1,10 @@
 //! Another name for what a name stands for, in all open documents and closed files.
 
-use crate::asked::Asked;
-use crate::known::{Known, Wanted};
+use crate::index::{IndexedDocument, OccurrenceFilter};
 use crate::occurrences::{Name, NameKind, is_name_byte};
-use crate::places::Places;
+use crate::positions::Positions;
 use crate::replies::{edit_form, edits_of_document};
+use crate::request_context::RequestContext;
 use serde_json::{Value, json};
 use std::alloc::{AllocError, Global};
 
@@ -34,7 +34,7 @@ fn identifier_of(kind: NameKind, new_name: &str) -> Option<&str> {
 }
 
 /// The name with another in its place, or in the place of its attribute's.
-fn renamed<'n>(name: Name<'n>, new_name: &'n str) -> Name<'n> {
+fn renamed_name<'n>(name: Name<'n>, new_name: &'n str) -> Name<'n> {
     match name.attribute {
         None => Name {
             name: new_name,
@@ -52,24 +52,28 @@ fn renamed<'n>(name: Name<'n>, new_name: &'n str) -> Name<'n> {
 /// `AllocError` where a growth was refused.
 pub fn renaming(
     alloc: Global,
-    asked: &Asked<'_>,
+    context: &RequestContext<'_>,
     new_name: &str,
 ) -> Result<Option<Value>, AllocError> {
-    let Some(name) = asked.name() else {
+    let Some(name) = context.name() else {
         return Ok(None);
     };
     let Some(identifier) = identifier_of(name.kind, new_name) else {
         return Ok(None);
     };
-    let renamed = renamed(name, identifier);
-    if asked.documents.iter().any(|known| known.defines(renamed)) {
+    let renamed_name = renamed_name(name, identifier);
+    if context
+        .documents
+        .iter()
+        .any(|document| document.defines(renamed_name))
+    {
         return Ok(None);
     }
     let mut changes = Vec::new(alloc);
-    for known in &asked.documents {
-        let edits = edits_in(alloc, known, name, identifier)?;
+    for document in &context.documents {
+        let edits = edits_in(alloc, document, name, identifier)?;
         if !edits.is_empty() {
-            changes.push(edits_of_document(alloc, known.uri, known.version, edits)?)?;
+            changes.push(edits_of_document(alloc, document.uri, document.version, edits)?)?;
         }
     }
     let changes = Value::Array(changes);
@@ -79,14 +83,17 @@ pub fn renaming(
 /// The edits by which the name has another text in a document or file.
 fn edits_in(
     alloc: Global,
-    known: &Known<'_>,
+    document: &IndexedDocument<'_>,
     name: Name<'_>,
     text: &str,
 ) -> Result<Vec<Value>, AllocError> {
     let mut edits = Vec::new(alloc);
-    let mut places = Places::new(known.text);
-    for span in known.places_of(alloc, name, Wanted::All)?.iter() {
-        edits.push(edit_form(alloc, &mut places, *span, text)?)?;
+    let mut positions = Positions::new(document.text);
+    for span in document
+        .ranges_of(alloc, name, OccurrenceFilter::All)?
+        .iter()
+    {
+        edits.push(edit_form(alloc, &mut positions, *span, text)?)?;
     }
     Ok(edits)
 }

@@ -2,14 +2,14 @@
 ghost use Rattle.std.specs.Prelude.{◌≡◌, IfOk, map};
 ghost use Rattle.serde_json.specs.Data.{null};
 ghost use Rattle.serde_json.specs.View.{view};
-ghost use Rattle.ftl_lsp.specs.Locations.{edit_form, place_form, range_form, span_form};
+ghost use Rattle.ftl_lsp.specs.Locations.{edit_form, position_form, range_form, span_form};
 ghost use Rattle.ftl_lsp.specs.Replies.{answer_form, diagnostics_form, refusal_form, register_form};
 
-use crate::known::Known;
+use crate::index::IndexedDocument;
 use crate::occurrences::{NameKind, Occurrence, bytes_of, name_of};
 use crate::phases::ErrorCode;
-use crate::places::{Place, Places};
-use crate::symbols::{Fold, Symbol, SymbolKind};
+use crate::positions::{Position, Positions};
+use crate::symbols::{FoldingRange, Symbol, SymbolKind};
 use fluent_syntax::spans::Span;
 use serde_json::{Value, json};
 use std::alloc::{AllocError, Global};
@@ -37,11 +37,11 @@ pub fn null() -> Value
 
 /// What the server can do.
 pub fn capabilities(alloc: Global) -> Result<Value, AllocError> {
-    json!(in alloc; {"capabilities": (provided(alloc)?), "serverInfo": {"name": "ftl"}})
+    json!(in alloc; {"capabilities": (provider_capabilities(alloc)?), "serverInfo": {"name": "ftl"}})
 }
 
 /// The parts of the protocol that the server answers, each by its name.
-fn provided(alloc: Global) -> Result<Value, AllocError> {
+fn provider_capabilities(alloc: Global) -> Result<Value, AllocError> {
     json!(in alloc; {
         "positionEncoding": "utf-16",
         "textDocumentSync": (document_sync(alloc)?),
@@ -142,10 +142,10 @@ pub fn diagnostics_notification(
 
 /// The symbols of a text, in order.
 pub fn symbol_list(alloc: Global, text: &str, symbols: &[Symbol]) -> Result<Value, AllocError> {
-    let mut places = Places::new(text);
+    let mut positions = Positions::new(text);
     let mut list = Vec::new(alloc);
     for symbol in symbols {
-        list.push(symbol_form(alloc, text, &mut places, symbol)?)?;
+        list.push(symbol_form(alloc, text, &mut positions, symbol)?)?;
     }
     Ok(Value::Array(list))
 }
@@ -154,31 +154,31 @@ pub fn symbol_list(alloc: Global, text: &str, symbols: &[Symbol]) -> Result<Valu
 fn symbol_form(
     alloc: Global,
     text: &str,
-    places: &mut Places<'_>,
+    positions: &mut Positions<'_>,
     symbol: &Symbol,
 ) -> Result<Value, AllocError> {
     let mut children = Vec::new(alloc);
     for name in &symbol.attributes {
-        let shown = Shown {
+        let shown = SymbolFields {
             name: bytes_of(text, *name),
             kind: SymbolKind::Attribute,
             whole: *name,
             selected: *name,
         };
-        children.push(shown_form(alloc, places, shown, Vec::new(alloc))?)?;
+        children.push(symbol_fields_form(alloc, positions, shown, Vec::new(alloc))?)?;
     }
-    let shown = Shown {
+    let shown = SymbolFields {
         name: bytes_of(text, symbol.name),
         kind: symbol.kind,
         whole: symbol.whole,
         selected: symbol.name,
     };
-    shown_form(alloc, places, shown, children)
+    symbol_fields_form(alloc, positions, shown, children)
 }
 
 /// What is told of a symbol: its name, its kind, its stretch, and the part of that which is its name.
 #[derive(Clone, Copy)]
-struct Shown<'a> {
+struct SymbolFields<'a> {
     name: &'a str,
     kind: SymbolKind,
     whole: Span,
@@ -186,18 +186,18 @@ struct Shown<'a> {
 }
 
 /// A symbol with those under it.
-fn shown_form(
+fn symbol_fields_form(
     alloc: Global,
-    places: &mut Places<'_>,
-    shown: Shown<'_>,
+    positions: &mut Positions<'_>,
+    shown: SymbolFields<'_>,
     children: Vec<Value>,
 ) -> Result<Value, AllocError> {
     let children = Value::Array(children);
     json!(in alloc; {
         "name": (shown.name),
         "kind": (kind_number(shown.kind)),
-        "range": (span_form(alloc, places, shown.whole)?),
-        "selectionRange": (span_form(alloc, places, shown.selected)?),
+        "range": (span_form(alloc, positions, shown.whole)?),
+        "selectionRange": (span_form(alloc, positions, shown.selected)?),
         "children": children
     })
 }
@@ -212,7 +212,7 @@ fn kind_number(kind: SymbolKind) -> u64 {
 }
 
 /// The folds of a text, in order.
-pub fn fold_list(alloc: Global, folds: &[Fold]) -> Result<Value, AllocError> {
+pub fn folding_range_list(alloc: Global, folds: &[FoldingRange]) -> Result<Value, AllocError> {
     let mut list = Vec::new(alloc);
     for fold in folds {
         let (first, last) = (fold.first as u64, fold.last as u64);
@@ -232,12 +232,12 @@ pub fn token_list(alloc: Global, numbers: &[usize]) -> Result<Value, AllocError>
 }
 
 /// The range of a stretch of the text whose places these are.
-fn span_form(alloc: Global, places: &mut Places<'_>, span: Span) -> Result<Value, AllocError>
-    ensures text { places.new ≡ places.old }
-    ensures form { IfOk result (λ value. view value ≡ span_form places.old span) }
+fn span_form(alloc: Global, positions: &mut Positions<'_>, span: Span) -> Result<Value, AllocError>
+    ensures text { positions.new ≡ positions.old }
+    ensures form { IfOk result (λ value. view value ≡ span_form positions.old span) }
 {
-    let start = places.place_or_end(span.start);
-    let end = places.place_or_end(span.end);
+    let start = positions.position_or_end(span.start);
+    let end = positions.position_or_end(span.end);
     range_form(alloc, start, end)
 }
 
@@ -245,34 +245,34 @@ fn span_form(alloc: Global, places: &mut Places<'_>, span: Span) -> Result<Value
 pub fn location_form(
     alloc: Global,
     uri: &str,
-    places: &mut Places<'_>,
+    positions: &mut Positions<'_>,
     span: Span,
 ) -> Result<Value, AllocError> {
-    let range = span_form(alloc, places, span)?;
+    let range = span_form(alloc, positions, span)?;
     json!(in alloc; {"uri": uri, "range": range})
 }
 
 /// A place that is marked. `AllocError` where a growth was refused.
 pub fn highlight_form(
     alloc: Global,
-    places: &mut Places<'_>,
+    positions: &mut Positions<'_>,
     span: Span,
 ) -> Result<Value, AllocError> {
-    let range = span_form(alloc, places, span)?;
+    let range = span_form(alloc, positions, span)?;
     json!(in alloc; {"range": range})
 }
 
 /// The edit that puts a text in place of a stretch. `AllocError` where a growth was refused.
 pub fn edit_form(
     alloc: Global,
-    places: &mut Places<'_>,
+    positions: &mut Positions<'_>,
     span: Span,
     text: &str,
 ) -> Result<Value, AllocError>
-    ensures text { places.new ≡ places.old }
-    ensures form { IfOk result (λ value. view value ≡ edit_form places.old text.now span) }
+    ensures text { positions.new ≡ positions.old }
+    ensures form { IfOk result (λ value. view value ≡ edit_form positions.old text.now span) }
 {
-    let range = span_form(alloc, places, span)?;
+    let range = span_form(alloc, positions, span)?;
     json!(in alloc; {"range": range, "newText": text})
 }
 
@@ -302,14 +302,14 @@ pub fn item_form(alloc: Global, label: &str, kind: NameKind) -> Result<Value, Al
 }
 
 /// What the workspace knows of a name.
-pub fn known_symbol(
+pub fn workspace_symbol(
     alloc: Global,
-    known: &Known<'_>,
-    places: &mut Places<'_>,
+    document: &IndexedDocument<'_>,
+    positions: &mut Positions<'_>,
     occurrence: Occurrence,
 ) -> Result<Value, AllocError> {
-    let name = name_of(known.text, occurrence);
-    let location = location_form(alloc, known.uri, places, occurrence.place())?;
+    let name = name_of(document.text, occurrence);
+    let location = location_form(alloc, document.uri, positions, occurrence.span())?;
     let (kind, shown) = match (name.attribute, name.kind) {
         (Some(attribute), _) => (SymbolKind::Attribute, attribute),
         (None, NameKind::Term) => (SymbolKind::Term, name.name),
@@ -343,18 +343,18 @@ pub fn with_member(
 }
 
 /// A range, by its two places.
-pub(crate) fn range_form(alloc: Global, start: Place, end: Place) -> Result<Value, AllocError>
+pub(crate) fn range_form(alloc: Global, start: Position, end: Position) -> Result<Value, AllocError>
     ensures { IfOk result (λ value. view value ≡ range_form start end) }
 {
-    let start = place_form(alloc, start)?;
-    let end = place_form(alloc, end)?;
+    let start = position_form(alloc, start)?;
+    let end = position_form(alloc, end)?;
     json!(in alloc; {"start": start, "end": end})
 }
 
 /// A place.
-fn place_form(alloc: Global, place: Place) -> Result<Value, AllocError>
-    ensures { IfOk result (λ value. view value ≡ place_form place) }
+fn position_form(alloc: Global, position: Position) -> Result<Value, AllocError>
+    ensures { IfOk result (λ value. view value ≡ position_form position) }
 {
-    let (line, character) = (place.line as u64, place.character as u64);
+    let (line, character) = (position.line as u64, position.character as u64);
     json!(in alloc; {"line": line, "character": character})
 }

@@ -2,7 +2,7 @@
 ghost use Rattle.std.specs.Prelude.{◌≡◌, ℕ, List, option_map, IfOk, OnOk, None};
 ghost use Rattle.serde_json.specs.Data.{null};
 ghost use Rattle.serde_json.specs.View.{view};
-ghost use Rattle.ftl_lsp.specs.Opened.{texts};
+ghost use Rattle.ftl_lsp.specs.OpenDocuments.{texts};
 ghost use Rattle.ftl_lsp.specs.Phases.{ending_of};
 ghost use Rattle.ftl_lsp.specs.Replies.{IsSent, refused};
 ghost use Rattle.ftl_lsp.specs.Sessions.{Answers, AnswersNotification, AnswersRequest, session_of};
@@ -10,7 +10,7 @@ ghost use Rattle.ftl_lsp.specs.Sessions.{Answers, AnswersNotification, AnswersRe
 use crate::endings::Ending;
 use crate::messages::{Message, message_of};
 use crate::methods::Method;
-use crate::opened::Documents;
+use crate::open_documents::Documents;
 use crate::phases::{ErrorCode, Phase};
 use crate::replies::{answer, null, refusal};
 use crate::workspace::Workspace;
@@ -28,8 +28,8 @@ pub struct Server {
     /// Whether the editor takes related information of a diagnostic.
     pub(crate) related: bool,
     pub(crate) documents: Documents,
-    /// The names of documents of which is still to be told anew.
-    pub(crate) untold: Vec<String>,
+    /// The names of documents of which is still to be published again.
+    pub(crate) stale: Vec<String>,
     /// The names that the open documents define, by the documents' names, as far as they were looked up since the
     /// documents changed.
     pub(crate) defined: BTreeMap<String, DefinedNames>,
@@ -48,7 +48,7 @@ impl Server {
             phase: Phase::Fresh,
             related: false,
             documents: Documents::new(alloc),
-            untold: Vec::new(alloc),
+            stale: Vec::new(alloc),
             defined: BTreeMap::new(alloc),
             workspace: Workspace::new(alloc),
         }
@@ -131,10 +131,10 @@ impl Server {
         if let Some(code) = self.phase.refusal(method) {
             return self.refuse(id, code);
         }
-        let Some(found) = self.found(method, message)? else {
+        let Some(response) = self.response(method, message)? else {
             return self.refuse(id, ErrorCode::InvalidParams);
         };
-        let reply = answer(self.alloc, id, found)?;
+        let reply = answer(self.alloc, id, response)?;
         self.phase = self.phase.after_request(method);
         Ok(Some(reply))
     }
@@ -154,8 +154,8 @@ impl Server {
             return Ok(None);
         };
         self.read_files(changes_files(method), files)?;
-        let sent = self.follow(method, message)?;
-        self.note_untold(method, message)?;
+        let sent = self.handle_notification(method, message)?;
+        self.mark_stale(method, message)?;
         self.phase = self.phase.after_notification(method);
         Ok(sent)
     }

@@ -1,8 +1,8 @@
 //! The messages and terms of a document, with their attributes, and what of it can be folded.
 
 use crate::documents::Document;
-use crate::places::Places;
-use crate::stretches::stretch_of;
+use crate::entry_ranges::entry_range_of;
+use crate::positions::Positions;
 use fluent_syntax::ast::{Attribute, Comment, Entry};
 use fluent_syntax::spans::Span;
 use std::alloc::{AllocError, Global};
@@ -28,7 +28,7 @@ pub struct Symbol {
 
 /// Lines that can be folded, both from 0.
 #[derive(Clone, Copy)]
-pub struct Fold {
+pub struct FoldingRange {
     pub first: usize,
     pub last: usize,
 }
@@ -38,7 +38,7 @@ pub fn symbols_in(alloc: Global, document: &Document) -> Result<Vec<Symbol>, All
     let mut found = Vec::new(alloc);
     let body = document.body();
     for (number, entry) in body.iter().enumerate() {
-        if let Some(whole) = stretch_of(document.text(), body, number) {
+        if let Some(whole) = entry_range_of(document.text(), body, number) {
             if let Some(symbol) = symbol_of(alloc, entry, whole)? {
                 found.push(symbol)?;
             }
@@ -80,18 +80,24 @@ fn names_of(alloc: Global, attributes: &[Attribute<Span>]) -> Result<Vec<Span>, 
 }
 
 /// The comments of a document that have several lines, in order.
-pub fn folds_in(alloc: Global, document: &Document) -> Result<Vec<Fold>, AllocError> {
+pub fn folding_ranges_in(
+    alloc: Global,
+    document: &Document,
+) -> Result<Vec<FoldingRange>, AllocError> {
     let mut found = Vec::new(alloc);
-    let mut places = Places::new(document.text());
+    let mut positions = Positions::new(document.text());
     for entry in document.body() {
-        if let Some(fold) = comment_of(entry).and_then(|comment| fold_of(&mut places, comment)) {
+        if let Some(fold) = comment_of(entry).and_then(|comment| folding_range_of(
+            &mut positions,
+            comment,
+        )) {
             found.push(fold)?;
         }
     }
     Ok(found)
 }
 
-/// The comment that an entry is, or that hangs on it.
+/// The comment that an entry is, or that is attached to it.
 fn comment_of(entry: &Entry<Span>) -> Option<&Comment<Span>> {
     match entry {
         Entry::Comment(comment) | Entry::GroupComment(comment) | Entry::ResourceComment(comment) =>
@@ -103,11 +109,18 @@ fn comment_of(entry: &Entry<Span>) -> Option<&Comment<Span>> {
 }
 
 /// The lines of a comment, if it has several.
-fn fold_of(places: &mut Places<'_>, comment: &Comment<Span>) -> Option<Fold> {
-    let first = places.place_or_end(comment.content.first()?.start).line;
-    let last = places.place_or_end(comment.content.last()?.start).line;
+fn folding_range_of(
+    positions: &mut Positions<'_>,
+    comment: &Comment<Span>,
+) -> Option<FoldingRange> {
+    let first = positions
+        .position_or_end(comment.content.first()?.start)
+        .line;
+    let last = positions
+        .position_or_end(comment.content.last()?.start)
+        .line;
     if first < last {
-        Some(Fold { first, last })
+        Some(FoldingRange { first, last })
     } else {
         None
     }

@@ -53,7 +53,7 @@ impl TokenKind {
 
 impl Token {
     /// Its range with the `-` of a term, the `$` of a variable or the quotes of a string.
-    pub fn marked(self) -> Span {
+    pub fn with_mark(self) -> Span {
         let Span { start, end } = self.span;
         match self.kind {
             TokenKind::Term | TokenKind::TermReference | TokenKind::Variable => Span {

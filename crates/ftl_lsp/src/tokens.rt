@@ -18,7 +18,7 @@ pub fn tokens_of(alloc: Global, body: &[Entry<Span>]) -> Result<Vec<Token>, Allo
 fn add_entry(list: &mut Vec<Token>, entry: &Entry<Span>) -> Result<(), AllocError> {
     match entry {
         Entry::Message(message) => {
-            add_hanging(list, &message.comment)?;
+            add_attached(list, &message.comment)?;
             add_token(list, TokenKind::Message, message.id.name)?;
             if let Some(pattern) = &message.value {
                 add_pattern(list, pattern)?;
@@ -26,7 +26,7 @@ fn add_entry(list: &mut Vec<Token>, entry: &Entry<Span>) -> Result<(), AllocErro
             add_attributes(list, &message.attributes)
         }
         Entry::Term(term) => {
-            add_hanging(list, &term.comment)?;
+            add_attached(list, &term.comment)?;
             add_token(list, TokenKind::Term, term.id.name)?;
             add_pattern(list, &term.value)?;
             add_attributes(list, &term.attributes)
@@ -37,8 +37,8 @@ fn add_entry(list: &mut Vec<Token>, entry: &Entry<Span>) -> Result<(), AllocErro
     }
 }
 
-/// Adds the comment that hangs on an entry, if there is one.
-fn add_hanging(list: &mut Vec<Token>, comment: &Option<Comment<Span>>) -> Result<(), AllocError> {
+/// Adds the comment that is attached to an entry, if there is one.
+fn add_attached(list: &mut Vec<Token>, comment: &Option<Comment<Span>>) -> Result<(), AllocError> {
     match comment {
         Some(comment) => add_comment(list, comment),
         None => Ok(()),

@@ -1,8 +1,8 @@
 //! The files of the workspace's folders, as they were read last.
 ghost use Rattle.std.specs.Prelude.{◌≡◌};
 
-use crate::closed::Closed;
-use crate::opened::Open;
+use crate::closed_files::ClosedFile;
+use crate::open_documents::OpenDocument;
 use crate::originals::Reference;
 use crate::settings::settings_in;
 use fluent_syntax_names::{DefinedNames, Kind};
@@ -45,7 +45,7 @@ impl Folder {
                 },
             ) => {
                 self.reference = match reference {
-                    Some(name) => Reference::named(alloc, self.path.as_str(), name.as_str())?,
+                    Some(name) => Reference::in_folder(alloc, self.path.as_str(), name.as_str())?,
                     None => None,
                 };
                 self.ignored = ignored;
@@ -64,7 +64,7 @@ impl Folder {
 pub struct Workspace {
     folders: Vec<Folder>,
     /// The files, by their paths.
-    files: BTreeMap<String, Closed>,
+    files: BTreeMap<String, ClosedFile>,
     /// Whether these are all files below the folders.
     is_whole: bool,
     /// The names that those of them define that are not open. None where they were not looked up since that changed.
@@ -86,7 +86,7 @@ impl Workspace {
     }
 
     /// The workspace of which an editor tells in its `initialize`. No file was read.
-    pub fn told(alloc: Global, message: &Value) -> Result<Self, AllocError> {
+    pub fn from_initialize(alloc: Global, message: &Value) -> Result<Self, AllocError> {
         let mut folders = Vec::new(alloc);
         for uri in folder_uris(alloc, message)?.iter() {
             if let Some(path) = path_of_uri(alloc, *uri)? {
@@ -103,7 +103,7 @@ impl Workspace {
     }
 
     /// The files, by their paths.
-    pub fn files(&self) -> &BTreeMap<String, Closed>
+    pub fn files(&self) -> &BTreeMap<String, ClosedFile>
         ensures { result.now ≡ self.now.files }
     {
         &self.files
@@ -130,7 +130,7 @@ impl Workspace {
             for file in sources {
                 let SourceFile { path, text } = file;
                 let before = self.files.remove(path.as_str());
-                match Closed::read(alloc, before, path.as_str(), text)? {
+                match ClosedFile::read(alloc, before, path.as_str(), text)? {
                     Some(closed) => drop(found.insert(path, closed)?),
                     None => all = false,
                 }
@@ -144,15 +144,15 @@ impl Workspace {
 
     /// Whether all files are known that may define what a file at the path refers to: it stands below one of the
     /// folders, and no file of them was left out.
-    pub fn surrounds(&self, path: &str) -> bool {
-        self.is_whole && self.searches(path)
+    pub fn is_complete_for(&self, path: &str) -> bool {
+        self.is_whole && self.covers(path)
     }
 
     /// Whether files are looked for where the path stands, below one of the folders.
-    pub fn searches(&self, path: &str) -> bool {
+    pub fn covers(&self, path: &str) -> bool {
         self.folders
             .iter()
-            .any(|folder| is_searched(folder.path.as_str(), path))
+            .any(|folder| is_covered(folder.path.as_str(), path))
     }
 
     /// The kinds of findings that are not told of a file at the path: those that a folder leaves out below which it
@@ -182,7 +182,7 @@ impl Workspace {
     }
 
     /// The path as it is shown: without the folder below which it stands.
-    pub fn shown<'p>(&self, path: &'p str) -> &'p str {
+    pub fn display_path<'p>(&self, path: &'p str) -> &'p str {
         for folder in &self.folders {
             if is_below(folder.path.as_str(), path) {
                 if let Some(below) = path.strip_prefix(folder.path.as_str()) {
@@ -194,22 +194,22 @@ impl Workspace {
     }
 
     /// The names that the closed files define. None where they were not looked up.
-    pub fn defined(&self) -> Option<&DefinedNames> {
+    pub fn defined_names(&self) -> Option<&DefinedNames> {
         self.defined.as_ref()
     }
 
     /// Forgets the names that the closed files define, since others are closed now.
-    pub fn forget_defined(&mut self) {
+    pub fn forget_defined_names(&mut self) {
         self.defined = None;
     }
 
     /// Looks up the names that the files define that are not among the open documents, if that was not done.
     ///
     /// `AllocError` where a growth was refused.
-    pub fn look_up_defined(
+    pub fn look_up_defined_names(
         &mut self,
         alloc: Global,
-        documents: &BTreeMap<String, Open>,
+        documents: &BTreeMap<String, OpenDocument>,
     ) -> Result<(), AllocError> {
         if self.defined.is_none() {
             let mut names = DefinedNames::new(alloc);
@@ -225,7 +225,7 @@ impl Workspace {
 }
 
 /// Whether files are looked for where the path stands, if they are looked for below the folder.
-fn is_searched(folder: &str, path: &str) -> bool {
+fn is_covered(folder: &str, path: &str) -> bool {
     match path.strip_prefix(folder) {
         Some(behind) => is_below(folder, path) && !behind.contains("/."),
         None => false,
@@ -233,7 +233,7 @@ fn is_searched(folder: &str, path: &str) -> bool {
 }
 
 /// Whether one of the documents is that of the path.
-pub fn is_open(documents: &BTreeMap<String, Open>, path: &str) -> bool {
+pub fn is_open(documents: &BTreeMap<String, OpenDocument>, path: &str) -> bool {
     documents
         .values()
         .any(|open| open.path.as_deref() == Some(path))

@@ -1,9 +1,9 @@
 //! `ftl-lsp`: a language server for Fluent Translation Lists, over standard input and output.
 #![tactic(auto)]
 
-mod words;
+mod args;
 
-use crate::words::{Request, request_of};
+use crate::args::{Request, request_of};
 use ftl::Watched;
 use ftl_files::Disk;
 use ftl_lsp::{Ending, serve};

@@ -1,8 +1,8 @@
 //! Whether errors are told in colours.
 
+use ftl_args::Options;
 use ftl_files::Color;
 use ftl_project::Form;
-use ftl_words::Options;
 use std::env;
 use std::io::IsTerminal;
 use std::rt::Env;

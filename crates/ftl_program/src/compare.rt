@@ -1,13 +1,13 @@
 //! Files and folders, compared with those of a reference language.
 
 use crate::colors::form_over_paths;
-use crate::lint::listed;
+use crate::lint::files_at;
+use crate::messages::{end_run, refuse_compare, refuse_run};
 use crate::project::project_settings;
-use crate::telling::{end_run, refuse_compare, refuse_run};
 use ftl::{RunFault, Watched};
+use ftl_args::{Compare, Options};
 use ftl_files::{Disk, Settings};
 use ftl_project::{Pair, Share, Streams, Tally, check_summary, compare_files, share_line};
-use ftl_words::{Compare, Options};
 use std::alloc::{AllocError, Global};
 use std::io;
 
@@ -47,9 +47,9 @@ fn compare_all(
     others: &[&str],
     tally: &mut Tally,
 ) -> Result<(), RunFault> {
-    let reference_files = listed(rt, reference, tally)?;
+    let reference_files = files_at(rt, reference, tally)?;
     for other in others {
-        let files = listed(rt, *other, tally)?;
+        let files = files_at(rt, *other, tally)?;
         let Ok(pairs) = pairs_of(rt.alloc(), reference, &reference_files, *other, &files) else {
             return Err(RunFault::Memory);
         };

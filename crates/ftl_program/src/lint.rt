@@ -1,13 +1,13 @@
 //! Files and folders, searched for mistakes between names.
 
 use crate::colors::form_over_paths;
+use crate::messages::{end_run, refuse_run};
 use crate::project::project_settings;
-use crate::telling::{end_run, refuse_run};
 use fluent_syntax_names::Kind;
 use ftl::{RunFault, Watched};
+use ftl_args::{Lint, Options};
 use ftl_files::{Disk, list};
-use ftl_project::{Fault, Streams, Tally, Telling, check_summary, lint_files, tell};
-use ftl_words::{Lint, Options};
+use ftl_project::{Fault, LintOptions, Streams, Tally, check_summary, lint_files, report_fault};
 use std::io;
 
 /// Searches all files that the paths name, as one set; the exit status. Kinds that the project ignores are not told.
@@ -35,7 +35,7 @@ fn lint_all(
         return Err(RunFault::Memory);
     }
     let files = files_of(rt, lint, tally)?;
-    let telling = Telling {
+    let lint_options = LintOptions {
         form: form_over_paths(rt, options),
         ignored: &ignored,
     };
@@ -48,7 +48,7 @@ fn lint_all(
         &mut Disk::new(rt),
         &files,
         options.reading(),
-        telling,
+        lint_options,
         tally,
         &mut streams,
     )
@@ -58,7 +58,7 @@ fn lint_all(
 fn files_of(rt: &HostRuntime, lint: &Lint<'_>, tally: &mut Tally) -> Result<Vec<String>, RunFault> {
     let mut files = Vec::new(rt.alloc());
     for path in &lint.paths {
-        for file in listed(rt, *path, tally)? {
+        for file in files_at(rt, *path, tally)? {
             if files.push(file).is_err() {
                 return Err(RunFault::Memory);
             }
@@ -68,7 +68,7 @@ fn files_of(rt: &HostRuntime, lint: &Lint<'_>, tally: &mut Tally) -> Result<Vec<
 }
 
 /// The files that the path names. What can't be listed is told.
-pub(crate) fn listed(
+pub(crate) fn files_at(
     rt: &HostRuntime,
     path: &str,
     tally: &mut Tally,
@@ -81,7 +81,7 @@ pub(crate) fn listed(
             out: &mut Watched::new(io::writer(rt)),
             err: &mut Watched::new(rt.stderr()),
         };
-        tell(
+        report_fault(
             rt.alloc(),
             tally,
             path.as_str(),

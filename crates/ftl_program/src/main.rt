@@ -1,37 +1,37 @@
 //! `ftl`: checks, formats and converts Fluent Translation Lists, files and folders or standard input.
 #![tactic(auto)]
 
+mod args;
 mod colors;
 mod compare;
 mod help;
 mod lint;
+mod messages;
 mod paths;
 mod project;
-mod standard;
-mod telling;
-mod words;
+mod standard_input;
 
+use crate::args::all_args;
 use crate::compare::compare_paths;
 use crate::help::page_of;
 use crate::lint::lint_paths;
+use crate::messages::{print_page, refuse_args, refuse_serving, refuse_writing};
 use crate::paths::answer_paths;
 use crate::project::project_settings;
-use crate::standard::answer_input;
-use crate::telling::{print_page, refuse_serving, refuse_words, refuse_writing};
-use crate::words::all_words;
+use crate::standard_input::answer_input;
+use ftl_args::{Change, Request, Task, Work, request_of};
 use ftl_files::Output;
-use ftl_words::{Change, Request, Task, Work, request_of};
 use std::process::ExitCode;
 
 fn main(rt: HostRuntime) -> ExitCode {
-    ExitCode::from(match all_words(&rt) {
-        Ok(words) => answer_words(&rt, words.as_slice()),
+    ExitCode::from(match all_args(&rt) {
+        Ok(words) => run_args(&rt, words.as_slice()),
         Err(status) => status,
     })
 }
 
 /// Does what the words ask, the program's own name first; the exit status.
-fn answer_words(rt: &HostRuntime, words: &[String]) -> u8 {
+fn run_args(rt: &HostRuntime, words: &[String]) -> u8 {
     if let Some(page) = page_of(words) {
         return print_page(rt, page);
     }
@@ -40,7 +40,7 @@ fn answer_words(rt: &HostRuntime, words: &[String]) -> u8 {
         Ok(Request::Answer(work)) => answer(rt, work),
         Ok(Request::Lint(lint)) => lint_paths(rt, &lint),
         Ok(Request::Compare(compare)) => compare_paths(rt, &compare),
-        Err(error) => refuse_words(rt, &error),
+        Err(error) => refuse_args(rt, &error),
     }
 }
 

@@ -1,16 +1,16 @@
 //! Files and folders, answered each by its name.
 
 use crate::colors::form_over_paths;
-use crate::lint::listed;
-use crate::standard::{all_input, tell_of_terminal};
-use crate::telling::{end_run, refuse_run};
+use crate::lint::files_at;
+use crate::messages::{end_run, refuse_run};
+use crate::standard_input::{all_input, tell_of_terminal};
 use ftl::{RunFault, Watched};
+use ftl_args::{Change, Task, Work};
 use ftl_files::{Disk, Memory, Store};
 use ftl_project::{
     Streams, Tally, check_files, check_summary, convert_files, format_summary, name_files,
     print_files, write_files,
 };
-use ftl_words::{Change, Task, Work};
 use std::alloc::AllocError;
 use std::io;
 
@@ -85,7 +85,7 @@ fn answer_path(
     path: &str,
     tally: &mut Tally,
 ) -> Result<(), RunFault> {
-    let files = listed(rt, path, tally)?;
+    let files = files_at(rt, path, tally)?;
     answer_files(rt, &mut Disk::new(rt), &files, work, tally)
 }
 

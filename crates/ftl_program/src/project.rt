@@ -1,6 +1,6 @@
 //! What the project says, in whose folder the program runs.
 
-use crate::telling::{refuse, refuse_run};
+use crate::messages::{refuse, refuse_run};
 use ftl::RunFault;
 use ftl_files::{Disk, Settings, SettingsFault, Store, settings_of};
 use ftl_project::Fault;

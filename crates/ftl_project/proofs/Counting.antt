@@ -8,7 +8,7 @@ use Rattle.std.specs.Io.KnownBytes.{Appends}
 use Rattle.std.specs.Prelude.{OnOk, String}
 use Rattle.ftl_project.specs.Faults.{Fails, HasStatus}
 use Rattle.ftl_project.specs.Runs.{Writes, WritesEach}
-use Rattle.ftl_project.specs.Tally.{Met, counted, failed}
+use Rattle.ftl_project.specs.Tally.{Processed, counted, failed}
 use Rattle.ftl_project.specs.declared.fault.Fault.{Fault}
 use Rattle.ftl_project.specs.declared.tally.Tally.{Tally}
 
@@ -39,24 +39,30 @@ on_ok_then (Ok value) then holds = then holds
 on_ok_then (Err error) then holds = tt
 
 -- A fault that was told was counted, and nothing was written of the file.
-pub Writes-told : {E : Type 0} (Is : Met → List ℕ → Type 0) (Why : Fault → Type 0) (result : Result (Unit {0}) E)
+pub Writes-report_text : {E : Type 0} (Is : Processed → List ℕ → Type 0) (Why : Fault → Type 0)
+    (result : Result (Unit {0}) E)
     (fault : Fault) (old new : Tally) (before after : Option (List ℕ)) →
     ((status : ℕ) → Fails Why status → Is (failed status) []) → Why fault →
     ((status : ℕ) × HasStatus fault status × (new ≡ counted old (failed status))) → after ≡ before →
     OnOk result (Writes Is old new before after)
-Writes-told Is Why result fault old new before after fails why told same = on_ok result
-    (failed told.0, [], fails told.0 (fault, why, told.1), told.2, appends_nothing before after same)
+Writes-report_text Is Why result fault old new before after fails why report_text same = on_ok result (
+  failed report_text.0,
+  [],
+  fails report_text.0 (fault, why, report_text.1),
+  report_text.2,
+  appends_nothing before after same,
+)
 
 -- Files are met as their bytes are, which are those of the beginning.
-module _ (Is : (path : List ℕ) → Option (List ℕ) → Met → List ℕ → Type 0) (at : List ℕ → Option (List ℕ))
+module _ (Is : (path : List ℕ) → Option (List ℕ) → Processed → List ℕ → Type 0) (at : List ℕ → Option (List ℕ))
     (files : List (String Global)) where
-  abbrev Meets : String Global → Met → List ℕ → Type 0
-  Meets file = Is (string_bytes file) (at (string_bytes file))
+  abbrev Processes : String Global → Processed → List ℕ → Type 0
+  Processes file = Is (string_bytes file) (at (string_bytes file))
 
   -- Whatever the files from the index on add, all of them then add that to the beginning.
   abbrev pub WritesSo : (index : ℕ) (old now : Tally) (before between : Option (List ℕ)) → Type 0
   WritesSo index old now before between = (new : Tally) (after : Option (List ℕ)) →
-      WritesEach Meets (drop index files) now new between after → WritesEach Meets files old new before after
+      WritesEach Processes (drop index files) now new between after → WritesEach Processes files old new before after
 
   pub WritesSo-more : (here : List ℕ → Option (List ℕ)) (index : ℕ) (file : String Global) (path : List ℕ)
       (old now next : Tally) (before between behind : Option (List ℕ)) → index < length files →
@@ -67,12 +73,12 @@ module _ (Is : (path : List ℕ) → Option (List ℕ) → Met → List ℕ → 
       λ new after rest.
       let at_path = subst (λ bytes. Writes (Is path bytes) now next between behind) stands writes in
       let at_file = subst (λ p. Writes (Is p (at p)) now next between behind) same at_path in
-      so new after (subst (λ left. WritesEach Meets left now new between after)
+      so new after (subst (λ left. WritesEach Processes left now new between after)
       (sym (left_at files index file below is))
       (next, behind, at_file, rest))
 
   pub WritesSo-all : (index : ℕ) (old now : Tally) (before between : Option (List ℕ)) → length files ≤ index →
-      WritesSo index old now before between → WritesEach Meets files old now before between
+      WritesSo index old now before between → WritesEach Processes files old now before between
   WritesSo-all index old now before between all so = so now between
-      (subst (λ left. WritesEach Meets left now now between between) (sym (drop_all index files all))
+      (subst (λ left. WritesEach Processes left now now between between) (sym (drop_all index files all))
       (refl, same_bytes between))

@@ -3,11 +3,12 @@ use Rattle.std.proofs.Common.{◌≡◌, ◌<◌, ◌+◌, ◌++◌, [], ◌∷�
 use Rattle.std.proofs.lemmas.List.{take_more}
 use Rattle.std.specs.Global.{Global}
 use Rattle.std.specs.Prelude.{Option, String, string_bytes}
-use Rattle.fluent_syntax_names.specs.declared.outline.Outline.{Outline}
+use Rattle.fluent_syntax_names.specs.declared.name_index.NameIndex.{NameIndex}
 use Rattle.ftl_project.specs.Comparing.{Compares, ComparesEach, pair_more}
 use Rattle.ftl_project.specs.Faults.{Failing}
-use Rattle.ftl_project.specs.Linting.{OutlinesEach, OutlinesSource, Reads, ReadsSource, outline_more, read_more}
-use Rattle.ftl_project.specs.Remarks.{TellsEach, behind}
+use Rattle.ftl_project.specs.Linting.{NameIndexesEach, NameIndexesSource, Reads, ReadsSource, name_index_more}
+use Rattle.ftl_project.specs.Linting.{read_more}
+use Rattle.ftl_project.specs.Diagnostics.{ReportsEach, behind}
 use Rattle.ftl_project.specs.declared.comparing.Pair.{Pair}
 use Rattle.ftl_project.specs.declared.comparing.Share.{Share}
 use Rattle.ftl_project.specs.declared.findings.Source.{Source}
@@ -16,11 +17,11 @@ use Rattle.ftl_files.specs.declared.options.Reading.{Reading}
 use Rattle.ftl_project.specs.declared.tally.Tally.{Tally}
 
 -- What was told of the first ones, and of one more.
-pub TellsEach-more : {A : Type 0} (Is : A → List ℕ → Type 0) (items : List A) (index : ℕ) (d : A)
-    (told text all : List ℕ) → index < length items → TellsEach Is (take index items) told →
-    Is (get_or items index d) text → all ≡ told ++ text → TellsEach Is (take (index + 1) items) all
-TellsEach-more Is items index d told text all below tells that whole =
-    rw (take_more items index d below, whole) (behind (get_or items index d) text tells that)
+pub ReportsEach-more : {A : Type 0} (Is : A → List ℕ → Type 0) (items : List A) (index : ℕ) (d : A)
+    (report_text text all : List ℕ) → index < length items → ReportsEach Is (take index items) report_text →
+    Is (get_or items index d) text → all ≡ report_text ++ text → ReportsEach Is (take (index + 1) items) all
+ReportsEach-more Is items index d report_text text all below reports that whole =
+    rw (take_more items index d below, whole) (behind (get_or items index d) text reports that)
 
 -- The pairs that were compared first, and one more.
 pub ComparesEach-more : (CallFails : Failing) (reading : Reading) (form : Form) (at : List ℕ → Option (List ℕ)) (pairs
@@ -44,11 +45,12 @@ Reads-more CallFails at files index file path sources all old now new below is s
     rw (take_more files index file below, sym is)
     (read_more file reads (subst (λ p. ReadsSource CallFails at p sources all now new) same that))
 
--- The outlines of the first sources, and of one more.
-pub OutlinesEach-more : (reading : Reading) (sources : List Source) (index : ℕ) (source : Source)
-    (outlines all : List Outline) (outline : Outline) (old now new : Tally) → index < length sources →
-    source ≡ get_or sources index source → all ≡ outlines ++ (outline ∷ []) →
-    OutlinesEach reading (take index sources) outlines old now → OutlinesSource reading source outline now new →
-    OutlinesEach reading (take (index + 1) sources) all old new
-OutlinesEach-more reading sources index source outlines all outline old now new below is whole each that =
-    rw (take_more sources index source below, sym is, whole) (outline_more source outline each that)
+-- The name indexes of the first sources, and of one more.
+pub NameIndexesEach-more : (reading : Reading) (sources : List Source) (index : ℕ) (source : Source)
+    (name_indexes all : List NameIndex) (name_index : NameIndex) (old now new : Tally) → index < length sources →
+    source ≡ get_or sources index source → all ≡ name_indexes ++ (name_index ∷ []) →
+    NameIndexesEach reading (take index sources) name_indexes old now
+    → NameIndexesSource reading source name_index now new →
+    NameIndexesEach reading (take (index + 1) sources) all old new
+NameIndexesEach-more reading sources index source name_indexes all name_index old now new below is whole each that =
+    rw (take_more sources index source below, sym is, whole) (name_index_more source name_index each that)

@@ -4,7 +4,7 @@ use Rattle.std.proofs.Common.{◌∙◌, Option, Some, None}
 use Rattle.std.proofs.lemmas.List.{drop_more, drop_all}
 use Rattle.std.specs.Prelude.{option_map}
 use Rattle.fluent_syntax_names.specs.Mentions.{Mentions}
-use Rattle.fluent_syntax_names.specs.Places.{first_of}
+use Rattle.fluent_syntax_names.specs.FirstPlaces.{first_of}
 use Rattle.fluent_syntax_names.specs.Refused.{junk_named, refused_in}
 use Rattle.fluent_syntax_names.specs.declared.mention.Mention.{Mention}
 use Rattle.fluent_syntax_tree.specs.declared.spans.Span.{Span}

@@ -1,4 +1,4 @@
-pub mod Compared
+pub mod Comparisons
 pub mod Counting
 pub mod FormattingEach
 pub mod InOrder
@@ -8,6 +8,6 @@ pub mod Missed
 pub mod Normal
 pub mod Reaching
 pub mod ReadBack
-pub mod Remarked
-pub mod Said
+pub mod DiagnosticTexts
+pub mod NoteTexts
 pub mod Statuses

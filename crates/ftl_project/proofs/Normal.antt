@@ -13,22 +13,22 @@ use Rattle.fluent_syntax_grammar.specs.Written.{Text}
 use Rattle.fluent_syntax_tree.specs.declared.edition.Edition.{Edition}
 use Rattle.fluent_syntax_tree.specs.declared.edition.Edition.TheVariants.{One, Two}
 use Rattle.ftl.specs.Answer.{normal_text, outcome_with}
-use Rattle.ftl.specs.Safe.{is_safe}
+use Rattle.ftl.specs.Lossless.{is_lossless}
 use Rattle.ftl.specs.declared.outcome.Outcome.TheVariants.{Clean}
 use Rattle.ftl_project.proofs.Statuses.{status_least}
 use Rattle.ftl_project.proofs.Reaching.{AllReach-rewrites, AllReach-stand, AllReach-trans, becomes_rewriting}
 use Rattle.ftl_project.specs.Errors.{IsRefused}
 use Rattle.ftl_project.specs.Faults.{Failing, IsRead}
-use Rattle.ftl_project.specs.Formatting.{AllNormal, FormatsEach, IsMet, IsNormal}
-use Rattle.ftl_project.specs.Rewriting.{AllReach, BecomesRewriting, IsUnsafe, Reaches, Rewrites, goes, stays}
-use Rattle.ftl_project.specs.Safe.{IsRewriting}
-use Rattle.ftl_project.specs.Tally.{Met, answered, counted, failed}
+use Rattle.ftl_project.specs.Formatting.{AllNormal, FormatsEach, IsProcessed, IsNormal}
+use Rattle.ftl_project.specs.Rewriting.{AllReach, BecomesRewriting, IsLossy, Reaches, Rewrites, goes, stays}
+use Rattle.ftl_project.specs.Lossless.{IsRewriting}
+use Rattle.ftl_project.specs.Tally.{Processed, answered, counted, failed}
 use Rattle.ftl_project.specs.declared.fault.Fault as run
 use Rattle.ftl_files.specs.declared.options.Reading.{Reading}
 use Rattle.ftl_project.specs.declared.replacement.Replacement.{Replacement}
 use Rattle.ftl_project.specs.declared.replacement.Replacement.TheVariants as replacement
 use Rattle.ftl_project.specs.declared.tally.Tally.{Tally}
-use Rattle.ftl_project.specs.declared.unsafe_entry.UnsafeEntry.{UnsafeEntry}
+use Rattle.ftl_project.specs.declared.lossy_entry.LossyEntry.{LossyEntry}
 
 -- ---- a rewriting
 
@@ -62,13 +62,13 @@ not_refused : (edition : Edition) (bytes t : Text) (errors : _) → IsRewriting 
 not_refused edition bytes t errors a refused = refused.3 (ap faults (tiles_same edition bytes t a refused.0 refused.1)
     ∙ none_of_clean (faults a.answer.tiles) a.answer.outcome_is)
 
-not_unsafe : (edition : Edition) (bytes t : Text) (entry : UnsafeEntry) → IsRewriting edition bytes t →
-    IsUnsafe edition bytes entry → ⊥
-not_unsafe edition bytes t entry a unsafe =
-    let reads = unsafe.reads in
+not_lossy : (edition : Edition) (bytes t : Text) (entry : LossyEntry) → IsRewriting edition bytes t →
+    IsLossy edition bytes entry → ⊥
+not_lossy edition bytes t entry a lossy =
+    let reads = lossy.reads in
     let same = ap (tree_of bytes) (sym (tiles_same edition bytes t a reads.tiles reads.tiling)) ∙ reads.same in
-    let safe = sym (ap (is_safe edition) same) ∙ a.safe in
-    let both = sym unsafe.unsafe ∙ safe in
+    let lossless = sym (ap (is_lossless edition) same) ∙ a.lossless in
+    let both = sym lossy.lossy ∙ lossless in
     cc
 
 -- ---- a file whose bytes have one
@@ -116,26 +116,27 @@ rewrites_normal CallFails reading path old new (replacement.Errors refused) byte
     (λ e. absurd (not_refused edition bytes t refused.errors.items a (subst
     (λ b. IsRefused edition b refused.errors.items) (same_read edition bytes t a (old path) read is_read e) that)))
     (λ e. e) is
-rewrites_normal CallFails reading path old new (replacement.Unsafe entry) bytes t a (read, is_read, that, stand) is =
+rewrites_normal CallFails reading path old new (replacement.Lossy entry) bytes t a (read, is_read, that, stand) is =
     let edition = reading.edition in
     stand path ∙ ⊎_elim
-    (λ e. absurd (not_unsafe edition bytes t entry a (subst (λ b. IsUnsafe edition b entry)
+    (λ e. absurd (not_lossy edition bytes t entry a (subst (λ b. IsLossy edition b entry)
     (same_read edition bytes t a (old path) read is_read e) that))) (λ e. e) is
 
 -- ---- a run without faults
 
-counted_fault : (before : Tally) (met : Met) → (counted before met).fault ≡ 0 → before.fault ≡ 0
-counted_fault before (answered errors is_concerned) none = none
+counted_fault : (before : Tally) (processed : Processed) → (counted before processed).fault ≡ 0 → before.fault ≡ 0
+counted_fault before (answered errors has_problems) none = none
 counted_fault before (failed status) none = omega (arith, none)
 
 failed_fault : (before : Tally) (status : ℕ) → (counted before (failed status)).fault ≡ 0 → status ≡ 0
 failed_fault before status none = omega (arith, none)
 
 -- so none of its results is one
-met_ok : (result : Result Replacement run.Fault) (before : Tally) (met : Met) → IsMet result met →
-    (counted before met).fault ≡ 0 → (found : Replacement) × (result ≡ Ok found)
-met_ok (Ok found) before met is none = (found, refl)
-met_ok (Err fault) before met is none =
+processed_ok : (result : Result Replacement run.Fault) (before : Tally) (processed : Processed)
+    → IsProcessed result processed →
+    (counted before processed).fault ≡ 0 → (found : Replacement) × (result ≡ Ok found)
+processed_ok (Ok found) before processed is none = (found, refl)
+processed_ok (Err fault) before processed is none =
     let zero_status = failed_fault before is.0 (subst (λ m. (counted before m).fault ≡ 0) is.2 none) in
     let least = status_least fault is.0 is.1 in
     absurd (omega (arith, zero_status, least))
@@ -175,7 +176,7 @@ AllNormal-each CallFails reading (file ∷ files) start old new before after rea
     let path = string_bytes file in
     let edition = reading.edition in
     let here = faultless CallFails reading files now new between after rest none in
-    let ok = met_ok formats.0 before formats.2 formats.3 (sym (ap (λ (t : Tally). t.fault) formats.4) ∙ here) in
+    let ok = processed_ok formats.0 before formats.2 formats.3 (sym (ap (λ (t : Tally). t.fault) formats.4) ∙ here) in
     let rewrites = subst (λ r. Rewrites CallFails reading path old now r) ok.1 formats.1 in
     let behind = AllReach-each CallFails reading files now new between after rest in
     let step = AllReach-rewrites CallFails reading path old now formats.0 formats.1 in

@@ -1,12 +1,12 @@
 -- Steps of a run, put together.
 use Rattle.std.proofs.Common.{◌≡◌, ℕ, List, Option, None, Some, Ok, Err, Result, string_bytes, subst, sym, ⊎_elim}
 use Rattle.fluent_syntax_tree.specs.declared.edition.Edition.{Edition}
-use Rattle.ftl_files.specs.Store.{AllStand, Becomes, OthersStand}
+use Rattle.ftl_files.specs.Store.{AllUnchanged, Becomes, OthersUnchanged}
 use Rattle.ftl_project.specs.Faults.{Failing, IsRead}
 use Rattle.ftl_project.specs.Rewriting.{AllReach, BecomesRewriting, Reaches, Rewrites, goes, stays}
 use Rattle.ftl_project.specs.declared.fault.Fault.{Fault}
 use Rattle.ftl_files.specs.declared.options.Reading.{Reading}
-use Rattle.ftl_project.specs.Safe.{IsRewriting}
+use Rattle.ftl_project.specs.Lossless.{IsRewriting}
 use Rattle.ftl_project.specs.declared.replacement.Replacement.{Replacement}
 use Rattle.ftl_project.specs.declared.replacement.Replacement.TheVariants as replacement
 
@@ -19,7 +19,7 @@ module _ (edition : Edition) where
   further first stays = first
   further first (goes more step) = goes (further first more) step
 
-  pub AllReach-stand : (old new : List ℕ → Option (List ℕ)) → AllStand old new → AllReach edition old new
+  pub AllReach-stand : (old new : List ℕ → Option (List ℕ)) → AllUnchanged old new → AllReach edition old new
   AllReach-stand old new stand = λ path. same (old path) (new path) (stand path)
 
   pub AllReach-trans : (old now new : List ℕ → Option (List ℕ)) → AllReach edition old now → AllReach edition now new →
@@ -35,7 +35,7 @@ module _ (edition : Edition) where
   at_path old new path other reach e = subst (λ p. Reaches edition (old p) (new p)) (sym e) reach
 
   one_path : (old new : List ℕ → Option (List ℕ)) (path : List ℕ) → Reaches edition (old path) (new path) →
-      OthersStand old new path → AllReach edition old new
+      OthersUnchanged old new path → AllReach edition old new
   one_path old new path reach others = λ other. ⊎_elim (same (old other) (new other))
       (⊎_elim (at_path old new path other reach) (came (old other) (new other))) (others other)
 
@@ -57,7 +57,7 @@ AllReach-rewrites CallFails reading path old new (Ok replacement.Same) done =
     AllReach-stand reading.edition old new done.3
 AllReach-rewrites CallFails reading path old new (Ok (replacement.Errors refused)) done =
     AllReach-stand reading.edition old new done.3
-AllReach-rewrites CallFails reading path old new (Ok (replacement.Unsafe entry)) done =
+AllReach-rewrites CallFails reading path old new (Ok (replacement.Lossy entry)) done =
     AllReach-stand reading.edition old new done.3
 AllReach-rewrites CallFails reading path old new (Err fault) done = one_path reading.edition old new path
     (⊎_elim (same reading.edition (old path) (new path)) (λ becomes. goes stays becomes) done.0) done.1

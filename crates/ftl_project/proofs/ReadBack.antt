@@ -11,8 +11,8 @@ use Rattle.ftl.specs.Answer.{IsAnswer, outcome_with}
 use Rattle.ftl.specs.Formatted.{FormatsAgain}
 use Rattle.ftl.specs.declared.command.Command.TheVariants.{Format, FormatTwo}
 use Rattle.ftl.specs.declared.outcome.Outcome.TheVariants.{Clean}
-use Rattle.ftl.specs.Safe.{is_safe}
-use Rattle.ftl_project.specs.Safe.{IsRewriting, Settles}
+use Rattle.ftl.specs.Lossless.{is_lossless}
+use Rattle.ftl_project.specs.Lossless.{IsRewriting, Settles}
 
 -- a text that reads as the tree, and is its text, stays so
 settled : (text : Text) (tree : BodyTree Text) → ReadsAs Two text tree → text ≡ written false tree →
@@ -26,9 +26,9 @@ settled text tree reads is_written again next second =
     )
 
 pub rewriting : (edition : Edition) (t text : Text) (tree : BodyTree Text) → IsUtf8 t → ReadsAs edition t tree →
-    text ≡ written false tree → is_safe edition tree ≡ true → FormatsAgain t → ReadsBack Two tree →
+    text ≡ written false tree → is_lossless edition tree ≡ true → FormatsAgain t → ReadsBack Two tree →
     IsRewriting edition t text
-rewriting One t text tree utf8 reads is_written safe law back =
+rewriting One t text tree utf8 reads is_written lossless law back =
     let first : IsAnswer Format t text Clean = record {
       is_utf8 = utf8;
       tiles = reads.tiles;
@@ -36,13 +36,13 @@ rewriting One t text tree utf8 reads is_written safe law back =
       text_is = is_written ∙ ap (written false) (sym reads.same);
       outcome_is = ap outcome_with (sym reads.no_faults);
     } in
-    let is_canonical = ap (is_safe One) reads.same ∙ safe in
+    let is_canonical = ap (is_lossless One) reads.same ∙ lossless in
     record {
       answer = first;
-      safe = is_canonical;
+      lossless = is_canonical;
       settles = λ again next second. law text again Clean next first second is_canonical;
     }
-rewriting Two t text tree utf8 reads is_written safe law back =
+rewriting Two t text tree utf8 reads is_written lossless law back =
     let first : IsAnswer FormatTwo t text Clean = record {
       is_utf8 = utf8;
       tiles = reads.tiles;
@@ -50,9 +50,9 @@ rewriting Two t text tree utf8 reads is_written safe law back =
       text_is = is_written ∙ ap (written false) (sym reads.same);
       outcome_is = ap outcome_with (sym reads.no_faults);
     } in
-    let reads_back = subst (λ x. ReadsAs Two x tree) (sym is_written) (back false safe) in
+    let reads_back = subst (λ x. ReadsAs Two x tree) (sym is_written) (back false lossless) in
     record {
       answer = first;
-      safe = ap (is_safe Two) reads.same ∙ safe;
+      lossless = ap (is_lossless Two) reads.same ∙ lossless;
       settles = subst (λ r. Settles Two r text) (sym reads.same) (settled text tree reads_back is_written);
     }

@@ -14,9 +14,9 @@ use Rattle.ftl_files.specs.declared.options.Reading.{Reading}
 
 -- of one that is checked: as many errors as it has, and what is told of them
 abbrev pub IsChecked : Reading → Form → Answers
-IsChecked reading form path text errors is_concerned told =
-    (found : List ParserError) × HasErrors reading.edition text found × Reports form path text found told
-    × (errors ≡ length found) × (is_concerned ≡ not (errors == 0))
+IsChecked reading form path text errors has_problems report_text =
+    (found : List ParserError) × HasErrors reading.edition text found × Reports form path text found report_text
+    × (errors ≡ length found) × (has_problems ≡ not (errors == 0))
 
 -- whether something was found
 abbrev pub has_errors : Outcome → Bool
@@ -25,11 +25,11 @@ has_errors SyntaxErrors = true
 
 -- of one that a command answers: the command's text
 abbrev pub IsPrinted : Command → Answers
-IsPrinted command path text errors is_concerned printed =
+IsPrinted command path text errors has_problems printed =
     (outcome : Outcome) × IsAnswer command text printed outcome × (errors ≡ 0)
-    × (is_concerned ≡ has_errors outcome)
+    × (has_problems ≡ has_errors outcome)
 
 -- of one that spells a tree as JSON: the tree's text
 abbrev pub IsConverted : Answers
-IsConverted path text errors is_concerned converted =
-    IsTextOf text converted × (errors ≡ 0) × (is_concerned ≡ false)
+IsConverted path text errors has_problems converted =
+    IsTextOf text converted × (errors ≡ 0) × (has_problems ≡ false)

@@ -5,17 +5,17 @@ use Rattle.fluent_syntax_names.specs.declared.differences.Difference.{Difference
 use Rattle.fluent_syntax_names.specs.declared.differences.Side.{Side}
 use Rattle.fluent_syntax_names.specs.declared.finding.Severity.{Severity}
 use Rattle.fluent_syntax_names.specs.declared.finding.Severity.TheVariants.{Error, Warning}
-use Rattle.fluent_syntax_names.specs.declared.lack.Part.{Part}
+use Rattle.fluent_syntax_names.specs.declared.missing_part.Part.{Part}
 
 -- whether it is an error
-abbrev pub is_grave : Severity → Bool
-is_grave Error = true
-is_grave Warning = false
+abbrev pub is_error_severity : Severity → Bool
+is_error_severity Error = true
+is_error_severity Warning = false
 
-abbrev pub is_grave_difference : Option Difference → Bool
-is_grave_difference None = false
-is_grave_difference (Some difference) = is_grave (difference_severity difference)
+abbrev pub is_error_difference : Option Difference → Bool
+is_error_difference None = false
+is_error_difference (Some difference) = is_error_severity (difference_severity difference)
 
 -- whether a part that this file has and the other one lacks is told as an error
-abbrev pub is_told_as_error : Side → Part → Bool
-is_told_as_error side part = is_grave_difference (side_difference side part)
+abbrev pub counts_as_error : Side → Part → Bool
+counts_as_error side part = is_error_difference (side_difference side part)

@@ -3,17 +3,17 @@ use Rattle.std.specs.Prelude.{◌≡◌, ◌++◌, ℕ, List, [], ◌∷◌, All
 use Rattle.std.specs.Prelude.{Result, Ok, Err, String, codes, string_bytes}
 use Rattle.std.specs.Global.{Global}
 use Rattle.fluent_syntax_tree.specs.declared.edition.Edition.{Edition}
-use Rattle.ftl_files.specs.Store.{AllStand}
+use Rattle.ftl_files.specs.Store.{AllUnchanged}
 use Rattle.ftl_project.specs.Excerpt.{shown_text}
 use Rattle.ftl_project.specs.Faults.{Failing, HasStatus}
 use Rattle.ftl_project.specs.Rewriting.{IsReplacement, Rewrites}
 use Rattle.ftl_project.specs.Runs.{Answers}
-use Rattle.ftl_project.specs.Safe.{IsRewriting}
-use Rattle.ftl_project.specs.Tally.{Met, answered, counted, failed}
+use Rattle.ftl_project.specs.Lossless.{IsRewriting}
+use Rattle.ftl_project.specs.Tally.{Processed, answered, counted, failed}
 use Rattle.ftl_project.specs.declared.fault.Fault.{Fault}
 use Rattle.ftl_files.specs.declared.options.Reading.{Reading}
 use Rattle.ftl_project.specs.declared.replacement.Replacement.{Replacement}
-use Rattle.ftl_project.specs.declared.replacement.Replacement.TheVariants.{Errors, Same, Text, Unsafe}
+use Rattle.ftl_project.specs.declared.replacement.Replacement.TheVariants.{Errors, Same, Text, Lossy}
 use Rattle.ftl_project.specs.declared.tally.Tally.{Tally}
 
 -- how many errors are counted of a text with this replacement
@@ -24,25 +24,26 @@ errors_in _ = 0
 -- whether the text is left as it is, though it is not in its normal form
 abbrev pub is_left : Replacement → Bool
 is_left (Errors refused) = true
-is_left (Unsafe entry) = true
+is_left (Lossy entry) = true
 is_left _ = false
 
 -- ---- in place
 
 -- how a file is met of which this became
-abbrev pub IsMet : Result Replacement Fault → Met → Type 0
-IsMet (Ok replacement) met = met ≡ answered (errors_in replacement) (is_left replacement)
-IsMet (Err fault) met = (status : ℕ) × HasStatus fault status × (met ≡ failed status)
+abbrev pub IsProcessed : Result Replacement Fault → Processed → Type 0
+IsProcessed (Ok replacement) processed = processed ≡ answered (errors_in replacement) (is_left replacement)
+IsProcessed (Err fault) processed = (status : ℕ) × HasStatus fault status × (processed ≡ failed status)
 
 module _ (CallFails : Failing) (reading : Reading) where
   -- A file was rewritten, or left as it is, and counted by what became of it.
   abbrev pub Formats : (path : List ℕ) → (old new : List ℕ → Option (List ℕ)) → (before after : Tally) → Type 0
   Formats path old new before after = (result : Result Replacement Fault)
-      × Rewrites CallFails reading path old new result × (met : Met) × IsMet result met × (after ≡ counted before met)
+      × Rewrites CallFails reading path old new result × (processed : Processed) × IsProcessed result processed
+      × (after ≡ counted before processed)
 
   -- So was each of the files, one after another.
   abbrev pub FormatsEach : List (String Global) → (old new : List ℕ → Option (List ℕ)) → (before after : Tally) → Type 0
-  FormatsEach [] old new before after = AllStand old new × (after ≡ before)
+  FormatsEach [] old new before after = AllUnchanged old new × (after ≡ before)
   FormatsEach (file ∷ files) old new before after =
       (now : List ℕ → Option (List ℕ)) × (between : Tally) × Formats (string_bytes file) old now before between
       × FormatsEach files now new between after
@@ -71,6 +72,6 @@ name_of path _ = []
 
 -- of a text that is named where it would change
 abbrev pub IsNamed : Reading → Answers
-IsNamed reading path text errors is_concerned named = (replacement : Replacement)
+IsNamed reading path text errors has_problems named = (replacement : Replacement)
     × IsReplacement reading.edition text replacement × (errors ≡ errors_in replacement)
-    × (is_concerned ≡ is_other replacement) × (named ≡ name_of path replacement)
+    × (has_problems ≡ is_other replacement) × (named ≡ name_of path replacement)

@@ -7,11 +7,11 @@ pub mod Faults
 pub mod Formatting
 pub mod Junk
 pub mod Linting
-pub mod Outlines
-pub mod Remarks
+pub mod NameIndexes
+pub mod Diagnostics
 pub mod Reports
 pub mod Rewriting
 pub mod Runs
-pub mod Safe
+pub mod Lossless
 pub mod Summaries
 pub mod Tally

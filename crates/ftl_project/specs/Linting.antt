@@ -12,18 +12,18 @@ use Rattle.fluent_syntax_names.specs.Findings.{all_findings}
 use Rattle.fluent_syntax_names.specs.Severities.{name_of, severity_of}
 use Rattle.fluent_syntax_names.specs.declared.finding.Finding.{Finding}
 use Rattle.fluent_syntax_names.specs.declared.finding.Kind.{Kind}
-use Rattle.fluent_syntax_names.specs.declared.outline.Outline.{Outline}
+use Rattle.fluent_syntax_names.specs.declared.name_index.NameIndex.{NameIndex}
 use Rattle.fluent_syntax_tree.specs.declared.spans.Span.{Span}
-use Rattle.ftl_project.specs.Differences.{is_grave}
+use Rattle.ftl_project.specs.Differences.{is_error_severity}
 use Rattle.ftl_project.specs.Faults.{Failing, Fails, HasStatus, IsTooDeep, IsUnread}
-use Rattle.ftl_project.specs.Outlines.{IsOutline, SaysNothing}
-use Rattle.ftl_project.specs.Remarks.{IsRemark, TellsEach, spot_at}
+use Rattle.ftl_project.specs.NameIndexes.{IsNameIndex, SaysNothing}
+use Rattle.ftl_project.specs.Diagnostics.{IsDiagnostic, ReportsEach, location_at}
 use Rattle.ftl_project.specs.Tally.{counted, failed}
 use Rattle.ftl_project.specs.declared.fault.Fault.TheVariants.{TooDeep}
 use Rattle.ftl_project.specs.declared.findings.Source.{Source}
 use Rattle.ftl_files.specs.declared.options.Form.{Form}
 use Rattle.ftl_files.specs.declared.options.Reading.{Reading}
-use Rattle.ftl_project.specs.declared.remarks.Spot.{Spot}
+use Rattle.ftl_project.specs.declared.diagnostics.SourceLocation.{SourceLocation}
 use Rattle.ftl_project.specs.declared.tally.Tally.{Tally}
 
 -- ---- which files were counted
@@ -74,19 +74,19 @@ module _ (CallFails : Failing) (at : List ℕ → Option (List ℕ)) where
 -- ---- what the files say
 
 -- What a text says of names; or it nests deeper than it may and says nothing, and that was counted as its fault.
-abbrev pub OutlinesSource : Reading → Source → Outline → (old new : Tally) → Type 0
-OutlinesSource reading source outline old new =
-    (IsOutline reading.edition (string_bytes source.text) outline × (new ≡ old))
-    ⊎ ((status : ℕ) × HasStatus TooDeep status × IsTooDeep reading (string_bytes source.text) × SaysNothing outline
+abbrev pub NameIndexesSource : Reading → Source → NameIndex → (old new : Tally) → Type 0
+NameIndexesSource reading source name_index old new =
+    (IsNameIndex reading.edition (string_bytes source.text) name_index × (new ≡ old))
+    ⊎ ((status : ℕ) × HasStatus TooDeep status × IsTooDeep reading (string_bytes source.text) × SaysNothing name_index
     × (new ≡ counted old (failed status)))
 
 -- So of all the texts, in order.
-pub data OutlinesEach (reading : Reading) : List Source → List Outline → (old new : Tally) → Type 0 where
-  no_sources : {tally : Tally} → OutlinesEach reading [] [] tally tally
-  outline_more : {sources : List Source} {outlines : List Outline} {old now new : Tally} → (source : Source)
-      (outline : Outline) → OutlinesEach reading sources outlines old now →
-      OutlinesSource reading source outline now new →
-      OutlinesEach reading (sources ++ (source ∷ [])) (outlines ++ (outline ∷ [])) old new
+pub data NameIndexesEach (reading : Reading) : List Source → List NameIndex → (old new : Tally) → Type 0 where
+  no_sources : {tally : Tally} → NameIndexesEach reading [] [] tally tally
+  name_index_more : {sources : List Source} {name_indexes : List NameIndex} {old now new : Tally} → (source : Source)
+      (name_index : NameIndex) → NameIndexesEach reading sources name_indexes old now →
+      NameIndexesSource reading source name_index now new →
+      NameIndexesEach reading (sources ++ (source ∷ [])) (name_indexes ++ (name_index ∷ [])) old new
 
 -- ---- what is found
 
@@ -94,32 +94,32 @@ abbrev pub same_kind : Kind → Kind → Bool
 same_kind one other = bytes_eq (name_of one) (name_of other)
 
 -- whether it is of none of the kinds
-abbrev pub is_told : List Kind → Finding → Bool
-is_told ignored finding = not (list_any (same_kind finding.kind) ignored)
+abbrev pub is_reported : List Kind → Finding → Bool
+is_reported ignored finding = not (list_any (same_kind finding.kind) ignored)
 
 -- all that is found in what the files say, without the kinds that are left out
-abbrev pub told_findings : List Kind → List Outline → List Finding
-told_findings ignored outlines = filter (is_told ignored) (all_findings outlines)
+abbrev pub reported_findings : List Kind → List NameIndex → List Finding
+reported_findings ignored name_indexes = filter (is_reported ignored) (all_findings name_indexes)
 
 -- ---- what is counted
 
 abbrev pub is_error : Finding → Bool
-is_error finding = is_grave (severity_of finding.kind)
+is_error finding = is_error_severity (severity_of finding.kind)
 
 -- how many files have an error, of findings in the order of their files, beside the last one that was counted
-abbrev pub concerned_beside : (last : Option ℕ) → List Finding → ℕ
-concerned_beside last [] = 0
-concerned_beside last (finding ∷ findings) =
+abbrev pub with_problems_after : (last : Option ℕ) → List Finding → ℕ
+with_problems_after last [] = 0
+with_problems_after last (finding ∷ findings) =
     if is_error finding && not (option_eq nat_eq last (Some finding.file))
-    then concerned_beside (Some finding.file) findings + 1
-    else concerned_beside last findings
+    then with_problems_after (Some finding.file) findings + 1
+    else with_problems_after last findings
 
 -- the tally once so many files and what was found in them are counted in it; a number that has come to the greatest
 -- `usize` stays there
 abbrev pub searched : Tally → (files : ℕ) → List Finding → Tally
 searched tally files findings = record {
   files = min (tally.files + files) (2 ^ 64 - 1);
-  concerned = min (tally.concerned + concerned_beside None findings) (2 ^ 64 - 1);
+  with_problems = min (tally.with_problems + with_problems_after None findings) (2 ^ 64 - 1);
   errors = min (tally.errors + count_by is_error findings) (2 ^ 64 - 1);
   fault = tally.fault;
 }
@@ -130,31 +130,33 @@ abbrev pub path_of : Option Source → List ℕ
 path_of None = []
 path_of (Some source) = string_bytes source.path
 
-abbrev pub text_of : Option Outline → List ℕ
+abbrev pub text_of : Option NameIndex → List ℕ
 text_of None = []
-text_of (Some outline) = outline.text.now
+text_of (Some name_index) = name_index.text.now
 
-abbrev pub spot_in : (text : List ℕ) → Option Span → Option Spot
-spot_in text None = None
-spot_in text (Some name) = Some (spot_at text name)
+abbrev pub location_in : (text : List ℕ) → Option Span → Option SourceLocation
+location_in text None = None
+location_in text (Some name) = Some (location_at text name)
 
 -- This is told of the finding, in its file.
-abbrev pub IsFindingTold : Form → List Source → List Outline → Finding → (told : List ℕ) → Type 0
-IsFindingTold form sources outlines finding told =
-    (message : List ℕ) × IsRemark form (path_of (slice_get sources finding.file))
-    (spot_in (text_of (slice_get outlines finding.file)) finding.place) (name_of finding.kind) message told
+abbrev pub IsFindingReport : Form → List Source → List NameIndex → Finding → (report_text : List ℕ) → Type 0
+IsFindingReport form sources name_indexes finding report_text =
+    (message : List ℕ) × IsDiagnostic form (path_of (slice_get sources finding.file))
+    (location_in (text_of (slice_get name_indexes finding.file)) finding.place)
+    (name_of finding.kind) message report_text
 
 -- The texts were searched as one set: what is found in what they say was told, in order, behind what was written
 -- before, and counted.
 pub record Searches (reading : Reading) (form : Form) (ignored : List Kind) (sources : List Source) (old new : Tally)
     (before after : Option (List ℕ)) : Type 0 where
-  pub outlines : List Outline
+  pub name_indexes : List NameIndex
   pub now : Tally
-  pub has_outlines : OutlinesEach reading sources outlines old now
-  pub told : List ℕ
-  pub tells : TellsEach (IsFindingTold form sources outlines) (told_findings ignored outlines) told
-  pub counts : new ≡ searched now (length sources) (told_findings ignored outlines)
-  pub appends : Appends before after told
+  pub has_name_indexes : NameIndexesEach reading sources name_indexes old now
+  pub report_text : List ℕ
+  pub reports : ReportsEach (IsFindingReport form sources name_indexes)
+      (reported_findings ignored name_indexes) report_text
+  pub counts : new ≡ searched now (length sources) (reported_findings ignored name_indexes)
+  pub appends : Appends before after report_text
 
 -- The files were read, and the texts of those that could be were searched.
 pub record SearchesFiles (CallFails : Failing) (reading : Reading) (form : Form) (ignored : List Kind)

@@ -7,21 +7,21 @@ use Rattle.fluent_syntax_grammar.specs.RoundTrip.{ReadsAs}
 use Rattle.fluent_syntax_grammar.specs.Tiling.{Tile, Tiling}
 use Rattle.fluent_syntax_grammar.specs.Written.{Text}
 use Rattle.fluent_syntax_writer.specs.Uncanonical.{IsFirstBroken}
-use Rattle.fluent_syntax_writer.specs.declared.canonical.first.Uncanonical.{Uncanonical}
+use Rattle.fluent_syntax_writer.specs.declared.canonical.broken_rules.Uncanonical.{Uncanonical}
 use Rattle.fluent_syntax_tree.specs.Entry.{BodyTree, EntryTree, comment, junk, message, term}
 use Rattle.fluent_syntax_tree.specs.declared.edition.Edition.{Edition}
 use Rattle.fluent_syntax_tree.specs.declared.spans.Span.{Span}
-use Rattle.ftl.specs.Safe.{is_safe, reread_tree}
-use Rattle.ftl_files.specs.Store.{AllStand, Becomes, OthersStand}
+use Rattle.ftl.specs.Lossless.{is_lossless, reread_tree}
+use Rattle.ftl_files.specs.Store.{AllUnchanged, Becomes, OthersUnchanged}
 use Rattle.ftl_project.specs.Errors.{IsRefused}
 use Rattle.ftl_project.specs.Faults.{Failing, IsFault, IsRead, IsTooDeep, IsUnparsed, IsUnwritten}
-use Rattle.ftl_project.specs.Safe.{IsRewriting}
+use Rattle.ftl_project.specs.Lossless.{IsRewriting}
 use Rattle.ftl_project.specs.declared.fault.Fault.{Fault}
 use Rattle.ftl_files.specs.declared.options.Reading.{Reading}
 use Rattle.ftl_project.specs.declared.replacement.Replacement.{Replacement}
-use Rattle.ftl_project.specs.declared.replacement.Replacement.TheVariants.{Errors, Same, Unsafe}
+use Rattle.ftl_project.specs.declared.replacement.Replacement.TheVariants.{Errors, Same, Lossy}
 use Rattle.ftl_project.specs.declared.replacement.Replacement.TheVariants as replacement
-use Rattle.ftl_project.specs.declared.unsafe_entry.UnsafeEntry.{UnsafeEntry}
+use Rattle.ftl_project.specs.declared.lossy_entry.LossyEntry.{LossyEntry}
 
 -- ---- the entry by which a text is not safe to write
 
@@ -46,7 +46,7 @@ abbrev pub entry_place : (text : Text) → List (EntryTree Span) → (number : �
 entry_place text entries number = min (place_of_entry (slice_get entries number)) (length text)
 
 -- It stands where the text has the entry, and breaks the rule.
-abbrev pub IsEntryAt : Edition → Text → Uncanonical → UnsafeEntry → Type 0
+abbrev pub IsEntryAt : Edition → Text → Uncanonical → LossyEntry → Type 0
 IsEntryAt edition text broken entry = (tiles : List Tile) × Tiling edition text tiles
     × (entry ≡ record {
       line = line_at text (entry_place text (body tiles) broken.entry);
@@ -55,13 +55,13 @@ IsEntryAt edition text broken entry = (tiles : List Tile) × Tiling edition text
     })
 
 -- The bytes have no error, and are not safe to write; and that is the first entry by which they are not.
-pub record IsUnsafe (edition : Edition) (bytes : Text) (entry : UnsafeEntry) : Type 0 where
+pub record IsLossy (edition : Edition) (bytes : Text) (entry : LossyEntry) : Type 0 where
   pub tree : BodyTree Text
   pub reads : ReadsAs edition bytes tree
-  pub unsafe : is_safe edition tree ≡ false
+  pub lossy : is_lossless edition tree ≡ false
   pub broken : Uncanonical
   pub first : IsFirstBroken edition (reread_tree edition tree) broken
-  pub told : IsEntryAt edition bytes broken entry
+  pub report_text : IsEntryAt edition bytes broken entry
 
 -- ---- what is to stand in the place of a text
 
@@ -70,16 +70,16 @@ IsReplacement edition bytes Same = IsRewriting edition bytes bytes
 IsReplacement edition bytes (replacement.Text text) =
     IsRewriting edition bytes (string_bytes text) × (string_bytes text ≢ bytes)
 IsReplacement edition bytes (Errors refused) = IsRefused edition bytes refused.errors.items
-IsReplacement edition bytes (Unsafe entry) = IsUnsafe edition bytes entry
+IsReplacement edition bytes (Lossy entry) = IsLossy edition bytes entry
 
-abbrev pub unsafe_of : Replacement → Option UnsafeEntry
-unsafe_of (Unsafe entry) = Some entry
-unsafe_of _ = None
+abbrev pub lossy_entry_of : Replacement → Option LossyEntry
+lossy_entry_of (Lossy entry) = Some entry
+lossy_entry_of _ = None
 
 -- The entry is that of the text's replacement, if it has one.
-abbrev pub FindsUnsafe : Edition → Text → Option UnsafeEntry → Type 0
-FindsUnsafe edition bytes found =
-    (replacement : Replacement) × IsReplacement edition bytes replacement × (found ≡ unsafe_of replacement)
+abbrev pub FindsLossy : Edition → Text → Option LossyEntry → Type 0
+FindsLossy edition bytes found =
+    (replacement : Replacement) × IsReplacement edition bytes replacement × (found ≡ lossy_entry_of replacement)
 
 -- ---- a file
 
@@ -90,8 +90,9 @@ BecomesRewriting edition (Some bytes) new = (text : List ℕ) × IsRewriting edi
 
 -- A text has come in the file's place, and no other file was touched; or all files stand.
 abbrev pub Puts : Replacement → (path : List ℕ) → (old new : List ℕ → Option (List ℕ)) → Type 0
-Puts (replacement.Text text) path old new = Becomes (old path) (new path) (string_bytes text) × OthersStand old new path
-Puts _ path old new = AllStand old new
+Puts (replacement.Text text) path old new = Becomes (old path) (new path) (string_bytes text)
+    × OthersUnchanged old new path
+Puts _ path old new = AllUnchanged old new
 
 -- The replacement of what was read of the file was put in its place; after a fault the old bytes stand, or a rewriting
 -- of them.
@@ -100,7 +101,7 @@ abbrev pub Rewrites : Failing → Reading → (path : List ℕ) → (old new : L
 Rewrites CallFails reading path old new (Ok replacement) = (read : List ℕ) × IsRead (old path) read
     × IsReplacement reading.edition read replacement × Puts replacement path old new
 Rewrites CallFails reading path old new (Err fault) =
-    ((new path ≡ old path) ⊎ BecomesRewriting reading.edition (old path) (new path)) × OthersStand old new path
+    ((new path ≡ old path) ⊎ BecomesRewriting reading.edition (old path) (new path)) × OthersUnchanged old new path
     × (IsFault CallFails (old path) (λ text. IsUnparsed (IsTooDeep reading text)) fault
     ⊎ IsUnwritten CallFails (old path) fault)
 

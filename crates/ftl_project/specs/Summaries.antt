@@ -6,7 +6,7 @@ use Rattle.ftl_project.specs.declared.comparing.Share.{Share}
 use Rattle.ftl_project.specs.declared.fault.Fault.{Fault}
 use Rattle.ftl_project.specs.declared.fault.Fault.TheVariants.{Json, Memory, NotText, Read, TooDeep, Write}
 use Rattle.ftl_project.specs.declared.tally.Tally.{Tally}
-use Rattle.ftl_project.specs.declared.unsafe_entry.UnsafeEntry.{UnsafeEntry}
+use Rattle.ftl_project.specs.declared.lossy_entry.LossyEntry.{LossyEntry}
 
 abbrev pub file_count_of : ℕ → List ℕ
 file_count_of files = if files == 1 then codes "1 file" else decimal files ++ codes " files"
@@ -18,14 +18,14 @@ error_count_of errors = if errors == 1 then codes "1 error" else decimal errors 
 abbrev pub check_summary_of : Tally → List ℕ
 check_summary_of tally =
     if tally.errors == 0 then file_count_of tally.files ++ codes "\n"
-    else error_count_of tally.errors ++ codes " in " ++ decimal tally.concerned ++ codes " of " ++
+    else error_count_of tally.errors ++ codes " in " ++ decimal tally.with_problems ++ codes " of " ++
     file_count_of tally.files ++ codes "\n"
 
 -- how many files are not in normal form, if there are some, and how many files
 abbrev pub format_summary_of : Tally → List ℕ
 format_summary_of tally =
-    if tally.concerned == 0 then file_count_of tally.files ++ codes "\n"
-    else decimal tally.concerned ++ codes " of " ++ file_count_of tally.files ++ codes " not in normal form\n"
+    if tally.with_problems == 0 then file_count_of tally.files ++ codes "\n"
+    else decimal tally.with_problems ++ codes " of " ++ file_count_of tally.files ++ codes " not in normal form\n"
 
 -- how much of the reference is there
 abbrev pub share_line_of : Share → List ℕ
@@ -40,8 +40,8 @@ placed_note path line column note rule =
     codes "\n"
 
 -- the same of an entry
-abbrev pub unsafe_line_of : (path : List ℕ) → UnsafeEntry → (note rule : List ℕ) → List ℕ
-unsafe_line_of path entry note rule = placed_note (shown_text path) entry.line entry.column note rule
+abbrev pub lossy_entry_line_of : (path : List ℕ) → LossyEntry → (note rule : List ℕ) → List ℕ
+lossy_entry_line_of path entry note rule = placed_note (shown_text path) entry.line entry.column note rule
 
 -- what a fault says; what the system or the JSON says is not known
 abbrev pub fault_text : Fault → Option (List ℕ)

@@ -2,15 +2,15 @@
 ghost use Rattle.std.specs.Io.KnownBytes.{Appends};
 ghost use Rattle.std.specs.Prelude.{◌≡◌, ◌≢◌, ◌⊎◌, ℕ, List, Bool, Err, IfErr, IfOk, OnOk, string_bytes, true};
 ghost use Rattle.ftl.specs.Watched.{has_failed, inner_of};
-ghost use Rattle.ftl_files.specs.Store.{AllStand};
+ghost use Rattle.ftl_files.specs.Store.{AllUnchanged};
 ghost use Rattle.ftl_project.specs.Faults.{IsFault, IsRead};
-ghost use Rattle.ftl_project.specs.Runs.{AnswersEach, MeetsFile, Writes};
+ghost use Rattle.ftl_project.specs.Runs.{AnswersEach, ProcessesFile, Writes};
 ghost use Rattle.ftl_project.specs.Tally.{answered, counted};
 ghost use Rattle.ftl_project.specs.declared.fault.Fault.{Fault};
 
 use crate::fault::Fault;
 use crate::rewriting::read_text;
-use crate::streams::{Streams, tell};
+use crate::streams::{Streams, report_fault};
 use crate::tally::Tally;
 use ftl::{RunFault, write_all};
 use ftl_files::Store;
@@ -23,7 +23,7 @@ pub(crate) struct Answer {
     /// How many errors it has.
     pub(crate) errors: usize,
     /// Whether it has errors, or is not as it is to be.
-    pub(crate) is_concerned: bool,
+    pub(crate) has_problems: bool,
     /// What was asked for.
     pub(crate) text: String,
     /// Lines for people, on the other stream.
@@ -32,7 +32,7 @@ pub(crate) struct Answer {
 
 /// What a run says of the text of each file.
 pub(crate) trait Answering {
-    /// With so many errors, concerned or not, and with this text.
+    /// With so many errors, with problems or not, and with this text.
     ghost answers: { Self → List ℕ → List ℕ → ℕ → Bool → List ℕ → Type 0 };
 
     /// Why of a text nothing is said.
@@ -41,7 +41,7 @@ pub(crate) trait Answering {
     /// What is said of the text of the file at the path.
     fn answer(&self, path: &str, text: String) -> Result<Answer, Fault>
         ensures answer { IfOk result (λ answer. answers self.now path.now (string_bytes text) answer.errors
-            answer.is_concerned (string_bytes answer.text)) }
+            answer.has_problems (string_bytes answer.text)) }
         ensures fault { IfErr result (refuses self.now (string_bytes text)) };
 }
 
@@ -55,7 +55,7 @@ pub(crate) fn answer_files<A: Answering, S: Store, O: Write, E: Write>(
     tally: &mut Tally,
     streams: &mut Streams<'_, O, E>,
 ) -> Result<(), RunFault>
-    ensures stand { AllStand (S.bytes_at store.old) (S.bytes_at store.new) }
+    ensures stand { AllUnchanged (S.bytes_at store.old) (S.bytes_at store.new) }
     ensures each { OnOk result (AnswersEach S.fails (A.answers answering.now) (A.refuses answering.now)
         (S.bytes_at store.old) files.now tally.old tally.new (O.contents (inner_of streams.old.out.now))
         (O.contents (inner_of streams.new.out.now))) }
@@ -77,8 +77,8 @@ fn answer_file<A: Answering, S: Store, O: Write, E: Write>(
     tally: &mut Tally,
     streams: &mut Streams<'_, O, E>,
 ) -> Result<(), RunFault>
-    ensures stand { AllStand (S.bytes_at store.old) (S.bytes_at store.new) }
-    ensures counted { OnOk result (Writes (MeetsFile S.fails (A.answers answering.now) (A.refuses answering.now)
+    ensures stand { AllUnchanged (S.bytes_at store.old) (S.bytes_at store.new) }
+    ensures counted { OnOk result (Writes (ProcessesFile S.fails (A.answers answering.now) (A.refuses answering.now)
         path.now (S.bytes_at store.old path.now)) tally.old tally.new (O.contents (inner_of streams.old.out.now))
         (O.contents (inner_of streams.new.out.now))) }
     ensures input { result ≢ Err RunFault.Input }
@@ -87,7 +87,7 @@ fn answer_file<A: Answering, S: Store, O: Write, E: Write>(
 {
     match read_and_answer(answering, store, path) {
         Ok(answer) => put_answer(&answer, tally, streams),
-        Err(fault) => tell(alloc, tally, path, &fault, streams),
+        Err(fault) => report_fault(alloc, tally, path, &fault, streams),
     }
 }
 
@@ -96,9 +96,9 @@ fn read_and_answer<A: Answering, S: Store>(
     store: &mut S,
     path: &str,
 ) -> Result<Answer, Fault>
-    ensures stand { AllStand (S.bytes_at store.old) (S.bytes_at store.new) }
+    ensures stand { AllUnchanged (S.bytes_at store.old) (S.bytes_at store.new) }
     ensures answer { IfOk result (λ answer. (read : List ℕ) × IsRead (S.bytes_at store.old path.now) read
-        × A.answers answering.now path.now read answer.errors answer.is_concerned (string_bytes answer.text)) }
+        × A.answers answering.now path.now read answer.errors answer.has_problems (string_bytes answer.text)) }
     ensures fault { IfErr result (IsFault S.fails (S.bytes_at store.old path.now) (A.refuses answering.now)) }
 {
     let text = read_text(store, path)?;
@@ -111,14 +111,14 @@ fn put_answer<O: Write, E: Write>(
     tally: &mut Tally,
     streams: &mut Streams<'_, O, E>,
 ) -> Result<(), RunFault>
-    ensures counted { tally.new ≡ counted tally.old (answered answer.now.errors answer.now.is_concerned) }
+    ensures counted { tally.new ≡ counted tally.old (answered answer.now.errors answer.now.has_problems) }
     ensures written { OnOk result (Appends (O.contents (inner_of streams.old.out.now))
         (O.contents (inner_of streams.new.out.now)) (string_bytes answer.now.text)) }
     ensures input { result ≢ Err RunFault.Input }
     ensures output { result ≡ Err RunFault.Output → (has_failed streams.new.out.now ≡ true)
         ⊎ (has_failed streams.new.err.now ≡ true) }
 {
-    tally.count(answer.errors, answer.is_concerned);
+    tally.count(answer.errors, answer.has_problems);
     write_all(streams.out, answer.text.as_bytes())?;
     write_all(streams.err, answer.note.as_bytes())
 }

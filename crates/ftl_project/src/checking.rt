@@ -2,17 +2,17 @@
 ghost use Rattle.std.specs.Prelude.{◌≡◌, ◌≢◌, ◌⊎◌, Err, IfErr, IfOk, OnOk, string_bytes, true};
 ghost use Rattle.ftl.specs.Errors.{HasErrors};
 ghost use Rattle.ftl.specs.Watched.{has_failed, inner_of};
-ghost use Rattle.ftl_files.specs.Store.{AllStand};
+ghost use Rattle.ftl_files.specs.Store.{AllUnchanged};
 ghost use Rattle.ftl_project.specs.Answered.{IsChecked};
 ghost use Rattle.ftl_project.specs.Faults.{IsTooDeep, IsUnparsed};
 ghost use Rattle.ftl_project.specs.Runs.{AnswersEach};
 
 use crate::answering::{Answer, Answering, answer_files};
 use crate::fault::Fault;
-use crate::refused::Refused;
 use crate::reporting::report;
 use crate::streams::{Streams, note_line};
 use crate::tally::Tally;
+use crate::text_with_errors::TextWithErrors;
 use fluent_syntax::spans::Halt;
 use ftl::{RunFault, errors_within};
 use ftl_files::{Form, Reading, Store};
@@ -32,7 +32,7 @@ pub fn check_files<S: Store, O: Write, E: Write>(
     tally: &mut Tally,
     streams: &mut Streams<'_, O, E>,
 ) -> Result<(), RunFault>
-    ensures stand { AllStand (S.bytes_at store.old) (S.bytes_at store.new) }
+    ensures stand { AllUnchanged (S.bytes_at store.old) (S.bytes_at store.new) }
     ensures each { OnOk result (AnswersEach S.fails
         (IsChecked reading form) (λ text. IsUnparsed (IsTooDeep reading text))
         (S.bytes_at store.old) files.now tally.old tally.new (O.contents (inner_of streams.old.out.now))
@@ -69,7 +69,7 @@ impl Answering for Checking {
         let note = mark_note(self.alloc, path, refused.text.as_str())?;
         Ok(Answer {
             errors,
-            is_concerned: errors != 0,
+            has_problems: errors != 0,
             text,
             note,
         })
@@ -87,13 +87,13 @@ fn mark_note(alloc: Global, path: &str, text: &str) -> Result<String, AllocError
 }
 
 /// The text with its errors, which may be none.
-fn errors_of(alloc: Global, text: String, reading: Reading) -> Result<Refused, Fault>
+fn errors_of(alloc: Global, text: String, reading: Reading) -> Result<TextWithErrors, Fault>
     ensures text { IfOk result (λ refused. string_bytes refused.text ≡ string_bytes text) }
     ensures errors { IfOk result (λ refused. HasErrors reading.edition (string_bytes text) refused.errors.items) }
     ensures fault { IfErr result (IsUnparsed (IsTooDeep reading (string_bytes text))) }
 {
     match errors_within(alloc, text.as_str(), reading.edition, reading.nesting) {
-        Ok(errors) => Ok(Refused { text, errors }),
+        Ok(errors) => Ok(TextWithErrors { text, errors }),
         Err(Halt::TooDeep) => Err(Fault::TooDeep),
         Err(Halt::Memory) => Err(Fault::Memory),
     }

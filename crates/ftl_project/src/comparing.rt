@@ -1,25 +1,26 @@
 //! Files of a reference language are compared with those of another.
 ghost use Rattle.std.specs.Prelude.{◌≡◌, ◌≢◌, ◌⊎◌, ◌++◌, None, Some, Err, IfErr, IfOk, OnOk, codes, string_bytes, true};
-ghost use Rattle.fluent_syntax_names.specs.declared.outline.Outline.{Outline};
-ghost use Rattle.ftl_files.specs.Store.{AllStand};
-ghost use Rattle.ftl_project.specs.Comparing.{Compares, ComparesEach, IsAlone, IsBeside, IsComparison, IsPairFault};
-ghost use Rattle.ftl_project.specs.Comparing.{errors_of, lacked_entries, with_share};
+ghost use Rattle.fluent_syntax_names.specs.declared.name_index.NameIndex.{NameIndex};
+ghost use Rattle.ftl_files.specs.Store.{AllUnchanged};
+ghost use Rattle.ftl_project.specs.Comparing.{Compares, ComparesEach, IsFileMissing, IsPairCompared, IsComparison};
+ghost use Rattle.ftl_project.specs.Comparing.{IsPairFault};
+ghost use Rattle.ftl_project.specs.Comparing.{errors_of, missing_entries, with_share};
 ghost use Rattle.ftl.specs.Watched.{has_failed, inner_of};
 ghost use Rattle.ftl_project.specs.Faults.{IsTooDeep, IsUnparsed};
-ghost use Rattle.ftl_project.specs.Outlines.{IsOutline, IsShort};
-ghost use Rattle.ftl_project.specs.Remarks.{IsRemark};
+ghost use Rattle.ftl_project.specs.NameIndexes.{IsNameIndex, IsShort};
+ghost use Rattle.ftl_project.specs.Diagnostics.{IsDiagnostic};
 ghost use Rattle.ftl_project.specs.Summaries.{share_line_of};
 
-use crate::differences::is_told_as_error;
+use crate::comparison_report::PairReporter;
+use crate::diagnostics::{Diagnostic, diagnostic_text};
+use crate::differences::counts_as_error;
 use crate::fault::Fault;
-use crate::lacks_told::PairTold;
-use crate::outlines::{entries_in, outline};
-use crate::remarks::{Remark, remark_text};
+use crate::name_indexes::{entry_count, name_index};
 use crate::rewriting::read_text;
-use crate::streams::{Streams, tell};
+use crate::streams::{Streams, report_fault};
 use crate::tally::Tally;
 use crate::translation::Translation;
-use fluent_syntax_names::{Lack, Outline, Part, Side, lacks};
+use fluent_syntax_names::{MissingPart, NameIndex, Part, Side, missing_parts};
 use ftl::{RunFault, write_all};
 use ftl_files::{Form, Reading, Store};
 use std::alloc::{AllocError, Global};
@@ -55,8 +56,8 @@ impl Share {
 
 /// What is told of a pair, how many errors it has, and how much of it is there.
 #[derive(Drop)]
-struct Compared {
-    told: String,
+struct PairComparison {
+    report_text: String,
     errors: usize,
     share: Share,
 }
@@ -75,7 +76,7 @@ pub fn compare_files<S: Store, O: Write, E: Write>(
     share: &mut Share,
     streams: &mut Streams<'_, O, E>,
 ) -> Result<(), RunFault>
-    ensures stand { AllStand (S.bytes_at store.old) (S.bytes_at store.new) }
+    ensures stand { AllUnchanged (S.bytes_at store.old) (S.bytes_at store.new) }
     ensures each { OnOk result (ComparesEach S.fails reading form (S.bytes_at store.old) pairs.now tally.old tally.new
         share.old share.new (O.contents (inner_of streams.old.out.now)) (O.contents (inner_of streams.new.out.now))) }
     ensures input { result ≢ Err RunFault.Input }
@@ -88,7 +89,7 @@ pub fn compare_files<S: Store, O: Write, E: Write>(
         form,
     };
     for pair in pairs {
-        comparing.tell_pair(store, pair, tally, share, streams)?;
+        comparing.report_pair(store, pair, tally, share, streams)?;
     }
     Ok(())
 }
@@ -103,7 +104,7 @@ struct Comparing {
 
 impl Comparing {
     /// Compares a pair, tells what came of it, and counts it.
-    fn tell_pair<S: Store, O: Write, E: Write>(
+    fn report_pair<S: Store, O: Write, E: Write>(
         &self,
         store: &mut S,
         pair: &Pair,
@@ -111,7 +112,7 @@ impl Comparing {
         share: &mut Share,
         streams: &mut Streams<'_, O, E>,
     ) -> Result<(), RunFault>
-        ensures stand { AllStand (S.bytes_at store.old) (S.bytes_at store.new) }
+        ensures stand { AllUnchanged (S.bytes_at store.old) (S.bytes_at store.new) }
         ensures counted { OnOk result (Compares S.fails self.now.reading self.now.form (S.bytes_at store.old) pair.now
             tally.old tally.new share.old share.new (O.contents (inner_of streams.old.out.now))
             (O.contents (inner_of streams.new.out.now))) }
@@ -123,40 +124,41 @@ impl Comparing {
             Ok(compared) => {
                 tally.count(compared.errors, compared.errors != 0);
                 share.add(compared.share);
-                write_all(streams.out, compared.told.as_bytes())
+                write_all(streams.out, compared.report_text.as_bytes())
             }
-            Err(fault) => tell(self.alloc, tally, pair.other.as_str(), &fault, streams),
+            Err(fault) => report_fault(self.alloc, tally, pair.other.as_str(), &fault, streams),
         }
     }
 
-    fn compare_pair<S: Store>(&self, store: &mut S, pair: &Pair) -> Result<Compared, Fault>
-        ensures stand { AllStand (S.bytes_at store.old) (S.bytes_at store.new) }
+    fn compare_pair<S: Store>(&self, store: &mut S, pair: &Pair) -> Result<PairComparison, Fault>
+        ensures stand { AllUnchanged (S.bytes_at store.old) (S.bytes_at store.new) }
         ensures compared { IfOk result (λ compared. IsComparison S.fails self.now.reading self.now.form
             (S.bytes_at store.old) pair.now.is_there pair.now compared.errors compared.share
-            (string_bytes compared.told)) }
+            (string_bytes compared.report_text)) }
         ensures fault { IfErr result
             (IsPairFault S.fails self.now.reading self.now.form (S.bytes_at store.old) pair.now) }
     {
         let reference = read_text(store, pair.reference.as_str())?;
         if !pair.is_there {
-            return self.compared_alone(pair, reference.as_str());
+            return self.comparison_without_file(pair, reference.as_str());
         }
         let other = read_text(store, pair.other.as_str())?;
-        self.compared_texts(pair, reference.as_str(), other.as_str())
+        self.comparison_of_texts(pair, reference.as_str(), other.as_str())
     }
 
     /// What comes of a pair whose other file is not there.
-    fn compared_alone(&self, pair: &Pair, reference: &str) -> Result<Compared, Fault>
-        ensures compared { IfOk result (λ compared. (outline : Outline)
-            × IsOutline self.now.reading.edition reference.now outline
-            × IsAlone self.now.form pair.now outline compared.errors compared.share (string_bytes compared.told)) }
+    fn comparison_without_file(&self, pair: &Pair, reference: &str) -> Result<PairComparison, Fault>
+        ensures compared { IfOk result (λ compared. (name_index : NameIndex)
+            × IsNameIndex self.now.reading.edition reference.now name_index
+            × IsFileMissing self.now.form pair.now name_index compared.errors compared.share
+            (string_bytes compared.report_text)) }
         ensures fault { IfErr result (IsUnparsed (IsTooDeep self.now.reading reference.now)) }
     {
-        let reference = outline(self.alloc, reference, self.reading)?;
-        let wanted = entries_in(&reference);
-        let told = self.no_file(pair)?;
-        Ok(Compared {
-            told,
+        let reference = name_index(self.alloc, reference, self.reading)?;
+        let wanted = entry_count(&reference);
+        let report_text = self.no_file(pair)?;
+        Ok(PairComparison {
+            report_text,
             errors: 1,
             share: Share {
                 wanted,
@@ -167,16 +169,16 @@ impl Comparing {
 
     /// What is told of a pair whose other file is not there.
     fn no_file(&self, pair: &Pair) -> Result<String, AllocError>
-        ensures { IfOk result (λ told. IsRemark self.now.form (string_bytes pair.now.other) None
+        ensures { IfOk result (λ report_text. IsDiagnostic self.now.form (string_bytes pair.now.other) None
             (codes "missing-file")
             (codes "there is no such file; the reference has " ++ string_bytes pair.now.reference)
-            (string_bytes told)) }
+            (string_bytes report_text)) }
     {
         let reference = pair.reference.as_str();
         let message = format!(in self.alloc;
             "there is no such file; the reference has {reference}"
         )?;
-        let remark = Remark {
+        let diagnostic = Diagnostic {
             path: pair.other.as_str(),
             text: "",
             place: None,
@@ -185,79 +187,84 @@ impl Comparing {
             message,
             error: None,
         };
-        remark_text(self.alloc, &remark, self.form)
+        diagnostic_text(self.alloc, &diagnostic, self.form)
     }
 
     /// What comes of a pair of these texts.
-    fn compared_texts(&self, pair: &Pair, reference: &str, other: &str) -> Result<Compared, Fault>
-        ensures compared { IfOk result (λ compared. (reference_outline : Outline)
-            × IsOutline self.now.reading.edition reference.now reference_outline × (other_outline : Outline)
-            × IsOutline self.now.reading.edition other.now other_outline
-            × IsBeside self.now.form pair.now reference_outline other_outline compared.errors compared.share
-            (string_bytes compared.told)) }
+    fn comparison_of_texts(
+        &self,
+        pair: &Pair,
+        reference: &str,
+        other: &str,
+    ) -> Result<PairComparison, Fault>
+        ensures compared { IfOk result (λ compared. (reference_name_index : NameIndex)
+            × IsNameIndex self.now.reading.edition reference.now reference_name_index × (other_name_index : NameIndex)
+            × IsNameIndex self.now.reading.edition other.now other_name_index
+            × IsPairCompared self.now.form pair.now reference_name_index other_name_index compared.errors compared.share
+            (string_bytes compared.report_text)) }
         ensures fault { IfErr result (λ fault. IsUnparsed (IsTooDeep self.now.reading reference.now) fault
             ⊎ IsUnparsed (IsTooDeep self.now.reading other.now) fault) }
     {
-        let reference = outline(self.alloc, reference, self.reading)?;
-        let other = outline(self.alloc, other, self.reading)?;
-        let compared = self.compared_outlines(pair, &reference, &other)?;
+        let reference = name_index(self.alloc, reference, self.reading)?;
+        let other = name_index(self.alloc, other, self.reading)?;
+        let compared = self.comparison_of_indexes(pair, &reference, &other)?;
         Ok(compared)
     }
 
     /// What comes of a pair whose files say this.
-    fn compared_outlines(
+    fn comparison_of_indexes(
         &self,
         pair: &Pair,
-        reference: &Outline<'_>,
-        other: &Outline<'_>,
-    ) -> Result<Compared, AllocError>
+        reference: &NameIndex<'_>,
+        other: &NameIndex<'_>,
+    ) -> Result<PairComparison, AllocError>
         requires reference { IsShort reference.now }
         requires other { IsShort other.now }
-        ensures { IfOk result (λ compared. IsBeside self.now.form pair.now reference.now other.now
-            compared.errors compared.share (string_bytes compared.told)) }
+        ensures { IfOk result (λ compared. IsPairCompared self.now.form pair.now reference.now other.now
+            compared.errors compared.share (string_bytes compared.report_text)) }
     {
         let translation = Translation::new(self.alloc, other)?;
-        let pair_told = PairTold {
+        let pair_reporter = PairReporter {
             alloc: self.alloc,
             pair,
             translation: &translation,
             form: self.form,
         };
-        let missing = lacks(self.alloc, reference, other)?;
-        let mut told = pair_told.lacks_text(Side::Reference, reference.text, &missing)?;
-        let more = lacks(self.alloc, other, reference)?;
-        let behind = pair_told.lacks_text(Side::Other, other.text, &more)?;
-        told.push_str(behind.as_str())?;
+        let missing = missing_parts(self.alloc, reference, other)?;
+        let mut report_text = pair_reporter.report_of(Side::Reference, reference.text, &missing)?;
+        let more = missing_parts(self.alloc, other, reference)?;
+        let behind = pair_reporter.report_of(Side::Other, other.text, &more)?;
+        report_text.push_str(behind.as_str())?;
         let missed = errors_of(Side::Reference, &missing);
         let unknown = errors_of(Side::Other, &more);
-        Ok(Compared {
-            told,
+        Ok(PairComparison {
+            report_text,
             errors: missed.saturating_add(unknown),
             share: Share {
-                wanted: entries_in(reference),
-                missing: lacked_entries(&missing),
+                wanted: entry_count(reference),
+                missing: missing_entries(&missing),
             },
         })
     }
 }
 
 /// How many of the parts that this file has and the other one lacks are told as errors.
-fn errors_of(side: Side, lacks: &[Lack]) -> usize
-    ensures { result ≡ errors_of side lacks.now }
+fn errors_of(side: Side, missing_parts: &[MissingPart]) -> usize
+    ensures { result ≡ errors_of side missing_parts.now }
 {
-    lacks
+    missing_parts
         .iter()
-        .filter(|lack| is_told_as_error(side, lack.part))
+        .filter(|missing| counts_as_error(side, missing.part))
         .count()
 }
 
 /// How many messages and terms the other file lacks.
-fn lacked_entries(lacks: &[Lack]) -> usize
-    ensures { result ≡ lacked_entries lacks.now }
+fn missing_entries(missing_parts: &[MissingPart]) -> usize
+    ensures { result ≡ missing_entries missing_parts.now }
 {
-    lacks
+    missing_parts
         .iter()
-        .filter(|lack| matches!(lack.part, Part::Entry))
+        .filter(|missing| matches!(missing.part, Part::Entry))
         .count()
 }
 

@@ -1,7 +1,7 @@
 //! Trees as JSON are written as their texts, on standard output.
 ghost use Rattle.std.specs.Prelude.{◌≡◌, ◌≢◌, ◌⊎◌, Err, OnOk, true};
 ghost use Rattle.ftl.specs.Watched.{has_failed, inner_of};
-ghost use Rattle.ftl_files.specs.Store.{AllStand};
+ghost use Rattle.ftl_files.specs.Store.{AllUnchanged};
 ghost use Rattle.ftl_project.specs.Answered.{IsConverted};
 ghost use Rattle.ftl_project.specs.Faults.{IsMisspelled};
 ghost use Rattle.ftl_project.specs.Runs.{AnswersEach};
@@ -14,7 +14,7 @@ use fluent_syntax::ast::Resource;
 use fluent_syntax::laws::Uncanonical;
 use fluent_syntax::parser::Edition;
 use fluent_syntax::serializer::serialize;
-use ftl::{JsonFault, RunFault, first_unsafe, tree_of_json};
+use ftl::{JsonFault, RunFault, first_lossy_entry, tree_of_json};
 use ftl_files::Store;
 use std::alloc::{AllocError, Global};
 use std::io::Write;
@@ -31,7 +31,7 @@ pub fn convert_files<S: Store, O: Write, E: Write>(
     tally: &mut Tally,
     streams: &mut Streams<'_, O, E>,
 ) -> Result<(), RunFault>
-    ensures stand { AllStand (S.bytes_at store.old) (S.bytes_at store.new) }
+    ensures stand { AllUnchanged (S.bytes_at store.old) (S.bytes_at store.new) }
     ensures each { OnOk result (AnswersEach S.fails IsConverted IsMisspelled
         (S.bytes_at store.old) files.now tally.old tally.new (O.contents (inner_of streams.old.out.now))
         (O.contents (inner_of streams.new.out.now))) }
@@ -60,16 +60,20 @@ impl Answering for Converting {
         };
         Ok(Answer {
             errors: 0,
-            is_concerned: false,
+            has_problems: false,
             text: serialize(self.alloc, &tree)?,
-            note: unsafe_note(self.alloc, path, &tree)?,
+            note: lossy_entry_note(self.alloc, path, &tree)?,
         })
     }
 }
 
 /// What is told of a tree whose text would not read back: by which entry, counted from 1.
-fn unsafe_note(alloc: Global, path: &str, tree: &Resource<String>) -> Result<String, AllocError> {
-    let Some(Uncanonical { entry, rule }) = first_unsafe(alloc, tree, Edition::One)? else {
+fn lossy_entry_note(
+    alloc: Global,
+    path: &str,
+    tree: &Resource<String>,
+) -> Result<String, AllocError> {
+    let Some(Uncanonical { entry, rule }) = first_lossy_entry(alloc, tree, Edition::One)? else {
         return Ok(String::new(alloc));
     };
     let number = entry.saturating_add(1);

@@ -4,7 +4,7 @@ ghost use Rattle.std.specs.Str.{IsCharBoundary};
 ghost use Rattle.ftl_project.specs.Excerpt.{AddsExcerpt, below_front, excerpt, shown_back, shown_front};
 
 use crate::line::{back, front};
-use crate::shown::{WINDOW, push_below, push_shown, window_start};
+use crate::terminal_text::{WINDOW, push_below, push_shown, window_start};
 use std::alloc::AllocError;
 
 /// Adds two lines: the text's line that has the place, and the caret below the character of that place.

@@ -1,14 +1,14 @@
 //! The findings of a set of files, told for people or for tools.
 ghost use Rattle.std.specs.Prelude.{◌≡◌, All, IfOk, List, length, string_bytes, ◌+◌, ◌<◌, ◌^◌, slice_get, ℕ};
-ghost use Rattle.ftl_project.specs.Linting.{IsFindingTold, path_of, text_of, spot_in};
-ghost use Rattle.ftl_project.specs.Outlines.{IsShort};
-ghost use Rattle.ftl_project.specs.Remarks.{IsRemark, TellsEach};
+ghost use Rattle.ftl_project.specs.Linting.{IsFindingReport, path_of, text_of, location_in};
+ghost use Rattle.ftl_project.specs.NameIndexes.{IsShort};
+ghost use Rattle.ftl_project.specs.Diagnostics.{IsDiagnostic, ReportsEach};
 ghost use Rattle.fluent_syntax_names.specs.Severities.{name_of};
 
+use crate::diagnostics::{Diagnostic, SourceLocation, diagnostic_text, location_of, name_in};
 use crate::line_starts::LineStarts;
-use crate::remarks::{Remark, Spot, name_in, remark_text, spot_of};
 use fluent_syntax::spans::{Lines, Span};
-use fluent_syntax_names::{Finding, Outline, Severity};
+use fluent_syntax_names::{Finding, NameIndex, Severity};
 use ftl_files::Form;
 use std::alloc::{AllocError, Global};
 
@@ -23,31 +23,31 @@ pub(crate) struct Source {
 pub(crate) fn report_findings(
     alloc: Global,
     sources: &[Source],
-    outlines: &[Outline<'_>],
+    name_indexes: &[NameIndex<'_>],
     findings: &[Finding],
     form: Form,
 ) -> Result<String, AllocError>
-    requires { All IsShort outlines.now }
-    ensures { IfOk result (λ told.
-        TellsEach (IsFindingTold form sources.now outlines.now) findings.now (string_bytes told)) }
+    requires { All IsShort name_indexes.now }
+    ensures { IfOk result (λ report_text.
+        ReportsEach (IsFindingReport form sources.now name_indexes.now) findings.now (string_bytes report_text)) }
 {
     let mut out = String::new(alloc);
     let mut file = 0;
-    let mut lines = Lines::new(text_of(outlines, 0));
-    let mut starts = LineStarts::of(alloc, text_of(outlines, 0))?;
+    let mut lines = Lines::new(text_of(name_indexes, 0));
+    let mut starts = LineStarts::of(alloc, text_of(name_indexes, 0))?;
     for finding in findings {
-        lines = lines_in(outlines, file, lines, finding.file);
-        starts = starts_in(alloc, outlines, file, starts, finding.file)?;
+        lines = lines_in(name_indexes, file, lines, finding.file);
+        starts = starts_in(alloc, name_indexes, file, starts, finding.file)?;
         file = finding.file;
-        let file_told = FileTold {
+        let file_reporter = FileReporter {
             alloc,
             path: path_of(sources, file),
-            text: text_of(outlines, file),
+            text: text_of(name_indexes, file),
             starts: &starts,
             form,
         };
-        let told = file_told.finding_told(&mut lines, finding)?;
-        out.push_str(told.as_str())?;
+        let report_text = file_reporter.finding_report(&mut lines, finding)?;
+        out.push_str(report_text.as_str())?;
     }
     Ok(out)
 }
@@ -63,50 +63,55 @@ fn path_of(sources: &[Source], number: usize) -> &str
 }
 
 /// The text of the file of the number; none where there is no such file.
-fn text_of<'t>(outlines: &[Outline<'t>], number: usize) -> &'t str
-    requires { All IsShort outlines.now }
-    ensures text { result.now ≡ text_of (slice_get outlines.now number) }
+fn text_of<'t>(name_indexes: &[NameIndex<'t>], number: usize) -> &'t str
+    requires { All IsShort name_indexes.now }
+    ensures text { result.now ≡ text_of (slice_get name_indexes.now number) }
     ensures short { length result.now + 1 < 2 ^ 64 }
 {
-    match outlines.get(number) {
-        Some(outline) => outline.text,
+    match name_indexes.get(number) {
+        Some(name_index) => name_index.text,
         None => "",
     }
 }
 
 /// The lines of the file of the number; those of the last one where it is the same.
-fn lines_in<'t>(outlines: &[Outline<'t>], last: usize, lines: Lines<'t>, number: usize) -> Lines<'t>
-    requires last { lines ≡ text_of (slice_get outlines.now last) }
-    requires short { All IsShort outlines.now }
-    ensures { result ≡ text_of (slice_get outlines.now number) }
+fn lines_in<'t>(
+    name_indexes: &[NameIndex<'t>],
+    last: usize,
+    lines: Lines<'t>,
+    number: usize,
+) -> Lines<'t>
+    requires last { lines ≡ text_of (slice_get name_indexes.now last) }
+    requires short { All IsShort name_indexes.now }
+    ensures { result ≡ text_of (slice_get name_indexes.now number) }
 {
     if number == last {
         lines
     } else {
-        Lines::new(text_of(outlines, number))
+        Lines::new(text_of(name_indexes, number))
     }
 }
 
 /// Where the lines begin of the file of the number; those of the last one where it is the same.
 fn starts_in(
     alloc: Global,
-    outlines: &[Outline<'_>],
+    name_indexes: &[NameIndex<'_>],
     last: usize,
     starts: LineStarts,
     number: usize,
 ) -> Result<LineStarts, AllocError>
-    requires { All IsShort outlines.now }
+    requires { All IsShort name_indexes.now }
 {
     if number == last {
         Ok(starts)
     } else {
-        LineStarts::of(alloc, text_of(outlines, number))
+        LineStarts::of(alloc, text_of(name_indexes, number))
     }
 }
 
 /// A file whose findings are told: its path and its text, where its lines begin, and the form.
 #[derive(Clone, Copy)]
-struct FileTold<'a> {
+struct FileReporter<'a> {
     alloc: Global,
     path: &'a str,
     text: &'a str,
@@ -114,29 +119,30 @@ struct FileTold<'a> {
     form: Form,
 }
 
-impl FileTold<'_> {
+impl FileReporter<'_> {
     /// What is told of a finding in the file.
-    fn finding_told<'t>(
+    fn finding_report<'t>(
         &self,
         lines: &mut Lines<'t>,
         finding: &Finding,
     ) -> Result<String, AllocError>
         requires { lines.old ≡ self.now.text.now }
-        ensures told { IfOk result (λ told. (message : List ℕ) × IsRemark self.now.form self.now.path.now
-            (spot_in self.now.text.now finding.now.place) (name_of finding.now.kind) message
-            (string_bytes told)) }
+        ensures report_text { IfOk result (λ report_text. (message : List ℕ)
+            × IsDiagnostic self.now.form self.now.path.now
+            (location_in self.now.text.now finding.now.place) (name_of finding.now.kind) message
+            (string_bytes report_text)) }
         ensures lines { lines.new ≡ lines.old }
     {
-        let remark = Remark {
+        let diagnostic = Diagnostic {
             path: self.path,
             text: self.text,
-            place: spot_in(lines, self.text, finding.place),
+            place: location_in(lines, self.text, finding.place),
             kind: finding.kind.name(),
             severity: severity_name(finding.kind.severity()),
             message: self.message(finding)?,
             error: None,
         };
-        remark_text(self.alloc, &remark, self.form)
+        diagnostic_text(self.alloc, &diagnostic, self.form)
     }
 
     /// A sentence on the finding.
@@ -150,13 +156,13 @@ impl FileTold<'_> {
 }
 
 /// Where the name is in the text, if there is one.
-fn spot_in<'t>(lines: &mut Lines<'t>, text: &str, name: Option<Span>) -> Option<Spot>
+fn location_in<'t>(lines: &mut Lines<'t>, text: &str, name: Option<Span>) -> Option<SourceLocation>
     requires { lines.old ≡ text.now }
-    ensures spot { result ≡ spot_in text.now name }
+    ensures location { result ≡ location_in text.now name }
     ensures text { lines.new ≡ lines.old }
 {
     match name {
-        Some(name) => Some(spot_of(lines, text, name)),
+        Some(name) => Some(location_of(lines, text, name)),
         None => None,
     }
 }

@@ -1,7 +1,7 @@
 //! Files are formatted in place, or named where they would change.
 ghost use Rattle.std.specs.Prelude.{◌≡◌, ◌≢◌, ◌⊎◌, ◌++◌, codes, Err, IfOk, OnOk, string_bytes, true};
 ghost use Rattle.ftl.specs.Watched.{has_failed, inner_of};
-ghost use Rattle.ftl_files.specs.Store.{AllStand};
+ghost use Rattle.ftl_files.specs.Store.{AllUnchanged};
 ghost use Rattle.ftl_project.specs.Faults.{IsTooDeep, IsUnparsed};
 ghost use Rattle.ftl_project.specs.Formatting.{AllNormal, Formats, FormatsEach, IsNamed, errors_in, is_left, is_other};
 ghost use Rattle.ftl_project.specs.Formatting.{name_of};
@@ -10,13 +10,13 @@ ghost use Rattle.ftl_project.specs.Runs.{AnswersEach};
 
 use crate::answering::{Answer, Answering, answer_files};
 use crate::fault::Fault;
+use crate::lossy_entry::lossy_entry_line;
 use crate::replacement::{Replacement, replacement_for};
 use crate::reporting::report;
 use crate::rewriting::rewrite;
-use crate::shown::push_shown_text;
-use crate::streams::{Streams, tell};
+use crate::streams::{Streams, report_fault};
 use crate::tally::Tally;
-use crate::unsafe_entry::unsafe_line;
+use crate::terminal_text::push_shown_text;
 use ftl::{RunFault, write_all};
 use ftl_files::{Form, Reading, Store};
 use std::alloc::{AllocError, Global};
@@ -68,7 +68,7 @@ fn write_file<S: Store, O: Write, E: Write>(
 {
     let replacement = match rewrite(alloc, store, path, reading) {
         Ok(replacement) => replacement,
-        Err(fault) => return tell(alloc, tally, path, &fault, streams),
+        Err(fault) => return report_fault(alloc, tally, path, &fault, streams),
     };
     tally.count(errors_in(&replacement), is_left(&replacement));
     match left_note(alloc, path, &replacement) {
@@ -88,7 +88,7 @@ pub fn name_files<S: Store, O: Write, E: Write>(
     tally: &mut Tally,
     streams: &mut Streams<'_, O, E>,
 ) -> Result<(), RunFault>
-    ensures stand { AllStand (S.bytes_at store.old) (S.bytes_at store.new) }
+    ensures stand { AllUnchanged (S.bytes_at store.old) (S.bytes_at store.new) }
     ensures each { OnOk result (AnswersEach S.fails (IsNamed reading) (λ text. IsUnparsed (IsTooDeep reading text))
         (S.bytes_at store.old) files.now tally.old tally.new (O.contents (inner_of streams.old.out.now))
         (O.contents (inner_of streams.new.out.now))) }
@@ -122,7 +122,7 @@ impl Answering for Naming {
         let replacement = replacement_for(self.alloc, text, self.reading)?;
         Ok(Answer {
             errors: errors_in(&replacement),
-            is_concerned: is_other(&replacement),
+            has_problems: is_other(&replacement),
             text: name_of(self.alloc, path, &replacement)?,
             note: left_note(self.alloc, path, &replacement)?,
         })
@@ -143,7 +143,7 @@ fn errors_in(replacement: &Replacement) -> usize
 fn is_left(replacement: &Replacement) -> bool
     ensures { result ≡ is_left replacement.now }
 {
-    matches!(replacement, Replacement::Errors(_) | Replacement::Unsafe(_))
+    matches!(replacement, Replacement::Errors(_) | Replacement::Lossy(_))
 }
 
 /// Whether the text is not in its normal form.
@@ -157,7 +157,7 @@ fn is_other(replacement: &Replacement) -> bool
 fn left_note(alloc: Global, path: &str, replacement: &Replacement) -> Result<String, AllocError> {
     match replacement {
         Replacement::Errors(refused) => report(alloc, path, refused, Form::Full),
-        Replacement::Unsafe(entry) => unsafe_line(alloc, path, *entry, "left as it is"),
+        Replacement::Lossy(entry) => lossy_entry_line(alloc, path, *entry, "left as it is"),
         _ => Ok(String::new(alloc)),
     }
 }

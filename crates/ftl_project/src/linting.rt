@@ -2,21 +2,21 @@
 ghost use Rattle.std.specs.Prelude.{◌≡◌, ◌≢◌, ◌⊎◌, ◌+◌, ◌++◌, ◌∷◌, [], All, Err, IfOk, None, OnOk, count_by, length};
 ghost use Rattle.std.specs.Prelude.{string_bytes, true, vec_len};
 ghost use Rattle.ftl.specs.Watched.{has_failed, inner_of};
-ghost use Rattle.ftl_files.specs.Store.{AllStand};
-ghost use Rattle.ftl_project.specs.Linting.{AddsFiles, CountsRead, HasRead, OutlinesEach, OutlinesSource, Reads};
-ghost use Rattle.ftl_project.specs.Linting.{ReadsOne, ReadsSource, Searches, SearchesFiles, concerned_beside};
-ghost use Rattle.ftl_project.specs.Linting.{is_error, is_told, searched, told_findings};
-ghost use Rattle.ftl_project.specs.Outlines.{IsShort};
+ghost use Rattle.ftl_files.specs.Store.{AllUnchanged};
+ghost use Rattle.ftl_project.specs.Linting.{AddsFiles, CountsRead, HasRead, NameIndexesEach, NameIndexesSource, Reads};
+ghost use Rattle.ftl_project.specs.Linting.{ReadsOne, ReadsSource, Searches, SearchesFiles, with_problems_after};
+ghost use Rattle.ftl_project.specs.Linting.{is_error, is_reported, searched, reported_findings};
+ghost use Rattle.ftl_project.specs.NameIndexes.{IsShort};
 ghost use Rattle.ftl_project.specs.declared.findings.Source.{Source};
 
-use crate::differences::is_grave;
+use crate::differences::is_error_severity;
 use crate::fault::Fault;
 use crate::findings::{Source, report_findings};
-use crate::outlines::outline;
+use crate::name_indexes::name_index;
 use crate::rewriting::read_text;
-use crate::streams::{Streams, tell};
+use crate::streams::{Streams, report_fault};
 use crate::tally::Tally;
-use fluent_syntax_names::{Finding, Kind, Outline, findings};
+use fluent_syntax_names::{Finding, Kind, NameIndex, findings};
 use ftl::{RunFault, write_all};
 use ftl_files::{Form, Reading, Store};
 use std::alloc::{AllocError, Global};
@@ -25,7 +25,7 @@ use std::io::Write;
 
 /// How findings are told.
 #[derive(Clone, Copy, Debug)]
-pub struct Telling<'a> {
+pub struct LintOptions<'a> {
     pub form: Form,
     /// Kinds that are not told, nor counted.
     pub ignored: &'a [Kind],
@@ -40,13 +40,13 @@ pub fn lint_files<S: Store, O: Write, E: Write>(
     store: &mut S,
     files: &[String],
     reading: Reading,
-    telling: Telling<'_>,
+    lint_options: LintOptions<'_>,
     tally: &mut Tally,
     streams: &mut Streams<'_, O, E>,
 ) -> Result<(), RunFault>
-    ensures stand { AllStand (S.bytes_at store.old) (S.bytes_at store.new) }
+    ensures stand { AllUnchanged (S.bytes_at store.old) (S.bytes_at store.new) }
     ensures counted { OnOk result (CountsRead (length files.now) tally.old tally.new) }
-    ensures searched { OnOk result (SearchesFiles S.fails reading telling.entry.form telling.entry.ignored.now
+    ensures searched { OnOk result (SearchesFiles S.fails reading lint_options.entry.form lint_options.entry.ignored.now
         (S.bytes_at store.old) files.now tally.old tally.new (O.contents (inner_of streams.old.out.now))
         (O.contents (inner_of streams.new.out.now))) }
     ensures input { result ≢ Err RunFault.Input }
@@ -54,7 +54,7 @@ pub fn lint_files<S: Store, O: Write, E: Write>(
         ⊎ (has_failed streams.new.err.now ≡ true) }
 {
     let sources = read_sources(alloc, store, files, tally, streams)?;
-    lint_sources(alloc, &sources, reading, telling, tally, streams)
+    lint_sources(alloc, &sources, reading, lint_options, tally, streams)
 }
 
 /// The texts of the files that can be read.
@@ -65,7 +65,7 @@ fn read_sources<S: Store, O: Write, E: Write>(
     tally: &mut Tally,
     streams: &mut Streams<'_, O, E>,
 ) -> Result<Vec<Source>, RunFault>
-    ensures stand { AllStand (S.bytes_at store.old) (S.bytes_at store.new) }
+    ensures stand { AllUnchanged (S.bytes_at store.old) (S.bytes_at store.new) }
     ensures read { IfOk result (λ sources. HasRead (length files.now) (vec_len sources) tally.old tally.new) }
     ensures sources { IfOk result (λ sources.
         Reads S.fails (S.bytes_at store.old) files.now sources.items tally.old tally.new) }
@@ -89,7 +89,7 @@ fn read_source<S: Store, O: Write, E: Write>(
     tally: &mut Tally,
     streams: &mut Streams<'_, O, E>,
 ) -> Result<(), RunFault>
-    ensures stand { AllStand (S.bytes_at store.old) (S.bytes_at store.new) }
+    ensures stand { AllUnchanged (S.bytes_at store.old) (S.bytes_at store.new) }
     ensures read { OnOk result (ReadsOne (vec_len sources.old) (vec_len sources.new) tally.old tally.new) }
     ensures source { OnOk result (ReadsSource S.fails (S.bytes_at store.old) path.now sources.old.items
         sources.new.items tally.old tally.new) }
@@ -102,7 +102,7 @@ fn read_source<S: Store, O: Write, E: Write>(
             Ok(()) => Ok(()),
             Err(AllocError) => Err(RunFault::Memory),
         },
-        Err(fault) => tell(alloc, tally, path, &fault, streams),
+        Err(fault) => report_fault(alloc, tally, path, &fault, streams),
     }
 }
 
@@ -125,25 +125,25 @@ fn lint_sources<O: Write, E: Write>(
     alloc: Global,
     sources: &[Source],
     reading: Reading,
-    telling: Telling<'_>,
+    lint_options: LintOptions<'_>,
     tally: &mut Tally,
     streams: &mut Streams<'_, O, E>,
 ) -> Result<(), RunFault>
     ensures counted { OnOk result (AddsFiles (length sources.now) tally.old tally.new) }
-    ensures searched { OnOk result (Searches reading telling.entry.form telling.entry.ignored.now
+    ensures searched { OnOk result (Searches reading lint_options.entry.form lint_options.entry.ignored.now
         sources.now tally.old tally.new (O.contents (inner_of streams.old.out.now))
         (O.contents (inner_of streams.new.out.now))) }
     ensures input { result ≢ Err RunFault.Input }
     ensures output { result ≡ Err RunFault.Output → (has_failed streams.new.out.now ≡ true)
         ⊎ (has_failed streams.new.err.now ≡ true) }
 {
-    let outlines = outlines(alloc, sources, reading, tally, streams)?;
-    let Ok(found) = told_findings(alloc, &outlines, telling.ignored) else {
+    let name_indexes = name_indexes(alloc, sources, reading, tally, streams)?;
+    let Ok(found) = reported_findings(alloc, &name_indexes, lint_options.ignored) else {
         return Err(RunFault::Memory);
     };
     count(tally, sources.len(), &found);
-    match report_findings(alloc, sources, &outlines, &found, telling.form) {
-        Ok(told) => write_all(streams.out, told.as_bytes())?,
+    match report_findings(alloc, sources, &name_indexes, &found, lint_options.form) {
+        Ok(report_text) => write_all(streams.out, report_text.as_bytes())?,
         Err(AllocError) => return Err(RunFault::Memory),
     }
     match kinds_summary(alloc, &found) {
@@ -153,82 +153,87 @@ fn lint_sources<O: Write, E: Write>(
 }
 
 /// What each file says of names; nothing where it nests too deep, which is told.
-fn outlines<'a, O: Write, E: Write>(
+fn name_indexes<'a, O: Write, E: Write>(
     alloc: Global,
     sources: &'a [Source],
     reading: Reading,
     tally: &mut Tally,
     streams: &mut Streams<'_, O, E>,
-) -> Result<Vec<Outline<'a>>, RunFault>
+) -> Result<Vec<NameIndex<'a>>, RunFault>
     ensures files { tally.new.files ≡ tally.old.files }
     ensures fault { tally.new.fault ≡ 0 → tally.old.fault ≡ 0 }
-    ensures outlines { IfOk result (λ outlines. OutlinesEach reading sources.now outlines.items tally.old tally.new) }
-    ensures short { IfOk result (λ outlines. All IsShort outlines.items) }
+    ensures name_indexes { IfOk result (λ name_indexes. NameIndexesEach reading sources.now name_indexes.items tally.old
+        tally.new) }
+    ensures short { IfOk result (λ name_indexes. All IsShort name_indexes.items) }
     ensures out { streams.new.out ≡ streams.old.out }
     ensures input { result ≢ Err RunFault.Input }
     ensures output { result ≡ Err RunFault.Output → has_failed streams.new.err.now ≡ true }
 {
-    let mut outlines = Vec::new(alloc);
+    let mut name_indexes = Vec::new(alloc);
     for source in sources {
-        let outline = source_outline(alloc, source, reading, tally, streams)?;
-        let Ok(()) = add_outline(&mut outlines, outline) else {
+        let name_index = source_name_index(alloc, source, reading, tally, streams)?;
+        let Ok(()) = add_name_index(&mut name_indexes, name_index) else {
             return Err(RunFault::Memory);
         };
     }
-    Ok(outlines)
+    Ok(name_indexes)
 }
 
-fn add_outline<'a>(outlines: &mut Vec<Outline<'a>>, outline: Outline<'a>) -> Result<(), AllocError>
-    ensures { OnOk result (outlines.new.items ≡ outlines.old.items ++ outline.entry ∷ []) }
+fn add_name_index<'a>(
+    name_indexes: &mut Vec<NameIndex<'a>>,
+    name_index: NameIndex<'a>,
+) -> Result<(), AllocError>
+    ensures { OnOk result (name_indexes.new.items ≡ name_indexes.old.items ++ name_index.entry ∷ []) }
 {
-    outlines.push(outline)?;
+    name_indexes.push(name_index)?;
     Ok(())
 }
 
 /// What the file says of names; nothing where it nests too deep, which is told.
-fn source_outline<'a, O: Write, E: Write>(
+fn source_name_index<'a, O: Write, E: Write>(
     alloc: Global,
     source: &'a Source,
     reading: Reading,
     tally: &mut Tally,
     streams: &mut Streams<'_, O, E>,
-) -> Result<Outline<'a>, RunFault>
+) -> Result<NameIndex<'a>, RunFault>
     ensures files { tally.new.files ≡ tally.old.files }
     ensures fault { tally.new.fault ≡ 0 → tally.old.fault ≡ 0 }
-    ensures outline { IfOk result (λ outline. OutlinesSource reading source.now outline tally.old tally.new) }
+    ensures name_index { IfOk result (λ name_index. NameIndexesSource reading source.now name_index tally.old
+        tally.new) }
     ensures short { IfOk result IsShort }
     ensures out { streams.new.out ≡ streams.old.out }
     ensures input { result ≢ Err RunFault.Input }
     ensures output { result ≡ Err RunFault.Output → has_failed streams.new.err.now ≡ true }
 {
-    match outline(alloc, source.text.as_str(), reading) {
-        Ok(outline) => Ok(outline),
+    match name_index(alloc, source.text.as_str(), reading) {
+        Ok(name_index) => Ok(name_index),
         Err(Fault::TooDeep) => {
-            tell(alloc, tally, source.path.as_str(), &Fault::TooDeep, streams)?;
-            Ok(Outline::new(alloc, ""))
+            report_fault(alloc, tally, source.path.as_str(), &Fault::TooDeep, streams)?;
+            Ok(NameIndex::new(alloc, ""))
         }
         Err(_) => Err(RunFault::Memory),
     }
 }
 
 /// What is found, without the kinds that are ignored.
-fn told_findings(
+fn reported_findings(
     alloc: Global,
-    outlines: &[Outline<'_>],
+    name_indexes: &[NameIndex<'_>],
     ignored: &[Kind],
 ) -> Result<Vec<Finding>, AllocError>
-    ensures { IfOk result (λ found. found.items ≡ told_findings ignored.now outlines.now) }
+    ensures { IfOk result (λ found. found.items ≡ reported_findings ignored.now name_indexes.now) }
 {
-    let all = findings(alloc, outlines)?;
+    let all = findings(alloc, name_indexes)?;
     all.iter()
         .copied()
-        .filter(|finding| is_told(ignored, finding))
+        .filter(|finding| is_reported(ignored, finding))
         .collect(alloc)
 }
 
 /// Whether it is of none of the kinds that are ignored.
-fn is_told(ignored: &[Kind], finding: &Finding) -> bool
-    ensures { result ≡ is_told ignored.now finding.now }
+fn is_reported(ignored: &[Kind], finding: &Finding) -> bool
+    ensures { result ≡ is_reported ignored.now finding.now }
 {
     !ignored.contains(&finding.kind)
 }
@@ -238,13 +243,13 @@ fn count(tally: &mut Tally, files: usize, found: &[Finding])
     ensures { tally.new ≡ searched tally.old files found.now }
 {
     tally.files = tally.files.saturating_add(files);
-    tally.concerned = tally.concerned.saturating_add(concerned(found));
+    tally.with_problems = tally.with_problems.saturating_add(with_problems(found));
     tally.errors = tally.errors.saturating_add(errors(found));
 }
 
 /// How many files have an error among the findings, which are in the order of the files.
-fn concerned(found: &[Finding]) -> usize
-    ensures { result ≡ concerned_beside None found.now }
+fn with_problems(found: &[Finding]) -> usize
+    ensures { result ≡ with_problems_after None found.now }
 {
     let mut number = 0;
     let mut last = None;
@@ -266,7 +271,7 @@ fn errors(found: &[Finding]) -> usize
 fn is_error(finding: &Finding) -> bool
     ensures { result ≡ is_error finding.now }
 {
-    is_grave(finding.kind.severity())
+    is_error_severity(finding.kind.severity())
 }
 
 const KINDS: [Kind; 7] = [

@@ -2,7 +2,7 @@
 ghost use Rattle.std.specs.Prelude.{◌≡◌, ◌≢◌, ◌⊎◌, Err, OnOk, true};
 ghost use Rattle.ftl.specs.Answer.{ReadsDeeper};
 ghost use Rattle.ftl.specs.Watched.{has_failed, inner_of};
-ghost use Rattle.ftl_files.specs.Store.{AllStand};
+ghost use Rattle.ftl_files.specs.Store.{AllUnchanged};
 ghost use Rattle.ftl_project.specs.Answered.{IsPrinted};
 ghost use Rattle.ftl_project.specs.Faults.{IsUnparsed};
 ghost use Rattle.ftl_project.specs.Runs.{AnswersEach};
@@ -29,7 +29,7 @@ pub fn print_files<S: Store, O: Write, E: Write>(
     tally: &mut Tally,
     streams: &mut Streams<'_, O, E>,
 ) -> Result<(), RunFault>
-    ensures stand { AllStand (S.bytes_at store.old) (S.bytes_at store.new) }
+    ensures stand { AllUnchanged (S.bytes_at store.old) (S.bytes_at store.new) }
     ensures each { OnOk result (AnswersEach S.fails
         (IsPrinted command) (λ text. IsUnparsed (ReadsDeeper command text nesting))
         (S.bytes_at store.old) files.now tally.old tally.new (O.contents (inner_of streams.old.out.now))
@@ -63,7 +63,7 @@ impl Answering for Printing {
         match answer_within(self.alloc, self.command, text.as_bytes(), self.nesting) {
             Ok(Ok((text, outcome))) => Ok(Answer {
                 errors: 0,
-                is_concerned: outcome == Outcome::SyntaxErrors,
+                has_problems: outcome == Outcome::SyntaxErrors,
                 text,
                 note: errors_note(self.alloc, path, outcome)?,
             }),

@@ -6,14 +6,14 @@ ghost use Rattle.ftl_project.specs.Faults.{IsTooDeep, IsUnparsed};
 ghost use Rattle.ftl_project.specs.Rewriting.{IsReplacement};
 
 use crate::fault::Fault;
-use crate::refused::Refused;
-use crate::unsafe_entry::{UnsafeEntry, unsafe_entry};
+use crate::lossy_entry::{LossyEntry, lossy_entry};
+use crate::text_with_errors::TextWithErrors;
 use fluent_syntax::ast::Resource;
 use fluent_syntax::laws::reads_back;
 use fluent_syntax::parser::{ParseFault, parse_within};
 use fluent_syntax::serializer::serialize;
-use ftl::first_unsafe;
-use ftl::laws::formats_again;
+use ftl::first_lossy_entry;
+use ftl::laws::formatting_is_idempotent;
 use ftl_files::Reading;
 use std::alloc::Global;
 
@@ -25,9 +25,9 @@ pub enum Replacement {
     /// This text.
     Text(String),
     /// The text: it has these syntax errors, and its normal form would lack their junk.
-    Errors(Refused),
+    Errors(TextWithErrors),
     /// The text: its normal form would not read back, by this entry.
-    Unsafe(UnsafeEntry),
+    Lossy(LossyEntry),
 }
 
 /// What is to stand in the place of the text: its normal form, where it has no error and reads back.
@@ -42,16 +42,16 @@ pub fn replacement_for(alloc: Global, text: String, reading: Reading) -> Result<
         return Err(Fault::Memory);
     }
     let errors = match parse_within(alloc, text.as_str(), reading.edition, reading.nesting) {
-        Ok(Ok(tree)) => return rewritten(alloc, text.as_str(), &tree, reading),
+        Ok(Ok(tree)) => return replacement_of(alloc, text.as_str(), &tree, reading),
         Ok(Err(ParseFault::Syntax(_, errors))) => errors,
         Ok(Err(ParseFault::Memory)) => return Err(Fault::Memory),
         Err(_) => return Err(Fault::TooDeep),
     };
-    Ok(Replacement::Errors(Refused { text, errors }))
+    Ok(Replacement::Errors(TextWithErrors { text, errors }))
 }
 
 /// What is to stand in the place of the text that was read as the tree, without errors.
-fn rewritten(
+fn replacement_of(
     alloc: Global,
     text: &str,
     tree: &Resource<&str>,
@@ -62,10 +62,10 @@ fn rewritten(
     ensures is { IfOk result (IsReplacement reading.edition text.now) }
     ensures fault { IfErr result (λ fault. fault ≡ Fault.Memory) }
 {
-    formats_again(text.as_bytes());
+    formatting_is_idempotent(text.as_bytes());
     reads_back(tree);
-    if let Some(broken) = first_unsafe(alloc, tree, reading.edition)? {
-        return Ok(Replacement::Unsafe(unsafe_entry(alloc, text, reading, broken)?));
+    if let Some(broken) = first_lossy_entry(alloc, tree, reading.edition)? {
+        return Ok(Replacement::Lossy(lossy_entry(alloc, text, reading, broken)?));
     }
     let formatted = serialize(alloc, tree)?;
     if formatted.as_str() == text {

@@ -1,9 +1,9 @@
 //! The errors of a text, told for people or for tools.
 ghost use Rattle.std.specs.Prelude.{◌≡◌, IfOk, string_bytes};
-ghost use Rattle.ftl_project.specs.Reports.{IsErrorTold, Reports};
+ghost use Rattle.ftl_project.specs.Reports.{IsErrorReport, Reports};
 
-use crate::refused::Refused;
-use crate::remarks::{Remark, remark_text, spot_of};
+use crate::diagnostics::{Diagnostic, diagnostic_text, location_of};
+use crate::text_with_errors::TextWithErrors;
 use fluent_syntax::parser::ParserError;
 use fluent_syntax::spans::{Lines, Span};
 use ftl_files::Form;
@@ -15,24 +15,24 @@ use std::alloc::{AllocError, Global};
 pub fn report(
     alloc: Global,
     path: &str,
-    refused: &Refused,
+    refused: &TextWithErrors,
     form: Form,
 ) -> Result<String, AllocError>
-    ensures { IfOk result (λ told. Reports form path.now (string_bytes refused.now.text)
-        refused.now.errors.items (string_bytes told)) }
+    ensures { IfOk result (λ report_text. Reports form path.now (string_bytes refused.now.text)
+        refused.now.errors.items (string_bytes report_text)) }
 {
     let text = refused.text.as_str();
     let mut out = String::new(alloc);
     let mut lines = Lines::new(text);
     for error in &refused.errors {
-        let told = error_told(alloc, path, text, &mut lines, error, form)?;
-        out.push_str(told.as_str())?;
+        let report_text = error_report(alloc, path, text, &mut lines, error, form)?;
+        out.push_str(report_text.as_str())?;
     }
     Ok(out)
 }
 
 /// What is told of an error in the file's text.
-fn error_told<'t>(
+fn error_report<'t>(
     alloc: Global,
     path: &str,
     text: &str,
@@ -41,21 +41,22 @@ fn error_told<'t>(
     form: Form,
 ) -> Result<String, AllocError>
     requires { lines.old ≡ text.now }
-    ensures told { IfOk result (λ told. IsErrorTold form path.now text.now error.now (string_bytes told)) }
+    ensures report_text { IfOk result (λ report_text. IsErrorReport form path.now text.now error.now
+        (string_bytes report_text)) }
     ensures lines { lines.new ≡ lines.old }
 {
     let span = Span {
         start: error.pos.start,
         end: error.pos.end,
     };
-    let remark = Remark {
+    let diagnostic = Diagnostic {
         path,
         text,
-        place: Some(spot_of(lines, text, span)),
+        place: Some(location_of(lines, text, span)),
         kind: error.kind.name(),
         severity: "error",
         message: format!(in alloc; "{error}")?,
         error: Some(error),
     };
-    remark_text(alloc, &remark, form)
+    diagnostic_text(alloc, &diagnostic, form)
 }

@@ -1,6 +1,6 @@
 //! A file is replaced by its normal form.
 ghost use Rattle.std.specs.Prelude.{◌≡◌, IfErr, IfOk, string_bytes};
-ghost use Rattle.ftl_files.specs.Store.{AllStand};
+ghost use Rattle.ftl_files.specs.Store.{AllUnchanged};
 ghost use Rattle.ftl_project.specs.Faults.{IsRead, IsUnread};
 ghost use Rattle.ftl_project.specs.Rewriting.{Rewrites};
 
@@ -33,7 +33,7 @@ pub fn rewrite<S: Store>(
 pub(crate) fn read_text<S: Store>(store: &mut S, path: &str) -> Result<String, Fault>
     ensures text { IfOk result (λ text. IsRead (S.bytes_at store.old path.now) (string_bytes text)) }
     ensures fault { IfErr result (IsUnread S.fails (S.bytes_at store.old path.now)) }
-    ensures stand { AllStand (S.bytes_at store.old) (S.bytes_at store.new) }
+    ensures stand { AllUnchanged (S.bytes_at store.old) (S.bytes_at store.new) }
 {
     let bytes = match store.read(path) {
         Ok(bytes) => bytes,

@@ -5,8 +5,8 @@ ghost use Rattle.ftl_project.specs.Faults.{HasStatus};
 ghost use Rattle.ftl_project.specs.Tally.{counted, failed};
 
 use crate::fault::Fault;
-use crate::shown::push_shown_text;
 use crate::tally::Tally;
+use crate::terminal_text::push_shown_text;
 use ftl::{RunFault, Watched, write_all};
 use std::alloc::{AllocError, Global};
 use std::fmt::{Display, Write as _};
@@ -24,7 +24,7 @@ pub struct Streams<'w, O, E> {
 /// Tells why a file was not answered, and counts it.
 ///
 /// `Err` where the run stops: `Memory`, or `Output`.
-pub fn tell<O: Write, E: Write>(
+pub fn report_fault<O: Write, E: Write>(
     alloc: Global,
     tally: &mut Tally,
     path: &str,

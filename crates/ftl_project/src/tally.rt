@@ -12,7 +12,7 @@ pub struct Tally {
     /// Files that were answered.
     pub files: usize,
     /// Files with syntax errors, or that are not as they are to be.
-    pub concerned: usize,
+    pub with_problems: usize,
     /// Syntax errors in all.
     pub errors: usize,
     /// The greatest status of a fault, or 0.
@@ -22,11 +22,11 @@ pub struct Tally {
 impl Tally {
     /// A run that met nothing.
     pub fn new() -> Self
-        ensures { result ≡ record { files = 0; concerned = 0; errors = 0; fault = 0 } }
+        ensures { result ≡ record { files = 0; with_problems = 0; errors = 0; fault = 0 } }
     {
         Tally {
             files: 0,
-            concerned: 0,
+            with_problems: 0,
             errors: 0,
             fault: 0,
         }
@@ -38,20 +38,20 @@ impl Tally {
     {
         if self.fault != 0 {
             self.fault
-        } else if self.concerned != 0 {
+        } else if self.with_problems != 0 {
             1
         } else {
             0
         }
     }
 
-    /// One file more was answered, with so many errors. It is concerned if it has some, or is not as it is to be.
-    pub fn count(&mut self, errors: usize, is_concerned: bool)
-        ensures { self.new ≡ counted self.old (answered errors is_concerned) }
+    /// One file more was answered, with so many errors. It has problems if it has some, or is not as it is to be.
+    pub fn count(&mut self, errors: usize, has_problems: bool)
+        ensures { self.new ≡ counted self.old (answered errors has_problems) }
     {
         self.files = self.files.saturating_add(1);
         self.errors = self.errors.saturating_add(errors);
-        self.concerned = self.concerned.saturating_add(usize::from(is_concerned));
+        self.with_problems = self.with_problems.saturating_add(usize::from(has_problems));
     }
 
     /// A file was not answered, with a fault of that status.
@@ -69,7 +69,7 @@ pub fn check_summary(alloc: Global, tally: &Tally) -> Result<String, AllocError>
     ensures { IfOk result (λ line. string_bytes line ≡ check_summary_of tally.now) }
 {
     let Tally {
-        concerned,
+        with_problems,
         errors,
         ..
     } = *tally;
@@ -78,7 +78,7 @@ pub fn check_summary(alloc: Global, tally: &Tally) -> Result<String, AllocError>
         return format!(in alloc; "{files}\n");
     }
     let found = error_count(alloc, errors)?;
-    format!(in alloc; "{found} in {concerned} of {files}\n")
+    format!(in alloc; "{found} in {with_problems} of {files}\n")
 }
 
 /// What a formatting met, as a line with its LF: `2 of 57 files not in normal form`, or where all are `57 files`.
@@ -87,12 +87,12 @@ pub fn check_summary(alloc: Global, tally: &Tally) -> Result<String, AllocError>
 pub fn format_summary(alloc: Global, tally: &Tally) -> Result<String, AllocError>
     ensures { IfOk result (λ line. string_bytes line ≡ format_summary_of tally.now) }
 {
-    let concerned = tally.concerned;
+    let with_problems = tally.with_problems;
     let files = file_count(alloc, tally.files)?;
-    if concerned == 0 {
+    if with_problems == 0 {
         return format!(in alloc; "{files}\n");
     }
-    format!(in alloc; "{concerned} of {files} not in normal form\n")
+    format!(in alloc; "{with_problems} of {files} not in normal form\n")
 }
 
 /// `1 error`, or `3 errors`.

@@ -1,54 +1,57 @@
 //! Where a translation has entries of the reference as junk.
 ghost use Rattle.std.specs.Prelude.{◌≡◌, ◌+◌, ◌<◌, ◌^◌, ℕ, List, IfOk, OnOk, length, option_map};
-ghost use Rattle.fluent_syntax_names.specs.Places.{first_of};
+ghost use Rattle.fluent_syntax_names.specs.FirstPlaces.{first_of};
 ghost use Rattle.fluent_syntax_names.specs.Refused.{junk_named, refused_in, refused_place};
-ghost use Rattle.ftl_project.specs.Junk.{junk_spot, lack_junk};
-ghost use Rattle.ftl_project.specs.Outlines.{IsShort};
-ghost use Rattle.ftl_project.specs.Remarks.{spot_at};
+ghost use Rattle.ftl_project.specs.Junk.{junk_location, missing_part_junk};
+ghost use Rattle.ftl_project.specs.NameIndexes.{IsShort};
+ghost use Rattle.ftl_project.specs.Diagnostics.{location_at};
 
-use crate::remarks::{Spot, spot_of};
+use crate::diagnostics::{SourceLocation, location_of};
 use fluent_syntax::spans::{Lines, Span};
-use fluent_syntax_names::{Lack, Mention, Outline, Part, RefusedNames};
+use fluent_syntax_names::{Mention, MissingPart, NameIndex, Part, RefusedNames};
 use std::alloc::{AllocError, Global};
 
 /// What the file says that is to be a translation, and where it has which entries as junk.
 #[derive(Drop)]
 pub(crate) struct Translation<'o, 't> {
-    pub(crate) outline: &'o Outline<'t>,
-    refused: RefusedNames<Spot>,
-    ghost refuses: { (entry : List ℕ) → refused_place refused entry ≡ junk_spot outline.now entry },
+    pub(crate) name_index: &'o NameIndex<'t>,
+    refused: RefusedNames<SourceLocation>,
+    ghost refuses: { (entry : List ℕ) → refused_place refused entry ≡ junk_location name_index.now entry },
 }
 
 impl<'o, 't> Translation<'o, 't> {
-    /// The file of this outline. It is read once for the places of all junk.
-    pub(crate) fn new(alloc: Global, outline: &'o Outline<'t>) -> Result<Self, AllocError>
-        requires { IsShort outline.now }
-        ensures { IfOk result (λ translation. translation.outline.now ≡ outline.now) }
+    /// The file of this name index. It is read once for the places of all junk.
+    pub(crate) fn new(alloc: Global, name_index: &'o NameIndex<'t>) -> Result<Self, AllocError>
+        requires { IsShort name_index.now }
+        ensures { IfOk result (λ translation. translation.name_index.now ≡ name_index.now) }
     {
-        let refused = refused_spots(alloc, outline.text, &outline.mentions)?;
-        Ok(Translation { outline, refused })
+        let refused = junk_locations(alloc, name_index.text, &name_index.mentions)?;
+        Ok(Translation {
+            name_index,
+            refused,
+        })
     }
 
     /// Where it has the part as junk that it lacks, which the other text has; only an entry can be junk.
-    pub(crate) fn junk_of(&self, text: &str, lack: &Lack) -> Option<Spot>
-        ensures { result ≡ lack_junk text.now self.now.outline.now lack.now }
+    pub(crate) fn junk_of(&self, text: &str, missing: &MissingPart) -> Option<SourceLocation>
+        ensures { result ≡ missing_part_junk text.now self.now.name_index.now missing.now }
     {
-        match lack.part {
-            Part::Entry => self.refused.place_of(text, lack.name),
+        match missing.part {
+            Part::Entry => self.refused.place_of(text, missing.name),
             _ => None,
         }
     }
 }
 
 /// The names with which junk begins, each with the place of the first.
-fn refused_spots(
+fn junk_locations(
     alloc: Global,
     text: &str,
     mentions: &[Mention<Span>],
-) -> Result<RefusedNames<Spot>, AllocError>
+) -> Result<RefusedNames<SourceLocation>, AllocError>
     requires { length text.now + 1 < 2 ^ 64 }
     ensures { IfOk result (λ names. (entry : List ℕ) → refused_place names entry
-        ≡ option_map (spot_at text.now) (refused_in text.now mentions.now entry)) }
+        ≡ option_map (location_at text.now) (refused_in text.now mentions.now entry)) }
 {
     let mut names = RefusedNames::new(alloc);
     let mut lines = Lines::new(text);
@@ -61,7 +64,7 @@ fn refused_spots(
 /// Notes the mention with its place, if it is junk.
 fn note_junk<'t>(
     alloc: Global,
-    names: &mut RefusedNames<Spot>,
+    names: &mut RefusedNames<SourceLocation>,
     text: &str,
     lines: &mut Lines<'t>,
     mention: &Mention<Span>,
@@ -69,13 +72,13 @@ fn note_junk<'t>(
     requires { lines.old ≡ text.now }
     ensures noted { OnOk result ((entry : List ℕ) → refused_place names.new entry
         ≡ first_of (refused_place names.old entry)
-        (option_map (spot_at text.now) (junk_named text.now mention.now entry))) }
+        (option_map (location_at text.now) (junk_named text.now mention.now entry))) }
     ensures lines { lines.new ≡ lines.old }
 {
     match mention {
         Mention::Junk { content } => {
-            let spot = spot_of(lines, text, *content);
-            names.note(alloc, text, *content, spot)
+            let location = location_of(lines, text, *content);
+            names.note(alloc, text, *content, location)
         }
         _ => Ok(()),
     }

@@ -1,12 +1,11 @@
 """What the package does."""
-import gc
 import os
-from contextlib import contextmanager
 from functools import lru_cache
 from itertools import chain
 from typing import Iterable, Iterator, List, Tuple, Union
 
 from . import _findings, _library, _places, _reading, _writing, ast
+from ._collection import no_collection
 from ._library import NESTING, Text
 from .ast import Span
 from .errors import Error, Finding, NoTree, SyntaxErrors, TooDeep
@@ -24,7 +23,7 @@ def parse(text: Text, *, nesting: int = NESTING, with_spans: bool = True) -> ast
     data, depth = _library.as_bytes(text), _library.as_nesting(nesting)
     written, has_errors = _library.answer(_library.JSON, data, depth)
     try:
-        with _no_collection():
+        with no_collection():
             tree = _reading.resource(written)
             if has_errors:
                 _annotate(tree, _errors(data, 1, depth), with_spans)
@@ -33,18 +32,6 @@ def parse(text: Text, *, nesting: int = NESTING, with_spans: bool = True) -> ast
             return tree
     except RecursionError:
         raise TooDeep("the text nests more deeply than Python's recursion takes") from None
-
-
-@contextmanager
-def _no_collection() -> Iterator[None]:
-    """Holds off the search for garbage: a tree that comes into being has none, and it would take most of the time."""
-    was_on = gc.isenabled()
-    gc.disable()
-    try:
-        yield
-    finally:
-        if was_on:
-            gc.enable()
 
 
 def _annotate(tree: ast.Resource, errors: List[Error], with_spans: bool) -> None:
@@ -85,7 +72,7 @@ def serialize(resource: ast.Resource) -> str:
     `TooDeep`: the tree nests more deeply than the library takes trees, which is some 20 selects in one another.
     """
     try:
-        with _no_collection():
+        with no_collection():
             written = _writing.json_of(resource)
         return _library.answer(_library.FROM_JSON, written.encode(), NESTING)[0]
     except RecursionError:

@@ -6,7 +6,9 @@ str; what the library gives no place of has `None`.
 import re
 from copy import deepcopy
 from dataclasses import dataclass, field, fields
-from typing import Any, Dict, Iterable, List, Optional, TypeVar, Union
+from typing import Any, Callable, Dict, Iterable, List, Optional, TypeVar, Union
+
+from ._collection import no_collection
 
 Node = TypeVar("Node", bound="BaseNode")
 
@@ -24,7 +26,9 @@ class BaseNode:
 
     def clone(self: Node) -> Node:
         """A copy that shares nothing with this node."""
-        return deepcopy(self)
+        with no_collection():
+            copy: Node = copied(self)
+        return copy
 
     def equals(self, other: object, ignored_fields: Iterable[str] = ("span",)) -> bool:
         """Whether the other is a node of the same class whose fields are equal, those aside that are named."""
@@ -34,6 +38,27 @@ class BaseNode:
 def field_names(node: Any) -> List[str]:
     """The names of the fields of a node, in order."""
     return [it.name for it in fields(node)]
+
+
+_PLAIN = frozenset({str, int, bool, type(None)})
+
+
+def copied(value: Any, change: Optional[Callable[[Any], None]] = None) -> Any:
+    """A copy that shares nothing with the value, after the change was made to the copy of each node in it."""
+    kind = type(value)
+    if kind is list:
+        return [copied(item, change) for item in value]
+    if kind is Span:
+        return Span(value.start, value.end)
+    if not isinstance(value, BaseNode):
+        return deepcopy(value)
+    copy = kind.__new__(kind)
+    held = copy.__dict__
+    for name, below in value.__dict__.items():
+        held[name] = below if type(below) in _PLAIN else copied(below, change)
+    if change is not None:
+        change(copy)
+    return copy
 
 
 def _equal(one: object, other: object, ignored: "frozenset[str]") -> bool:

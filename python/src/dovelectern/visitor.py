@@ -1,7 +1,8 @@
 """Walks over trees."""
 from typing import Any, List
 
-from .ast import BaseNode, Pattern, PatternElement, Resource, TextElement, field_names
+from ._collection import no_collection
+from .ast import BaseNode, Pattern, PatternElement, Resource, TextElement, copied, field_names
 
 
 class Visitor:
@@ -46,21 +47,21 @@ class Transformer(Visitor):
         return node
 
 
-class _Joining(Transformer):
-    def visit_Pattern(self, node: Pattern) -> Pattern:
-        self.generic_visit(node)
-        elements: List[PatternElement] = []
-        for element in node.elements:
-            last = elements[-1] if elements else None
-            if isinstance(element, TextElement) and isinstance(last, TextElement):
-                last.value += element.value
-            else:
-                elements.append(element)
-        node.elements = elements
-        return node
+def _join_texts(node: Any) -> None:
+    if not isinstance(node, Pattern):
+        return
+    elements: List[PatternElement] = []
+    for element in node.elements:
+        last = elements[-1] if elements else None
+        if isinstance(element, TextElement) and isinstance(last, TextElement):
+            last.value += element.value
+        else:
+            elements.append(element)
+    node.elements = elements
 
 
 def joined(resource: Resource) -> Resource:
     """A copy of the tree in which texts that follow one another are one: `parse` gives one for each line."""
-    copy: Resource = _Joining().visit(resource.clone())
+    with no_collection():
+        copy: Resource = copied(resource, _join_texts)
     return copy

@@ -4,7 +4,7 @@ use fluent_syntax::ast::Resource;
 use fluent_syntax::laws::{is_canonical, joined, reparse, same_texts};
 use fluent_syntax::parser::{Edition, parse_edition, recovered};
 use fluent_syntax::serializer::serialize;
-use ftl::laws::formats_again;
+use ftl::laws::formatting_is_idempotent;
 use ftl::{Command, Outcome, answer};
 use std::alloc::{AllocError, Global};
 
@@ -30,7 +30,7 @@ impl RoundTrips {
 
     /// Counts a text; whether a law does not hold of it.
     pub(crate) fn count(&mut self, alloc: Global, text: &str) -> anyhow::Result<bool> {
-        formats_again(text.as_bytes());
+        formatting_is_idempotent(text.as_bytes());
         let (tree, is_clean) = tree_of(alloc, text, self.edition)?;
         let whole = joined(alloc, &tree)?;
         if !is_canonical(&whole, self.edition) {

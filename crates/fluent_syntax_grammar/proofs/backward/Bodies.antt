@@ -13,7 +13,7 @@ use Rattle.fluent_syntax_tree.specs.Entry.{junk, regular, group, resource, BodyT
 use Rattle.fluent_syntax_grammar.specs.Bytes.{cr}
 use Rattle.fluent_syntax_grammar.specs.Places.{has_byte}
 use Rattle.fluent_syntax_grammar.specs.Tiling.{Tile, entry, refused, dropped, Tiled, done, next, TileAt, reads, refuses}
-use Rattle.fluent_syntax_grammar.specs.Body.{faults, hung, hangs, alone, joined, body}
+use Rattle.fluent_syntax_grammar.specs.Body.{faults, attached, attaches, alone, joined, body}
 use Rattle.fluent_syntax_grammar.specs.Written.{Text}
 use Rattle.fluent_syntax_grammar.specs.Rules.{message_obeys, term_obeys, body_obeys}
 use Rattle.fluent_syntax_grammar.specs.Readable.{readable_rules}
@@ -44,32 +44,32 @@ module _ (t : List ℕ) (Joins Junk : Type 0) where
   part_of (comment level content) g = g
   part_of (junk s) g = absurd g
 
-  -- ---- hanging
+  -- ---- attaching
 
-  hung_part : (content : List Span) (e : EntryTree Span) → IsLines t content → IsPart e →
-      option_every IsPart (hung content e)
-  hung_part content (message m) l g =
+  attached_part : (content : List Span) (e : EntryTree Span) → IsLines t content → IsPart e →
+      option_every IsPart (attached content e)
+  attached_part content (message m) l g =
       record { name = g.name; field = g.field; value = g.value; attributes = g.attributes; comment = l }
-  hung_part content (term m) l g = record { name = g.name; value = g.value; attributes = g.attributes; comment = l }
-  hung_part content (comment level c) l g = tt
-  hung_part content (junk s) l g = tt
+  attached_part content (term m) l g = record { name = g.name; value = g.value; attributes = g.attributes; comment = l }
+  attached_part content (comment level c) l g = tt
+  attached_part content (junk s) l g = tt
 
-  hung_if : (b : Bool) (content : List Span) (e : EntryTree Span) → IsLines t content → IsPart e →
-      option_every IsPart (if b then hung content e else None)
-  hung_if true content e l g = hung_part content e l g
-  hung_if false content e l g = tt
+  attached_if : (b : Bool) (content : List Span) (e : EntryTree Span) → IsLines t content → IsPart e →
+      option_every IsPart (if b then attached content e else None)
+  attached_if true content e l g = attached_part content e l g
+  attached_if false content e l g = tt
 
-  hangs_part : (x y : Tile) → IsTile x → IsTile y → option_every IsPart (hangs x y)
-  hangs_part (entry s (comment regular content)) (entry r e) g h = hung_if (s.end == r.start) content e g h
-  hangs_part (entry s (comment regular content)) (refused f) g h = tt
-  hangs_part (entry s (comment regular content)) dropped g h = tt
-  hangs_part (entry s (comment group content)) y g h = tt
-  hangs_part (entry s (comment resource content)) y g h = tt
-  hangs_part (entry s (message m)) y g h = tt
-  hangs_part (entry s (term m)) y g h = tt
-  hangs_part (entry s (junk j)) y g h = tt
-  hangs_part (refused f) y g h = tt
-  hangs_part dropped y g h = tt
+  attaches_part : (x y : Tile) → IsTile x → IsTile y → option_every IsPart (attaches x y)
+  attaches_part (entry s (comment regular content)) (entry r e) g h = attached_if (s.end == r.start) content e g h
+  attaches_part (entry s (comment regular content)) (refused f) g h = tt
+  attaches_part (entry s (comment regular content)) dropped g h = tt
+  attaches_part (entry s (comment group content)) y g h = tt
+  attaches_part (entry s (comment resource content)) y g h = tt
+  attaches_part (entry s (message m)) y g h = tt
+  attaches_part (entry s (term m)) y g h = tt
+  attaches_part (entry s (junk j)) y g h = tt
+  attaches_part (refused f) y g h = tt
+  attaches_part dropped y g h = tt
 
   alone_part : (x : Tile) → IsTile x → list_every IsPart (alone x)
   alone_part (entry s e) g = (g, tt)
@@ -91,7 +91,7 @@ module _ (t : List ℕ) (Joins Junk : Type 0) where
   body_part [] g = tt
   body_part (x ∷ []) (g, h) = alone_part x g
   body_part (x ∷ y ∷ tiles) (g, (h, k)) =
-      joined_part (hangs x y) (alone x) (body (y ∷ tiles)) (body tiles) (hangs_part x y g h) (alone_part x g)
+      joined_part (attaches x y) (alone x) (body (y ∷ tiles)) (body tiles) (attaches_part x y g h) (alone_part x g)
       (body_part (y ∷ tiles) (h, k)) (body_part tiles k)
 
   -- ---- the tests

@@ -13,7 +13,7 @@ use Rattle.fluent_syntax_tree.specs.Entry.{junk, attribute_map}
 use Rattle.fluent_syntax_grammar.specs.Bytes.{lf, cr}
 use Rattle.fluent_syntax_grammar.specs.Places.{holds, has, has_byte, has_eol, is_line_place}
 use Rattle.fluent_syntax_grammar.specs.Construct.{Read, goes_on, given, at_place, passed}
-use Rattle.fluent_syntax_grammar.specs.Words.{rest_of_line}
+use Rattle.fluent_syntax_grammar.specs.Tokens.{rest_of_line}
 use Rattle.fluent_syntax_grammar.specs.Grammar.{pattern, family}
 use Rattle.fluent_syntax_grammar.specs.Entries.{attribute_with, message_with, term_with, attribute, attributes, no_more}
 use Rattle.fluent_syntax_grammar.specs.Entries.{one_more, message_entry, term_entry}

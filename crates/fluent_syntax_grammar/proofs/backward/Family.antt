@@ -15,7 +15,7 @@ use Rattle.fluent_syntax_grammar.specs.Places.{holds, has, has_byte, has_eol, af
 use Rattle.fluent_syntax_grammar.specs.Places.{BlankBlock, no_line, line}
 use Rattle.fluent_syntax_grammar.specs.Construct.{Read, ◌>>=◌, goes_on, gives, given, at_place, passed, chosen, first}
 use Rattle.fluent_syntax_grammar.specs.Construct.{second, More, no_item, item, many, list_ends, item_and_more}
-use Rattle.fluent_syntax_grammar.specs.Words.{number}
+use Rattle.fluent_syntax_grammar.specs.Tokens.{number}
 use Rattle.fluent_syntax_grammar.specs.Family.{Family}
 use Rattle.fluent_syntax_grammar.specs.Layout.{Piece, run, placed, Ending, lf_at, crlf_at, Line, Layout}
 use Rattle.fluent_syntax_grammar.specs.Elements.{Item, text, filled, items, cut, spelled, if_any, pattern_of}
@@ -36,7 +36,7 @@ use Rattle.fluent_syntax_grammar.specs.RoundTrip.{HasNoBareCr}
 use Rattle.fluent_syntax_grammar.proofs.Holds.{gave}
 use Rattle.fluent_syntax_grammar.proofs.Cuts.{eol_cases}
 use Rattle.fluent_syntax_grammar.proofs.Functional.{single_stretch}
-use Rattle.fluent_syntax_grammar.proofs.Facts.{byte_stands, differs, two_on_as_one, one_on_as_two}
+use Rattle.fluent_syntax_grammar.proofs.Facts.{byte_holds, differs, two_on_as_one, one_on_as_two}
 use Rattle.fluent_syntax_grammar.proofs.Facts.{stretch_onward}
 use Rattle.fluent_syntax_grammar.proofs.Tests.{both}
 use Rattle.fluent_syntax_grammar.proofs.backward.Shapes.{Kept, kept_cut, shape_cut, tree, Well, items_well, items_same}
@@ -83,7 +83,7 @@ joined_elements (text_element v) es = after_elements v es
 well_obeys : (p : PatternTree Text) → has_elements p ≡ true → Well (is_multiline p) opening p →
     pattern_obeys (readable_rules One) p ≡ true
 well_obeys no_elements e w = cc
-well_obeys (elements x xs) e w = both w.stand w.obey
+well_obeys (elements x xs) e w = both w.position w.obey
 
 module _ (t : List ℕ) (bare : HasNoBareCr t) (Joins : Type 0) (crs : (i : ℕ) → has_byte t cr i ≡ true → Joins) where
   tree_elements : (x : Item) (xs : List Item) → has_elements (joined_pattern (tree t (x ∷ xs))) ≡ true
@@ -159,7 +159,7 @@ module _ (t : List ℕ) (Joins : Type 0) where
   run_begins i b e f g h =
       let no_lf : (b == lf) ≡ false =
       ap (holds (λ c. c == lf)) (sym e) ∙ neither_left (has_byte t lf i) (has_byte t cr i && has_byte t lf (i + 1)) f in
-      both (byte_stands (λ b. not (b == lf || b == 123 || b == 125)) (slice_get t i) b e (rw (no_lf, h, g) refl))
+      both (byte_holds (λ b. not (b == lf || b == 123 || b == 125)) (slice_get t i) b e (rw (no_lf, h, g) refl))
       (not_false (has_eol t i) f)
 
 module _ (t : List ℕ) (bare : HasNoBareCr t) (Joins : Type 0) (crs : (i : ℕ) → has_byte t cr i ≡ true → Joins)

@@ -11,7 +11,8 @@ use Rattle.fluent_syntax_grammar.specs.Bytes.{lf, cr}
 use Rattle.fluent_syntax_grammar.specs.Places.{has_byte}
 use Rattle.fluent_syntax_grammar.specs.Layout.{Piece, run, placed, Ending, lf_at, crlf_at, text_end, Line, Layout}
 use Rattle.fluent_syntax_grammar.specs.Layout.{counted_spaces, counted, least, common_indent}
-use Rattle.fluent_syntax_grammar.specs.Elements.{Item, text, filled, with_ending, kept_from, items_from, line_items}
+use Rattle.fluent_syntax_grammar.specs.Elements.{Item, text, filled, with_ending, common_indent_end, items_from}
+use Rattle.fluent_syntax_grammar.specs.Elements.{line_items}
 use Rattle.fluent_syntax_grammar.specs.Elements.{items, is_nonblank, stays, cut_before, cut}
 use Rattle.fluent_syntax_grammar.specs.Written.{Text, has_lf, is_select, is_multiline}
 use Rattle.fluent_syntax_grammar.specs.Joined.{joined_pattern}
@@ -155,7 +156,8 @@ module _ (t : List ℕ) (bare : HasNoBareCr t) (Joins : Type 0) (crs : (i : ℕ)
       flat_map (counted One) ls ≡ k ∷ ks → list_any (stays t) (flat_map (line_items One common) ls) ≡ true
   lines_count common i [] k ks h e = absurd cc
   lines_count common i (l ∷ ls) k ks (a_line {j = j} x h) e =
-      elim (line_counts (kept_from common l) x.first x.byte l.spaces l.pieces x.end l.ending j (l.start + l.spaces)
+      elim (line_counts (common_indent_end common l) x.first x.byte l.spaces l.pieces x.end l.ending j
+      (l.start + l.spaces)
       (head_at t bare Joins crs m common i j l x) x.pieces x.ending) [
         | inl f ↦ any_right (line_items One common l) (flat_map (line_items One common) ls)
             (lines_count common j ls k ks h (sym (ap (λ ns. ns ++ flat_map (counted One) ls) f) ∙ e))
@@ -197,7 +199,7 @@ module _ (t : List ℕ) (bare : HasNoBareCr t) (Joins : Type 0) (crs : (i : ℕ)
       let common = common_indent One (Below (l ∷ ls)) in
       let g = head_at t bare Joins crs m common i j l x in
       let s =
-      first_spans (kept_from common l) x.first (l.start + l.spaces) l.pieces x.end l.ending j from to qs g.on f
+      first_spans (common_indent_end common l) x.first (l.start + l.spaces) l.pieces x.end l.ending j from to qs g.on f
       x.pieces x.ending (counted_more x.end l.ending j ls k ks x.ending h e) in
       let c = cut_any t (flat_map (line_items One common) ls) (lines_count common j ls k ks h e) in
       let whole = cut_append t (line_items One common l) (flat_map (line_items One common) ls) c.head c.rest c.is in
@@ -206,14 +208,14 @@ module _ (t : List ℕ) (bare : HasNoBareCr t) (Joins : Type 0) (crs : (i : ℕ)
 
   -- the first line alone counts
   alone : (start spaces from to : ℕ) (ps qs : List Piece) (e : Ending) (ns : List ℕ) → ps ≡ run from to ∷ qs → ns ≡ [] →
-      kept_from (least (counted_spaces One spaces ps ++ ns))
+      common_indent_end (least (counted_spaces One spaces ps ++ ns))
       (record { start = start; spaces = spaces; pieces = ps; ending = e }) ≡ start + spaces
   alone start spaces from to ps qs e ns f g = rw (f, g) (omega arith)
 
   spare_line : (i j : ℕ) (l : Line) (ls : List Line) (from to : ℕ) (qs : List Piece) (ns : List ℕ) →
       LineAt t Joins i l j → LinesAt t Joins j ls → l.pieces ≡ run from to ∷ qs → flat_map (counted One) ls ≡ ns →
       (is_multiline (Joined (Below (l ∷ ls))) ≡ true) ⊎
-      (kept_from (common_indent One (Below (l ∷ ls))) l ≡ l.start + l.spaces)
+      (common_indent_end (common_indent One (Below (l ∷ ls))) l ≡ l.start + l.spaces)
   spare_line i j l ls from to qs [] x h f e =
       inr (alone l.start l.spaces from to l.pieces qs l.ending (flat_map (counted One) ls) f e)
   spare_line i j l ls from to qs (k ∷ ks) x h f e = inl (wide i j l ls k ks from to qs x h f e)

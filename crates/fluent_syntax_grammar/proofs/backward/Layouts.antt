@@ -10,12 +10,13 @@ use Rattle.fluent_syntax_grammar.specs.Places.{holds, Stretch, has, has_byte, ha
 use Rattle.fluent_syntax_grammar.specs.Layout.{Piece, run, placed, Ending, lf_at, crlf_at, text_end, Line, Layout}
 use Rattle.fluent_syntax_grammar.specs.Layout.{common_indent}
 use Rattle.fluent_syntax_grammar.specs.Lines.{is_run_place, belongs}
-use Rattle.fluent_syntax_grammar.specs.Elements.{Item, text, with_ending, kept_from, items_from, line_items, items}
+use Rattle.fluent_syntax_grammar.specs.Elements.{Item, text, with_ending, common_indent_end, items_from, line_items}
+use Rattle.fluent_syntax_grammar.specs.Elements.{items}
 use Rattle.fluent_syntax_grammar.specs.Written.{begins_with_mark, is_leading_mark}
-use Rattle.fluent_syntax_grammar.specs.Readable.{Stand, opening, after_line}
+use Rattle.fluent_syntax_grammar.specs.Readable.{ElementPosition, opening, after_line}
 use Rattle.fluent_syntax_grammar.specs.Readable.{after_placeable}
 use Rattle.fluent_syntax_grammar.specs.RoundTrip.{HasNoBareCr}
-use Rattle.fluent_syntax_grammar.proofs.Facts.{byte_found, byte_stands, implies, left_true, right_true, differs}
+use Rattle.fluent_syntax_grammar.proofs.Facts.{byte_found, byte_holds, implies, left_true, right_true, differs}
 use Rattle.fluent_syntax_grammar.proofs.Facts.{equal, two_on, lt_or_le, byte_of}
 use Rattle.fluent_syntax_grammar.proofs.Tests.{or_cases}
 use Rattle.fluent_syntax_grammar.proofs.Functional.{single_stretch}
@@ -64,7 +65,7 @@ module _ (t : List ℕ) (bare : HasNoBareCr t) where
 
   no_cr : (i b : ℕ) (x : Bool) → (b == cr) ≡ x → slice_get t i ≡ Some b → has_eol t i ≡ false → (b == cr) ≡ false
   no_cr i b false e f g = e
-  no_cr i b true e f g = let h = byte_stands (λ c. c == cr) (slice_get t i) b f e in differs (eol_of i h (bare i h)) g
+  no_cr i b true e f g = let h = byte_holds (λ c. c == cr) (slice_get t i) b f e in differs (eol_of i h (bare i h)) g
 
   -- a byte of a run is plain
   run_plain : (i : ℕ) → is_run_place t i ≡ true → has t is_plain i ≡ true
@@ -74,7 +75,7 @@ module _ (t : List ℕ) (bare : HasNoBareCr t) where
       let f =
       not_true (has_eol t i)
       (right_true (has t (λ b. not (b == lf || b == 123 || b == 125)) i) (not (has_eol t i)) e) in
-      byte_stands is_plain (slice_get t i) b.0 b.1 (plain_of b.0 b.2 (no_cr i b.0 (b.0 == cr) refl b.1 f))
+      byte_holds is_plain (slice_get t i) b.0 b.1 (plain_of b.0 b.2 (no_cr i b.0 (b.0 == cr) refl b.1 f))
 
   -- where a run begins a later line, it begins with no mark
   own_mark : (indented : Bool) (i b : ℕ) → belongs t indented i ≡ true → is_run_place t i ≡ true →
@@ -159,7 +160,7 @@ module _ (t : List ℕ) (bare : HasNoBareCr t) (Joins : Type 0) (crs : (i : ℕ)
       subst (λ k. slice_range t (p + 1) k ≡ lf ∷ []) (two_on p) (range_byte t (p + 1) lf (byte_at t lf (p + 1) e))
 
   -- a run that ends its line
-  run_end : (s : Stand) (kept to : ℕ) (e : Ending) (j : ℕ) (rest : List Item) → kept ≤ to →
+  run_end : (s : ElementPosition) (kept to : ℕ) (e : Ending) (j : ℕ) (rest : List Item) → kept ≤ to →
       list_all is_plain (slice_range t kept to) ≡ true → is_empty (slice_range t kept to) ≡ false →
       Begins m s (slice_range t kept to) → EndingAt t Joins to e j → After t Joins m e rest →
       Shape t Joins m s (with_ending (run kept to ∷ []) e ++ rest)
@@ -200,7 +201,8 @@ module _ (t : List ℕ) (bare : HasNoBareCr t) (Joins : Type 0) (crs : (i : ℕ)
       more (places g) (placed_then k ps n e j rest h y a)
 
   -- a line that begins with a run, with the spaces that are kept before it
-  run_first : (s : Stand) (kept first to : ℕ) (ps : List Piece) (n : ℕ) (e : Ending) (j : ℕ) (rest : List Item) →
+  run_first : (s : ElementPosition) (kept first to : ℕ) (ps : List Piece) (n : ℕ) (e : Ending) (j : ℕ)
+      (rest : List Item) →
       kept ≤ to → list_all is_plain (slice_range t kept to) ≡ true → is_empty (slice_range t kept to) ≡ false →
       Begins m s (slice_range t kept to) →
       is_run_place t to ≡ false → PiecesAt t Joins to ps n → EndingAt t Joins n e j → After t Joins m e rest →
@@ -291,12 +293,12 @@ module _ (t : List ℕ) (bare : HasNoBareCr t) (Joins : Type 0) (crs : (i : ℕ)
       absurd (no_line_at_end j x.first x.byte y x.leading x.stands)
 
   kept_between : (common : Option ℕ) (l : Line) (i first : ℕ) → l.start ≡ i → l.spaces ≡ first - i → i ≤ first →
-      (i ≤ kept_from common l) × (kept_from common l ≤ first)
+      (i ≤ common_indent_end common l) × (common_indent_end common l ≤ first)
   kept_between None l i first e f g = (omega arith, omega arith)
   kept_between (Some c) l i first e f g = (omega arith, omega arith)
 
   pub head_at : (common : Option ℕ) (i j : ℕ) (l : Line) → (x : LineAt t Joins i l j) →
-      HeadAt (kept_from common l) x.first x.byte
+      HeadAt (common_indent_end common l) x.first x.byte
   head_at common i j l x =
       let w = x.leading in
       let k = kept_between common l i x.first x.start x.spaces w.forward in
@@ -317,7 +319,7 @@ module _ (t : List ℕ) (bare : HasNoBareCr t) (Joins : Type 0) (crs : (i : ℕ)
   lines_shape common i (l ∷ ls) (a_line {j = j} x h) =
       let rest = flat_map (line_items One common) ls in
       let a = after_of common x.end l.ending j ls x.ending h (lines_shape common j ls h) in
-      later_shape (kept_from common l) x.first x.byte l.pieces x.end l.ending j rest (head_at common i j l x)
+      later_shape (common_indent_end common l) x.first x.byte l.pieces x.end l.ending j rest (head_at common i j l x)
       (λ e. own_mark t bare (nat_lt i x.first) x.first x.byte x.own e x.stands) x.pieces x.ending a
       (l.start + l.spaces)
 
@@ -327,7 +329,7 @@ module _ (t : List ℕ) (bare : HasNoBareCr t) (Joins : Type 0) (crs : (i : ℕ)
   IsSpareLine common None [] = Unit {0}
   IsSpareLine common None (l ∷ ls) =
       (from to : ℕ) (qs : List Piece) → l.pieces ≡ run from to ∷ qs → (m ≡ true) ⊎
-      (kept_from common l ≡ l.start + l.spaces)
+      (common_indent_end common l ≡ l.start + l.spaces)
 
   abbrev pub IsSpare : Layout → Type 0
   IsSpare y = IsSpareLine (common_indent One y) y.opening y.lines
@@ -358,7 +360,7 @@ module _ (t : List ℕ) (bare : HasNoBareCr t) (Joins : Type 0) (crs : (i : ℕ)
   below_shape : (common : Option ℕ) (i k j : ℕ) (l : Line) (ls : List Line) → InlineBlank t i k → has_eol t k ≡ false →
       (x : LineAt t Joins i l j) → LinesAt t Joins j ls →
       ((from to : ℕ) (qs : List Piece) → l.pieces ≡ run from to ∷ qs → (m ≡ true) ⊎
-      (kept_from common l ≡ l.start + l.spaces)) →
+      (common_indent_end common l ≡ l.start + l.spaces)) →
       Shape t Joins m opening (line_items One common l ++ flat_map (line_items One common) ls)
   below_shape common i k j l ls w e x h s =
       let rest = flat_map (line_items One common) ls in
@@ -369,12 +371,13 @@ module _ (t : List ℕ) (bare : HasNoBareCr t) (Joins : Type 0) (crs : (i : ℕ)
       let spaces = x.spaces in
       let same : k ≡ x.first = same_word i k x.first w v in
       let whole : l.start + l.spaces ≡ x.first = omega arith in
-      first_shape (kept_from common l) x.first x.byte l.pieces x.end l.ending j rest (head_at common i j l x)
+      first_shape (common_indent_end common l) x.first x.byte l.pieces x.end l.ending j rest (head_at common i j l x)
       (subst (λ k. has_eol t k ≡ false) same e) (λ from to qs f. keeps x.first whole (s from to qs f)) x.pieces
       x.ending a (l.start + l.spaces)
     where
-      keeps : (first : ℕ) → l.start + l.spaces ≡ first → (m ≡ true) ⊎ (kept_from common l ≡ l.start + l.spaces) →
-          (m ≡ true) ⊎ (kept_from common l ≡ first)
+      keeps : (first : ℕ) → l.start + l.spaces ≡ first → (m ≡ true) ⊎ (common_indent_end common l ≡ l.start + l.spaces)
+          →
+          (m ≡ true) ⊎ (common_indent_end common l ≡ first)
       keeps first e (inl f) = inl f
       keeps first e (inr f) = inr (f ∙ e)
 

@@ -17,7 +17,7 @@ use Rattle.fluent_syntax_grammar.specs.Places.{holds, has}
 use Rattle.fluent_syntax_grammar.specs.Construct.{Read, Construct, ◌>>=◌, goes_on, gives, given, fails, at_each, chosen}
 use Rattle.fluent_syntax_grammar.specs.Construct.{either, first, second, More, no_item, item, many, list_ends}
 use Rattle.fluent_syntax_grammar.specs.Construct.{item_and_more}
-use Rattle.fluent_syntax_grammar.specs.Words.{identifier, number}
+use Rattle.fluent_syntax_grammar.specs.Tokens.{identifier, number}
 use Rattle.fluent_syntax_grammar.specs.Strings as strings
 use Rattle.fluent_syntax_grammar.specs.Family.{Family}
 use Rattle.fluent_syntax_grammar.specs.Starts.{Start, quote, digit, term, minus, dollar, letter, brace, other, start_of}

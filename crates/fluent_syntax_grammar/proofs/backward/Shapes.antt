@@ -14,15 +14,16 @@ use Rattle.fluent_syntax_grammar.specs.Elements.{Item, text, filled, is_nonblank
 use Rattle.fluent_syntax_grammar.specs.Elements.{spelled}
 use Rattle.fluent_syntax_grammar.specs.Written.{Text}
 use Rattle.fluent_syntax_grammar.specs.Rules.{expression_obeys, elements_obey}
-use Rattle.fluent_syntax_grammar.specs.Readable.{is_text, Stand, opening, after_line}
-use Rattle.fluent_syntax_grammar.specs.Readable.{within_line, after_placeable, stand_after, stands_well, ends_well}
+use Rattle.fluent_syntax_grammar.specs.Readable.{is_text, ElementPosition, opening, after_line}
+use Rattle.fluent_syntax_grammar.specs.Readable.{within_line, after_placeable, position_after, is_well_placed}
+use Rattle.fluent_syntax_grammar.specs.Readable.{ends_well}
 use Rattle.fluent_syntax_grammar.specs.Readable.{are_elements, readable_rules}
 use Rattle.fluent_syntax_grammar.specs.Joined.{is_joined, joined_expression, joined_pattern, joined_after}
 use Rattle.fluent_syntax_grammar.proofs.Facts.{left_true, right_true, equal, append_nothing}
 use Rattle.fluent_syntax_grammar.proofs.Tests.{both}
 use Rattle.fluent_syntax_grammar.proofs.backward.Texts.{is_plain, line_end, line_not_empty, plain_is_text, line_ends}
 use Rattle.fluent_syntax_grammar.proofs.backward.Texts.{plain_ends_not, shows, plain_nonblank, trimmed_of}
-use Rattle.fluent_syntax_grammar.proofs.backward.Texts.{trimmed_range, Begins, begins_kept, begins_stands, blank_stands}
+use Rattle.fluent_syntax_grammar.proofs.backward.Texts.{trimmed_range, Begins, begins_kept, begin_holds, blank_holds}
 use Rattle.fluent_syntax_grammar.proofs.backward.Texts.{stands_any}
 
 -- ---- expressions that were read
@@ -37,31 +38,32 @@ pub record IsRead (t : List ℕ) (Joins : Type 0) (e : ExpressionTree Span) : Ty
 module _ (t : List ℕ) (Joins : Type 0) (m : Bool) where
   -- An item stands where the one before it leaves off. After a run that no LF ends stands, if it is a text, the lone LF
   -- of a CRLF.
-  pub data Step : Stand → Item → Stand → Type 0 where
-    places : {s : Stand} {e : ExpressionTree Span} → IsRead t Joins e → Step s (filled e) after_placeable
-    runs : {s : Stand} {from to : ℕ} (u : Text) → slice_range t from to ≡ u → list_all is_plain u ≡ true →
+  pub data Step : ElementPosition → Item → ElementPosition → Type 0 where
+    places : {s : ElementPosition} {e : ExpressionTree Span} → IsRead t Joins e → Step s (filled e) after_placeable
+    runs : {s : ElementPosition} {from to : ℕ} (u : Text) → slice_range t from to ≡ u → list_all is_plain u ≡ true →
         is_empty u ≡ false → Begins m s u → Step s (text from to) within_line
-    ends_line : {s : Stand} {from to : ℕ} (u : Text) → slice_range t from to ≡ u ++ line_end true →
+    ends_line : {s : ElementPosition} {from to : ℕ} (u : Text) → slice_range t from to ≡ u ++ line_end true →
         list_all is_plain u ≡ true → Begins m s u → Step s (text from to) after_line
     blank_line : {from to : ℕ} (u : Text) → slice_range t from to ≡ u ++ line_end true → is_spaces u ≡ true →
         Step after_line (text from to) after_line
     joins : {from to : ℕ} → slice_range t from to ≡ lf ∷ [] → Joins → Step within_line (text from to) after_line
 
-  pub data Shape : Stand → List Item → Type 0 where
-    done : {s : Stand} → Shape s []
-    more : {s s' : Stand} {x : Item} {xs : List Item} → Step s x s' → Shape s' xs → Shape s (x ∷ xs)
+  pub data Shape : ElementPosition → List Item → Type 0 where
+    done : {s : ElementPosition} → Shape s []
+    more : {s s' : ElementPosition} {x : Item} {xs : List Item} → Step s x s' → Shape s' xs → Shape s (x ∷ xs)
 
   -- ---- the cut
 
-  one_if : (b : Bool) (s s' : Stand) (x : Item) → Step s x s' → Shape s (if b then x ∷ [] else [])
+  one_if : (b : Bool) (s s' : ElementPosition) (x : Item) → Step s x s' → Shape s (if b then x ∷ [] else [])
   one_if true s s' x e = more e done
   one_if false s s' x e = done
 
-  shape_before : (s s' : Stand) (x : Item) (xs : List Item) → Step s x s' → Shape s' xs → Shape s (cut_before t x xs)
+  shape_before : (s s' : ElementPosition) (x : Item) (xs : List Item) → Step s x s' → Shape s' xs
+      → Shape s (cut_before t x xs)
   shape_before s s' x [] e h = one_if (stays t x) s s' x e
   shape_before s s' x (y ∷ ys) e h = more e h
 
-  pub shape_cut : (s : Stand) (xs : List Item) → Shape s xs → Shape s (cut t xs)
+  pub shape_cut : (s : ElementPosition) (xs : List Item) → Shape s xs → Shape s (cut t xs)
   shape_cut s [] h = done
   shape_cut s (x ∷ xs) (more {s' = s'} e h) = shape_before s s' x (cut t xs) e (shape_cut s' xs h)
 
@@ -135,30 +137,31 @@ tree_more t w (filled e) xs = refl
 
 -- ---- the elements are well
 
-text_well : (m : Bool) (s : Stand) (v : Text) (p : PatternTree Text) → is_text v ≡ true →
-    stands_well One m s v no_elements ≡ true → ends_well v p ≡ true → are_elements One m (stand_after v) p ≡ true →
+text_well : (m : Bool) (s : ElementPosition) (v : Text) (p : PatternTree Text) → is_text v ≡ true →
+    is_well_placed One m s v no_elements ≡ true → ends_well v p ≡ true → are_elements One m (position_after v) p ≡ true
+    →
     are_elements One m s (elements (text_element v) p) ≡ true
 text_well m s v p a b c d = both a (both (stands_any m s v p no_elements ∙ b) (both c d))
 
-pub record Well (m : Bool) (s : Stand) (p : PatternTree Text) : Type 0 where
-  pub stand : are_elements One m s p ≡ true
+pub record Well (m : Bool) (s : ElementPosition) (p : PatternTree Text) : Type 0 where
+  pub position : are_elements One m s p ≡ true
   pub obey : elements_obey (readable_rules One) p ≡ true
 
 -- a line's text and what follows it
-line_well : (m : Bool) (s : Stand) (u w : Text) (q : PatternTree Text) → w ≡ u ++ line_end true →
-    list_all is_plain u ≡ true → stands_well One m s (u ++ line_end true) no_elements ≡ true →
+line_well : (m : Bool) (s : ElementPosition) (u w : Text) (q : PatternTree Text) → w ≡ u ++ line_end true →
+    list_all is_plain u ≡ true → is_well_placed One m s (u ++ line_end true) no_elements ≡ true →
     ends_well (u ++ line_end true) (joined_pattern q) ≡ true →
     Well m after_line (joined_pattern q) → Well m s (joined_after w q)
 line_well m s u w q e p b c h =
     let v = u ++ line_end true in
     let whole : joined_after w q ≡ elements (text_element v) (joined_pattern q) =
     ap (λ w. joined_after w q) e ∙ line_joined v q (line_ends u) in
-    let next : stand_after v ≡ after_line = rw (line_ends u) refl in
+    let next : position_after v ≡ after_line = rw (line_ends u) refl in
     subst (Well m s) (sym whole)
     (record {
-      stand =
+      position =
           text_well m s v (joined_pattern q) (plain_is_text u true p not_empty) b c
-          (subst (λ s. are_elements One m s (joined_pattern q) ≡ true) (sym next) h.stand);
+          (subst (λ s. are_elements One m s (joined_pattern q) ≡ true) (sym next) h.position);
       obey = h.obey;
     })
   where
@@ -190,7 +193,7 @@ blank_not w u e f k =
     ap is_nonblank e ∙ (plain_nonblank u true (spaces_plain u f) ∙ spaces_show_not u f) in cc
 
 -- not directly after a text that does not end in LF
-abbrev pub IsFree : Stand → Type 0
+abbrev pub IsFree : ElementPosition → Type 0
 IsFree opening = Unit {0}
 IsFree after_line = Unit {0}
 IsFree within_line = ⊥
@@ -202,7 +205,7 @@ module _ (t : List ℕ) (Joins : Type 0) (m : Bool) where
   At from to = slice_range t from to
 
   -- the last text, trimmed
-  last_well : (s : Stand) (u : Text) (c : Bool) (from to : ℕ) → At from to ≡ u ++ line_end c →
+  last_well : (s : ElementPosition) (u : Text) (c : Bool) (from to : ℕ) → At from to ≡ u ++ line_end c →
       list_all is_plain u ≡ true → Begins m s u → is_nonblank (At from to) ≡ true →
       Well m s (elements (text_element (slice_range t from (trimmed_end t from to))) no_elements)
   last_well s u c from to e p b k =
@@ -215,27 +218,29 @@ module _ (t : List ℕ) (Joins : Type 0) (m : Bool) where
       subst (λ v. is_text v ≡ true) bare
       (plain_is_text r.kept false r.plain
       (subst (λ v. is_empty v ≡ false) (sym bare) (shown_not_empty r.kept r.shown))) in
-      let stands : stands_well One m s r.kept no_elements ≡ true =
-      subst (λ v. stands_well One m s v no_elements ≡ true) bare (begins_stands m s r.kept false r.plain begins) in
+      let stands : is_well_placed One m s r.kept no_elements ≡ true =
+      subst (λ v. is_well_placed One m s v no_elements ≡ true) bare (begin_holds m s r.kept false r.plain begins) in
       subst (λ v. Well m s (elements (text_element v) no_elements)) (sym same)
-      (record { stand = text_well m s r.kept no_elements is stands r.ends refl; obey = refl })
+      (record { position = text_well m s r.kept no_elements is stands r.ends refl; obey = refl })
 
   -- a run's text before a placeable
-  run_well : (s : Stand) (u w : Text) (e : ExpressionTree Span) (xs : List Item) → w ≡ u → list_all is_plain u ≡ true →
+  run_well : (s : ElementPosition) (u w : Text) (e : ExpressionTree Span) (xs : List Item) → w ≡ u
+      → list_all is_plain u ≡ true →
       is_empty u ≡ false → Begins m s u → IsRead t Joins e → Well m after_placeable (joined_pattern (tree t xs)) →
       Well m s (joined_after w (tree t (filled e ∷ xs)))
   run_well s u w e xs f p n b g h =
       let bare : u ++ line_end false ≡ u = append_nothing u in
       let is : is_text u ≡ true =
       subst (λ v. is_text v ≡ true) bare (plain_is_text u false p (subst (λ v. is_empty v ≡ false) (sym bare) n)) in
-      let stands : stands_well One m s u no_elements ≡ true =
-      subst (λ v. stands_well One m s v no_elements ≡ true) bare (begins_stands m s u false p b) in
+      let stands : is_well_placed One m s u no_elements ≡ true =
+      subst (λ v. is_well_placed One m s v no_elements ≡ true) bare (begin_holds m s u false p b) in
       let rest = joined_pattern (tree t (filled e ∷ xs)) in
       subst (λ w. Well m s (joined_after w (tree t (filled e ∷ xs)))) (sym f)
-      (record { stand = text_well m s u rest is stands refl h.stand; obey = both g.obeys h.obey })
+      (record { position = text_well m s u rest is stands refl h.position; obey = both g.obeys h.obey })
 
   -- a run's text with the lone LF that is joined to it
-  join_well : (s : Stand) (u w v : Text) (q : PatternTree Text) → w ≡ u → v ≡ lf ∷ [] → list_all is_plain u ≡ true →
+  join_well : (s : ElementPosition) (u w v : Text) (q : PatternTree Text) → w ≡ u → v ≡ lf ∷ []
+      → list_all is_plain u ≡ true →
       Begins m s u → ends_well (u ++ line_end true) (joined_pattern q) ≡ true → Well m after_line (joined_pattern q) →
       Well m s (joined_after w (elements (text_element v) q))
   join_well s u w v q f g p b c h =
@@ -244,16 +249,17 @@ module _ (t : List ℕ) (Joins : Type 0) (m : Bool) where
       ≡ elements (text_element (u ++ line_end true)) (joined_pattern q) =
       ap (λ w. joined_after w (elements (text_element v) q)) f
       ∙ (ap (λ v. joined_after u (elements (text_element v) q)) g ∙ lf_joined u q (plain_ends_not u p)) in
-      let next : stand_after (u ++ line_end true) ≡ after_line = rw (line_ends u) refl in
+      let next : position_after (u ++ line_end true) ≡ after_line = rw (line_ends u) refl in
       subst (Well m s) (sym whole) (record {
-        stand =
+        position =
             text_well m s (u ++ line_end true) (joined_pattern q) (plain_is_text u true p (line_not_empty u))
-            (begins_stands m s u true p b) c
-            (subst (λ s. are_elements One m s (joined_pattern q) ≡ true) (sym next) h.stand);
+            (begin_holds m s u true p b) c
+            (subst (λ s. are_elements One m s (joined_pattern q) ≡ true) (sym next) h.position);
         obey = h.obey;
       })
 
-  last_of_step : (s s' : Stand) (from to : ℕ) → Step t Joins m s (text from to) s' → is_nonblank (At from to) ≡ true →
+  last_of_step : (s s' : ElementPosition) (from to : ℕ) → Step t Joins m s (text from to) s'
+      → is_nonblank (At from to) ≡ true →
       Well m s (elements (text_element (slice_range t from (trimmed_end t from to))) no_elements)
   last_of_step s s' from to (runs u e p n b) k = last_well s u false from to (e ∙ sym (append_nothing u)) p b k
   last_of_step s s' from to (ends_line u e p b) k = last_well s u true from to e p b k
@@ -261,18 +267,18 @@ module _ (t : List ℕ) (Joins : Type 0) (m : Bool) where
   last_of_step s s' from to (joins e j) k = absurd (blank_not (At from to) [] e refl k)
 
   -- items of the shape whose last one stays spell well
-  pub items_well : (s : Stand) (xs : List Item) → IsFree s → Shape t Joins m s xs → Kept t xs →
+  pub items_well : (s : ElementPosition) (xs : List Item) → IsFree s → Shape t Joins m s xs → Kept t xs →
       Well m s (joined_pattern (tree t xs))
-  items_well s [] r h k = record { stand = refl; obey = refl }
+  items_well s [] r h k = record { position = refl; obey = refl }
   items_well s (filled e ∷ xs) r (more (places g) h) k =
       let q = items_well after_placeable xs tt h (kept_after t (filled e) xs k) in
-      record { stand = q.stand; obey = both g.obeys q.obey }
+      record { position = q.position; obey = both g.obeys q.obey }
   items_well s (text from to ∷ []) r (more e h) k = last_of_step s _ from to e k
   items_well s (text from to ∷ y ∷ ys) r (more (ends_line u e p b) h) k =
-      line_well m s u (At from to) (tree t (y ∷ ys)) e p (begins_stands m s u true p b)
+      line_well m s u (At from to) (tree t (y ∷ ys)) e p (begin_holds m s u true p b)
       (tree_more t (u ++ line_end true) y ys) (items_well after_line (y ∷ ys) tt h k)
   items_well s (text from to ∷ y ∷ ys) r (more (blank_line u e f) h) k =
-      line_well m after_line u (At from to) (tree t (y ∷ ys)) e (spaces_plain u f) (blank_stands m u f)
+      line_well m after_line u (At from to) (tree t (y ∷ ys)) e (spaces_plain u f) (blank_holds m u f)
       (tree_more t (u ++ line_end true) y ys) (items_well after_line (y ∷ ys) tt h k)
   items_well s (text from to ∷ y ∷ ys) r (more (joins e j) h) k = absurd r
   items_well s (text from to ∷ filled x ∷ ys) r (more (runs u e p n b) (more (places g) h)) k =
@@ -294,7 +300,7 @@ module _ (t : List ℕ) (Joins : Type 0) (m : Bool) where
   placed_same w a b = cc (a, b)
 
   -- where nothing is there to join, they are joined already
-  pub items_same : (Joins → ⊥) → (s : Stand) (xs : List Item) → Shape t Joins m s xs →
+  pub items_same : (Joins → ⊥) → (s : ElementPosition) (xs : List Item) → Shape t Joins m s xs →
       joined_pattern (tree t xs) ≡ tree t xs
   items_same none s [] h = refl
   items_same none s (filled e ∷ xs) (more (places g) h) = cc (g.same none, items_same none after_placeable xs h)

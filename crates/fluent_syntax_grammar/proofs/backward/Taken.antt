@@ -9,7 +9,7 @@ use Rattle.fluent_syntax_grammar.specs.Bytes.{is_letter, is_name_byte}
 use Rattle.fluent_syntax_grammar.specs.Places.{holds, has, Word}
 use Rattle.fluent_syntax_grammar.specs.Construct.{Read, goes_on, given, at_place, passed, chosen, first as first_of}
 use Rattle.fluent_syntax_grammar.specs.Construct.{second}
-use Rattle.fluent_syntax_grammar.specs.Words.{identifier}
+use Rattle.fluent_syntax_grammar.specs.Tokens.{identifier}
 use Rattle.fluent_syntax_grammar.specs.Spellings.{is_name}
 use Rattle.fluent_syntax_grammar.proofs.Facts.{right_true, implies}
 use Rattle.fluent_syntax_grammar.proofs.Tests.{both, letter_name}

@@ -9,12 +9,12 @@ use Rattle.fluent_syntax_grammar.specs.Bytes.{lf, is_letter, is_digit}
 use Rattle.fluent_syntax_grammar.specs.Places.{holds, has, has_byte, Word}
 use Rattle.fluent_syntax_grammar.specs.Construct.{Read, goes_on, given, at_place, passed, chosen, first, second, either}
 use Rattle.fluent_syntax_grammar.specs.Construct.{gives}
-use Rattle.fluent_syntax_grammar.specs.Words.{optional, digits, identifier, number}
+use Rattle.fluent_syntax_grammar.specs.Tokens.{optional, digits, identifier, number}
 use Rattle.fluent_syntax_grammar.specs.Strings.{hex_digits, all_there, escaped, string_unit, string_units, before_quote}
 use Rattle.fluent_syntax_grammar.specs.Strings.{unit_and_more, string_literal}
 use Rattle.fluent_syntax_grammar.specs.Spellings.{is_name, is_digits, is_number_rest, is_unsigned, is_number, is_units}
 use Rattle.fluent_syntax_grammar.specs.Spellings.{is_escape, is_string}
-use Rattle.fluent_syntax_grammar.proofs.Facts.{byte_found, byte_stands, differs, lt_or_same, has_inside}
+use Rattle.fluent_syntax_grammar.proofs.Facts.{byte_found, byte_holds, differs, lt_or_same, has_inside}
 use Rattle.fluent_syntax_grammar.proofs.Tests.{both}
 use Rattle.fluent_syntax_grammar.proofs.backward.Taken.{name_was_read}
 use Rattle.fluent_syntax_grammar.proofs.backward.Lines.{range_first, range_none, range_all, byte_at}
@@ -226,7 +226,7 @@ module _ (t : List ℕ) where
   unit_was i m u None e q x = elim x [ ]
   unit_was i m u (Some b) e q (first f x) = elim x [ ]
   unit_was i m u (Some b) e q (second f (first g (chosen x))) =
-      escape_was i m u (slice_get t (i + 1)) refl (byte_at t 92 i (byte_stands (λ c. c == 92) (slice_get t i) b e g)) x
+      escape_was i m u (slice_get t (i + 1)) refl (byte_at t 92 i (byte_holds (λ c. c == 92) (slice_get t i) b e g)) x
   unit_was i m u (Some b) e q (second f (second g (passed o))) =
       let by = o.by in
       record {

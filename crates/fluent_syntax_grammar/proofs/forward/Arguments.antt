@@ -16,7 +16,7 @@ use Rattle.fluent_syntax_grammar.specs.Bytes.{lf, cr, is_name_byte, is_letter, i
 use Rattle.fluent_syntax_grammar.specs.Places.{holds, has_byte}
 use Rattle.fluent_syntax_grammar.specs.Starts.{start, quote, digit, letter}
 use Rattle.fluent_syntax_grammar.specs.Construct.{◌>>=◌, gives, at_each, More, item}
-use Rattle.fluent_syntax_grammar.specs.Words.{blank}
+use Rattle.fluent_syntax_grammar.specs.Tokens.{blank}
 use Rattle.fluent_syntax_grammar.specs.Written.{Text}
 use Rattle.fluent_syntax_grammar.specs.Spellings.{is_name, is_number, is_number_rest, is_unsigned}
 use Rattle.fluent_syntax_grammar.specs.Rules.{inline_obeys}

@@ -18,7 +18,7 @@ use Rattle.fluent_syntax_grammar.specs.Entries.{message_entry, term_entry}
 use Rattle.fluent_syntax_grammar.specs.Comments.{comment_entry}
 use Rattle.fluent_syntax_grammar.specs.Tiling.{Tile, entry, refused, dropped, is_entry_byte, Tiled, done, next}
 use Rattle.fluent_syntax_grammar.specs.Tiling.{entry_of, entry_at, TileAt, reads, refuses}
-use Rattle.fluent_syntax_grammar.specs.Body.{body, hung}
+use Rattle.fluent_syntax_grammar.specs.Body.{body, attached}
 use Rattle.fluent_syntax_grammar.specs.Written.{Text, hashes_of, is_shown}
 use Rattle.fluent_syntax_grammar.specs.Spellings.{is_name}
 use Rattle.fluent_syntax_grammar.specs.Rules.{option_obeys, pattern_obeys, attribute_obeys, entry_obeys, body_obeys}
@@ -58,7 +58,7 @@ pub data IsWritten : BodyTree Text → Text → Type 0 where
       IsWritten es tail →
       IsWritten (comment level content ∷ es) (gap_bytes gap (comment_bytes (hashes_of level) content (lf ∷ tail)))
 
--- ---- messages and terms, which a comment can hang on
+-- ---- messages and terms, which a comment can be attached to
 
 abbrev pub takes_comment : {X : Type 0} → EntryTree X → Bool
 takes_comment (message m) = true
@@ -89,11 +89,12 @@ with_map f c (term m) = refl
 with_map f c (comment level d) = refl
 with_map f c (junk x) = refl
 
-pub hung_with : (c : List Span) (e : EntryTree Span) → takes_comment e ≡ true → hung c e ≡ Some (with_comment c e)
-hung_with c (message m) h = refl
-hung_with c (term m) h = refl
-hung_with c (comment level d) h = cc
-hung_with c (junk x) h = cc
+pub attached_with : (c : List Span) (e : EntryTree Span) → takes_comment e ≡ true
+    → attached c e ≡ Some (with_comment c e)
+attached_with c (message m) h = refl
+attached_with c (term m) h = refl
+attached_with c (comment level d) h = cc
+attached_with c (junk x) h = cc
 
 -- ---- what tiles give
 
@@ -106,11 +107,11 @@ body_alone s (term m) (y ∷ tiles) h = refl
 body_alone s (comment level c) (y ∷ tiles) h = cc
 body_alone s (junk x) (y ∷ tiles) h = cc
 
--- a comment directly before it hangs on it
-pub body_hung : (i j k : ℕ) (c : List Span) (e : EntryTree Span) (tiles : List Tile) → takes_comment e ≡ true →
+-- a comment directly before it is attached to it
+pub body_attached : (i j k : ℕ) (c : List Span) (e : EntryTree Span) (tiles : List Tile) → takes_comment e ≡ true →
     body (entry (record { start = i; end = j }) (comment regular c) ∷ entry (record { start = j; end = k }) e ∷ tiles)
     ≡ with_comment c e ∷ body tiles
-body_hung i j k c e tiles h = rw (same_number j, hung_with c e h) refl
+body_attached i j k c e tiles h = rw (same_number j, attached_with c e h) refl
 
 other_number : (i j : ℕ) → i < j → (i == j) ≡ false
 other_number i j l = grind (arith, nat_tests)
@@ -167,23 +168,23 @@ module _ (edition : Edition) (t : List ℕ) where
             ∙ ap (λ y. y ∷ tree_of t n.tiles) r.spells ∙ ap (λ ys. e ∷ ys) n.same;
       }
 
-  -- a message or a term with the comment that hangs on it
-  tiles_hung :
+  -- a message or a term with the comment that is attached to it
+  tiles_attached :
       (content : List Text) (e : EntryTree Text) (es : BodyTree Text) (i c : ℕ) (cs : List ℕ) (b : ℕ)
       (bs rest : List ℕ) → takes_comment e ≡ true → (c == 35) ≡ true → Left t i (c ∷ cs) → is_entry_byte b ≡ true →
       Reads t (comment_entry t) (entry_map (bytes_at t)) i (comment regular content) (b ∷ bs) →
       ((j : ℕ) → Left t j (b ∷ bs) → Reads t (entry_at edition t) (entry_map (bytes_at t)) j e rest) →
       ((j : ℕ) → Left t j rest → Tiles edition t j es) → Tiles edition t i (with_comment content e ∷ es)
-  tiles_hung content e es i c cs b bs rest h is l is' q r k = hung_tiles q.value q.spells q.reads
+  tiles_attached content e es i c cs b bs rest h is l is' q r k = attached_tiles q.value q.spells q.reads
     where
-      hung_tiles : (v : EntryTree Span) → entry_map (bytes_at t) v ≡ comment regular content →
+      attached_tiles : (v : EntryTree Span) → entry_map (bytes_at t) v ≡ comment regular content →
           comment_entry t i (Read v q.end) → Tiles edition t i (with_comment content e ∷ es)
-      hung_tiles (message m) f x = absurd cc
-      hung_tiles (term m) f x = absurd cc
-      hung_tiles (junk m) f x = absurd cc
-      hung_tiles (comment group d) f x = absurd cc
-      hung_tiles (comment resource d) f x = absurd cc
-      hung_tiles (comment regular d) f x =
+      attached_tiles (message m) f x = absurd cc
+      attached_tiles (term m) f x = absurd cc
+      attached_tiles (junk m) f x = absurd cc
+      attached_tiles (comment group d) f x = absurd cc
+      attached_tiles (comment resource d) f x = absurd cc
+      attached_tiles (comment regular d) f x =
           let o = r q.end q.rest in
           let n = k o.end o.rest in
           let takes : takes_comment o.value ≡ true =
@@ -199,7 +200,7 @@ module _ (edition : Edition) (t : List ℕ) where
                 (reads o.reads) n.tiled);
             no_faults = n.no_faults;
             same =
-                ap (map (entry_map (bytes_at t))) (body_hung i q.end o.end d o.value n.tiles takes)
+                ap (map (entry_map (bytes_at t))) (body_attached i q.end o.end d o.value n.tiles takes)
                 ∙ ap (λ y. y ∷ tree_of t n.tiles) (with_map (bytes_at t) d o.value ∙ spelled_with d o.value f o.spells)
                 ∙ ap (λ ys. with_comment content e ∷ ys) n.same;
           }
@@ -287,7 +288,7 @@ module _ (edition : Edition) (t : List ℕ) where
   field_back (Some (x ∷ xs)) e es b bs rest o h is n r k =
       begins_there (with_comment (x ∷ xs) e ∷ es) (comment_bytes (35 ∷ []) (x ∷ xs) (b ∷ bs))
       (begins 35 (after_hashes (is_shown x) x (comment_bytes (35 ∷ []) xs (b ∷ bs))) refl)
-      (λ j l. tiles_hung (x ∷ xs) e es j 35 (after_hashes (is_shown x) x (comment_bytes (35 ∷ []) xs (b ∷ bs))) b bs
+      (λ j l. tiles_attached (x ∷ xs) e es j 35 (after_hashes (is_shown x) x (comment_bytes (35 ∷ []) xs (b ∷ bs))) b bs
       rest h refl l is
       (comment_back t regular (x ∷ xs) j (b ∷ bs) (right_true (are_lines (x ∷ xs)) _ o)
       (left_true (are_lines (x ∷ xs)) _ o) n l) r k)

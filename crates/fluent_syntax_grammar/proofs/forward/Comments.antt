@@ -10,7 +10,7 @@ use Rattle.fluent_syntax_grammar.specs.PatternTexts.{is_empty}
 use Rattle.fluent_syntax_grammar.specs.Bytes.{lf, cr, space}
 use Rattle.fluent_syntax_grammar.specs.Places.{Stretch, holds, is_line_place}
 use Rattle.fluent_syntax_grammar.specs.Construct.{at_each}
-use Rattle.fluent_syntax_grammar.specs.Words.{optional_eol}
+use Rattle.fluent_syntax_grammar.specs.Tokens.{optional_eol}
 use Rattle.fluent_syntax_grammar.specs.Comments.{level_of, hashes, comment_rest, comment_line, comment_lines}
 use Rattle.fluent_syntax_grammar.specs.Comments.{other_level, one_more, comment_entry}
 use Rattle.fluent_syntax_grammar.specs.Written.{Text, has_lf, last_of, is_last, is_shown, hashes_of}

@@ -9,7 +9,7 @@ use Rattle.fluent_syntax_tree.specs.declared.edition.Edition.{Edition}
 use Rattle.fluent_syntax_grammar.specs.Bytes.{lf, cr, space}
 use Rattle.fluent_syntax_grammar.specs.Places.{holds, BlankBlock, no_line}
 use Rattle.fluent_syntax_grammar.specs.Construct.{Read, Refused, goes_on, stops, given, chosen, second, failed, passed}
-use Rattle.fluent_syntax_grammar.specs.Words.{token}
+use Rattle.fluent_syntax_grammar.specs.Tokens.{token}
 use Rattle.fluent_syntax_grammar.specs.Entries.{attributes, no_more}
 use Rattle.fluent_syntax_grammar.specs.Tiling.{Tile, is_entry_byte, Tiled, done, TileAt}
 use Rattle.fluent_syntax_grammar.specs.Body.{faults}

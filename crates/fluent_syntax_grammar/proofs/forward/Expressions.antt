@@ -10,7 +10,7 @@ use Rattle.fluent_syntax_tree.specs.Tree.{placeable as placeable_element}
 use Rattle.fluent_syntax_tree.specs.Spans.{bytes_at}
 use Rattle.fluent_syntax_tree.specs.declared.edition.Edition.{Edition}
 use Rattle.fluent_syntax_grammar.specs.Bytes.{lf, cr, is_space, is_name_byte, is_digit}
-use Rattle.fluent_syntax_grammar.specs.Words.{blank}
+use Rattle.fluent_syntax_grammar.specs.Tokens.{blank}
 use Rattle.fluent_syntax_grammar.specs.Starts.{brace}
 use Rattle.fluent_syntax_grammar.specs.Written.{Text}
 use Rattle.fluent_syntax_grammar.specs.Placeables.{has_arrow, selector_fault, is_term_attribute}

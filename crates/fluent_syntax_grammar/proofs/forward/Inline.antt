@@ -15,7 +15,7 @@ use Rattle.fluent_syntax_grammar.specs.Bytes.{lf, cr, is_space, is_name_byte, is
 use Rattle.fluent_syntax_grammar.specs.Places.{holds}
 use Rattle.fluent_syntax_grammar.specs.Starts.{Start, start, start_of, quote, digit, minus, dollar, letter}
 use Rattle.fluent_syntax_grammar.specs.Construct.{◌>>=◌, gives}
-use Rattle.fluent_syntax_grammar.specs.Words.{number, blank}
+use Rattle.fluent_syntax_grammar.specs.Tokens.{number, blank}
 use Rattle.fluent_syntax_grammar.specs.Written.{Text}
 use Rattle.fluent_syntax_grammar.specs.Spellings.{is_name, is_number, is_number_rest, is_unsigned, is_string}
 use Rattle.fluent_syntax_grammar.specs.Arguments as rules

@@ -10,7 +10,7 @@ use Rattle.fluent_syntax_tree.specs.declared.edition.Edition.{Edition}
 use Rattle.fluent_syntax_tree.specs.declared.edition.Edition.TheVariants.{One, Two}
 use Rattle.fluent_syntax_grammar.specs.Bytes.{lf, is_space}
 use Rattle.fluent_syntax_grammar.specs.Layout.{Piece, run, placed, lf_at, counted, counted_spaces}
-use Rattle.fluent_syntax_grammar.specs.Elements.{Item, with_ending, kept_from, items_from, line_items}
+use Rattle.fluent_syntax_grammar.specs.Elements.{Item, with_ending, common_indent_end, items_from, line_items}
 use Rattle.fluent_syntax_grammar.specs.Lines.{belongs}
 use Rattle.fluent_syntax_grammar.specs.Written.{Text}
 use Rattle.fluent_syntax_grammar.proofs.Left.{Left, first, left_first, left_next, left_past, left_word}
@@ -62,7 +62,7 @@ module _ (edition : Edition) (t : List ℕ) where
       (common : Option ℕ) (gap v more : List ℕ) (e : ElementTree Text) (es : PatternTree Text) (numbers rest : List ℕ)
       (i : ℕ) → list_all is_space gap ≡ true →
       Left t i (gap ++ (lf ∷ more)) →
-      Left t (kept_from common (line_of edition t i (i + length gap) [] (i + length gap))) (v ++ more) →
+      Left t (common_indent_end common (line_of edition t i (i + length gap) [] (i + length gap))) (v ++ more) →
       ((j : ℕ) → Left t j more → Starts edition t common (elements e es) numbers j rest) →
       Starts edition t common (elements (text_element v) (elements e es)) numbers i rest
   start_blank common gap v more e es numbers rest i a l k next =
@@ -150,7 +150,7 @@ module _ (t : List ℕ) where
             (belongs_text One t i (length ind) 123 bs n refl k) m.reads_pieces m.ends m.reads_lines;
         left = m.left;
         spells =
-            one_items (kept_from common line) (i + ((i + length ind) - i)) m.at m.pieces
+            one_items (common_indent_end common line) (i + ((i + length ind) - i)) m.at m.pieces
             (flat_map (line_items One common) m.lines) e es m.spells;
         counts =
             ap (λ ns. ns ++ flat_map (counted One) m.lines)
@@ -176,7 +176,7 @@ module _ (t : List ℕ) where
             (belongs_text Two t i (length ind) 123 bs n refl k) m.reads_pieces m.ends m.reads_lines;
         left = m.left;
         spells =
-            two_items (kept_from (Some (length ind)) line) (i + ((i + length ind) - i)) m.at m.pieces
+            two_items (common_indent_end (Some (length ind)) line) (i + ((i + length ind) - i)) m.at m.pieces
             (flat_map (line_items Two (Some (length ind))) m.lines) e es (no_less _ _ (omega arith)) m.spells;
         counts =
             ap (λ ns. ns ++ flat_map (counted Two) m.lines)

@@ -13,9 +13,9 @@ use Rattle.fluent_syntax_grammar.specs.PatternTexts.{is_lone_lf}
 use Rattle.fluent_syntax_grammar.specs.Bytes.{lf, cr, space, is_space}
 use Rattle.fluent_syntax_grammar.specs.Places.{holds}
 use Rattle.fluent_syntax_grammar.specs.Written.{Text, is_last, last_of, indent, begins_with_mark}
-use Rattle.fluent_syntax_grammar.specs.Readable.{Stand, after_line, within_line, after_placeable}
-use Rattle.fluent_syntax_grammar.specs.Readable.{ends_well, is_text, are_elements, stands_well}
-use Rattle.fluent_syntax_grammar.specs.Readable.{stand_after, indents}
+use Rattle.fluent_syntax_grammar.specs.Readable.{ElementPosition, after_line, within_line, after_placeable}
+use Rattle.fluent_syntax_grammar.specs.Readable.{ends_well, is_text, are_elements, is_well_placed}
+use Rattle.fluent_syntax_grammar.specs.Readable.{position_after, indents}
 use Rattle.fluent_syntax_grammar.specs.Canonical.{line_numbers, are_lone, text_numbers, placeable_numbers}
 use Rattle.fluent_syntax_grammar.specs.Elements.{is_nonblank}
 use Rattle.fluent_syntax_grammar.proofs.Facts.{differs, left_true, right_true, equal, add_one}
@@ -69,18 +69,18 @@ module _ (edition : Edition) where
   lone_within (elements (placeable e) es) = refl
 
   numbers_no_line : (v : Text) (es : PatternTree Text) → ends_in_lf v ≡ false →
-      line_numbers edition (stand_after v) es ≡ line_numbers edition after_placeable es
+      line_numbers edition (position_after v) es ≡ line_numbers edition after_placeable es
   numbers_no_line v es e = rw e (numbers_within es)
 
   numbers_line : (v : Text) (es : PatternTree Text) → ends_in_lf v ≡ true →
-      line_numbers edition (stand_after v) es ≡ line_numbers edition after_line es
+      line_numbers edition (position_after v) es ≡ line_numbers edition after_line es
   numbers_line v es e = rw e refl
 
   -- The common indent that fits a pattern's elements from a place on: that of its level; or none, where no line has a
   -- number and each line-start text is one LF.
-  pub data Fit (shift : ℕ) : Option ℕ → Stand → PatternTree Text → Type 0 where
-    fixed : {s : Stand} {es : PatternTree Text} → Fit shift (Some shift) s es
-    lone : {s : Stand} {es : PatternTree Text} → are_lone s es ≡ true → line_numbers edition s es ≡ [] →
+  pub data Fit (shift : ℕ) : Option ℕ → ElementPosition → PatternTree Text → Type 0 where
+    fixed : {s : ElementPosition} {es : PatternTree Text} → Fit shift (Some shift) s es
+    lone : {s : ElementPosition} {es : PatternTree Text} → are_lone s es ≡ true → line_numbers edition s es ≡ [] →
         Fit shift None s es
 
   -- what fits a text and more, fits the elements after it
@@ -103,17 +103,17 @@ module _ (edition : Edition) where
   fit_no_line_start shift common v es e fixed = fixed
   fit_no_line_start shift common v es e (lone a b) =
       lone (sym (ap (λ b. are_lone (if b then after_line else within_line) es) e ∙ lone_within es)
-      ∙ right_true (is_lone_lf v) (are_lone (stand_after v) es) a)
+      ∙ right_true (is_lone_lf v) (are_lone (position_after v) es) a)
       (sym (numbers_no_line v es e)
-      ∙ none_after (text_numbers edition v) (line_numbers edition (stand_after v) es) b)
+      ∙ none_after (text_numbers edition v) (line_numbers edition (position_after v) es) b)
 
   fit_line_start : (shift : ℕ) (common : Option ℕ) (v : Text) (es : PatternTree Text) → ends_in_lf v ≡ true →
       Fit shift common after_line (elements (text_element v) es) → Fit shift common after_line es
   fit_line_start shift common v es e fixed = fixed
   fit_line_start shift common v es e (lone a b) =
       lone (sym (ap (λ b. are_lone (if b then after_line else within_line) es) e)
-      ∙ right_true (is_lone_lf v) (are_lone (stand_after v) es) a)
-      (sym (numbers_line v es e) ∙ none_after (text_numbers edition v) (line_numbers edition (stand_after v) es) b)
+      ∙ right_true (is_lone_lf v) (are_lone (position_after v) es) a)
+      (sym (numbers_line v es e) ∙ none_after (text_numbers edition v) (line_numbers edition (position_after v) es) b)
 
   fit_placeable_line : (shift : ℕ) (common : Option ℕ) (e : ExpressionTree Text) (es : PatternTree Text) →
       Fit shift common after_line (elements (placeable e) es) → Fit shift common after_placeable es
@@ -170,7 +170,7 @@ numbers_shown Two v e = rw e refl
 
 module _ (edition : Edition) (t : List ℕ) (level : ℕ) (common : Option ℕ) (tail rest : List ℕ) (ends : Ends tail rest)
   where
-    abbrev pub shifted : Stand → PatternTree Text → List ℕ
+    abbrev pub shifted : ElementPosition → PatternTree Text → List ℕ
     shifted s es = map (λ n. length (indent level) + n) (line_numbers edition s es)
 
     pub plain_not_line : (v body : List ℕ) → v ≡ body ++ (lf ∷ []) → ends_plainly v ≡ true → ⊥
@@ -315,7 +315,7 @@ not_mark b e f = marks (b == 46) (b == 91) (b == 42) (b == 125) (b == lf) (b == 
 
 no_mark_there : (edition : Edition) (v : Text) (es : PatternTree Text) (gap : List ℕ) (b : ℕ) (bs : List ℕ) →
     v ≡ gap ++ (b ∷ bs) → list_all is_space gap ≡ true → is_space b ≡ false →
-    stands_well edition true after_line v es ≡ true → begins_with_mark (b ∷ []) ≡ false
+    is_well_placed edition true after_line v es ≡ true → begins_with_mark (b ∷ []) ≡ false
 no_mark_there edition v es gap b bs is a e g =
     sym (ap begins_with_mark (ap after_spaces is ∙ after_of gap b bs a e))
     ∙ not_true (begins_with_mark (after_spaces v)) (right_true (not (is_spaces v) || indents edition v es) _ g)
@@ -339,24 +339,24 @@ module _ (edition : Edition) (t : List ℕ) (level : ℕ) (rest : List ℕ) wher
       Fit edition (length (indent level)) common after_line (elements (text_element v) es) →
       Left t i (indent level ++ (v ++ source)) →
       ((j : ℕ) → Left t j (b ∷ (bs ++ source)) →
-      Run edition t common v es (map (λ n. length (indent level) + n) (line_numbers edition (stand_after v) es)) j
+      Run edition t common v es (map (λ n. length (indent level) + n) (line_numbers edition (position_after v) es)) j
       source rest) →
       Starts edition t common (elements (text_element v) es)
       (map (λ n. length (indent level) + n) (line_numbers edition after_line (elements (text_element v) es))) i rest
   shown_starts common v gap b bs source es i is deep a s n e (lone x y) l k =
       absurd (no_numbers
-      (sym (ap (λ ns. ns ++ line_numbers edition (stand_after v) es)
+      (sym (ap (λ ns. ns ++ line_numbers edition (position_after v) es)
       (numbers_shown edition v (ap is_nonblank is ∙ shown_nonblank gap b bs s n))) ∙ y))
   shown_starts common v gap b bs source es i is deep a s n e fixed l k =
       let shift = length (indent level) in
-      let others = map (λ n. shift + n) (line_numbers edition (stand_after v) es) in
+      let others = map (λ n. shift + n) (line_numbers edition (position_after v) es) in
       let numbers : text_numbers edition v ≡ length gap ∷ [] =
       numbers_shown edition v (ap is_nonblank is ∙ shown_nonblank gap b bs s n)
       ∙ ap (λ m. m ∷ []) (ap leading_spaces is ∙ leading_of gap b bs a s) in
       let all :
       map (λ n. shift + n) (line_numbers edition after_line (elements (text_element v) es))
       ≡ (shift + length gap) ∷ others =
-      ap (λ ns. map (λ n. shift + n) (ns ++ line_numbers edition (stand_after v) es)) numbers in
+      ap (λ ns. map (λ n. shift + n) (ns ++ line_numbers edition (position_after v) es)) numbers in
       subst (λ ns. Starts edition t (Some shift) (elements (text_element v) es) ns i rest) (sym all)
       (subst (λ v'.
       Starts edition t (Some shift) (elements (text_element v') es) ((shift + length gap) ∷ others) i rest)
@@ -414,7 +414,7 @@ module _ (edition : Edition) (t : List ℕ) (level : ℕ) (rest : List ℕ) wher
       (subst (λ p. Left t p (v ++ more)) kept (left_past ind l)) k
   blank_starts common v gap d es numbers more i e s (lone x y) l k =
       let ind = indent level in
-      let only = lone_is v (left_true (is_lone_lf v) (are_lone (stand_after v) (elements d es)) x) in
+      let only = lone_is v (left_true (is_lone_lf v) (are_lone (position_after v) (elements d es)) x) in
       let kept : i + length ind ≡ i + ((i + length ind) - i) = omega arith in
       start_blank edition t None ind v more d es numbers rest i (spaces_of (4 * level))
       (left_as (ap (λ v. ind ++ (v ++ more)) only) l) (subst (λ p. Left t p (v ++ more)) kept (left_past ind l)) k
@@ -440,7 +440,7 @@ spaces_number v e = rw (spaces_blank_text v e, e) refl
 spaces_starts :
     (edition : Edition) (t : List ℕ) (level : ℕ) (common : Option ℕ) (tail rest : List ℕ) (v : Text)
     (es : PatternTree Text) → is_text v ≡ true → list_all is_run_byte v ≡ true → list_all is_space v ≡ true →
-    stands_well edition true after_line v es ≡ true →
+    is_well_placed edition true after_line v es ≡ true →
     Fit edition (length (indent level)) common after_line (elements (text_element v) es) →
     ((i : ℕ) → Left t i (elements_bytes level false es (lf ∷ tail)) →
     Mid edition t common es (map (λ n. length (indent level) + n) (line_numbers edition after_placeable es)) i
@@ -451,7 +451,7 @@ spaces_starts :
 spaces_starts One t level common tail rest v es is a s g f mid i l =
     absurd (false≢true (must_indent (is_spaces v) false _ s g))
 spaces_starts Two t level common tail rest v es is a s g (lone x y) mid i l =
-    absurd (no_numbers (sym (ap (λ ns. ns ++ line_numbers Two (stand_after v) es) (spaces_number v s)) ∙ y))
+    absurd (no_numbers (sym (ap (λ ns. ns ++ line_numbers Two (position_after v) es) (spaces_number v s)) ∙ y))
 spaces_starts Two t level common tail rest v no_elements is a s g fixed mid i l =
     absurd (false≢true (right_true (is_spaces v) false (must_indent (is_spaces v) (is_spaces v && false) _ s g)))
 spaces_starts Two t level common tail rest v (elements (text_element w) es) is a s g fixed mid i l =
@@ -473,7 +473,7 @@ spaces_starts Two t level common tail rest (c ∷ v) (elements (placeable e) es)
     map (λ n. length ind + n) (line_numbers Two after_line (elements (text_element sp) (elements (placeable e) es)))
     ≡ length (ind ++ sp) ∷
     map (λ n. length ind + n) (line_numbers Two after_placeable (elements (placeable e) es)) =
-    ap (λ ns. map (λ n. length ind + n) (ns ++ line_numbers Two (stand_after sp) (elements (placeable e) es)))
+    ap (λ ns. map (λ n. length ind + n) (ns ++ line_numbers Two (position_after sp) (elements (placeable e) es)))
     (spaces_number sp s)
     ∙ ap (λ ns. (length ind + length sp) ∷ map (λ n. length ind + n) ns)
     (numbers_no_line Two sp (elements (placeable e) es) end)
@@ -490,7 +490,7 @@ spaces_starts Two t level common tail rest (c ∷ v) (elements (placeable e) es)
 
 module _ (edition : Edition) (t : List ℕ) (level : ℕ) (common : Option ℕ) (tail rest : List ℕ) (ends : Ends tail rest)
     (deep : 1 ≤ length (indent level)) where
-  abbrev Numbers : Stand → PatternTree Text → List ℕ
+  abbrev Numbers : ElementPosition → PatternTree Text → List ℕ
   Numbers s es = shifted edition t level common tail rest ends s es
 
   abbrev MidOf : PatternTree Text → Type 0
@@ -509,38 +509,38 @@ module _ (edition : Edition) (t : List ℕ) (level : ℕ) (common : Option ℕ) 
   StartsIf (elements d es) = StartsOf (elements d es)
 
   -- the parts of what a text and the elements after it are asked
-  pub text_is : (s : Stand) (v : Text) (es : PatternTree Text) →
+  pub text_is : (s : ElementPosition) (v : Text) (es : PatternTree Text) →
       are_elements edition true s (elements (text_element v) es) ≡ true → is_text v ≡ true
   text_is s v es g = left_true (is_text v) _ g
 
-  pub text_stands : (s : Stand) (v : Text) (es : PatternTree Text) →
-      are_elements edition true s (elements (text_element v) es) ≡ true → stands_well edition true s v es ≡ true
-  text_stands s v es g = left_true (stands_well edition true s v es) _ (right_true (is_text v) _ g)
+  pub text_holds : (s : ElementPosition) (v : Text) (es : PatternTree Text) →
+      are_elements edition true s (elements (text_element v) es) ≡ true → is_well_placed edition true s v es ≡ true
+  text_holds s v es g = left_true (is_well_placed edition true s v es) _ (right_true (is_text v) _ g)
 
-  pub text_ends_well : (s : Stand) (v : Text) (es : PatternTree Text) →
+  pub text_ends_well : (s : ElementPosition) (v : Text) (es : PatternTree Text) →
       are_elements edition true s (elements (text_element v) es) ≡ true → ends_well v es ≡ true
   text_ends_well s v es g =
-      left_true (ends_well v es) _ (right_true (stands_well edition true s v es) _ (right_true (is_text v) _ g))
+      left_true (ends_well v es) _ (right_true (is_well_placed edition true s v es) _ (right_true (is_text v) _ g))
 
-  pub text_more : (s : Stand) (v : Text) (es : PatternTree Text) →
+  pub text_more : (s : ElementPosition) (v : Text) (es : PatternTree Text) →
       are_elements edition true s (elements (text_element v) es) ≡ true →
-      are_elements edition true (stand_after v) es ≡ true
+      are_elements edition true (position_after v) es ≡ true
   text_more s v es g =
-      right_true (ends_well v es) _ (right_true (stands_well edition true s v es) _ (right_true (is_text v) _ g))
+      right_true (ends_well v es) _ (right_true (is_well_placed edition true s v es) _ (right_true (is_text v) _ g))
 
   -- a text without LF is followed by no text
   pub no_text_after : (v w : Text) (es : PatternTree Text) → ends_in_lf v ≡ false →
-      are_elements edition true (stand_after v) (elements (text_element w) es) ≡ true → ⊥
+      are_elements edition true (position_after v) (elements (text_element w) es) ≡ true → ⊥
   no_text_after v w es e g =
-      false≢true (sym (ap (λ s. stands_well edition true s w es) (ap (λ b. if b then after_line else within_line) e))
-      ∙ text_stands (stand_after v) w es g)
+      false≢true (sym (ap (λ s. is_well_placed edition true s w es) (ap (λ b. if b then after_line else within_line) e))
+      ∙ text_holds (position_after v) w es g)
 
   after_lf : (v : Text) (es : PatternTree Text) → ends_in_lf v ≡ true →
-      are_elements edition true (stand_after v) es ≡ true → are_elements edition true after_line es ≡ true
+      are_elements edition true (position_after v) es ≡ true → are_elements edition true after_line es ≡ true
   after_lf v es e g = sym (ap (λ b. are_elements edition true (if b then after_line else within_line) es) e) ∙ g
 
   -- what a text within a line leads to, by its form and by what follows
-  mid_of_text : (v : Text) (es : PatternTree Text) (s : Stand) →
+  mid_of_text : (v : Text) (es : PatternTree Text) (s : ElementPosition) →
       are_elements edition true s (elements (text_element v) es) ≡ true → (ends_in_lf v ≡ false → MidOf es) →
       (ends_in_lf v ≡ true → StartsIf es) → TextForm v → MidOf (elements (text_element v) es)
   mid_of_text v no_elements s g mid start (alone a) i l =
@@ -584,7 +584,7 @@ module _ (edition : Edition) (t : List ℕ) (level : ℕ) (common : Option ℕ) 
       let byte = left_true (is_run_byte b) (list_all is_run_byte bs) part in
       let mark =
       not_mark b byte
-      (no_mark_there edition v no_elements gap b bs is c e (text_stands after_line v no_elements g)) in
+      (no_mark_there edition v no_elements gap b bs is c e (text_holds after_line v no_elements g)) in
       let plain = text_ends_well after_line v no_elements g in
       let safe : is_last cr (last_of None (b ∷ bs)) ≡ false =
       sym (ap (is_last cr) (ap (last_of None) is ∙ last_of_part gap b bs)) ∙ plain_no_cr v plain in
@@ -596,7 +596,7 @@ module _ (edition : Edition) (t : List ℕ) (level : ℕ) (common : Option ℕ) 
       let mark =
       not_mark b byte
       (no_mark_there edition v (elements (placeable x) es) gap b bs is c e
-      (text_stands after_line v (elements (placeable x) es) g)) in
+      (text_holds after_line v (elements (placeable x) es) g)) in
       let brace = element_brace level x (elements_bytes level false es (lf ∷ tail)) in
       let end = run_ends_in v a in
       let m =
@@ -625,7 +625,7 @@ module _ (edition : Edition) (t : List ℕ) (level : ℕ) (common : Option ℕ) 
       spaces_alone : list_all is_space v ≡ true → StartsOf (elements (text_element v) es)
       spaces_alone e =
           spaces_starts edition t level common tail rest v es (text_is after_line v es g) a e
-          (text_stands after_line v es g) f (mid (run_ends_in v a))
+          (text_holds after_line v es g) f (mid (run_ends_in v a))
 
       alone_at : (gap more : List ℕ) → v ≡ gap ++ more → list_all is_space gap ≡ true →
           holds is_space (first more) ≡ false → StartsOf (elements (text_element v) es)
@@ -650,7 +650,7 @@ module _ (edition : Edition) (t : List ℕ) (level : ℕ) (common : Option ℕ) 
           left_as (ap (λ b. indent level ++ (v ++ elements_bytes level b (elements d es) (lf ∷ tail))) ends_in) l in
           let same =
           ap (λ ns. map (λ n. length (indent level) + n)
-          (ns ++ line_numbers edition (stand_after v) (elements d es))) (blank_number edition v gap e s)
+          (ns ++ line_numbers edition (position_after v) (elements d es))) (blank_number edition v gap e s)
           ∙ ap (map (λ n. length (indent level) + n)) (numbers_line edition v (elements d es) ends_in) in
           subst (λ ns. Starts edition t common (elements (text_element v) (elements d es)) ns i rest) (sym same)
           (blank_starts edition t level rest common v gap d es (Numbers after_line (elements d es)) more i e s f m
@@ -666,7 +666,7 @@ module _ (edition : Edition) (t : List ℕ) (level : ℕ) (common : Option ℕ) 
           let mark =
           not_mark b byte
           (no_mark_there edition v (elements d es) gap b (bs ++ (lf ∷ [])) whole s n
-          (text_stands after_line v (elements d es) g)) in
+          (text_holds after_line v (elements d es) g)) in
           let safe : is_last cr (last_of None (b ∷ bs)) ≡ false =
           sym (ap (is_last cr) (ap (last_of None) e ∙ last_of_part gap b bs)) ∙ c in
           let more = elements_bytes level true (elements d es) (lf ∷ tail) in
@@ -689,7 +689,7 @@ module _ (edition : Edition) (t : List ℕ) (level : ℕ) (common : Option ℕ) 
 
   mutual
     -- from within a line on
-    pub lines_mid : (es : PatternTree Text) (s : Stand) → ElementsBack edition t level es →
+    pub lines_mid : (es : PatternTree Text) (s : ElementPosition) → ElementsBack edition t level es →
         are_elements edition true s es ≡ true → Fit edition (length (indent level)) common after_placeable es → MidOf es
     lines_mid no_elements s h g f i l = mid_end edition t common tail rest i ends l
     lines_mid (elements (placeable e) es) s h g f i l =
@@ -701,7 +701,7 @@ module _ (edition : Edition) (t : List ℕ) (level : ℕ) (common : Option ℕ) 
         m)
     lines_mid (elements (text_element v) es) s h g f i l =
         mid_of_text v es s g
-        (λ e. lines_mid es (stand_after v) h (text_more s v es g)
+        (λ e. lines_mid es (position_after v) h (text_more s v es g)
         (fit_no_line edition (length (indent level)) common v es e f))
         (λ e. lines_start es h (after_lf v es e (text_more s v es g))
         (fit_line edition (length (indent level)) common v es e f)) (text_form v (text_is s v es g)) i l
@@ -716,7 +716,7 @@ module _ (edition : Edition) (t : List ℕ) (level : ℕ) (common : Option ℕ) 
         (lines_mid es after_placeable h.1 g (fit_placeable_line edition (length (indent level)) common e es f))
     lines_start (elements (text_element v) es) h g f =
         start_of_text v es g f
-        (λ e. lines_mid es (stand_after v) h (text_more after_line v es g)
+        (λ e. lines_mid es (position_after v) h (text_more after_line v es g)
         (fit_no_line_start edition (length (indent level)) common v es e f))
         (λ e. lines_start es h (after_lf v es e (text_more after_line v es g))
         (fit_line_start edition (length (indent level)) common v es e f))

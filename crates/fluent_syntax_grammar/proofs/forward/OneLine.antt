@@ -22,9 +22,9 @@ use Rattle.fluent_syntax_grammar.specs.Patterns.{layout_at, layout}
 use Rattle.fluent_syntax_grammar.specs.Grammar.{family}
 use Rattle.fluent_syntax_grammar.specs.Grammar as grammar
 use Rattle.fluent_syntax_grammar.specs.Written.{Text, is_last, last_of, has_lf}
-use Rattle.fluent_syntax_grammar.specs.Readable.{Stand, after_line, within_line, after_placeable}
-use Rattle.fluent_syntax_grammar.specs.Readable.{is_text, are_elements, stands_well}
-use Rattle.fluent_syntax_grammar.specs.Readable.{stand_after}
+use Rattle.fluent_syntax_grammar.specs.Readable.{ElementPosition, after_line, within_line, after_placeable}
+use Rattle.fluent_syntax_grammar.specs.Readable.{is_text, are_elements, is_well_placed}
+use Rattle.fluent_syntax_grammar.specs.Readable.{position_after}
 use Rattle.fluent_syntax_grammar.proofs.Facts.{left_true, right_true}
 use Rattle.fluent_syntax_grammar.proofs.Left.{Left, left_as, first, left_word, left_no_eol_after}
 use Rattle.fluent_syntax_grammar.proofs.forward.Reading.{Reads}
@@ -125,14 +125,15 @@ module _ (edition : Edition) (t : List ℕ) (level : ℕ) (common : Option ℕ) 
         mid_run edition t common (b ∷ bs) (elements (placeable e) es) [] (123 ∷ x.rest) rest i r m
 
     pub text_after_text : (v w : Text) (es : PatternTree Text) → has_lf v ≡ false →
-        stands_well edition false (stand_after v) w es ≡ true → ⊥
+        is_well_placed edition false (position_after v) w es ≡ true → ⊥
     text_after_text v w es e f =
         false≢true (sym
-        (ap (λ s. stands_well edition false s w es) (ap (λ b. if b then after_line else within_line) (no_lf_end v e)))
+        (ap (λ s. is_well_placed edition false s w es) (ap (λ b. if b then after_line else within_line)
+        (no_lf_end v e)))
         ∙ f)
 
     -- from within a line on
-    pub line_back : (es : PatternTree Text) (s : Stand) (i : ℕ) → ElementsBack edition t level es →
+    pub line_back : (es : PatternTree Text) (s : ElementPosition) (i : ℕ) → ElementsBack edition t level es →
         are_elements edition false s es ≡ true → has_no_lf es ≡ true →
         Left t i (elements_bytes level false es (lf ∷ tail)) → Back es i
     line_back no_elements s i h g f l = mid_end edition t common tail rest i ends l
@@ -144,20 +145,20 @@ module _ (edition : Edition) (t : List ℕ) (level : ℕ) (common : Option ℕ) 
     line_back (elements (text_element v) no_elements) s i h g f l =
         text_ends v i (left_true (is_text v) _ g) (not_true (has_lf v) (left_true (not (has_lf v)) true f))
         (left_true (ends_plainly v)
-        _ (right_true (stands_well edition false s v no_elements) _ (right_true (is_text v) _ g))) l
+        _ (right_true (is_well_placed edition false s v no_elements) _ (right_true (is_text v) _ g))) l
     line_back (elements (text_element v) (elements (placeable e) es)) s i h g f l =
         text_before v e es i (left_true (is_text v) _ g) (not_true (has_lf v) (left_true (not (has_lf v)) _ f))
         (left_as (ap (λ b. v ++
         (line_indent level b ++ element_bytes level (placeable e) (elements_bytes level false es (lf ∷ tail))))
         (no_lf_end v (not_true (has_lf v) (left_true (not (has_lf v)) _ f)))) l)
-        (λ j m. line_back (elements (placeable e) es) (stand_after v) j h
-        (right_true (stands_well edition false s v (elements (placeable e) es)) _ (right_true (is_text v) _ g))
+        (λ j m. line_back (elements (placeable e) es) (position_after v) j h
+        (right_true (is_well_placed edition false s v (elements (placeable e) es)) _ (right_true (is_text v) _ g))
         (right_true (not (has_lf v)) _ f) m)
     line_back (elements (text_element v) (elements (text_element w) es)) s i h g f l =
         absurd (text_after_text v w es (not_true (has_lf v) (left_true (not (has_lf v)) _ f))
-        (left_true (stands_well edition false (stand_after v) w es)
+        (left_true (is_well_placed edition false (position_after v) w es)
         _ (right_true (is_text w)
-        _ (right_true (stands_well edition false s v (elements (text_element w) es))
+        _ (right_true (is_well_placed edition false s v (elements (text_element w) es))
         _ (right_true (is_text v) _ g)))))
 
 -- ---- the pattern

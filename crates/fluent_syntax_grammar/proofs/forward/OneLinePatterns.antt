@@ -10,8 +10,8 @@ use Rattle.fluent_syntax_grammar.proofs.forward.Reading.{Reads}
 use Rattle.fluent_syntax_tree.specs.declared.edition.Edition.{Edition}
 use Rattle.fluent_syntax_grammar.specs.Bytes.{lf, cr, space, is_space}
 use Rattle.fluent_syntax_grammar.specs.Written.{Text, is_last, last_of, has_lf, is_multiline}
-use Rattle.fluent_syntax_grammar.specs.Readable.{opening, is_text, are_elements, stands_well, opens_well}
-use Rattle.fluent_syntax_grammar.specs.Readable.{is_pattern, stand_after}
+use Rattle.fluent_syntax_grammar.specs.Readable.{opening, is_text, are_elements, is_well_placed, opens_well}
+use Rattle.fluent_syntax_grammar.specs.Readable.{is_pattern, position_after}
 use Rattle.fluent_syntax_grammar.specs.Elements.{is_nonblank}
 use Rattle.fluent_syntax_grammar.proofs.Facts.{left_true, right_true}
 use Rattle.fluent_syntax_grammar.proofs.Left.{Left, left_as, left_next}
@@ -78,7 +78,7 @@ module _ (edition : Edition) (t : List ℕ) (level : ℕ) (tail rest : List ℕ)
   opens (elements (text_element (b ∷ bs)) (elements (text_element w) es)) i e g l n =
       absurd (text_after_text edition t level None tail rest ends (b ∷ bs) w es
       (neither_left (has_lf (b ∷ bs)) (is_multiline (elements (text_element w) es)) e)
-      (left_true (stands_well edition false (stand_after (b ∷ bs)) w es)
+      (left_true (is_well_placed edition false (position_after (b ∷ bs)) w es)
       _ (right_true (is_text w)
       _ (right_true (opens_well edition false (b ∷ bs) (elements (text_element w) es))
       _ (right_true (is_text (b ∷ bs)) _ g)))))

@@ -23,10 +23,11 @@ use Rattle.fluent_syntax_grammar.specs.Grammar.{family}
 use Rattle.fluent_syntax_grammar.specs.Grammar as grammar
 use Rattle.fluent_syntax_grammar.specs.Written.{Text, indent, is_leading_mark, has_leading_mark, begins_with_mark}
 use Rattle.fluent_syntax_grammar.specs.Written.{is_last, last_of, is_multiline}
-use Rattle.fluent_syntax_grammar.specs.Readable.{Stand, opening, after_line, after_placeable, are_elements, is_pattern}
+use Rattle.fluent_syntax_grammar.specs.Readable.{ElementPosition, opening, after_line, after_placeable, are_elements}
+use Rattle.fluent_syntax_grammar.specs.Readable.{is_pattern}
 use Rattle.fluent_syntax_grammar.specs.Readable.{is_text}
 use Rattle.fluent_syntax_grammar.specs.Readable.{indents, opens_well, begins_with_placeable}
-use Rattle.fluent_syntax_grammar.specs.Canonical.{line_numbers, are_flush, hides_mark, first_stand, is_flush}
+use Rattle.fluent_syntax_grammar.specs.Canonical.{line_numbers, are_flush, hides_mark, first_position, is_flush}
 use Rattle.fluent_syntax_grammar.proofs.Facts.{left_true, right_true, right_false, equal}
 use Rattle.fluent_syntax_grammar.proofs.Tests.{both, differ}
 use Rattle.fluent_syntax_grammar.proofs.Left.{Left, first, left_as, left_past, left_word, left_next, left_no_eol_after}
@@ -42,7 +43,7 @@ use Rattle.fluent_syntax_grammar.proofs.forward.Multiline.{Fit, fixed, lone, lin
 use Rattle.fluent_syntax_grammar.proofs.forward.Multiline.{plain_not_line, blank_of, no_spaces_end}
 use Rattle.fluent_syntax_grammar.proofs.forward.Runs.{without_of}
 use Rattle.fluent_syntax_grammar.proofs.forward.Multiline.{spaces_blank_text, run_ends_in, last_of_part, append_none}
-use Rattle.fluent_syntax_grammar.proofs.forward.Multiline.{run_part, no_text_after, text_is, text_stands}
+use Rattle.fluent_syntax_grammar.proofs.forward.Multiline.{run_part, no_text_after, text_is, text_holds}
 use Rattle.fluent_syntax_grammar.proofs.forward.Multiline.{text_ends_well, text_more}
 use Rattle.fluent_syntax_grammar.proofs.Tests.{and_false, not_true}
 
@@ -61,12 +62,12 @@ least_none [] e = refl
 least_none (n ∷ ns) e = absurd cc
 
 -- the common indent of a flush pattern at a level: it fits, and it is the least of the counts
-pub record Chosen (edition : Edition) (shift : ℕ) (s : Stand) (p : PatternTree Text) : Type 0 where
+pub record Chosen (edition : Edition) (shift : ℕ) (s : ElementPosition) (p : PatternTree Text) : Type 0 where
   pub common : Option ℕ
   pub fit : Fit edition shift common s p
   pub least_is : least (map (λ n. shift + n) (line_numbers edition s p)) ≡ common
 
-choose_at : (edition : Edition) (shift : ℕ) (s : Stand) (p : PatternTree Text) (o : Option ℕ) →
+choose_at : (edition : Edition) (shift : ℕ) (s : ElementPosition) (p : PatternTree Text) (o : Option ℕ) →
     least (line_numbers edition s p) ≡ o → are_flush o s p ≡ true → Chosen edition shift s p
 choose_at edition shift s p None e f =
     let none = least_none (line_numbers edition s p) e in
@@ -83,7 +84,7 @@ choose_at edition shift s p (Some n) e f =
     plus_zero : (n : ℕ) → n ≡ 0 → shift + n ≡ shift
     plus_zero n e = omega arith
 
-pub choose : (edition : Edition) (shift : ℕ) (s : Stand) (p : PatternTree Text) →
+pub choose : (edition : Edition) (shift : ℕ) (s : ElementPosition) (p : PatternTree Text) →
     are_flush (least (line_numbers edition s p)) s p ≡ true → Chosen edition shift s p
 choose edition shift s p f = choose_at edition shift s p (least (line_numbers edition s p)) refl f
 
@@ -260,7 +261,7 @@ module _ (edition : Edition) (t : List ℕ) (level : ℕ) (common : Option ℕ) 
       let d =
       indents_placeable edition v no_elements
       (or_second (is_nonblank v) _ (spaces_blank_text v all)
-      (text_stands edition t level common tail rest ends deep opening v no_elements g)) in absurd (false≢true d.1)
+      (text_holds edition t level common tail rest ends deep opening v no_elements g)) in absurd (false≢true d.1)
   first_alone v (elements (placeable x) es) i g a gap [] is c s l =
       let all : is_spaces v ≡ true = ap is_spaces (is ∙ append_none gap) ∙ c in
       let are =
@@ -295,7 +296,7 @@ module _ (edition : Edition) (t : List ℕ) (level : ℕ) (common : Option ℕ) 
       let d =
       indents_placeable edition v (elements d es)
       (or_second (is_nonblank v) _ blank
-      (text_stands edition t level common tail rest ends deep opening v (elements d es) g)) in
+      (text_holds edition t level common tail rest ends deep opening v (elements d es) g)) in
       absurd (false≢true (sym (ap is_spaces whole ∙ no_spaces_end gap) ∙ d.0))
 
   -- The first line is not blank.
@@ -346,12 +347,13 @@ replicated : (n : ℕ) → length (replicate n space) ≡ n
 replicated zero = refl
 replicated (suc n) = ap suc (replicated n)
 
-opened_stand : (p : PatternTree Text) → is_multiline p ≡ true → has_leading_mark p ≡ false → first_stand p ≡ opening
-opened_stand p e f = rw (e, f) refl
+opened_position : (p : PatternTree Text) → is_multiline p ≡ true → has_leading_mark p ≡ false
+    → first_position p ≡ opening
+opened_position p e f = rw (e, f) refl
 
-marked_stand : (p : PatternTree Text) → is_multiline p ≡ true → has_leading_mark p ≡ true →
-    first_stand p ≡ after_placeable
-marked_stand p e f = rw (e, f) refl
+marked_position : (p : PatternTree Text) → is_multiline p ≡ true → has_leading_mark p ≡ true →
+    first_position p ≡ after_placeable
+marked_position p e f = rw (e, f) refl
 
 opened_bytes : (level : ℕ) (p : PatternTree Text) (tail : Text) → is_multiline p ≡ true → has_leading_mark p ≡ false →
     pattern_bytes level p tail ≡ lf ∷ elements_bytes (level + 1) true p tail
@@ -362,7 +364,7 @@ marked_bytes : (level : ℕ) (p : PatternTree Text) (tail : Text) → is_multili
 marked_bytes level p tail e f = rw (e, f) refl
 
 flush_of : (edition : Edition) (p : PatternTree Text) → is_multiline p ≡ true → is_flush edition p ≡ true →
-    (not (hides_mark p) && are_flush (least (line_numbers edition (first_stand p) p)) (first_stand p) p) ≡ true
+    (not (hides_mark p) && are_flush (least (line_numbers edition (first_position p) p)) (first_position p) p) ≡ true
 flush_of edition p e f = or_second (not (is_multiline p)) _ (ap not e) f
 
 multiline_at : (edition : Edition) (t : List ℕ) (level : ℕ) (e : ElementTree Text) (es : PatternTree Text) (x : Bool) →
@@ -375,7 +377,7 @@ multiline_at edition t level e es true m a g f h deep i tail rest ends l =
     let p = elements e es in
     let parts = flush_of edition p a f in
     let flush =
-    subst (λ s. are_flush (least (line_numbers edition s p)) s p ≡ true) (marked_stand p a m)
+    subst (λ s. are_flush (least (line_numbers edition s p)) s p ≡ true) (marked_position p a m)
     (right_true (not (hides_mark p)) _ parts) in
     marked_back edition t level tail rest ends deep e es i m g flush h
     (left_as (marked_bytes level p (lf ∷ tail) a m) l)
@@ -383,7 +385,7 @@ multiline_at edition t level e es false m a g f h deep i tail rest ends l =
     let p = elements e es in
     let parts = flush_of edition p a f in
     let flush =
-    subst (λ s. are_flush (least (line_numbers edition s p)) s p ≡ true) (opened_stand p a m)
+    subst (λ s. are_flush (least (line_numbers edition s p)) s p ≡ true) (opened_position p a m)
     (right_true (not (hides_mark p)) _ parts) in
     line_opened_back edition t level tail rest ends deep e es i
     (not_true (hides_mark p) (left_true (not (hides_mark p)) _ parts)) m g flush h

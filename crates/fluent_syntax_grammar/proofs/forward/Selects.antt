@@ -90,7 +90,7 @@ module _ (edition : Edition) (t : List ℕ) where
   -- the blank before variants
   passes_indent : (level : ℕ) (vs : VariantTrees Text) (close more : Text) (i : ℕ) → list_all is_space close ≡ true →
       Left t i (variants_bytes level vs (close ++ (125 ∷ more))) →
-      Passes t (Rattle.fluent_syntax_grammar.specs.Words.blank t) i (bare_bytes level vs close more)
+      Passes t (Rattle.fluent_syntax_grammar.specs.Tokens.blank t) i (bare_bytes level vs close more)
   passes_indent level no_variants close more i a l =
       passes_blanks close (125 ∷ more) (spaces_blank close a) refl refl refl l
   passes_indent level (variants (variant key value true) vs) close more i a l =

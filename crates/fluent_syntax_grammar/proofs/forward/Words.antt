@@ -7,7 +7,7 @@ use Rattle.fluent_syntax_tree.specs.Spans.{bytes_at}
 use Rattle.fluent_syntax_grammar.specs.Bytes.{is_letter, is_name_byte, is_digit}
 use Rattle.fluent_syntax_grammar.specs.Places.{holds}
 use Rattle.fluent_syntax_grammar.specs.Construct.{Construct, ◌>>=◌, gives, either}
-use Rattle.fluent_syntax_grammar.specs.Words.{optional, digits, identifier, number}
+use Rattle.fluent_syntax_grammar.specs.Tokens.{optional, digits, identifier, number}
 use Rattle.fluent_syntax_grammar.specs.Spellings.{is_name, is_digits, is_number_rest, is_unsigned, is_number}
 use Rattle.fluent_syntax_grammar.proofs.Facts.{left_true, right_true, equal}
 use Rattle.fluent_syntax_grammar.proofs.Tests.{both, or_cases, differ, letter_name}

@@ -28,8 +28,8 @@ reads_one edition t r other a b =
     sym a.same ∙ (ap (tree_of t) (one_tiling edition t a.tiles b.tiles a.tiling b.tiling) ∙ b.same)
 
 -- Two canonical trees that are written as one text are equal.
-pub written_apart : (edition : Edition) (r other : BodyTree Text) → WrittenApart edition r other
-written_apart edition r other h g e =
+pub serialize_is_injective : (edition : Edition) (r other : BodyTree Text) → WrittenApart edition r other
+serialize_is_injective edition r other h g e =
     reads_one edition (written false r) r other (written_back edition r false h)
     (subst (λ t. ReadsAs edition t other) (sym e) (written_back edition other false g))
 

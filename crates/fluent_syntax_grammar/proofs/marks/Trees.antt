@@ -24,8 +24,9 @@ use Rattle.fluent_syntax_grammar.specs.Written.{element_marks, pattern_marks}
 use Rattle.fluent_syntax_grammar.specs.Rules.{inline_obeys, maybe_obeys, arguments_obey, inlines_obey, nameds_obey}
 use Rattle.fluent_syntax_grammar.specs.Rules.{named_obeys, expression_obeys, variants_obey, variant_obeys, key_obeys}
 use Rattle.fluent_syntax_grammar.specs.Rules.{option_obeys, elements_obey, pattern_obeys}
-use Rattle.fluent_syntax_grammar.specs.Readable.{Stand, opening, stand_after, after_placeable, are_named_well}
-use Rattle.fluent_syntax_grammar.specs.Readable.{ends_well, is_pattern, is_text, stands_well}
+use Rattle.fluent_syntax_grammar.specs.Readable.{ElementPosition, opening, position_after, after_placeable}
+use Rattle.fluent_syntax_grammar.specs.Readable.{are_named_well}
+use Rattle.fluent_syntax_grammar.specs.Readable.{ends_well, is_pattern, is_text, is_well_placed}
 use Rattle.fluent_syntax_grammar.specs.Readable.{are_elements}
 use Rattle.fluent_syntax_grammar.specs.Canonical.{canonical_rules, is_flush}
 use Rattle.fluent_syntax_grammar.proofs.Obeys.{inline_part, select_parts}
@@ -356,11 +357,11 @@ pattern_then level e es k ms =
     (opened_last (opens_line p)) tt)
 
 module _ (edition : Edition) where
-  elements_rest : (multiline : Bool) (s : Stand) (b : ℕ) (bs : Text) (es : PatternTree Text) →
+  elements_rest : (multiline : Bool) (s : ElementPosition) (b : ℕ) (bs : Text) (es : PatternTree Text) →
       are_elements edition multiline s (elements (text_element (b ∷ bs)) es) ≡ true → (ends_well (b ∷ bs) es ≡ true) ×
-      (are_elements edition multiline (stand_after (b ∷ bs)) es ≡ true)
+      (are_elements edition multiline (position_after (b ∷ bs)) es ≡ true)
   elements_rest multiline s b bs es g =
-      let m = right_true (stands_well edition multiline s (b ∷ bs) es) _ (right_true (is_text (b ∷ bs)) _ g) in
+      let m = right_true (is_well_placed edition multiline s (b ∷ bs) es) _ (right_true (is_text (b ∷ bs)) _ g) in
       (left_true (ends_well (b ∷ bs) es) _ m, right_true (ends_well (b ∷ bs) es) _ m)
 
   mutual
@@ -461,9 +462,9 @@ module _ (edition : Edition) where
         let more = elements_rest (is_multiline p) opening b bs es are in
         pattern_then level (text_element (b ∷ bs)) es
         (λ l. text_more l b bs es (text_closes (b ∷ bs) es more.0)
-        (elements_then l es (is_multiline p) (stand_after (b ∷ bs)) more.1 rest))
+        (elements_then l es (is_multiline p) (position_after (b ∷ bs)) more.1 rest))
 
-    elements_then : (level : ℕ) (es : PatternTree Text) (multiline : Bool) (s : Stand) →
+    elements_then : (level : ℕ) (es : PatternTree Text) (multiline : Bool) (s : ElementPosition) →
         are_elements edition multiline s es ≡ true → elements_obey (canonical_rules edition) es ≡ true →
         ElementsMarks level es
     elements_then level no_elements multiline s g h = nothing_more level
@@ -476,7 +477,7 @@ module _ (edition : Edition) where
     elements_then level (elements (text_element (b ∷ bs)) es) multiline s g h =
         let more = elements_rest multiline s b bs es g in
         text_more level b bs es (text_closes (b ∷ bs) es more.0)
-        (elements_then level es multiline (stand_after (b ∷ bs)) more.1 h)
+        (elements_then level es multiline (position_after (b ∷ bs)) more.1 h)
 
     placeable_then : (level : ℕ) (x : ExpressionTree Text) → expression_obeys (canonical_rules edition) x ≡ true →
         PlaceableMarks level x

@@ -7,7 +7,7 @@ ghost use Rattle.fluent_syntax_tree.specs.Entry.{BodyTree};
 ghost use Rattle.fluent_syntax_json.specs.Object.{Text};
 ghost use Rattle.fluent_syntax_json.specs.Json.{JsonReads};
 ghost use Rattle.fluent_syntax_json.specs.Answer.{Answers};
-ghost use Rattle.fluent_syntax_json.specs.Reading.{list_by, value_in, hung_in, attribute_in, message_in, term_in};
+ghost use Rattle.fluent_syntax_json.specs.Reading.{list_by, value_in, attached_in, attribute_in, message_in, term_in};
 ghost use Rattle.fluent_syntax_json.specs.Reading.{entry_in, body_in};
 
 use super::fields::{field, list, optional, text, type_name};
@@ -108,7 +108,7 @@ fn attribute(alloc: Global, v: &Value) -> Result<Attribute<String>, ValueFault>
 
 /// The comment of a message or a term.
 fn comment_of(alloc: Global, v: &Value) -> Result<Option<Comment<String>>, ValueFault>
-    ensures { Answers (option_map (comment_view string_bytes)) (hung_in (view v.now)) result }
+    ensures { Answers (option_map (comment_view string_bytes)) (attached_in (view v.now)) result }
 {
     match optional(v, "comment") {
         None => Ok(None),

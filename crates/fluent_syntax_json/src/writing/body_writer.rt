@@ -28,7 +28,7 @@ pub struct BodyWriter<W> {
 impl<W: TextSink> BodyWriter<W> {
     /// A writer to the sink, which is handed the brackets that open the text. No entry came yet.
     pub fn new(sink: W) -> Self
-        ensures none_came { HasWritten W.text W.room sink [] result }
+        ensures wrote_none { HasWritten W.text W.room sink [] result }
     {
         let mut sink = sink;
         let refused = sink.write_str(OPENING).is_err();

@@ -138,7 +138,7 @@ fn write_message<X, T: ReadTexts<X>, W: TextSink>(
     writer.write_piece("{\"attributes\":[");
     write_attributes(writer, &message.attributes);
     writer.write_piece(",\"comment\":");
-    write_hung(writer, &message.comment);
+    write_attached(writer, &message.comment);
     writer.write_piece(",\"id\":");
     write_name(writer, &message.id);
     writer.write_piece(",\"type\":\"Message\",\"value\":");
@@ -152,7 +152,7 @@ fn write_term<X, T: ReadTexts<X>, W: TextSink>(writer: &mut TextWriter<'_, T, W>
     writer.write_piece("{\"attributes\":[");
     write_attributes(writer, &term.attributes);
     writer.write_piece(",\"comment\":");
-    write_hung(writer, &term.comment);
+    write_attached(writer, &term.comment);
     writer.write_piece(",\"id\":");
     write_name(writer, &term.id);
     writer.write_piece(",\"type\":\"Term\",\"value\":");
@@ -205,7 +205,7 @@ fn write_attribute<X, T: ReadTexts<X>, W: TextSink>(
 }
 
 /// Writes the comment of a message or a term.
-fn write_hung<X, T: ReadTexts<X>, W: TextSink>(
+fn write_attached<X, T: ReadTexts<X>, W: TextSink>(
     writer: &mut TextWriter<'_, T, W>,
     comment: &Option<Comment<X>>,
 )

@@ -3,7 +3,7 @@ use Rattle.std.proofs.Common.{◌≡◌, ℕ, ◌+◌, ◌-◌, ◌<◌, ◌≤�
 use Rattle.std.proofs.Common.{◌∙◌, arith, subst}
 use Rattle.std.proofs.lemmas.Bool.{cases_lt}
 use Rattle.std.proofs.lemmas.List.{length-take-le, get_or-take, length-set}
-use Rattle.fluent_syntax_names.specs.Graph.{Graph, Leads, Reaches, edges, target}
+use Rattle.fluent_syntax_names.specs.Graph.{Graph, HasEdge, Reaches, edges, target}
 use Rattle.fluent_syntax_names.specs.Search.{Sound, at, pending_at, Back, Looked, at_done, at_open, to_come}
 use Rattle.fluent_syntax_names.specs.declared.graph.search.Pending.{Pending}
 use Rattle.fluent_syntax_names.specs.declared.graph.search.State.{State}
@@ -15,7 +15,7 @@ module _ (g : Graph) (states : List State) (stack starts : List ℕ) (pending : 
   -- ---- An edge back makes one segment of all from its target on
 
   module _ (p j : ℕ) (p_in : p < length stack) (j_in : j < length stack)
-      (before : (k : ℕ) → k < length starts → at starts k ≤ p) (leads : Leads g (at stack p) (at stack j))
+      (before : (k : ℕ) → k < length starts → at starts k ≤ p) (leads : HasEdge g (at stack p) (at stack j))
       (m : ℕ) (fewer : m ≤ length starts) (behind : (k : ℕ) → m ≤ k → k < length starts → j < at starts k) where
     abbrev fewer_starts : List ℕ
     fewer_starts = take m starts

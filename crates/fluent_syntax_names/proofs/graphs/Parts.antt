@@ -3,7 +3,7 @@ use Rattle.std.proofs.Common.{◌≡◌, ◌↔◌, ℕ, ◌<◌, ◌≤◌, fal
 use Rattle.std.proofs.Common.{arith}
 use Rattle.std.proofs.lemmas.Bool.{false≢true}
 use Rattle.std.proofs.lemmas.List.{get_or-map}
-use Rattle.fluent_syntax_names.specs.Graph.{Graph, Leads, Reaches, here, onward, SameComponents}
+use Rattle.fluent_syntax_names.specs.Graph.{Graph, HasEdge, Reaches, here, onward, SameComponents}
 use Rattle.fluent_syntax_names.specs.Search.{Sound, State_of, is_new, news, number_of}
 use Rattle.fluent_syntax_names.specs.declared.graph.search.Pending.{Pending}
 use Rattle.fluent_syntax_names.specs.declared.graph.search.State.{State}
@@ -64,10 +64,10 @@ module _ (g : Graph) (states : List State) (stack starts : List ℕ) (pending : 
         omega (arith, number_descends u v u_in v_in both.0, number_descends v u v_in u_in both.1),
   )
 
--- an edge lies on a circle exactly where its nodes have one number
-pub on_circle : (g : Graph) (list : List ℕ) → SameComponents g list → (u v : ℕ) → u < length g → v < length g
-    → Leads g u v → (get_or list u 0 ≡ get_or list v 0) ↔ Reaches g v u
-on_circle g list same u v u_in v_in leads = (
+-- an edge lies on a cycle exactly where its nodes have one number
+pub on_cycle : (g : Graph) (list : List ℕ) → SameComponents g list → (u v : ℕ) → u < length g → v < length g
+    → HasEdge g u v → (get_or list u 0 ≡ get_or list v 0) ↔ Reaches g v u
+on_cycle g list same u v u_in v_in leads = (
   λ e. ((same u v u_in v_in).0 e).1,
   λ back. (same u v u_in v_in).1 (onward u v v leads (here v), back),
 )

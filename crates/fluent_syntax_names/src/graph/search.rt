@@ -1,7 +1,7 @@
 //! A search through a graph that goes along one path of segments.
 ghost use Rattle.std.specs.Prelude.{◌≡◌, ◌<◌, ◌≤◌, ◌+◌, ◌-◌, ℕ, IfOk, OnOk, false, length, map, slice_set, MatchOption};
 ghost use Rattle.std.specs.Prelude.{get_or, Option, Some, None, vec_len, take};
-ghost use Rattle.fluent_syntax_names.specs.Graph.{IsGraph, Leads, edges, targets_of};
+ghost use Rattle.fluent_syntax_names.specs.Graph.{IsGraph, HasEdge, edges, targets_of};
 ghost use Rattle.fluent_syntax_names.specs.Search.{IsSound, Fresh, NoneNewer, State_of, news, last_of, at, pending_at};
 ghost use Rattle.fluent_syntax_names.specs.Search.{IsBehind, IsLastPending, IsSeen, number_of};
 
@@ -184,7 +184,7 @@ impl Search {
         requires sound { IsSound (targets_of graph.now) self.old }
         requires from { from < length self.old.stack.items }
         requires before { IsBehind self.old.starts.items from }
-        requires leads { Leads (targets_of graph.now) (at self.old.stack.items from) target }
+        requires leads { HasEdge (targets_of graph.now) (at self.old.stack.items from) target }
         requires target { target < length graph.now }
         requires known { State_of self.old.states.items target ≡ State.New → ⊥ }
         ensures sound { IsSound (targets_of graph.now) self.new }

@@ -9,7 +9,7 @@ use Rattle.fluent_syntax_grammar.specs.Construct.{Read, at_place, given, goes_on
 use Rattle.fluent_syntax_grammar.specs.Entries.{attribute_of, attributes_of, message_of, message_with, no_more}
 use Rattle.fluent_syntax_grammar.specs.Grammar.{within}
 use Rattle.fluent_syntax_grammar.specs.Places.{BlankBlock, InlineBlank}
-use Rattle.fluent_syntax_grammar.specs.Words.{token}
+use Rattle.fluent_syntax_grammar.specs.Tokens.{token}
 use Rattle.fluent_syntax_parser.specs.AnyDepth.{AttributesAtAnyDepth, MessageAtAnyDepth, OpensPattern}
 use Rattle.fluent_syntax_parser.specs.OneLine.{OpensAs}
 

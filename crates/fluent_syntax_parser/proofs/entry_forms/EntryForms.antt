@@ -5,7 +5,7 @@ use Rattle.std.proofs.lemmas.Bool.Decides.{nat_tests}
 use Rattle.fluent_syntax_tree.specs.Entry.{EntryTree}
 use Rattle.fluent_syntax_tree.specs.declared.edition.Edition.{Edition}
 use Rattle.fluent_syntax_tree.specs.declared.spans.Span.{Span}
-use Rattle.fluent_syntax_grammar.specs.Body.{hung}
+use Rattle.fluent_syntax_grammar.specs.Body.{attached}
 use Rattle.fluent_syntax_grammar.specs.Bytes.{hash, hyphen, is_letter}
 use Rattle.fluent_syntax_grammar.specs.Comments.{comment_entry}
 use Rattle.fluent_syntax_grammar.specs.Construct.{Construct, Outcome, Read, goes_on, chosen, first, second}
@@ -16,8 +16,8 @@ use Rattle.fluent_syntax_grammar.specs.Places.{has, holds, has_byte}
 use Rattle.fluent_syntax_grammar.specs.Tiling.{entry_at, entry_in, entry_of}
 use Rattle.fluent_syntax_grammar.proofs.Facts.{differs, excludes}
 use Rattle.fluent_syntax_grammar.proofs.Holds.{gave}
-use Rattle.fluent_syntax_parser.specs.Made.{Adds, made}
-use Rattle.fluent_syntax_parser.specs.Meets.{Fails}
+use Rattle.fluent_syntax_parser.specs.Made.{AddsParsed, made}
+use Rattle.fluent_syntax_parser.specs.Outcomes.{Fails}
 use Rattle.fluent_syntax_parser.specs.declared.fault.ReadFault.{ReadFault}
 use Rattle.fluent_syntax_parser.proofs.readers.Fails.{fails_as}
 use Rattle.fluent_syntax_parser.proofs.readers.Made.{on_made}
@@ -25,7 +25,7 @@ use Rattle.fluent_syntax_parser.proofs.readers.Made.{on_made}
 -- what was added of a construct, as of one with the same outcomes there
 pub adds_as : {A B X : Type 0} {t : List ℕ} (f : A → B) {c d : Construct A} (view : X → B) {i : ℕ} →
     ((o : Outcome A) → c i o → d i o) → ((e : ReadFault) → Fails t c i e → Fails t d i e) →
-    (old new : List X) (r : Result ℕ ReadFault) → Adds t f c view old new i r → Adds t f d view old new i r
+    (old new : List X) (r : Result ℕ ReadFault) → AddsParsed t f c view old new i r → AddsParsed t f d view old new i r
 adds_as f view read fails old new (Ok j) (x, all, h) = (x, all, on_made h (λ a there same. made (read _ there) same))
 adds_as f view read fails old new (Err e) (h, all) = (fails e h, all)
 
@@ -103,21 +103,21 @@ module _ (edition : Edition) (t : List ℕ) (R : Family) (i : ℕ) {f : ReadFaul
       of_chosen : (o : Outcome (EntryTree Span)) → entry_in edition t R i o → message_of edition t R i o
       of_chosen o (chosen x) = of_other edition t R i o (slice_get t i) none other x
 
--- ---- where no entry hangs
+-- ---- where no entry is attached
 
 module _ (edition : Edition) (t : List ℕ) (content : List Span) (i j : ℕ) (e : EntryTree Span) where
-  comment_hangs_not : comment_entry t i (Read e j) → hung content e ≡ None
-  comment_hangs_not (chosen (goes_on x (goes_on {j = m} y z))) = rw (← (gave _ e m j z).0) refl
+  comment_attaches_not : comment_entry t i (Read e j) → attached content e ≡ None
+  comment_attaches_not (chosen (goes_on x (goes_on {j = m} y z))) = rw (← (gave _ e m j z).0) refl
 
   hash_of_byte : (here : Option ℕ) → holds (λ b. b == hash) here ≡ true →
       entry_of edition t (family edition t) here i (Read e j) →
-      hung content e ≡ None
+      attached content e ≡ None
   hash_of_byte None there x = cc
-  hash_of_byte (Some b) there (first f x) = comment_hangs_not x
+  hash_of_byte (Some b) there (first f x) = comment_attaches_not x
   hash_of_byte (Some b) there (second f x) = differs there f
 
-  pub hash_hangs_not : has_byte t hash i ≡ true → entry_at edition t i (Read e j) → hung content e ≡ None
-  hash_hangs_not there (chosen x) = hash_of_byte (slice_get t i) there x
+  pub hash_attaches_not : has_byte t hash i ≡ true → entry_at edition t i (Read e j) → attached content e ≡ None
+  hash_attaches_not there (chosen x) = hash_of_byte (slice_get t i) there x
 
 -- ---- a letter is the mark of no other entry than a message
 

@@ -22,25 +22,27 @@ use Rattle.fluent_syntax_grammar.proofs.Included.{IsIncluded, IsIncludedFamily, 
 use Rattle.fluent_syntax_grammar.proofs.IncludedEntries.{included_entry}
 use Rattle.fluent_syntax_grammar.proofs.Nesting.{within_family}
 use Rattle.fluent_syntax_parser.proofs.entry_forms.EntryForms.{of_hash}
-use Rattle.fluent_syntax_parser.specs.Extents.{AttributeStands, AttributesStand, none_stands, one_stands}
-use Rattle.fluent_syntax_parser.specs.Extents.{FieldsStand, EntryStands, message_stands, term_stands, EntryFound}
-use Rattle.fluent_syntax_parser.specs.Extents.{FindsEntry, HasExtents}
+use Rattle.fluent_syntax_parser.specs.PartRanges.{HasAttributeParts, HaveAttributeParts, no_attribute_parts}
+use Rattle.fluent_syntax_parser.specs.PartRanges.{more_attribute_parts}
+use Rattle.fluent_syntax_parser.specs.PartRanges.{HaveFieldParts, HasEntryParts, message_has_parts, term_has_parts}
+use Rattle.fluent_syntax_parser.specs.PartRanges.{EntryWithParts}
+use Rattle.fluent_syntax_parser.specs.PartRanges.{FindsEntry, HasRanges}
 use Rattle.fluent_syntax_parser.specs.Fields.{FieldTrees, fields}
-use Rattle.fluent_syntax_parser.specs.declared.extents.AttributeExtents.{AttributeExtents}
-use Rattle.fluent_syntax_parser.specs.declared.extents.EntryExtents.{EntryExtents}
+use Rattle.fluent_syntax_parser.specs.declared.ranges.AttributeRanges.{AttributeRanges}
+use Rattle.fluent_syntax_parser.specs.declared.ranges.EntryRanges.{EntryRanges}
 
 -- ---- they are read
 
 module _ (edition : Edition) (t : List ℕ) (R : Family) where
-  pub attributes_there : {i end : ℕ} {xs : List AttributeExtents} {rest : List (AttributeTree Span)} →
-      AttributesStand edition t R i xs rest end → attributes_of edition t R i (Read rest end)
-  attributes_there (none_stands x) = no_more x
-  attributes_there (one_stands {x = x} {a = a} begins s more) =
+  pub attributes_there : {i end : ℕ} {xs : List AttributeRanges} {rest : List (AttributeTree Span)} →
+      HaveAttributeParts edition t R i xs rest end → attributes_of edition t R i (Read rest end)
+  attributes_there (no_attribute_parts x) = no_more x
+  attributes_there (more_attribute_parts {x = x} {a = a} begins s more) =
       one_more (subst (λ i. attribute_of edition t R i (Read a x.span.end)) begins s.whole) (attributes_there more)
 
   -- what stands behind a name, from the place to the end
-  module _ (i end : ℕ) (xs : List AttributeExtents) where
-    pub fields_there : (o : Option Span) (f : FieldTrees Span) → FieldsStand edition t R i o xs f end →
+  module _ (i end : ℕ) (xs : List AttributeRanges) where
+    pub fields_there : (o : Option Span) (f : FieldTrees Span) → HaveFieldParts edition t R i o xs f end →
         fields edition t R i (Read f end)
     fields_there o f s =
         goes_on (passed s.behind)
@@ -50,61 +52,62 @@ module _ (edition : Edition) (t : List ℕ) (R : Family) where
         (goes_on (attributes_there s.attributes)
         given))))
 
-    pub same_value : (o : Option Span) (f : FieldTrees Span) → FieldsStand edition t R i o xs f end →
+    pub same_value : (o : Option Span) (f : FieldTrees Span) → HaveFieldParts edition t R i o xs f end →
         is_some f.0 ≡ is_some o
     same_value None (None, rest) s = refl
     same_value None (Some v, rest) s = let h = s.there in cc
     same_value (Some p) (None, rest) s = let h = s.there in cc
     same_value (Some p) (Some v, rest) s = refl
 
-    pub with_value : {G : Type 0} (o : Option Span) (f : FieldTrees Span) → FieldsStand edition t R i o xs f end →
-        is_some o ≡ true → ((v : PatternTree Span) → FieldsStand edition t R i o xs (Some v, f.1) end → G) → G
+    pub with_value : {G : Type 0} (o : Option Span) (f : FieldTrees Span) → HaveFieldParts edition t R i o xs f end →
+        is_some o ≡ true → ((v : PatternTree Span) → HaveFieldParts edition t R i o xs (Some v, f.1) end → G) → G
     with_value None f s e k = cc
     with_value (Some p) (None, rest) s e k = let h = s.there in cc
     with_value (Some p) (Some v, rest) s e k = k v s
 
-    pub without_value : (o : Option Span) (f : FieldTrees Span) → FieldsStand edition t R i o xs f end →
-        is_some o ≡ false → FieldsStand edition t R i o xs (None, f.1) end
+    pub without_value : (o : Option Span) (f : FieldTrees Span) → HaveFieldParts edition t R i o xs f end →
+        is_some o ≡ false → HaveFieldParts edition t R i o xs (None, f.1) end
     without_value None (None, rest) s e = s
     without_value None (Some v, rest) s e = let h = s.there in cc
     without_value (Some p) f s e = cc
 
-  pub no_attributes : {i end : ℕ} {xs : List AttributeExtents} {rest : List (AttributeTree Span)} →
-      AttributesStand edition t R i xs rest end → xs ≡ [] → rest ≡ []
-  no_attributes (none_stands x) e = refl
-  no_attributes (one_stands begins s more) e = cc
+  pub no_attributes : {i end : ℕ} {xs : List AttributeRanges} {rest : List (AttributeTree Span)} →
+      HaveAttributeParts edition t R i xs rest end → xs ≡ [] → rest ≡ []
+  no_attributes (no_attribute_parts x) e = refl
+  no_attributes (more_attribute_parts begins s more) e = cc
 
-  pub no_attribute_extents : {i end : ℕ} {xs : List AttributeExtents} {rest : List (AttributeTree Span)} →
-      AttributesStand edition t R i xs rest end → rest ≡ [] → xs ≡ []
-  no_attribute_extents (none_stands x) e = refl
-  no_attribute_extents (one_stands begins s more) e = cc
+  pub no_attribute_ranges : {i end : ℕ} {xs : List AttributeRanges} {rest : List (AttributeTree Span)} →
+      HaveAttributeParts edition t R i xs rest end → rest ≡ [] → xs ≡ []
+  no_attribute_ranges (no_attribute_parts x) e = refl
+  no_attribute_ranges (more_attribute_parts begins s more) e = cc
 
   -- ---- a list that a loop gathers
 
   -- What stands from the one place to the other is what was gathered: before what follows it, it stands with that.
-  pub record GathersExtents (i : ℕ) (xs : List AttributeExtents) (j : ℕ) : Type 0 where
+  pub record GathersRanges (i : ℕ) (xs : List AttributeRanges) (j : ℕ) : Type 0 where
     pub items : List (AttributeTree Span)
-    pub stand : (more : List AttributeExtents) (rest : List (AttributeTree Span)) (end : ℕ) →
-        AttributesStand edition t R j more rest end → AttributesStand edition t R i (xs ++ more) (items ++ rest) end
+    pub stand : (more : List AttributeRanges) (rest : List (AttributeTree Span)) (end : ℕ) →
+        HaveAttributeParts edition t R j more rest end
+        → HaveAttributeParts edition t R i (xs ++ more) (items ++ rest) end
 
-  pub no_extents : (i : ℕ) → GathersExtents i [] i
-  no_extents i = record { items = []; stand = λ more rest end h. h }
+  pub no_ranges : (i : ℕ) → GathersRanges i [] i
+  no_ranges i = record { items = []; stand = λ more rest end h. h }
 
-  pub one_extent : (i : ℕ) (xs ys : List AttributeExtents) (j : ℕ) (x : AttributeExtents) → ys ≡ xs ++ x ∷ [] →
-      GathersExtents i xs j → (a : AttributeTree Span) → AttributeStands edition t R x a → x.span.start ≡ j →
-      GathersExtents i ys x.span.end
+  pub one_extent : (i : ℕ) (xs ys : List AttributeRanges) (j : ℕ) (x : AttributeRanges) → ys ≡ xs ++ x ∷ [] →
+      GathersRanges i xs j → (a : AttributeTree Span) → HasAttributeParts edition t R x a → x.span.start ≡ j →
+      GathersRanges i ys x.span.end
   one_extent i xs ys j x all g a s begins = record {
     items = g.items ++ a ∷ [];
     stand = λ more rest end h.
         rw (all, append_assoc xs (x ∷ []) more, append_assoc g.items (a ∷ []) rest)
-        (g.stand (x ∷ more) (a ∷ rest) end (one_stands begins s h));
+        (g.stand (x ∷ more) (a ∷ rest) end (more_attribute_parts begins s h));
   }
 
-  pub all_extents : (i : ℕ) (xs : List AttributeExtents) (j : ℕ) → (g : GathersExtents i xs j) → {from to : ℕ} →
+  pub all_ranges : (i : ℕ) (xs : List AttributeRanges) (j : ℕ) → (g : GathersRanges i xs j) → {from to : ℕ} →
       {k : Kind} → attribute_of edition t R j (Refused k from to) →
-      AttributesStand edition t R i xs g.items j
-  all_extents i xs j g none =
-      rw (← append_nothing xs, ← append_nothing g.items) (g.stand [] [] j (none_stands none))
+      HaveAttributeParts edition t R i xs g.items j
+  all_ranges i xs j g none =
+      rw (← append_nothing xs, ← append_nothing g.items) (g.stand [] [] j (no_attribute_parts none))
 
 -- ---- within a family that is included in another
 
@@ -112,8 +115,8 @@ module _ (edition : Edition) (t : List ℕ) (R S : Family) (h : IsIncludedFamily
   included_attribute : IsIncluded (attribute_of edition t R) (attribute_of edition t S)
   included_attribute = search (inclusions, included_pattern) depth 30
 
-  attribute_included : {x : AttributeExtents} {a : AttributeTree Span} → AttributeStands edition t R x a →
-      AttributeStands edition t S x a
+  attribute_included : {x : AttributeRanges} {a : AttributeTree Span} → HasAttributeParts edition t R x a →
+      HasAttributeParts edition t S x a
   attribute_included s = record {
     whole = included_attribute.part _ _ s.whole;
     dot = s.dot;
@@ -128,14 +131,14 @@ module _ (edition : Edition) (t : List ℕ) (R S : Family) (h : IsIncludedFamily
     ends = s.ends;
   }
 
-  attributes_included : {i end : ℕ} {xs : List AttributeExtents} {rest : List (AttributeTree Span)} →
-      AttributesStand edition t R i xs rest end → AttributesStand edition t S i xs rest end
-  attributes_included (none_stands x) = none_stands (included_attribute.part _ _ x)
-  attributes_included (one_stands begins s more) =
-      one_stands begins (attribute_included s) (attributes_included more)
+  attributes_included : {i end : ℕ} {xs : List AttributeRanges} {rest : List (AttributeTree Span)} →
+      HaveAttributeParts edition t R i xs rest end → HaveAttributeParts edition t S i xs rest end
+  attributes_included (no_attribute_parts x) = no_attribute_parts (included_attribute.part _ _ x)
+  attributes_included (more_attribute_parts begins s more) =
+      more_attribute_parts begins (attribute_included s) (attributes_included more)
 
-  fields_included : {i end : ℕ} {o : Option Span} {xs : List AttributeExtents} {f : FieldTrees Span} →
-      FieldsStand edition t R i o xs f end → FieldsStand edition t S i o xs f end
+  fields_included : {i end : ℕ} {o : Option Span} {xs : List AttributeRanges} {f : FieldTrees Span} →
+      HaveFieldParts edition t R i o xs f end → HaveFieldParts edition t S i o xs f end
   fields_included s = record {
     equals = s.equals;
     behind = s.behind;
@@ -148,12 +151,12 @@ module _ (edition : Edition) (t : List ℕ) (R S : Family) (h : IsIncludedFamily
     attributes = attributes_included s.attributes;
   }
 
-  parts_included : {i end : ℕ} {x : EntryExtents} {e : EntryTree Span} → EntryStands edition t R i x e end →
-      EntryStands edition t S i x e end
-  parts_included (message_stands begins name s) = message_stands begins name (fields_included s)
-  parts_included (term_stands mark name s) = term_stands mark name (fields_included s)
+  parts_included : {i end : ℕ} {x : EntryRanges} {e : EntryTree Span} → HasEntryParts edition t R i x e end →
+      HasEntryParts edition t S i x e end
+  parts_included (message_has_parts begins name s) = message_has_parts begins name (fields_included s)
+  parts_included (term_has_parts mark name s) = term_has_parts mark name (fields_included s)
 
-  pub found_included : (i : ℕ) (x : EntryExtents) → EntryFound edition t R i x → EntryFound edition t S i x
+  pub found_included : (i : ℕ) (x : EntryRanges) → EntryWithParts edition t R i x → EntryWithParts edition t S i x
   found_included i x s = record {
     tree = s.tree;
     end = s.end;
@@ -183,10 +186,10 @@ module _ (t : List ℕ) (i j : ℕ) (e : EntryTree Span) where
       in cc
 
 module _ (edition : Edition) (t : List ℕ) (n i : ℕ) where
-  pub has_extents : (found : Option EntryExtents) → FindsEntry edition t (within edition t n) i (Ok found) →
-      HasExtents edition t i found
-  has_extents None there = λ e end h. hash_is_comment t i end e edition there h
-  has_extents (Some x) s =
+  pub has_ranges : (found : Option EntryRanges) → FindsEntry edition t (within edition t n) i (Ok found) →
+      HasRanges edition t i found
+  has_ranges None there = λ e end h. hash_is_comment t i end e edition there h
+  has_ranges (Some x) s =
       found_included edition t (within edition t n) (family edition t) (within_family edition t n) i x s
 
 -- ---- a place that there is where there is a value

@@ -13,7 +13,7 @@ use Rattle.fluent_syntax_grammar.specs.Construct.{Construct, Read, at_place, cho
 use Rattle.fluent_syntax_grammar.specs.Construct.{second}
 use Rattle.fluent_syntax_grammar.specs.Grammar.{family, pattern}
 use Rattle.fluent_syntax_grammar.specs.Places.{InlineBlank, has}
-use Rattle.fluent_syntax_grammar.specs.Words.{identifier, token}
+use Rattle.fluent_syntax_grammar.specs.Tokens.{identifier, token}
 use Rattle.fluent_syntax_grammar.proofs.Boundaries.{boundary_cuts}
 use Rattle.fluent_syntax_grammar.proofs.Cuts.{IsCuts, ascii_has, ascii_name}
 use Rattle.fluent_syntax_grammar.proofs.Sound.{Ended, IsSpan, Sound, sound_blank_block, sound_inline_blank}
@@ -21,13 +21,16 @@ use Rattle.fluent_syntax_grammar.proofs.SoundEntries.{sound_attribute, sound_pat
 use Rattle.fluent_syntax_grammar.proofs.SoundWords.{sound_identifier, sound_token}
 use Rattle.fluent_syntax_grammar.proofs.Facts.{implies}
 use Rattle.fluent_syntax_grammar.proofs.Tests.{letter_name}
-use Rattle.fluent_syntax_parser.specs.Extents.{AttributeStands, AttributesStand, EntryStands, FieldsStand, HasExtents}
-use Rattle.fluent_syntax_parser.specs.Extents.{ReadAt}
-use Rattle.fluent_syntax_parser.specs.Extents.{attribute_ranges, message_stands, none_stands, one_stands, ranges}
-use Rattle.fluent_syntax_parser.specs.Extents.{term_stands}
+use Rattle.fluent_syntax_parser.specs.PartRanges.{HasAttributeParts, HaveAttributeParts, HasEntryParts, HaveFieldParts}
+use Rattle.fluent_syntax_parser.specs.PartRanges.{HasRanges}
+use Rattle.fluent_syntax_parser.specs.PartRanges.{ReadAt}
+use Rattle.fluent_syntax_parser.specs.PartRanges.{each_attribute_range, message_has_parts, no_attribute_parts}
+use Rattle.fluent_syntax_parser.specs.PartRanges.{more_attribute_parts}
+use Rattle.fluent_syntax_parser.specs.PartRanges.{each_range}
+use Rattle.fluent_syntax_parser.specs.PartRanges.{term_has_parts}
 use Rattle.fluent_syntax_parser.specs.Fields.{FieldTrees}
-use Rattle.fluent_syntax_parser.specs.declared.extents.AttributeExtents.{AttributeExtents}
-use Rattle.fluent_syntax_parser.specs.declared.extents.EntryExtents.{EntryExtents}
+use Rattle.fluent_syntax_parser.specs.declared.ranges.AttributeRanges.{AttributeRanges}
+use Rattle.fluent_syntax_parser.specs.declared.ranges.EntryRanges.{EntryRanges}
 
 letter_there : (t : List ℕ) (i j : ℕ) (a : Span) → identifier t i (Read a j) → has t is_letter i ≡ true
 letter_there t i j a (goes_on at_place (goes_on (chosen given) (first e x))) = e
@@ -58,34 +61,35 @@ module _ (edition : Edition) (t : List ℕ) (P : ℕ → Type 0) (cuts : IsCuts 
       let c = behind (sound_pattern edition t P cuts) b.place value in
       (c.late, b.place, c.place)
 
-  attribute_in_text : (x : AttributeExtents) (a : AttributeTree Span) →
-      AttributeStands edition t (family edition t) x a → P x.span.start → attribute_ranges (IsSpan P) x
+  attribute_in_text : (x : AttributeRanges) (a : AttributeTree Span) →
+      HasAttributeParts edition t (family edition t) x a → P x.span.start → each_attribute_range (IsSpan P) x
   attribute_in_text x a s p =
       let whole = behind (sound_attribute edition t P cuts) p s.whole in
       let name = name_range x.name s.name in
       ((whole.late, p, whole.place), name, value_range _ _ x.value _ name.2 s.behind s.sign s.value)
 
-  attributes_in_text : {i end : ℕ} {xs : List AttributeExtents} {rest : List (AttributeTree Span)} →
-      AttributesStand edition t (family edition t) i xs rest end → P i → list_every (attribute_ranges (IsSpan P)) xs
-  attributes_in_text (none_stands x) p = tt
-  attributes_in_text (one_stands {x = x} {a = a} begins s more) p =
+  attributes_in_text : {i end : ℕ} {xs : List AttributeRanges} {rest : List (AttributeTree Span)} →
+      HaveAttributeParts edition t (family edition t) i xs rest end → P i
+      → list_every (each_attribute_range (IsSpan P)) xs
+  attributes_in_text (no_attribute_parts x) p = tt
+  attributes_in_text (more_attribute_parts {x = x} {a = a} begins s more) p =
       let r = attribute_in_text x a s (subst P (sym begins) p) in (r, attributes_in_text more r.0.2)
 
-  fields_in_text : (x : EntryExtents) (f : FieldTrees Span) (end : ℕ) → ReadAt (identifier t) x.name x.name →
-      FieldsStand edition t (family edition t) x.name.end x.value x.attributes.items f end → ranges (IsSpan P) x
+  fields_in_text : (x : EntryRanges) (f : FieldTrees Span) (end : ℕ) → ReadAt (identifier t) x.name x.name →
+      HaveFieldParts edition t (family edition t) x.name.end x.value x.attributes.items f end → each_range (IsSpan P) x
   fields_in_text x f end name s =
       let n = name_range x.name name in
       let v = value_range _ _ s.place _ n.2 s.behind s.sign s.value in
       let line = behind (sound_blank_block t P cuts) v.2 (passed s.blank) in
       (n, if_any (IsSpan P) s.place x.value f.0 s.there v, attributes_in_text s.attributes line.place)
 
-  entry_in_text : (i end : ℕ) (x : EntryExtents) (e : EntryTree Span) →
-      EntryStands edition t (family edition t) i x e end → ranges (IsSpan P) x
-  entry_in_text i end x e (message_stands {f = f} begins name s) = fields_in_text x f end name s
-  entry_in_text i end x e (term_stands mark name s) = fields_in_text x _ end name s
+  entry_in_text : (i end : ℕ) (x : EntryRanges) (e : EntryTree Span) →
+      HasEntryParts edition t (family edition t) i x e end → each_range (IsSpan P) x
+  entry_in_text i end x e (message_has_parts {f = f} begins name s) = fields_in_text x f end name s
+  entry_in_text i end x e (term_has_parts mark name s) = fields_in_text x _ end name s
 
-pub extents_in_text : (edition : Edition) (t : List ℕ) → IsUtf8 t → (i : ℕ) (found : Option EntryExtents) →
-    HasExtents edition t i found → IfSome found (ranges (IsPart t))
-extents_in_text edition t utf8 i None s = tt
-extents_in_text edition t utf8 i (Some x) s =
+pub ranges_in_text : (edition : Edition) (t : List ℕ) → IsUtf8 t → (i : ℕ) (found : Option EntryRanges) →
+    HasRanges edition t i found → IfSome found (each_range (IsPart t))
+ranges_in_text edition t utf8 i None s = tt
+ranges_in_text edition t utf8 i (Some x) s =
     entry_in_text edition t (IsCharBoundary t) (boundary_cuts t utf8) i s.end x s.tree s.parts

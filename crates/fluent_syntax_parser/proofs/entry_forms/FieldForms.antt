@@ -15,9 +15,9 @@ use Rattle.fluent_syntax_grammar.specs.Entries.{attributes_of, message_with}
 use Rattle.fluent_syntax_grammar.specs.Family.{Family}
 use Rattle.fluent_syntax_grammar.specs.Nesting.{TooDeep}
 use Rattle.fluent_syntax_grammar.specs.Patterns.{pattern}
-use Rattle.fluent_syntax_parser.specs.Meets.{Fails, no_memory, refused, too_deep}
+use Rattle.fluent_syntax_parser.specs.Outcomes.{Fails, no_memory, refused, too_deep}
 use Rattle.fluent_syntax_parser.specs.declared.fault.ReadFault.{ReadFault}
-use Rattle.fluent_syntax_grammar.specs.Words.{blank_block, inline_blank, token}
+use Rattle.fluent_syntax_grammar.specs.Tokens.{blank_block, inline_blank, token}
 use Rattle.fluent_syntax_parser.specs.Fields.{FieldTrees, fields}
 
 module _ (edition : Edition) (t : List ℕ) (R : Family)

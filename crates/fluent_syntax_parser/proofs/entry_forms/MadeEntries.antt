@@ -12,12 +12,12 @@ use Rattle.fluent_syntax_tree.specs.declared.ast.Entry.TheVariants as entries
 use Rattle.fluent_syntax_tree.specs.declared.edition.Edition.{Edition}
 use Rattle.fluent_syntax_tree.specs.declared.errors.ParserError.{ParserError}
 use Rattle.fluent_syntax_tree.specs.declared.spans.Span.{Span}
-use Rattle.fluent_syntax_grammar.specs.Body.{hung}
+use Rattle.fluent_syntax_grammar.specs.Body.{attached}
 use Rattle.fluent_syntax_grammar.specs.Tiling.{Fault}
 use Rattle.fluent_syntax_parser.specs.Faults.{fault_of}
 use Rattle.fluent_syntax_parser.specs.MadeEntries.{MadeBody, NextMade, commented, ends_with_comment}
 use Rattle.fluent_syntax_parser.specs.MadeEntries.{is_comment}
-use Rattle.fluent_syntax_parser.specs.Rest.{EntryAt, EntryTo, NextTo, Rest, faults_of, may_hang, tree_of}
+use Rattle.fluent_syntax_parser.specs.Rest.{EntryAt, EntryTo, NextTo, Rest, faults_of, may_attach, tree_of}
 use Rattle.fluent_syntax_parser.specs.declared.options.Comments.{Comments}
 use Rattle.fluent_syntax_parser.specs.declared.options.Halt.{Halt}
 use Rattle.fluent_syntax_parser.proofs.readers.SameTrees.{same_entry}
@@ -59,11 +59,11 @@ with_lines content (term m) = Some (term (record m { comment = Some content }))
 with_lines content (comment level c) = None
 with_lines content (junk x) = None
 
-hung_is : (content : List Span) (e : EntryTree Span) → hung content e ≡ with_lines content e
-hung_is content (message m) = refl
-hung_is content (term m) = refl
-hung_is content (comment level c) = refl
-hung_is content (junk x) = refl
+attached_is : (content : List Span) (e : EntryTree Span) → attached content e ≡ with_lines content e
+attached_is content (message m) = refl
+attached_is content (term m) = refl
+attached_is content (comment level c) = refl
+attached_is content (junk x) = refl
 
 mapped_lines : {X : Type 0} (f : Span → X) (content : List Span) (e : EntryTree Span) →
     with_lines (map f content) (entry_map f e) ≡ option_map (entry_map f) (with_lines content e)
@@ -83,7 +83,7 @@ viewed_lines v c (entries.Junk x) = refl
 
 -- ---- comments of level 1
 
-mapped_may : {X : Type 0} (f : Span → X) (e : EntryTree Span) → may_hang (entry_map f e) ≡ may_hang e
+mapped_may : {X : Type 0} (f : Span → X) (e : EntryTree Span) → may_attach (entry_map f e) ≡ may_attach e
 mapped_may f (message m) = refl
 mapped_may f (term m) = refl
 mapped_may f (comment regular c) = refl
@@ -91,7 +91,7 @@ mapped_may f (comment group c) = refl
 mapped_may f (comment resource c) = refl
 mapped_may f (junk x) = refl
 
-viewed_may : {S X : Type 0} (v : S → X) (e : Entry S) → may_hang (entry_view v e) ≡ is_comment e
+viewed_may : {S X : Type 0} (v : S → X) (e : Entry S) → may_attach (entry_view v e) ≡ is_comment e
 viewed_may v (entries.Message m) = refl
 viewed_may v (entries.Term m) = refl
 viewed_may v (entries.Comment d) = refl
@@ -139,21 +139,22 @@ one_more before x after = append_assoc before (x ∷ []) after
 module _ {S X : Type 0} (f : Span → X) (v : S → X) where
   module _ (c : Comment S) (e : Entry S) (content : List Span) (tree : EntryTree Span)
       (lines : comment_view v c ≡ map f content) (same : entry_view v e ≡ entry_map f tree) where
-    same_hung : option_map (entry_view v) (commented c e) ≡ option_map (entry_map f) (hung content tree)
-    same_hung =
+    same_attached : option_map (entry_view v) (commented c e) ≡ option_map (entry_map f) (attached content tree)
+    same_attached =
         sym (viewed_lines v c e) ∙ ap (λ xs. with_lines xs (entry_view v e)) lines
         ∙ ap (λ x. with_lines (map f content) x) same ∙ mapped_lines f content tree
-        ∙ ap (option_map (entry_map f)) (sym (hung_is content tree))
+        ∙ ap (option_map (entry_map f)) (sym (attached_is content tree))
 
     -- the entry with the comment stands for the tree with it
-    pub hung_made : (with_comment : Entry S) → commented c e ≡ Some with_comment →
-        (x : EntryTree Span) × (hung content tree ≡ Some x) × (entry_view v with_comment ≡ entry_map f x)
-    hung_made with_comment h =
-        some_of (entry_map f) (hung content tree) (entry_view v with_comment)
-        (ap (option_map (entry_view v)) (sym h) ∙ same_hung)
+    pub attached_made : (with_comment : Entry S) → commented c e ≡ Some with_comment →
+        (x : EntryTree Span) × (attached content tree ≡ Some x) × (entry_view v with_comment ≡ entry_map f x)
+    attached_made with_comment h =
+        some_of (entry_map f) (attached content tree) (entry_view v with_comment)
+        (ap (option_map (entry_view v)) (sym h) ∙ same_attached)
 
-    pub hung_not : commented c e ≡ None → hung content tree ≡ None
-    hung_not h = none_of (entry_map f) (hung content tree) (ap (option_map (entry_view v)) (sym h) ∙ same_hung)
+    pub attached_not : commented c e ≡ None → attached content tree ≡ None
+    attached_not h = none_of (entry_map f) (attached content tree)
+        (ap (option_map (entry_view v)) (sym h) ∙ same_attached)
 
   -- what stands for a comment of level 1
   comment_tree : (tree : EntryTree Span) (xs : List X) → comment regular xs ≡ entry_map f tree →
@@ -166,9 +167,9 @@ module _ {S X : Type 0} (f : Span → X) (v : S → X) where
   comment_tree (junk x) xs e = cc
 
   other_tree : (e : Entry S) (tree : EntryTree Span) → entry_view v e ≡ entry_map f tree → is_comment e ≡ false →
-      may_hang tree ≡ false
+      may_attach tree ≡ false
   other_tree e tree same h =
-      sym (mapped_may f tree) ∙ ap may_hang (sym same) ∙ viewed_may v e ∙ h
+      sym (mapped_may f tree) ∙ ap may_attach (sym same) ∙ viewed_may v e ∙ h
 
   -- The entry is a comment of level 1, and so is the tree that it stands for.
   pub record IsComment (e : Entry S) (tree : EntryTree Span) : Type 0 where
@@ -189,7 +190,7 @@ module _ {S X : Type 0} (f : Span → X) (v : S → X) where
         let of_tree = comment_tree tree _ (sym (ap (entry_view v) seen.1) ∙ same) in
         record { lines = seen.0; is = seen.1; content = of_tree.0; tree_is = of_tree.1; same = of_tree.2 }
 
-    pub other_added : ends_with_comment body ≡ false → may_hang tree ≡ false
+    pub other_added : ends_with_comment body ≡ false → may_attach tree ≡ false
     other_added h = other_tree e tree same (last_is false h)
 
   -- ---- what was read up to a place, before whatever is left from there on
@@ -233,10 +234,10 @@ module _ {S X : Type 0} (f : Span → X) (v : S → X) where
         }
 
 -- what one error more tells, if there is one
-pub told_faults : (errors told : List ParserError) (error : Option ParserError) →
+pub error_faults : (errors told : List ParserError) (error : Option ParserError) →
     told ≡ errors ++ option_to_list error → map fault_of told ≡ map fault_of errors ++ faults_of error
-told_faults errors told None same = ap (map fault_of) same ∙ map-append fault_of errors []
-told_faults errors told (Some e) same = ap (map fault_of) same ∙ map-append fault_of errors (e ∷ [])
+error_faults errors told None same = ap (map fault_of) same ∙ map-append fault_of errors []
+error_faults errors told (Some e) same = ap (map fault_of) same ∙ map-append fault_of errors (e ∷ [])
 
 -- ---- entries of spans
 

@@ -24,7 +24,7 @@ use Rattle.fluent_syntax_grammar.specs.Family.{Family}
 use Rattle.fluent_syntax_grammar.specs.Inline.{inline_expression}
 use Rattle.fluent_syntax_grammar.specs.Places.{Blank, has_byte}
 use Rattle.fluent_syntax_grammar.specs.Starts.{start}
-use Rattle.fluent_syntax_grammar.specs.Words.{token}
+use Rattle.fluent_syntax_grammar.specs.Tokens.{token}
 use Rattle.fluent_syntax_grammar.proofs.Facts.{byte_found}
 use Rattle.fluent_syntax_grammar.proofs.FunctionalRules.{IsFunctionalFamily, functional_inline}
 use Rattle.fluent_syntax_grammar.proofs.FunctionalRules.{functional_next_argument}
@@ -32,7 +32,7 @@ use Rattle.fluent_syntax_parser.specs.Gathered.{names_in}
 use Rattle.fluent_syntax_parser.proofs.expressions.GatheredArguments.{arguments_mapped, put_arguments, put_named}
 use Rattle.fluent_syntax_parser.proofs.expressions.GatheredArguments.{put_none, put_positional, put_whole}
 use Rattle.fluent_syntax_parser.proofs.scanning.Names.{names_added}
-use Rattle.fluent_syntax_parser.specs.Meets.{Fails}
+use Rattle.fluent_syntax_parser.specs.Outcomes.{Fails}
 use Rattle.fluent_syntax_parser.specs.declared.fault.ReadFault.{ReadFault}
 use Rattle.fluent_syntax_parser.specs.Made.{IsMade, made}
 use Rattle.fluent_syntax_parser.proofs.readers.Behind.{Behind, list_read, one_behind}

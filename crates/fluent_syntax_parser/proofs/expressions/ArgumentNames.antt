@@ -13,9 +13,9 @@ use Rattle.fluent_syntax_grammar.specs.Construct.{second}
 use Rattle.fluent_syntax_grammar.specs.Family.{Family}
 use Rattle.fluent_syntax_grammar.specs.Inline.{inline_expression, inline_of, named_reference}
 use Rattle.fluent_syntax_grammar.specs.Starts.{Start, brace, digit, dollar, letter, minus, other, quote, start, term}
-use Rattle.fluent_syntax_grammar.specs.Words.{identifier}
+use Rattle.fluent_syntax_grammar.specs.Tokens.{identifier}
 use Rattle.fluent_syntax_grammar.proofs.FunctionalWords.{functional_identifier}
-use Rattle.fluent_syntax_parser.specs.Meets.{name_text}
+use Rattle.fluent_syntax_parser.specs.Outcomes.{name_text}
 use Rattle.fluent_syntax_parser.proofs.scanning.NameTexts.{identifier_text}
 
 -- a message reference without attribute

@@ -10,11 +10,11 @@ use Rattle.fluent_syntax_grammar.specs.Construct.{goes_on}
 use Rattle.fluent_syntax_grammar.specs.Family.{Family, call_arguments}
 use Rattle.fluent_syntax_grammar.specs.Inline.{inline_expression, inline_of, named_reference}
 use Rattle.fluent_syntax_grammar.specs.Starts.{Start, digit, letter, minus, quote, start}
-use Rattle.fluent_syntax_grammar.specs.Words.{identifier, number}
+use Rattle.fluent_syntax_grammar.specs.Tokens.{identifier, number}
 use Rattle.fluent_syntax_grammar.proofs.FunctionalRules.{IsFunctionalFamily, functional_call}
 use Rattle.fluent_syntax_grammar.proofs.FunctionalWords.{functional_identifier}
-use Rattle.fluent_syntax_parser.specs.Made.{Makes, made}
-use Rattle.fluent_syntax_parser.specs.Meets.{Fails}
+use Rattle.fluent_syntax_parser.specs.Made.{Parses, made}
+use Rattle.fluent_syntax_parser.specs.Outcomes.{Fails}
 use Rattle.fluent_syntax_parser.specs.Starts.{start_view}
 use Rattle.fluent_syntax_parser.specs.declared.fault.ReadFault.{ReadFault}
 use Rattle.fluent_syntax_parser.proofs.readers.Fails.{fails_next, fails_seen}
@@ -83,8 +83,8 @@ module _ (t : List ℕ) (R : Family) (i : ℕ) where
 -- a name with its arguments, by the reference that these are
 pub referred : {B X : Type 0} (t : List ℕ) (R : Family) (i : ℕ) (f : InlineTree Span → B) (view : X → B) {name : Span}
     {a : MaybeArguments Span} {m j : ℕ} (r : Result (X × ℕ) ReadFault) →
-    Makes t f (named_reference t name a) view j r → letter ≡ start t i → identifier t i (Read name m) →
-    call_arguments t R m (Read a j) → IsFunctionalFamily R → Makes t f (inline_expression t R) view i r
+    Parses t f (named_reference t name a) view j r → letter ≡ start t i → identifier t i (Read name m) →
+    call_arguments t R m (Read a j) → IsFunctionalFamily R → Parses t f (inline_expression t R) view i r
 referred t R i f view (Ok x) h s n c g =
     on_made h (λ e read same. made (by_start t R i letter _ s (goes_on n (goes_on c read))) same)
 referred t R i f view (Err e) h s n c g =

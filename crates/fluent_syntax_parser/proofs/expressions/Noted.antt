@@ -10,12 +10,12 @@ use Rattle.std.specs.declared.cmp.Ordering.{Ordering}
 use Rattle.std.specs.declared.cmp.Ordering.TheVariants.{Equal}
 use Rattle.fluent_syntax_grammar.specs.Arguments.{is_used}
 use Rattle.fluent_syntax_grammar.specs.NameKeys.{NotesAll, is_key}
-use Rattle.fluent_syntax_grammar.proofs.NameKeys.{key_held, notes_behind}
+use Rattle.fluent_syntax_grammar.proofs.NameKeys.{any_key, notes_behind}
 use Rattle.fluent_syntax_parser.specs.Noted.{Notes}
 
-other_way : (held used new : Bool) → new ≡ not held → held ≡ used → used ≡ not new
-other_way true used new e same = rw e (sym same)
-other_way false used new e same = rw e (sym same)
+not_new : (held used new : Bool) → new ≡ not held → held ≡ used → used ≡ not new
+not_new true used new e same = rw e (sym same)
+not_new false used new e same = rw e (sym same)
 
 module _ {K : Type 0} (text : K → List ℕ) where
   -- one name more, where they are many then
@@ -29,9 +29,9 @@ module _ {K : Type 0} (text : K → List ℕ) where
             (notes_behind text cmp same keys names k all)),
       )
 
-  -- what the table tells where a name comes into it: whether it is none of the names there
-  pub told_new : (keys : List K) (names : List (List ℕ)) (key n : List ℕ) (new : Bool) →
+  -- a name is new to the table just where none of the names there is it
+  pub is_used-new : (keys : List K) (names : List (List ℕ)) (key n : List ℕ) (new : Bool) →
       new ≡ not (list_any (is_at (λ k. slice_cmp nat_cmp key (text k))) keys) → key ≡ n → NotesAll text keys names →
       is_used n names ≡ not new
-  told_new keys names key n new e same all =
-      other_way _ _ _ e (key_held text key keys ∙ ap (λ name. is_key text keys name) same ∙ all n)
+  is_used-new keys names key n new e same all =
+      not_new _ _ _ e (any_key text key keys ∙ ap (λ name. is_key text keys name) same ∙ all n)

@@ -16,8 +16,8 @@ use Rattle.fluent_syntax_grammar.specs.Laws.{IsFunctional}
 use Rattle.fluent_syntax_grammar.proofs.Functional.{functional_bind, functional_fails}
 use Rattle.fluent_syntax_grammar.proofs.FunctionalRules.{IsFunctionalFamily, functional_inline}
 use Rattle.fluent_syntax_grammar.proofs.FunctionalWords.{functional_blank, functional_inline_blank}
-use Rattle.fluent_syntax_parser.specs.Made.{Makes, made}
-use Rattle.fluent_syntax_parser.specs.Meets.{Fails, no_memory, refused, too_deep}
+use Rattle.fluent_syntax_parser.specs.Made.{Parses, made}
+use Rattle.fluent_syntax_parser.specs.Outcomes.{Fails, no_memory, refused, too_deep}
 use Rattle.fluent_syntax_parser.specs.Selects.{arrow_variants, select_start}
 use Rattle.fluent_syntax_parser.specs.declared.fault.ReadFault.{ReadFault}
 use Rattle.fluent_syntax_parser.proofs.readers.Fails.{fails_next, fails_yes}
@@ -97,7 +97,7 @@ module _ (edition : Edition) (t : List ℕ) (R : Family) (e : InlineTree Span) (
 pub behind_blank : {B X : Type 0} (edition : Edition) (t : List ℕ) (R : Family) (f : ExpressionTree Span → B)
     (view : X → B) {i j k : ℕ} {e : InlineTree Span} (r : Result (X × ℕ) ReadFault) →
     inline_expression t R i (Read e j) → Blank t j k → has_arrow t k ≡ true → IsFunctionalFamily R →
-    Makes t f (select_with edition t R e (selector_fault e)) view k r → Makes t f (expression edition t R) view i r
+    Parses t f (select_with edition t R e (selector_fault e)) view k r → Parses t f (expression edition t R) view i r
 behind_blank edition t R f view (Ok x) read blank arrow g h = on_made h (λ b there same. made
     (goes_on read (goes_on (passed blank) (goes_on (chosen given) (first arrow there)))) same)
 behind_blank edition t R f view (Err _) read blank arrow g h =

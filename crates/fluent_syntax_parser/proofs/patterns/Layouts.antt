@@ -6,7 +6,8 @@ use Rattle.std.specs.List.{flat_map}
 use Rattle.std.proofs.lemmas.List.{map-append}
 use Rattle.fluent_syntax_tree.specs.declared.edition.Edition.{Edition}
 use Rattle.fluent_syntax_tree.specs.declared.edition.Edition.TheVariants.{One, Two}
-use Rattle.fluent_syntax_grammar.specs.Elements.{ItemOf, text, filled, with_ending, kept_from, indented, items_from}
+use Rattle.fluent_syntax_grammar.specs.Elements.{ItemOf, text, filled, with_ending, common_indent_end, indented}
+use Rattle.fluent_syntax_grammar.specs.Elements.{items_from}
 use Rattle.fluent_syntax_grammar.specs.Elements.{line_items, opening_items, items, stays, cut_before, cut}
 use Rattle.fluent_syntax_grammar.specs.Layout.{PieceOf, run, placed, Ending, lf_at, crlf_at, text_end, LineOf, LayoutOf}
 use Rattle.fluent_syntax_grammar.specs.Layout.{counted_spaces, counted, least, common_indent}
@@ -41,7 +42,8 @@ module _ {E F : Type 0} (h : E → F) where
   ending_mapped (run from to ∷ placed e ∷ ps) end = ap (λ xs. text from to ∷ xs) (ending_mapped (placed e ∷ ps) end)
   ending_mapped (placed e ∷ ps) end = ap (λ xs. filled (h e) ∷ xs) (ending_mapped ps end)
 
-  kept_mapped : (common : Option ℕ) (l : LineOf E) → kept_from common (line_map h l) ≡ kept_from common l
+  kept_mapped : (common : Option ℕ) (l : LineOf E)
+      → common_indent_end common (line_map h l) ≡ common_indent_end common l
   kept_mapped None l = refl
   kept_mapped (Some common) l = refl
 
@@ -71,7 +73,7 @@ module _ {E F : Type 0} (h : E → F) where
   line_mapped edition common l =
       ap (λ kept. items_from edition kept (l.start + l.spaces) (map (piece_map h) l.pieces) l.ending)
       (kept_mapped common l)
-      ∙ from_mapped edition (kept_from common l) (l.start + l.spaces) l.pieces l.ending
+      ∙ from_mapped edition (common_indent_end common l) (l.start + l.spaces) l.pieces l.ending
 
   pub lines_mapped : (edition : Edition) (common : Option ℕ) (ls : List (LineOf E)) →
       flat_map (line_items edition common) (map (line_map h) ls)

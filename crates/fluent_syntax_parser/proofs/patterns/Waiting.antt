@@ -5,8 +5,9 @@ use Rattle.std.specs.Prelude.{nat_lt, if◌then◌else◌}
 use Rattle.fluent_syntax_tree.specs.declared.edition.Edition.{Edition}
 use Rattle.fluent_syntax_tree.specs.declared.edition.Edition.TheVariants.{One, Two}
 use Rattle.fluent_syntax_grammar.specs.Layout.{Ending, lf_at, crlf_at, text_end, LineOf, PieceOf, placed, run}
-use Rattle.fluent_syntax_parser.specs.Elements.{bare_items, flushed, indent_of, kept_place, leading, waiting}
-use Rattle.fluent_syntax_grammar.specs.Elements.{ItemOf, filled, items_from, kept_from, line_items, text, with_ending}
+use Rattle.fluent_syntax_parser.specs.Elements.{bare_items, flushed, indent_of, kept_place, leading, pending_run}
+use Rattle.fluent_syntax_grammar.specs.Elements.{ItemOf, filled, items_from, common_indent_end, line_items, text}
+use Rattle.fluent_syntax_grammar.specs.Elements.{with_ending}
 
 module _ {E : Type 0} where
   pub none_leads : (led : Option ℕ) → leading {E = E} led [] ≡ []
@@ -24,26 +25,26 @@ module _ {E : Type 0} where
 
   module _ (end : Ending) where
     flush : (xs : List (ItemOf E)) (pending : Option (ℕ × ℕ)) (p : PieceOf E) (ps : List (PieceOf E)) →
-        flushed xs pending ++ with_ending (p ∷ ps) end ≡ xs ++ with_ending (waiting pending (p ∷ ps)) end
+        flushed xs pending ++ with_ending (p ∷ ps) end ≡ xs ++ with_ending (pending_run pending (p ∷ ps)) end
     flush xs None p ps = refl
     flush xs (Some r) p ps = append_assoc xs (text r.0 r.1 ∷ []) (with_ending (p ∷ ps) end)
 
     pub run_waits : (xs : List (ItemOf E)) (pending : Option (ℕ × ℕ)) (led : Option ℕ) (from to : ℕ)
         (ps : List (PieceOf E)) →
         flushed xs pending ++ with_ending (run (unwrap_or led from) to ∷ ps) end
-        ≡ xs ++ with_ending (waiting pending (leading led (run from to ∷ ps))) end
+        ≡ xs ++ with_ending (pending_run pending (leading led (run from to ∷ ps))) end
     run_waits xs pending led from to ps =
         flush xs pending (run (unwrap_or led from) to) ps
-        ∙ ap (λ qs. xs ++ with_ending (waiting pending qs) end) (sym (run_leads led from to ps))
+        ∙ ap (λ qs. xs ++ with_ending (pending_run pending qs) end) (sym (run_leads led from to ps))
 
     pub placed_added : (xs : List (ItemOf E)) (pending : Option (ℕ × ℕ)) (led : Option ℕ) (e : E)
         (ps : List (PieceOf E)) →
         (flushed xs pending ++ filled e ∷ []) ++ with_ending ps end
-        ≡ xs ++ with_ending (waiting pending (leading led (placed e ∷ ps))) end
+        ≡ xs ++ with_ending (pending_run pending (leading led (placed e ∷ ps))) end
     placed_added xs pending led e ps =
         append_assoc (flushed xs pending) (filled e ∷ []) (with_ending ps end)
         ∙ flush xs pending (placed e) ps
-        ∙ ap (λ qs. xs ++ with_ending (waiting pending qs) end) (sym (placed_leads led e ps))
+        ∙ ap (λ qs. xs ++ with_ending (pending_run pending qs) end) (sym (placed_leads led e ps))
 
   -- ---- the line on which a pattern opens: its pieces are items, but for the last one
 
@@ -69,7 +70,7 @@ module _ {E : Type 0} where
 
   -- ---- a line, by whether it holds something
 
-  kept_is : (common : Option ℕ) (l : LineOf E) → kept_place common l.start l.spaces ≡ kept_from common l
+  kept_is : (common : Option ℕ) (l : LineOf E) → kept_place common l.start l.spaces ≡ common_indent_end common l
   kept_is None l = refl
   kept_is (Some common) l = refl
 

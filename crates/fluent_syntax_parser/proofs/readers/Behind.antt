@@ -7,7 +7,7 @@ use Rattle.fluent_syntax_grammar.specs.Laws.{IsFunctional}
 use Rattle.fluent_syntax_grammar.proofs.Facts.{append_nothing}
 use Rattle.fluent_syntax_grammar.proofs.Deeper.{deeper_item, deeper_later}
 use Rattle.fluent_syntax_parser.specs.declared.fault.ReadFault.{ReadFault}
-use Rattle.fluent_syntax_parser.specs.Meets.{Fails, refused, too_deep, no_memory}
+use Rattle.fluent_syntax_parser.specs.Outcomes.{Fails, refused, too_deep, no_memory}
 use Rattle.fluent_syntax_parser.specs.Made.{IsMade, made}
 
 module _ {A S B : Type 0} (t : List ℕ) (next : S → Construct (More A S)) (add : A → B → B) (none : B) (s : S) (i : ℕ)

@@ -16,7 +16,7 @@ use Rattle.fluent_syntax_grammar.specs.Nesting.{TooDeep}
 use Rattle.fluent_syntax_grammar.specs.Placeables.{arrow_line_end, expression, placeable}
 use Rattle.fluent_syntax_grammar.specs.Places.{Blank, Reaches, Steps, after_eol}
 use Rattle.fluent_syntax_grammar.specs.Variants.{only_star}
-use Rattle.fluent_syntax_grammar.specs.Words.{optional, token}
+use Rattle.fluent_syntax_grammar.specs.Tokens.{optional, token}
 use Rattle.fluent_syntax_grammar.proofs.Deeper.{deeper_first, deeper_next, deeper_yes, deeper_no, deeper_at_each}
 use Rattle.fluent_syntax_grammar.proofs.Deeper.{none_inside, no_list_inside}
 use Rattle.fluent_syntax_grammar.proofs.Functional.{functional, functional_at_each}
@@ -25,7 +25,8 @@ use Rattle.fluent_syntax_grammar.proofs.FunctionalWords.{functional_blank, funct
 use Rattle.fluent_syntax_parser.specs.declared.fault.ReadFault.{ReadFault}
 use Rattle.fluent_syntax_parser.specs.declared.fault.ReadFault.TheVariants as faults
 use Rattle.fluent_syntax_parser.specs.declared.fault.Fault.{Fault}
-use Rattle.fluent_syntax_parser.specs.Meets.{Fails, Refuses, from_of, kind_at, refused, to_of, too_deep, no_memory}
+use Rattle.fluent_syntax_parser.specs.Outcomes.{Fails, IsRefusedAs, from_of, kind_at, refused, to_of, too_deep}
+use Rattle.fluent_syntax_parser.specs.Outcomes.{no_memory}
 
 module _ {A B : Type 0} {t : List ℕ} {c : Construct A} {d : A → Construct B} {i : ℕ} where
   pub fails_first : {f : ReadFault} → Fails t c i f → Fails t (c >>= d) i f
@@ -46,7 +47,7 @@ pub shown : {A : Type 0} {t : List ℕ} {c : Construct A} {i : ℕ} {f : Fault} 
 shown (refused h) = h _ _ _ (refl, refl, refl)
 
 pub refuses_there : {A : Type 0} {t : List ℕ} {c : Construct A} {i : ℕ} {f : Fault} {from place : ℕ} →
-    Fails t c i (faults.Refused f from place) → Refuses t c i (record { fault = f; from = from; place = place })
+    Fails t c i (faults.Refused f from place) → IsRefusedAs t c i (record { fault = f; from = from; place = place })
 refuses_there (refused h) = h
 
 pub too_deep_there : {A : Type 0} {t : List ℕ} {c : Construct A} {i : ℕ} → Fails t c i faults.TooDeep → TooDeep c i

@@ -3,7 +3,7 @@ use Rattle.std.proofs.Common.{ℕ, List, Option, Some, None, refl}
 use Rattle.std.specs.Prelude.{unwrap_or}
 use Rattle.fluent_syntax_grammar.specs.Construct.{Read, goes_on, given, at_place, passed}
 use Rattle.fluent_syntax_grammar.specs.Places.{is_line_place, Stretch}
-use Rattle.fluent_syntax_grammar.specs.Words.{past_eol, rest_of_line}
+use Rattle.fluent_syntax_grammar.specs.Tokens.{past_eol, rest_of_line}
 
 pub eol_passed : (o : Option ℕ) (i : ℕ) → past_eol o i (Read tt (unwrap_or o i))
 eol_passed None i = given

@@ -11,9 +11,9 @@ use Rattle.fluent_syntax_tree.specs.declared.spans.Span.{Span}
 use Rattle.fluent_syntax_grammar.specs.Bytes.{is_letter, is_name_byte}
 use Rattle.fluent_syntax_grammar.specs.Construct.{Read, at_place, chosen, first, given, goes_on, passed, second}
 use Rattle.fluent_syntax_grammar.specs.Places.{Word, has}
-use Rattle.fluent_syntax_grammar.specs.Words.{identifier, token}
+use Rattle.fluent_syntax_grammar.specs.Tokens.{identifier, token}
 use Rattle.fluent_syntax_grammar.proofs.Facts.{has_inside}
-use Rattle.fluent_syntax_parser.specs.Meets.{name_text}
+use Rattle.fluent_syntax_parser.specs.Outcomes.{name_text}
 
 module _ (t : List ℕ) (p : ℕ → Bool) where
   at_place_of : (b : Bool) (k : ℕ) → k < length t → has t p k ≡ b → p (get_or t k 0) ≡ b

@@ -18,13 +18,13 @@ use Rattle.fluent_syntax_parser.specs.declared.fault.ParseFault.TheVariants.{Mem
 use Rattle.fluent_syntax_parser.specs.declared.options.Comments.{Comments}
 use Rattle.fluent_syntax_parser.proofs.readers.SameTrees.{same_body}
 
-none_told : (fs : List Fault) → map Some fs ≡ [] → fs ≡ []
-none_told [] e = refl
-none_told (f ∷ fs) e = absurd (cc)
+no_answer : (fs : List Fault) → map Some fs ≡ [] → fs ≡ []
+no_answer [] e = refl
+no_answer (f ∷ fs) e = absurd (cc)
 
-some_told : (error : ParserError) (errors : List ParserError) (fs : List Fault) →
+some_answer : (error : ParserError) (errors : List ParserError) (fs : List Fault) →
     map Some fs ≡ map fault_of (error ∷ errors) → fs ≢ []
-some_told error errors fs told none = let nothing : map Some fs ≡ [] = ap (λ gs. map Some gs) none in cc
+some_answer error errors fs told none = let nothing : map Some fs ≡ [] = ap (λ gs. map Some gs) none in cc
 
 module _ {S X : Type 0} (text : S → X) (whole : BodyTree Span → BodyTree X) (tiles : List Tile)
     (entries : Vec (Entry S) Global) (errors : Vec ParserError Global) (result : Result (Resource S) (ParseFault S))
@@ -35,11 +35,11 @@ module _ {S X : Type 0} (text : S → X) (whole : BodyTree Span → BodyTree X) 
   answers_with : (found : List ParserError) → errors.items ≡ found → Answers text whole tiles result
   answers_with [] none =
       subst (Answers text whole tiles) (sym (clean none))
-      (same, none_told (faults tiles) (told ∙ ap (λ es. map fault_of es) none))
+      (same, no_answer (faults tiles) (told ∙ ap (λ es. map fault_of es) none))
   answers_with (error ∷ others) some =
       let not_none : errors.items ≢ [] = λ none. cc in
       subst (Answers text whole tiles) (sym (syntax' not_none))
-      (same, sym told, some_told error others (faults tiles) (told ∙ ap (λ es. map fault_of es) some))
+      (same, sym told, some_answer error others (faults tiles) (told ∙ ap (λ es. map fault_of es) some))
 
   pub answers_of : Answers text whole tiles result
   answers_of = answers_with errors.items refl

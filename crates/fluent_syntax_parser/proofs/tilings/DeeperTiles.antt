@@ -15,7 +15,7 @@ use Rattle.fluent_syntax_grammar.specs.Tiling.{whole_line}
 use Rattle.fluent_syntax_grammar.proofs.Functional.{single_block}
 use Rattle.fluent_syntax_grammar.proofs.Nesting.{functional_within}
 use Rattle.fluent_syntax_grammar.proofs.OneTiling.{IsOneTile, one_runtime_tile_in, one_tile_in}
-use Rattle.fluent_syntax_parser.specs.Rest.{GivesTile, Standing, TileDeeper, TileIn, are_dropped, at_end, at_tile}
+use Rattle.fluent_syntax_parser.specs.Rest.{GivesTile, TiledHere, TileDeeper, TileIn, are_dropped, at_end, at_tile}
 use Rattle.fluent_syntax_parser.specs.declared.options.Comments.{Comments}
 use Rattle.fluent_syntax_parser.specs.declared.options.Comments.TheVariants.{Kept, Dropped}
 use Rattle.fluent_syntax_parser.proofs.tilings.Rests.{behind_block, is_no_bare_comment}
@@ -25,7 +25,7 @@ use Rattle.fluent_syntax_parser.proofs.tilings.Rests.{behind_block, is_no_bare_c
 module _ (t : List ℕ) (at : (i j : ℕ) → Tile → Type 0) where
   -- behind a blank block the tiles are those from its end on
   standing_there : (i start : ℕ) (tiles : List Tile) → BlankBlock t i start → Tiled t at i tiles →
-      Standing t at start tiles
+      TiledHere t at start tiles
   standing_there i start tiles block (done all) = at_end (single_block.same i start (length t) block all)
   standing_there i start tiles block (next {start = s} {end = end} {tile = tile} {tiles = more} other l x rest) =
       let same = single_block.same i s start other block in
@@ -45,8 +45,8 @@ module _ (edition : Edition) (t : List ℕ) (n : ℕ) where
 
     pub tile_deeper : BlankBlock t i j → TextDeeper edition t (TileIn comments edition t) n i →
         TileDeeper edition t (TileIn comments edition t) n j
-    tile_deeper block d tiles standing =
-        d tiles (behind_block t (TileIn comments edition t (within edition t n)) i j tiles block standing)
+    tile_deeper block d tiles tiled_here =
+        d tiles (behind_block t (TileIn comments edition t (within edition t n)) i j tiles block tiled_here)
 
     module _ (inside : i < length t) (tile : Tile)
         (there : TileIn comments edition t (within edition t n) i j tile) where
@@ -106,17 +106,17 @@ module _ (edition : Edition) (t : List ℕ) (n : ℕ) where
     behind_comment Dropped none h =
         absurd (is_no_bare_comment edition t n i j inside e error tile content same (none refl))
 
-    -- behind what may hang on it
-    pub behind_hung : (comments : Comments) → (are_dropped comments ≡ true → has_byte t hash i ≡ false) → (k : ℕ) →
+    -- behind what may be attached to it
+    pub behind_attached : (comments : Comments) → (are_dropped comments ≡ true → has_byte t hash i ≡ false) → (k : ℕ) →
         (TextDeeper edition t (tiling.TileIn edition t) n k → TextDeeper edition t (tiling.TileIn edition t) n j) →
         TextDeeper edition t (TileIn comments edition t) n k → TileDeeper edition t (TileIn comments edition t) n i
-    behind_hung Kept none k through h = behind_one Kept i j inside tile.tile tile.stands (through h)
-    behind_hung Dropped none k through h =
+    behind_attached Kept none k through h = behind_one Kept i j inside tile.tile tile.stands (through h)
+    behind_attached Dropped none k through h =
         absurd (is_no_bare_comment edition t n i j inside e error tile content same (none refl))
 
-    pub hung_led : (comments : Comments) → (are_dropped comments ≡ true → has_byte t hash i ≡ false) → (k : ℕ) →
+    pub attached_led : (comments : Comments) → (are_dropped comments ≡ true → has_byte t hash i ≡ false) → (k : ℕ) →
         (TextDeeper edition t (tiling.TileIn edition t) n j → TextDeeper edition t (tiling.TileIn edition t) n k) →
         TileDeeper edition t (TileIn comments edition t) n i → TextDeeper edition t (TileIn comments edition t) n k
-    hung_led Kept none k through h = through (one_led Kept i j inside tile.tile tile.stands h)
-    hung_led Dropped none k through h =
+    attached_led Kept none k through h = through (one_led Kept i j inside tile.tile tile.stands h)
+    attached_led Dropped none k through h =
         absurd (is_no_bare_comment edition t n i j inside e error tile content same (none refl))

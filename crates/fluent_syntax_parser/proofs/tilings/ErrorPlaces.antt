@@ -34,8 +34,8 @@ same_place (Some r) pos fault f same e =
     cc
 
 -- an error begins where the fault begins that it tells of
-place_told : (e : ParserError) (f : Fault) → fault_of e ≡ Some f → e.pos.start ≡ f.pos.start
-place_told e f told = same_place e.slice e.pos.start (λ slice. record {
+error_place : (e : ParserError) (f : Fault) → fault_of e ≡ Some f → e.pos.start ≡ f.pos.start
+error_place e f told = same_place e.slice e.pos.start (λ slice. record {
   kind = kind_of e.kind;
   pos = record { start = e.pos.start; end = e.pos.end };
   slice = record { start = slice.start; end = slice.end };
@@ -47,17 +47,17 @@ module _ (t : List ℕ) where
   ascend_in_text from (f ∷ fs) up = let after = ascend_in_text f.slice.end fs up.4 in omega (arith, up.0, up.1)
 
   -- errors that tell of faults which ascend begin within the text
-  pub told_in_text : (from : ℕ) (errors : List ParserError) (fs : List Fault) →
+  pub fault_in_text : (from : ℕ) (errors : List ParserError) (fs : List Fault) →
       map fault_of errors ≡ map Some fs → Ascend t from fs → All (λ e. e.pos.start ≤ length t) errors
-  told_in_text from [] fs told up = All-nil (λ e. e.pos.start ≤ length t)
-  told_in_text from (e ∷ errors) [] told up = absurd cc
-  told_in_text from (e ∷ errors) (f ∷ fs) told up =
+  fault_in_text from [] fs told up = All-nil (λ e. e.pos.start ≤ length t)
+  fault_in_text from (e ∷ errors) [] told up = absurd cc
+  fault_in_text from (e ∷ errors) (f ∷ fs) told up =
       let first : fault_of e ≡ Some f = cc in
       let others : map fault_of errors ≡ map Some fs = cc in
       let after = ascend_in_text f.slice.end fs up.4 in
-      let place = place_told e f first in
+      let place = error_place e f first in
       All-cons (λ e. e.pos.start ≤ length t) e errors (omega (arith, up.3))
-      (told_in_text f.slice.end errors fs others up.4)
+      (fault_in_text f.slice.end errors fs others up.4)
 
   -- an error begins within the text that tells of one of some faults which ascend
   one_in_text : (before : List (Option Fault)) (error : ParserError) (after : List (Option Fault)) (from : ℕ)
@@ -68,7 +68,7 @@ module _ (t : List ℕ) where
   one_in_text [] error after from (g ∷ fs) told up =
       let here : fault_of error ≡ Some g = cc in
       let later = ascend_in_text g.slice.end fs up.4 in
-      let place = place_told error g here in
+      let place = error_place error g here in
       omega (arith, up.3)
   one_in_text (f ∷ before) error after from (g ∷ fs) told up =
       let others : map Some fs ≡ before ++ fault_of error ∷ after = cc in
@@ -79,9 +79,10 @@ module _ (t : List ℕ) where
       (before : List (Option Fault)) (error : ParserError) (after : List (Option Fault)) →
       Rest comments edition t 0 entries (before ++ fault_of error ∷ after) → error.pos.start ≤ length t
   error_in_text Kept edition entries before error after rest =
-      one_in_text before error after 0 (faults rest.tiles) rest.tells (errors_ascend edition t rest.tiles rest.tiled)
+      one_in_text before error after 0 (faults rest.tiles) rest.errors_are
+      (errors_ascend edition t rest.tiles rest.tiled)
   error_in_text Dropped edition entries before error after rest =
-      one_in_text before error after 0 (faults rest.tiles) rest.tells
+      one_in_text before error after 0 (faults rest.tiles) rest.errors_are
       (runtime_errors_ascend edition t rest.tiles rest.tiled)
 
   -- and one of an entry that stands behind what was reached
@@ -99,7 +100,7 @@ module _ (t : List ℕ) where
         Ascend t 0 (faults tiles) → Answers text whole tiles result → ErrorsInText t result
     given_in_text tiles (Ok tree) up given = tt
     given_in_text tiles (Err (Syntax tree errors)) up (same, told, some) =
-        told_in_text 0 errors.items (faults tiles) told up
+        fault_in_text 0 errors.items (faults tiles) told up
     given_in_text tiles (Err Memory) up given = tt
 
     module _ (edition : Edition) (result : Result (Resource S) (ParseFault S)) where

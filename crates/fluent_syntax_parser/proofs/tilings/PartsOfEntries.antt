@@ -25,10 +25,28 @@ module _ (t : List ℕ) (edition : Edition) where
   -- from each place of a text on something is left
   pub some_rest : (comments : Comments) (i : ℕ) → i ≤ length t →
       (entries : BodyTree Span) × (errors : List (Option Fault)) × Rest comments edition t i entries errors
-  some_rest Kept i inside = let some = some_tiles edition t i inside in
-      (body some.0, map Some (faults some.0), record { tiles = some.0; tiled = some.1; gives = refl; tells = refl })
-  some_rest Dropped i inside = let some = some_runtime_tiles edition t i inside in
-      (body some.0, map Some (faults some.0), record { tiles = some.0; tiled = some.1; gives = refl; tells = refl })
+  some_rest Kept i inside = let some = some_tiles edition t i inside in (
+    body some.0,
+    map Some (faults some.0),
+    record {
+      tiles = some.0;
+      tiled = some.1;
+      gives = refl;
+      errors_are =
+          refl;
+    },
+  )
+  some_rest Dropped i inside = let some = some_runtime_tiles edition t i inside in (
+    body some.0,
+    map Some (faults some.0),
+    record {
+      tiles = some.0;
+      tiled = some.1;
+      gives = refl;
+      errors_are =
+          refl;
+    },
+  )
 
   pub body_parts : (comments : Comments) (tiles : List Tile) → IsUtf8 t →
       Tiled t (TileIn comments edition t (family edition t)) 0 tiles →

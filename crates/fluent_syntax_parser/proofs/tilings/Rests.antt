@@ -7,7 +7,7 @@ use Rattle.fluent_syntax_tree.specs.Entry.{BodyTree, EntryTree, message, term, c
 use Rattle.fluent_syntax_tree.specs.declared.edition.Edition.{Edition}
 use Rattle.fluent_syntax_tree.specs.declared.errors.ParserError.{ParserError}
 use Rattle.fluent_syntax_tree.specs.declared.spans.Span.{Span}
-use Rattle.fluent_syntax_grammar.specs.Body.{alone, body, faults, hangs}
+use Rattle.fluent_syntax_grammar.specs.Body.{alone, body, faults, attaches}
 use Rattle.fluent_syntax_grammar.specs.Bytes.{hash}
 use Rattle.fluent_syntax_grammar.specs.Construct.{Outcome, Read}
 use Rattle.fluent_syntax_grammar.specs.Places.{BlankBlock, has_byte}
@@ -21,30 +21,31 @@ use Rattle.fluent_syntax_grammar.proofs.BareEntries.{bare_tile_at}
 use Rattle.fluent_syntax_grammar.proofs.Runtime.{IsBareTile}
 use Rattle.fluent_syntax_grammar.proofs.IncludedEntries.{included_entry, tile_part}
 use Rattle.fluent_syntax_grammar.proofs.Nesting.{within_family}
-use Rattle.fluent_syntax_parser.specs.Rest.{EntryAt, EntryTo, GivesTile, Hangs, Reached, Rest, RestAt, Standing, TileIn}
-use Rattle.fluent_syntax_parser.specs.Rest.{are_dropped, at_end, at_tile, faults_of, may_hang}
+use Rattle.fluent_syntax_parser.specs.Rest.{EntryAt, EntryTo, GivesTile, Attaches, Reached, Rest, RestAt, TiledHere}
+use Rattle.fluent_syntax_parser.specs.Rest.{TileIn}
+use Rattle.fluent_syntax_parser.specs.Rest.{are_dropped, at_end, at_tile, faults_of, may_attach}
 use Rattle.fluent_syntax_parser.specs.declared.options.Comments.{Comments}
 use Rattle.fluent_syntax_parser.specs.declared.options.Comments.TheVariants.{Kept, Dropped}
 
 -- ---- what a tile gives before others
 
-hangs_none : (x y : Tile) (e : EntryTree Span) → alone x ≡ e ∷ [] → may_hang e ≡ false → hangs x y ≡ None
-hangs_none (entry s (comment regular c)) y e same other =
+attaches_none : (x y : Tile) (e : EntryTree Span) → alone x ≡ e ∷ [] → may_attach e ≡ false → attaches x y ≡ None
+attaches_none (entry s (comment regular c)) y e same other =
     let is_comment : comment regular c ≡ e = cc in
-    let may = ap may_hang is_comment in
+    let may = ap may_attach is_comment in
     cc
-hangs_none (entry s (comment group c)) y e same other = refl
-hangs_none (entry s (comment resource c)) y e same other = refl
-hangs_none (entry s (message m)) y e same other = refl
-hangs_none (entry s (term m)) y e same other = refl
-hangs_none (entry s (junk x)) y e same other = refl
-hangs_none (refused f) y e same other = refl
-hangs_none dropped y e same other = refl
+attaches_none (entry s (comment group c)) y e same other = refl
+attaches_none (entry s (comment resource c)) y e same other = refl
+attaches_none (entry s (message m)) y e same other = refl
+attaches_none (entry s (term m)) y e same other = refl
+attaches_none (entry s (junk x)) y e same other = refl
+attaches_none (refused f) y e same other = refl
+attaches_none dropped y e same other = refl
 
-body_then : (x : Tile) (more : List Tile) (e : EntryTree Span) → alone x ≡ e ∷ [] → may_hang e ≡ false →
+body_then : (x : Tile) (more : List Tile) (e : EntryTree Span) → alone x ≡ e ∷ [] → may_attach e ≡ false →
     body (x ∷ more) ≡ e ∷ body more
 body_then x [] e same other = same
-body_then x (y ∷ more) e same other = rw (hangs_none x y e same other, same) refl
+body_then x (y ∷ more) e same other = rw (attaches_none x y e same other, same) refl
 
 dropped_then : (more : List Tile) → body (dropped ∷ more) ≡ body more
 dropped_then [] = refl
@@ -59,21 +60,21 @@ faults_then dropped more = refl
 -- ---- the rest from place to place
 
 module _ (t : List ℕ) (at : (i j : ℕ) → Tile → Type 0) where
-  pub behind_block : (i j : ℕ) (tiles : List Tile) → BlankBlock t i j → Standing t at j tiles → Tiled t at i tiles
+  pub behind_block : (i j : ℕ) (tiles : List Tile) → BlankBlock t i j → TiledHere t at j tiles → Tiled t at i tiles
   behind_block i j tiles block (at_end e) = done (subst (BlankBlock t i) e block)
   behind_block i j tiles block (at_tile l x more) = next block l x more
 
 module _ (comments : Comments) (edition : Edition) (t : List ℕ) where
   pub none_left : (i : ℕ) → i ≡ length t → RestAt comments edition t i [] []
-  none_left i end = record { tiles = []; standing = at_end end; gives = refl; tells = refl }
+  none_left i end = record { tiles = []; tiled_here = at_end end; gives = refl; errors_are = refl }
 
   pub rest_behind : (i j : ℕ) (entries : BodyTree Span) (errors : List (Option Fault)) → BlankBlock t i j →
       RestAt comments edition t j entries errors → Rest comments edition t i entries errors
   rest_behind i j entries errors block rest = record {
     tiles = rest.tiles;
-    tiled = behind_block t (TileIn comments edition t (family edition t)) i j rest.tiles block rest.standing;
+    tiled = behind_block t (TileIn comments edition t (family edition t)) i j rest.tiles block rest.tiled_here;
     gives = rest.gives;
-    tells = rest.tells;
+    errors_are = rest.errors_are;
   }
 
 pub in_mode : (comments : Comments) (edition : Edition) (t : List ℕ) (R : Family) (i j : ℕ) (tile : Tile) →
@@ -99,40 +100,40 @@ module _ (edition : Edition) (t : List ℕ) (i j : ℕ) (inside : i < length t) 
   rest_dropped Kept no_drop there line entries errors rest = cc
   rest_dropped Dropped drop there line entries errors rest = record {
     tiles = dropped ∷ rest.tiles;
-    standing = at_tile inside (drops there line) rest.tiled;
+    tiled_here = at_tile inside (drops there line) rest.tiled;
     gives = dropped_then rest.tiles ∙ rest.gives;
-    tells = rest.tells;
+    errors_are = rest.errors_are;
   }
 
   module _ (comments : Comments) (none : are_dropped comments ≡ true → has_byte t hash i ≡ false) (e : EntryTree Span)
       (error : Option ParserError) (n : ℕ) (tile : GivesTile edition t n i j e error) where
-    pub rest_tile : may_hang e ≡ false → (entries : BodyTree Span) (errors : List (Option Fault)) →
+    pub rest_tile : may_attach e ≡ false → (entries : BodyTree Span) (errors : List (Option Fault)) →
         Rest comments edition t j entries errors →
         RestAt comments edition t i (e ∷ entries) (faults_of error ++ errors)
     rest_tile other entries errors rest = record {
       tiles = tile.tile ∷ rest.tiles;
-      standing = at_tile inside (in_mode comments edition t (family edition t) i j tile.tile none
+      tiled_here = at_tile inside (in_mode comments edition t (family edition t) i j tile.tile none
           (at_any_depth edition t n i j tile.tile tile.stands)) rest.tiled;
       gives = body_then tile.tile rest.tiles e tile.entry other ∙ ap (λ b. e ∷ b) rest.gives;
-      tells = rw (faults_then tile.tile rest.tiles, tile.errors, rest.tells) refl;
+      errors_are = rw (faults_then tile.tile rest.tiles, tile.errors, rest.errors_are) refl;
     }
 
   module _ (comments : Comments) (none : are_dropped comments ≡ true → has_byte t hash i ≡ false) (e : EntryTree Span)
       (read : entry_at edition t i (Read e j)) where
     -- an entry that is no comment
-    pub rest_entry : may_hang e ≡ false → (entries : BodyTree Span) (errors : List (Option Fault)) →
+    pub rest_entry : may_attach e ≡ false → (entries : BodyTree Span) (errors : List (Option Fault)) →
         Rest comments edition t j entries errors → RestAt comments edition t i (e ∷ entries) errors
     rest_entry other entries errors rest =
         let tile = entry (record { start = i; end = j }) e in
         record {
           tiles = tile ∷ rest.tiles;
-          standing = at_tile inside
+          tiled_here = at_tile inside
               (in_mode comments edition t (family edition t) i j tile none (reads read)) rest.tiled;
           gives = body_then tile rest.tiles e refl other ∙ ap (λ b. e ∷ b) rest.gives;
-          tells = rest.tells;
+          errors_are = rest.errors_are;
         }
 
--- ---- a comment that may hang
+-- ---- a comment that may be attached
 
 comment_tile : (edition : Edition) (t : List ℕ) (i j : ℕ) (tile : Tile) (content : List Span) →
     TileAt edition t i j tile → alone tile ≡ comment regular content ∷ [] →
@@ -156,16 +157,16 @@ module _ (edition : Edition) (t : List ℕ) (n i j : ℕ) (inside : i < length t
   is_no_bare_comment none = subst IsBareTile is_comment (bare_tile_at edition t i j tile.tile none stands_there)
 
   pub rest_comment : (comments : Comments) → (are_dropped comments ≡ true → has_byte t hash i ≡ false) →
-      (with_comment : EntryTree Span) (k : ℕ) → Hangs edition t content j with_comment k →
+      (with_comment : EntryTree Span) (k : ℕ) → Attaches edition t content j with_comment k →
       (entries : BodyTree Span) (errors : List (Option Fault)) → Rest comments edition t k entries errors →
       RestAt comments edition t i (with_comment ∷ entries) (faults_of error ++ errors)
   rest_comment Kept none with_comment k after entries errors rest =
       let behind = after i entries errors rest in
       record {
         tiles = tile.tile ∷ behind.0;
-        standing = at_tile inside stands_there behind.1;
+        tiled_here = at_tile inside stands_there behind.1;
         gives = ap (λ x. body (x ∷ behind.0)) is_comment ∙ behind.2;
-        tells = rw (faults_then tile.tile behind.0, tile.errors, behind.3) refl;
+        errors_are = rw (faults_then tile.tile behind.0, tile.errors, behind.3) refl;
       }
   rest_comment Dropped none with_comment k after entries errors rest = absurd (is_no_bare_comment (none refl))
 

@@ -13,7 +13,7 @@ use Rattle.fluent_syntax_grammar.proofs.SoundTiling.{entry_refused, tile_good}
 use Rattle.fluent_syntax_grammar.proofs.IncludedEntries.{included_entry}
 use Rattle.fluent_syntax_grammar.proofs.Nesting.{within_family}
 use Rattle.fluent_syntax_parser.specs.Faults.{fault_of, refused_as}
-use Rattle.fluent_syntax_parser.specs.Meets.{Refuses, kind_at, from_of, to_of}
+use Rattle.fluent_syntax_parser.specs.Outcomes.{IsRefusedAs, kind_at, from_of, to_of}
 use Rattle.fluent_syntax_parser.specs.Rest.{GivesTile}
 use Rattle.fluent_syntax_parser.specs.declared.fault.Fault.{Fault}
 use Rattle.fluent_syntax_parser.specs.declared.fault.Fault.TheVariants as fault
@@ -35,7 +35,7 @@ module _ (edition : Edition) (t : List ℕ) (i j : ℕ) (inside : i < length t) 
       GivesTile edition t n i j e None
   gives_entry n e read = record { tile = _; stands = reads read; entry = refl; errors = refl }
 
-  module _ (n : ℕ) (r : Refusal) (refused : Refuses t (entry_in edition t (within edition t n)) i r) where
+  module _ (n : ℕ) (r : Refusal) (refused : IsRefusedAs t (entry_in edition t (within edition t n)) i r) where
     pub refused_in_text : r.place ≤ length t
     refused_in_text =
         let same = fails_there t r.fault r.from r.place in

@@ -4,7 +4,7 @@ ghost use Rattle.fluent_syntax_tree.specs.Entry.{attribute_map};
 ghost use Rattle.fluent_syntax_tree.specs.View.{attribute_view};
 ghost use Rattle.fluent_syntax_grammar.specs.Entries.{attribute_of, attributes_of};
 ghost use Rattle.fluent_syntax_grammar.specs.Grammar.{within};
-ghost use Rattle.fluent_syntax_parser.specs.Made.{Adds, Makes};
+ghost use Rattle.fluent_syntax_parser.specs.Made.{AddsParsed, Parses};
 
 use crate::fault::ReadFault;
 use crate::lists::add;
@@ -23,15 +23,15 @@ impl<'s, 't, M: MakeTexts> Reader<'s, 't, M> {
     ) -> Result<usize, ReadFault>
         requires { ptr ≤ length self.now.source.bytes.now }
         ensures adds { let t = self.now.source.bytes.now in
-            Adds t (attribute_map (M.source self.now.texts.now))
+            AddsParsed t (attribute_map (M.source self.now.texts.now))
             (attribute_of self.now.edition t (within self.now.edition t nesting)) (attribute_view M.made)
             attributes.old.items attributes.new.items ptr result }
         ensures within { IfOk result (λ end. (ptr < end) × (end ≤ length self.now.source.bytes.now)) }
     {
-        let (extents, value) = self.attribute_parts(nesting, ptr)?;
-        let id = self.identifier(extents.name)?;
+        let (ranges, value) = self.attribute_parts(nesting, ptr)?;
+        let id = self.identifier(ranges.name)?;
         add(attributes, Attribute { id, value })?;
-        Ok(extents.span.end)
+        Ok(ranges.span.end)
     }
 
     /// Reads the longest list of attributes. One that is refused ends it, where it would begin.
@@ -42,8 +42,8 @@ impl<'s, 't, M: MakeTexts> Reader<'s, 't, M> {
         ptr: usize,
     ) -> Result<(Vec<Attribute<M::Text>>, usize), ReadFault>
         requires { ptr ≤ length self.now.source.bytes.now }
-        ensures meets { let t = self.now.source.bytes.now in
-            Makes t (map (attribute_map (M.source self.now.texts.now)))
+        ensures parses { let t = self.now.source.bytes.now in
+            Parses t (map (attribute_map (M.source self.now.texts.now)))
             (attributes_of self.now.edition t (within self.now.edition t nesting))
             (λ found. map (attribute_view M.made) found.items) ptr result }
         ensures within { IfOk result (λ read. (ptr ≤ read.1) × (read.1 ≤ length self.now.source.bytes.now)) }
@@ -68,8 +68,8 @@ impl<'s, 't, M: MakeTexts> Reader<'s, 't, M> {
         ptr: usize,
     ) -> Result<(Vec<Attribute<M::Text>>, usize), ReadFault>
         requires { ptr ≤ length self.now.source.bytes.now }
-        ensures meets { let t = self.now.source.bytes.now in
-            Makes t (map (attribute_map (M.source self.now.texts.now)))
+        ensures parses { let t = self.now.source.bytes.now in
+            Parses t (map (attribute_map (M.source self.now.texts.now)))
             (attributes_of self.now.edition t (within self.now.edition t nesting))
             (λ found. map (attribute_view M.made) found.items) ptr result }
         ensures within { IfOk result (λ read. (ptr ≤ read.1) × (read.1 ≤ length self.now.source.bytes.now)) }

@@ -4,8 +4,8 @@ ghost use Rattle.fluent_syntax_tree.specs.Entry.{comment, entry_map};
 ghost use Rattle.fluent_syntax_tree.specs.View.{entry_view};
 ghost use Rattle.fluent_syntax_grammar.specs.Comments.{comment_entry, comment_line, comment_of, hashes, level_of};
 ghost use Rattle.fluent_syntax_parser.specs.CommentLines.{line_of};
-ghost use Rattle.fluent_syntax_parser.specs.Made.{Adds, Makes};
-ghost use Rattle.fluent_syntax_parser.specs.Meets.{Answers};
+ghost use Rattle.fluent_syntax_parser.specs.Made.{AddsParsed, Parses};
+ghost use Rattle.fluent_syntax_parser.specs.Outcomes.{Answers};
 
 use crate::fault::{ReadFault, Refusal};
 use crate::lists::add;
@@ -38,7 +38,7 @@ impl<'s> Source<'s> {
     /// Hashes at the very end of the text add no line.
     fn get_comment_line(&self, level: usize, ptr: usize) -> Result<(Option<Span>, usize), Refusal>
         requires { ptr + level ≤ length self.now.bytes.now }
-        ensures meets { Answers self.now.bytes.now (comment_line self.now.bytes.now level) line_of ptr result }
+        ensures parses { Answers self.now.bytes.now (comment_line self.now.bytes.now level) line_of ptr result }
         ensures within { IfOk result (λ read. (ptr + level ≤ read.1) × (read.1 ≤ length self.now.bytes.now)) }
     {
         let ptr = ptr + level;
@@ -70,7 +70,7 @@ impl<'s, 't, M: MakeTexts> Reader<'s, 't, M> {
         requires within { ptr ≤ length self.now.source.bytes.now }
         requires hash { 0 < hashes self.now.source.bytes.now ptr }
         ensures adds { let t = self.now.source.bytes.now in
-            Adds t (entry_map (M.source self.now.texts.now)) (comment_entry t) (entry_view M.made) body.old.items
+            AddsParsed t (entry_map (M.source self.now.texts.now)) (comment_entry t) (entry_view M.made) body.old.items
             body.new.items ptr result }
         ensures within { IfOk result (λ end. (ptr < end) × (end ≤ length self.now.source.bytes.now)) }
     {
@@ -106,8 +106,8 @@ impl<'s, 't, M: MakeTexts> Reader<'s, 't, M> {
     ) -> Result<(Vec<M::Text>, usize), ReadFault>
         requires hash { 0 < level }
         requires within { ptr + level ≤ length self.now.source.bytes.now }
-        ensures meets { let t = self.now.source.bytes.now in
-            Makes t (entry_map (M.source self.now.texts.now)) (comment_of t level)
+        ensures parses { let t = self.now.source.bytes.now in
+            Parses t (entry_map (M.source self.now.texts.now)) (comment_of t level)
             (λ lines. comment (level_of level) (map M.made lines.items)) ptr result }
         ensures within { IfOk result (λ read. (ptr < read.1) × (read.1 ≤ length self.now.source.bytes.now)) }
     {

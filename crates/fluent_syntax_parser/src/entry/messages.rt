@@ -5,7 +5,7 @@ ghost use Rattle.fluent_syntax_tree.specs.View.{entry_view};
 ghost use Rattle.fluent_syntax_grammar.specs.Entries.{message_of, term_of};
 ghost use Rattle.fluent_syntax_grammar.specs.Grammar.{within};
 ghost use Rattle.fluent_syntax_parser.specs.Fields.{fields, fields_map, fields_view};
-ghost use Rattle.fluent_syntax_parser.specs.Made.{Adds, Makes};
+ghost use Rattle.fluent_syntax_parser.specs.Made.{AddsParsed, Parses};
 
 use crate::fault::{Fault, ReadFault, Refusal};
 use crate::lists::add;
@@ -26,8 +26,8 @@ impl<'s, 't, M: MakeTexts> Reader<'s, 't, M> {
     #[inline(always)]
     fn get_fields(&self, nesting: usize, ptr: usize) -> Result<(Fields<M::Text>, usize), ReadFault>
         requires { ptr ≤ length self.now.source.bytes.now }
-        ensures meets { let t = self.now.source.bytes.now in
-            Makes t (fields_map (M.source self.now.texts.now))
+        ensures parses { let t = self.now.source.bytes.now in
+            Parses t (fields_map (M.source self.now.texts.now))
             (fields self.now.edition t (within self.now.edition t nesting)) (fields_view M.made) ptr result }
         ensures within { IfOk result (λ read. (ptr < read.1) × (read.1 ≤ length self.now.source.bytes.now)) }
     {
@@ -49,7 +49,7 @@ impl<'s, 't, M: MakeTexts> Reader<'s, 't, M> {
     ) -> Result<usize, ReadFault>
         requires { start ≤ length self.now.source.bytes.now }
         ensures adds { let t = self.now.source.bytes.now in
-            Adds t (entry_map (M.source self.now.texts.now))
+            AddsParsed t (entry_map (M.source self.now.texts.now))
             (message_of self.now.edition t (within self.now.edition t nesting)) (entry_view M.made) body.old.items
             body.new.items start result }
         ensures within { IfOk result (λ end. (start < end) × (end ≤ length self.now.source.bytes.now)) }
@@ -86,7 +86,7 @@ impl<'s, 't, M: MakeTexts> Reader<'s, 't, M> {
     ) -> Result<usize, ReadFault>
         requires { start ≤ length self.now.source.bytes.now }
         ensures adds { let t = self.now.source.bytes.now in
-            Adds t (entry_map (M.source self.now.texts.now))
+            AddsParsed t (entry_map (M.source self.now.texts.now))
             (term_of self.now.edition t (within self.now.edition t nesting)) (entry_view M.made) body.old.items
             body.new.items start result }
         ensures within { IfOk result (λ end. (start < end) × (end ≤ length self.now.source.bytes.now)) }

@@ -16,18 +16,18 @@ const MANY: usize = 32;
 
 /// The names of the named arguments of a list that were read so far, in order, and in a table where there are many.
 #[derive(Drop)]
-pub(crate) struct NotedNames<'s> {
+pub(crate) struct SeenNames<'s> {
     names: Vec<Span>,
     table: BTreeSet<&'s [u8], Global>,
 }
 
-impl<'s> NotedNames<'s> {
+impl<'s> SeenNames<'s> {
     /// No names.
     pub(crate) fn new(alloc: Global) -> Self
         ensures names { result.names.items ≡ [] }
         ensures noted { Notes (λ k. k.now) result.table.keys [] }
     {
-        NotedNames {
+        SeenNames {
             names: Vec::new(alloc),
             table: BTreeSet::new(alloc),
         }

@@ -12,9 +12,9 @@ ghost use Rattle.fluent_syntax_grammar.specs.Grammar.{within};
 ghost use Rattle.fluent_syntax_grammar.specs.Starts.{start};
 ghost use Rattle.fluent_syntax_parser.specs.Boxed.{boxed_expression_view, mapped_inline, IsInline};
 ghost use Rattle.fluent_syntax_parser.specs.Gathered.{maybe_view, names_in_order};
-ghost use Rattle.fluent_syntax_parser.specs.Made.{Makes};
+ghost use Rattle.fluent_syntax_parser.specs.Made.{Parses};
 
-use crate::expression::argument_names::NotedNames;
+use crate::expression::argument_names::SeenNames;
 use crate::expression::starts::Start;
 use crate::fault::{Fault, ReadFault, Refusal};
 use crate::lists::add;
@@ -42,7 +42,7 @@ impl<'s> Source<'s> {
     /// Passes over a blank, perhaps a comma, and a blank.
     pub(crate) fn skip_separator(&self, ptr: usize) -> usize
         requires { ptr ≤ length self.now.bytes.now }
-        ensures meets { separator self.now.bytes.now ptr (Read tt result) }
+        ensures parses { separator self.now.bytes.now ptr (Read tt result) }
         ensures within { (ptr ≤ result) × (result ≤ length self.now.bytes.now) }
     {
         let ptr = self.skip_blank(ptr);
@@ -95,8 +95,8 @@ impl<'s, 't, M: MakeTexts> Reader<'s, 't, M> {
         ptr: usize,
     ) -> Result<(Box<Expression<M::Text>>, usize), ReadFault>
         requires { ptr ≤ length self.now.source.bytes.now }
-        ensures meets { let t = self.now.source.bytes.now in
-            Makes t (mapped_inline (M.source self.now.texts.now))
+        ensures parses { let t = self.now.source.bytes.now in
+            Parses t (mapped_inline (M.source self.now.texts.now))
             (at_each (start t) (argument_value t (within self.now.edition t nesting))) (boxed_expression_view M.made)
             ptr result }
         ensures within { IfOk result (λ read. (ptr < read.1) × (read.1 ≤ length self.now.source.bytes.now)) }
@@ -123,14 +123,14 @@ impl<'s, 't, M: MakeTexts> Reader<'s, 't, M> {
         ptr: usize,
     ) -> Result<(CallArguments<M::Text>, usize), ReadFault>
         requires { ptr ≤ length self.now.source.bytes.now }
-        ensures meets { let t = self.now.source.bytes.now in
-            Makes t (arguments_map (M.source self.now.texts.now))
+        ensures parses { let t = self.now.source.bytes.now in
+            Parses t (arguments_map (M.source self.now.texts.now))
             (more_arguments t (within self.now.edition t nesting) []) (arguments_view M.made) ptr result }
         ensures within { IfOk result (λ read. (ptr < read.1) × (read.1 ≤ length self.now.source.bytes.now)) }
     {
         let mut positional = Vec::new(self.alloc);
         let mut named = Vec::new(self.alloc);
-        let mut noted = NotedNames::new(self.alloc);
+        let mut noted = SeenNames::new(self.alloc);
         let mut place = ptr;
         while !self.source.is_byte_at(b')', place) {
             if place == self.source.bytes.len() {
@@ -180,8 +180,8 @@ impl<'s, 't, M: MakeTexts> Reader<'s, 't, M> {
         ptr: usize,
     ) -> Result<(Option<CallArguments<M::Text>>, usize), ReadFault>
         requires { ptr ≤ length self.now.source.bytes.now }
-        ensures meets { let t = self.now.source.bytes.now in
-            Makes t (maybe_map (M.source self.now.texts.now)) (call_arguments t (within self.now.edition t nesting))
+        ensures parses { let t = self.now.source.bytes.now in
+            Parses t (maybe_map (M.source self.now.texts.now)) (call_arguments t (within self.now.edition t nesting))
             (maybe_view M.made) ptr result }
         ensures within { IfOk result (λ read. (ptr ≤ read.1) × (read.1 ≤ length self.now.source.bytes.now)) }
     {

@@ -9,7 +9,7 @@ ghost use Rattle.fluent_syntax_grammar.specs.Grammar.{within};
 ghost use Rattle.fluent_syntax_grammar.specs.Inline.{inline_expression};
 ghost use Rattle.fluent_syntax_grammar.specs.Placeables.{is_term_attribute, selector_fault};
 ghost use Rattle.fluent_syntax_parser.specs.Boxed.{boxed_expression_view, IsInline};
-ghost use Rattle.fluent_syntax_parser.specs.Meets.{FaultIs};
+ghost use Rattle.fluent_syntax_parser.specs.Outcomes.{FaultIs};
 
 use crate::fault::Fault;
 use crate::reader::Reader;

@@ -6,7 +6,7 @@ ghost use Rattle.fluent_syntax_grammar.specs.Grammar.{within};
 ghost use Rattle.fluent_syntax_grammar.specs.Inline.{inline_expression};
 ghost use Rattle.fluent_syntax_grammar.specs.Starts.{digit, dollar, minus, quote, start};
 ghost use Rattle.fluent_syntax_parser.specs.Boxed.{boxed_expression_view, mapped_inline};
-ghost use Rattle.fluent_syntax_parser.specs.Made.{Makes};
+ghost use Rattle.fluent_syntax_parser.specs.Made.{Parses};
 
 use crate::fault::ReadFault;
 use crate::reader::Reader;
@@ -23,8 +23,8 @@ impl<'s, 't, M: MakeTexts> Reader<'s, 't, M> {
     ) -> Result<(Box<Expression<M::Text>>, usize), ReadFault>
         requires within { ptr ≤ length self.now.source.bytes.now }
         requires starts { quote ≡ start self.now.source.bytes.now ptr }
-        ensures meets { let t = self.now.source.bytes.now in (n : ℕ) →
-            Makes t (mapped_inline (M.source self.now.texts.now)) (inline_expression t (within self.now.edition t n))
+        ensures parses { let t = self.now.source.bytes.now in (n : ℕ) →
+            Parses t (mapped_inline (M.source self.now.texts.now)) (inline_expression t (within self.now.edition t n))
             (boxed_expression_view M.made) ptr result }
         ensures within { IfOk result (λ read. (ptr < read.1) × (read.1 ≤ length self.now.source.bytes.now)) }
     {
@@ -43,8 +43,8 @@ impl<'s, 't, M: MakeTexts> Reader<'s, 't, M> {
     ) -> Result<(Box<Expression<M::Text>>, usize), ReadFault>
         requires within { ptr ≤ length self.now.source.bytes.now }
         requires starts { let t = self.now.source.bytes.now in (digit ≡ start t ptr) ⊎ (minus ≡ start t ptr) }
-        ensures meets { let t = self.now.source.bytes.now in (n : ℕ) →
-            Makes t (mapped_inline (M.source self.now.texts.now)) (inline_expression t (within self.now.edition t n))
+        ensures parses { let t = self.now.source.bytes.now in (n : ℕ) →
+            Parses t (mapped_inline (M.source self.now.texts.now)) (inline_expression t (within self.now.edition t n))
             (boxed_expression_view M.made) ptr result }
         ensures within { IfOk result (λ read. (ptr < read.1) × (read.1 ≤ length self.now.source.bytes.now)) }
     {
@@ -63,8 +63,8 @@ impl<'s, 't, M: MakeTexts> Reader<'s, 't, M> {
     ) -> Result<(Box<Expression<M::Text>>, usize), ReadFault>
         requires within { ptr ≤ length self.now.source.bytes.now }
         requires starts { dollar ≡ start self.now.source.bytes.now ptr }
-        ensures meets { let t = self.now.source.bytes.now in (n : ℕ) →
-            Makes t (mapped_inline (M.source self.now.texts.now)) (inline_expression t (within self.now.edition t n))
+        ensures parses { let t = self.now.source.bytes.now in (n : ℕ) →
+            Parses t (mapped_inline (M.source self.now.texts.now)) (inline_expression t (within self.now.edition t n))
             (boxed_expression_view M.made) ptr result }
         ensures within { IfOk result (λ read. (ptr < read.1) × (read.1 ≤ length self.now.source.bytes.now)) }
     {

@@ -9,8 +9,8 @@ ghost use Rattle.fluent_syntax_grammar.specs.Arguments.{accessor};
 ghost use Rattle.fluent_syntax_grammar.specs.Inline.{is_callee_byte, named_reference};
 ghost use Rattle.fluent_syntax_parser.specs.Boxed.{boxed_expression_view, mapped_inline};
 ghost use Rattle.fluent_syntax_parser.specs.Gathered.{maybe_view};
-ghost use Rattle.fluent_syntax_parser.specs.Made.{Makes};
-ghost use Rattle.fluent_syntax_parser.specs.Meets.{Answers};
+ghost use Rattle.fluent_syntax_parser.specs.Made.{Parses};
+ghost use Rattle.fluent_syntax_parser.specs.Outcomes.{Answers};
 
 use crate::fault::{Fault, ReadFault, Refusal};
 use crate::reader::Reader;
@@ -37,7 +37,7 @@ impl<'s> Source<'s> {
         ptr: usize,
     ) -> Result<(Option<Identifier<Span>>, usize), Refusal>
         requires { ptr ≤ length self.now.bytes.now }
-        ensures meets { let t = self.now.bytes.now in
+        ensures parses { let t = self.now.bytes.now in
             Answers t (accessor t) (option_map (identifier_view (λ s. s))) ptr result }
         ensures within { IfOk result (λ read. (ptr ≤ read.1) × (read.1 ≤ length self.now.bytes.now)) }
     {
@@ -63,9 +63,9 @@ impl<'s, 't, M: MakeTexts> Reader<'s, 't, M> {
         ptr: usize,
     ) -> Result<(Box<Expression<M::Text>>, usize), ReadFault>
         requires { ptr ≤ length self.now.source.bytes.now }
-        ensures meets { let t = self.now.source.bytes.now in let f = M.source self.now.texts.now in
+        ensures parses { let t = self.now.source.bytes.now in let f = M.source self.now.texts.now in
             (given : MaybeArguments Span) → maybe_view M.made arguments ≡ maybe_map f given →
-            Makes t (mapped_inline f) (named_reference t name given) (boxed_expression_view M.made) ptr result }
+            Parses t (mapped_inline f) (named_reference t name given) (boxed_expression_view M.made) ptr result }
         ensures within { IfOk result (λ read. (ptr ≤ read.1) × (read.1 ≤ length self.now.source.bytes.now)) }
     {
         match arguments {

@@ -7,8 +7,8 @@ ghost use Rattle.fluent_syntax_grammar.specs.Grammar.{within};
 ghost use Rattle.fluent_syntax_grammar.specs.Placeables.{has_arrow, select_with, selector_fault};
 ghost use Rattle.fluent_syntax_parser.specs.Boxed.{boxed_expression_view, mapped_inline, IsInline};
 ghost use Rattle.fluent_syntax_parser.specs.Gathered.{variants_view};
-ghost use Rattle.fluent_syntax_parser.specs.Made.{Fills, Makes};
-ghost use Rattle.fluent_syntax_parser.specs.Meets.{MeetsEnd};
+ghost use Rattle.fluent_syntax_parser.specs.Made.{Fills, Parses};
+ghost use Rattle.fluent_syntax_parser.specs.Outcomes.{ParsesEnd};
 ghost use Rattle.fluent_syntax_parser.specs.Selects.{arrow_variants, select_start};
 
 use crate::fault::{ReadFault, Refusal};
@@ -27,8 +27,8 @@ impl<'s, 't, M: MakeTexts> Reader<'s, 't, M> {
     ) -> Result<usize, Refusal>
         requires within { ptr ≤ length self.now.source.bytes.now }
         requires arrow { has_arrow self.now.source.bytes.now ptr ≡ true }
-        ensures meets { let t = self.now.source.bytes.now in
-            MeetsEnd t (select_start t (selector_fault (inline_view M.made selector.now))) ptr result }
+        ensures parses { let t = self.now.source.bytes.now in
+            ParsesEnd t (select_start t (selector_fault (inline_view M.made selector.now))) ptr result }
         ensures within { IfOk result (λ start. (ptr < start) × (start ≤ length self.now.source.bytes.now)) }
     {
         match self.selector_fault(selector) {
@@ -74,7 +74,7 @@ impl<'s, 't, M: MakeTexts> Reader<'s, 't, M> {
         requires within { ptr ≤ length self.now.source.bytes.now }
         requires arrow { has_arrow self.now.source.bytes.now ptr ≡ true }
         requires empty { variants.old.items ≡ [] }
-        ensures meets { let t = self.now.source.bytes.now in let R = within self.now.edition t nesting in
+        ensures parses { let t = self.now.source.bytes.now in let R = within self.now.edition t nesting in
             Fills t (variants_map (M.source self.now.texts.now))
             (arrow_variants self.now.edition t R (selector_fault (inline_view M.made selector.now)))
             (variants_view M.made) variants.new.items ptr result }
@@ -97,9 +97,9 @@ impl<'s, 't, M: MakeTexts> Reader<'s, 't, M> {
         requires within { ptr ≤ length self.now.source.bytes.now }
         requires arrow { has_arrow self.now.source.bytes.now ptr ≡ true }
         requires selector { IsInline M.made selector.value }
-        ensures meets { let t = self.now.source.bytes.now in let f = M.source self.now.texts.now in
+        ensures parses { let t = self.now.source.bytes.now in let f = M.source self.now.texts.now in
             (e : InlineTree Span) → boxed_expression_view M.made selector ≡ mapped_inline f e →
-            Makes t (expression_map f)
+            Parses t (expression_map f)
             (select_with self.now.edition t (within self.now.edition t nesting) e (selector_fault e))
             (boxed_expression_view M.made) ptr result }
         ensures within { IfOk result (λ read. (ptr < read.1) × (read.1 ≤ length self.now.source.bytes.now)) }

@@ -8,7 +8,7 @@ ghost use Rattle.fluent_syntax_grammar.specs.Places.{has};
 ghost use Rattle.fluent_syntax_grammar.specs.Variants.{has_default, is_number_start, more_variants, variant_key};
 ghost use Rattle.fluent_syntax_parser.specs.Gathered.{variants_view};
 ghost use Rattle.fluent_syntax_parser.specs.Made.{Fills};
-ghost use Rattle.fluent_syntax_parser.specs.Meets.{Answers};
+ghost use Rattle.fluent_syntax_parser.specs.Outcomes.{Answers};
 
 use crate::fault::{Fault, ReadFault, Refusal};
 use crate::lists::add;
@@ -39,7 +39,7 @@ impl<'s> Source<'s> {
 
     pub(crate) fn get_variant_key(&self, ptr: usize) -> Result<(VariantKey<Span>, usize), Refusal>
         requires { ptr ≤ length self.now.bytes.now }
-        ensures meets { let t = self.now.bytes.now in
+        ensures parses { let t = self.now.bytes.now in
             Answers t (variant_key t) (key_view (λ s. s)) ptr result }
         ensures within { IfOk result (λ read. (ptr < read.1) × (read.1 ≤ length self.now.bytes.now)) }
     {
@@ -91,7 +91,7 @@ impl<'s, 't, M: MakeTexts> Reader<'s, 't, M> {
     ) -> Result<usize, ReadFault>
         requires within { ptr ≤ length self.now.source.bytes.now }
         requires empty { variants.old.items ≡ [] }
-        ensures meets { let t = self.now.source.bytes.now in
+        ensures parses { let t = self.now.source.bytes.now in
             Fills t (variants_map (M.source self.now.texts.now))
             (more_variants self.now.edition t (within self.now.edition t nesting) false) (variants_view M.made)
             variants.new.items ptr result }

@@ -2,7 +2,7 @@
 ghost use Rattle.std.specs.Prelude.{◌≡◌, ◌+◌, ◌<◌, ◌^◌, ◌++◌, [], map, OnOk};
 ghost use Rattle.std.specs.List.{flat_map};
 ghost use Rattle.fluent_syntax_parser.specs.Elements.{bare_items, flushed, indent_of, item_shape, kept_place, leading};
-ghost use Rattle.fluent_syntax_parser.specs.Elements.{waiting};
+ghost use Rattle.fluent_syntax_parser.specs.Elements.{pending_run};
 ghost use Rattle.fluent_syntax_grammar.specs.Elements.{line_items, with_ending};
 ghost use Rattle.fluent_syntax_parser.specs.Endings.{EndsWithin};
 ghost use Rattle.fluent_syntax_parser.specs.Lines.{ending_view, line_shape, piece_shape};
@@ -12,7 +12,7 @@ use fluent_syntax_tree::edition::Edition;
 use std::alloc::AllocError;
 
 /// Adds the run that waits, if one does.
-fn add_waiting<T: Drop>(
+fn add_pending_run<T: Drop>(
     pending: Option<(usize, usize)>,
     items: &mut Vec<Piece<T>>,
 ) -> Result<(), AllocError>
@@ -33,7 +33,7 @@ fn add_ending<T: Drop>(
 ) -> Result<(), AllocError>
     requires { EndsWithin ending }
     ensures { OnOk result (map item_shape items.new.items
-        ≡ map item_shape items.old.items ++ with_ending (waiting pending []) (ending_view ending)) }
+        ≡ map item_shape items.old.items ++ with_ending (pending_run pending []) (ending_view ending)) }
 {
     match (pending, ending) {
         (Some((from, _)), Ending::Lf(place)) => items.push(Piece::Run {
@@ -76,7 +76,7 @@ fn add_pieces<T: Drop>(
     let mut led = led;
     let mut pending = None;
     for piece in pieces {
-        add_waiting(pending, items)?;
+        add_pending_run(pending, items)?;
         pending = match piece {
             Piece::Run { from, to } => Some((led.unwrap_or(from), to)),
             Piece::Placed { expression } => {
@@ -90,7 +90,7 @@ fn add_pieces<T: Drop>(
 }
 
 /// Where the leading spaces of a line beyond the common indent begin.
-fn kept_from(common: Option<usize>, start: usize, spaces: usize) -> usize
+fn common_indent_end(common: Option<usize>, start: usize, spaces: usize) -> usize
     requires { start + spaces < 2 ^ 64 }
     ensures { result ≡ kept_place common start spaces }
 {
@@ -167,12 +167,12 @@ fn add_line<T: Drop>(
         pieces,
         ending,
     } = line;
-    let kept = kept_from(common, start, spaces);
+    let kept = common_indent_end(common, start, spaces);
     if pieces.is_empty() {
         return add_bare_line(kept, ending, items);
     }
     let indent = indent_of(edition, kept, start + spaces, &pieces);
-    add_waiting(indent, items)?;
+    add_pending_run(indent, items)?;
     add_pieces(Some(kept), pieces, ending, items)
 }
 

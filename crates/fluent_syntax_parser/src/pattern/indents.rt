@@ -2,7 +2,7 @@
 ghost use Rattle.std.specs.Prelude.{◌≡◌, map};
 ghost use Rattle.std.specs.List.{flat_map};
 ghost use Rattle.fluent_syntax_grammar.specs.Layout.{least, counted};
-ghost use Rattle.fluent_syntax_parser.specs.Elements.{listed};
+ghost use Rattle.fluent_syntax_parser.specs.Elements.{flat_parts};
 ghost use Rattle.fluent_syntax_parser.specs.Lines.{line_view};
 
 use crate::pattern::line::{Line, Piece};
@@ -11,7 +11,7 @@ use fluent_syntax_tree::edition::Edition;
 
 /// The leading spaces that a line counts with, if it counts.
 fn counted_spaces<M: MakeTexts>(edition: Edition, line: &Line<M::Text>) -> Option<usize>
-    ensures { listed result ≡ counted edition (line_view M.made line.now) }
+    ensures { flat_parts result ≡ counted edition (line_view M.made line.now) }
 {
     match line.pieces.first() {
         None => None,

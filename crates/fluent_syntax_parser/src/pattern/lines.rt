@@ -6,7 +6,7 @@ ghost use Rattle.fluent_syntax_grammar.specs.Grammar.{within};
 ghost use Rattle.fluent_syntax_grammar.specs.Layout.{crlf_at, lf_at};
 ghost use Rattle.fluent_syntax_grammar.specs.Lines.{belongs, ending, is_run_place, line, more_lines, more_pieces};
 ghost use Rattle.fluent_syntax_grammar.specs.Places.{BlankBlock, has_eol, InlineBlank, Stretch, Word};
-ghost use Rattle.fluent_syntax_parser.specs.Made.{Adds, Fills};
+ghost use Rattle.fluent_syntax_parser.specs.Made.{AddsParsed, Fills};
 ghost use Rattle.fluent_syntax_parser.specs.Endings.{EndsWithin};
 ghost use Rattle.fluent_syntax_grammar.specs.Lanes.{is_passed};
 ghost use Rattle.fluent_syntax_parser.specs.Layouts.{line_of, piece_of};
@@ -96,7 +96,7 @@ impl<'s> Source<'s> {
     /// A line's ending, and where the next line begins.
     pub(crate) fn get_ending(&self, ptr: usize) -> (Ending, usize)
         requires { ptr ≤ length self.now.bytes.now }
-        ensures meets { ending self.now.bytes.now ptr (Read (ending_view result.0) result.1) }
+        ensures parses { ending self.now.bytes.now ptr (Read (ending_view result.0) result.1) }
         ensures within { (ptr ≤ result.1) × (result.1 ≤ length self.now.bytes.now) }
         ensures further { has_eol self.now.bytes.now ptr ≡ true → ptr < result.1 }
         ensures ends { EndsWithin result.0 }
@@ -139,7 +139,7 @@ impl<'s, 't, M: MakeTexts> Reader<'s, 't, M> {
     ) -> Result<usize, ReadFault>
         requires within { ptr ≤ length self.now.source.bytes.now }
         requires empty { pieces.old.items ≡ [] }
-        ensures meets { let t = self.now.source.bytes.now in
+        ensures parses { let t = self.now.source.bytes.now in
             Fills t (map (piece_of (M.source self.now.texts.now))) (more_pieces t (within self.now.edition t nesting))
             (map (piece_view M.made)) pieces.new.items ptr result }
         ensures within { IfOk result (λ end. (ptr ≤ end) × (end ≤ length self.now.source.bytes.now)) }
@@ -221,7 +221,7 @@ impl<'s, 't, M: MakeTexts> Reader<'s, 't, M> {
         requires within { first < length self.now.source.bytes.now }
         requires blank { InlineBlank self.now.source.bytes.now start first }
         ensures adds { let t = self.now.source.bytes.now in
-            Adds t (line_of (M.source self.now.texts.now)) (line t (within self.now.edition t nesting))
+            AddsParsed t (line_of (M.source self.now.texts.now)) (line t (within self.now.edition t nesting))
             (line_view M.made) lines.old.items lines.new.items start result }
         ensures within { IfOk result (λ next. (start < next) × (next ≤ length self.now.source.bytes.now)) }
     {
@@ -241,7 +241,7 @@ impl<'s, 't, M: MakeTexts> Reader<'s, 't, M> {
     ) -> Result<usize, ReadFault>
         requires within { ptr ≤ length self.now.source.bytes.now }
         requires empty { lines.old.items ≡ [] }
-        ensures meets { let t = self.now.source.bytes.now in
+        ensures parses { let t = self.now.source.bytes.now in
             Fills t (map (line_of (M.source self.now.texts.now))) (more_lines t (within self.now.edition t nesting))
             (map (line_view M.made)) lines.new.items ptr result }
         ensures behind { IfOk result (λ end. BlankBlock self.now.source.bytes.now end end) }

@@ -57,7 +57,8 @@ impl<'s> Source<'s> {
         start
     }
 
-    /// Where the next entry stands from a place on, if it is a message on which no comment hangs and whose patterns are
+    /// Where the next entry stands from a place on, if it is a message to which no comment is attached and whose
+    /// patterns are
     /// each one text on its line. `None` where another stands next, or none.
     pub(crate) fn next_text_message(
         &self,
@@ -115,7 +116,7 @@ impl<'s, 't, M: MakeTexts> Reader<'s, 't, M> {
         if !ends_with_comment(body) {
             return Ok(Some(Span { start, end }));
         }
-        let end = self.hang(body, nesting, end)?;
+        let end = self.attach_comment(body, nesting, end)?;
         Ok(Some(Span { start, end }))
     }
 }

@@ -1,4 +1,4 @@
-//! Entries and junk, each with the comment that hangs on it.
+//! Entries and junk, each with the comment that is attached to it.
 ghost use Rattle.std.specs.Prelude.{◌≡◌, ◌-◌, ◌<◌, ◌≤◌, ◌∷◌, ◌++◌, [], length, IfErr, IfOk, List, None, Option, Some};
 ghost use Rattle.std.specs.Prelude.{option_to_list};
 ghost use Rattle.fluent_syntax_tree.specs.declared.ast.Comment.{Comment};
@@ -8,7 +8,7 @@ ghost use Rattle.fluent_syntax_grammar.specs.Grammar.{within};
 ghost use Rattle.fluent_syntax_grammar.specs.Nesting.{TextDeeper, TooDeep};
 ghost use Rattle.fluent_syntax_grammar.specs.Tiling.{JunkEnd, TileIn, entry_in};
 ghost use Rattle.fluent_syntax_parser.specs.Halts.{HaltsWithin, OnHalt};
-ghost use Rattle.fluent_syntax_parser.specs.MadeEntries.{AddsJunk, AddsTile, HangsLast, HungLast, commented};
+ghost use Rattle.fluent_syntax_parser.specs.MadeEntries.{AddsJunk, AddsTile, AttachesLast, AttachedLast, commented};
 ghost use Rattle.fluent_syntax_parser.specs.MadeEntries.{ends_with_comment, is_comment};
 
 use crate::fault::{ReadFault, Refusal};
@@ -21,9 +21,9 @@ use fluent_syntax_tree::errors::ParserError;
 use fluent_syntax_tree::spans::Span;
 use std::alloc::AllocError;
 
-/// A message or a term with the comment, or the comment, if it can't hang on the entry.
+/// A message or a term with the comment, or the comment, if it can't be attached to the entry.
 fn with_comment<S: Drop>(comment: Comment<S>, entry: Entry<S>) -> Result<Entry<S>, Comment<S>>
-    ensures hung { IfOk result (λ e. commented comment entry ≡ Some e) }
+    ensures attached { IfOk result (λ e. commented comment entry ≡ Some e) }
     ensures other { IfErr result (λ c. (c ≡ comment) × (commented comment entry ≡ None)) }
 {
     match entry {
@@ -84,12 +84,13 @@ fn take_comment<S: Drop>(body: &mut Vec<Entry<S>>) -> Option<Comment<S>>
     }
 }
 
-/// Hangs the comment before the last entry on that, and says whether it can hang there. Where it can't, the entry is
+/// Attaches the comment before the last entry to that, and says whether it can be attached there. Where it can't, the
+/// entry is
 /// dropped.
-fn hang_last<S: Drop>(body: &mut Vec<Entry<S>>) -> Result<bool, AllocError>
+fn attach_to_last<S: Drop>(body: &mut Vec<Entry<S>>) -> Result<bool, AllocError>
     ensures { (before : List (Entry S)) (c : Comment S) (e : Entry S) →
         body.old.items ≡ before ++ entries.Comment c ∷ [] ++ e ∷ [] →
-        IfOk result (HungLast before c e body.new.items) }
+        IfOk result (AttachedLast before c e body.new.items) }
 {
     let Some(entry) = body.pop() else {
         return Ok(false);
@@ -166,18 +167,20 @@ impl<'s, 't, M: MakeTexts> Reader<'s, 't, M> {
         }
     }
 
-    /// Hangs the comment that was added last, and ends at a place, on the entry there, if it hangs on one; says where
+    /// Attaches the comment that was added last, and ends at a place, to the entry there, if it is attached to one;
+    /// says where
     /// that ends.
     #[inline(never)]
-    pub(crate) fn hang(
+    pub(crate) fn attach_comment(
         &self,
         body: &mut Vec<Entry<M::Text>>,
         nesting: usize,
         ptr: usize,
     ) -> Result<usize, Halt>
         requires { ptr ≤ length self.now.source.bytes.now }
-        ensures hangs { let t = self.now.source.bytes.now in IfOk result (λ end.
-            HangsLast (M.source self.now.texts.now) M.made self.now.edition t ptr end body.old.items body.new.items) }
+        ensures attaches { let t = self.now.source.bytes.now in IfOk result (λ end.
+            AttachesLast (M.source self.now.texts.now) M.made self.now.edition t ptr end body.old.items
+            body.new.items) }
         ensures within { IfOk result (λ end. (ptr ≤ end) × (end ≤ length self.now.source.bytes.now)) }
         ensures nests { IfErr result (HaltsWithin nesting (length self.now.source.bytes.now - ptr)) }
         ensures deeper { let t = self.now.source.bytes.now in let edition = self.now.edition in
@@ -194,8 +197,8 @@ impl<'s, 't, M: MakeTexts> Reader<'s, 't, M> {
         }
         match self.add_entry(body, nesting, ptr) {
             Ok(end) => {
-                let hangs = hang_last(body)?;
-                if hangs { Ok(end) } else { Ok(ptr) }
+                let attaches = attach_to_last(body)?;
+                if attaches { Ok(end) } else { Ok(ptr) }
             }
             Err(ReadFault::Refused { .. }) => Ok(ptr),
             Err(ReadFault::TooDeep) => Err(Halt::TooDeep),

@@ -2,7 +2,7 @@
 
 use crate::alike::assert_holds;
 use crate::corpus::TEXTS;
-use crate::edits::asked::{Edit, made, tree_of};
+use crate::edits::calls::{Edit, made, tree_of};
 use fluent_syntax::ast::Entry;
 use std::alloc::Global;
 use std::test::Fail;

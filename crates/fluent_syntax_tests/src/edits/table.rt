@@ -1,7 +1,7 @@
 //! Edits, each with the text that it gives, or why it gives none.
 
 use crate::alike::{assert_holds, assert_same, assert_same_text};
-use crate::edits::asked::{Edit, made};
+use crate::edits::calls::{Edit, made};
 use Edit::{Attribute, Insert, Remove, Replace, Value};
 use fluent_syntax::ast::{Comment, Entry};
 use fluent_syntax::laws::Rule;

@@ -3,7 +3,7 @@
 use crate::alike::{assert_holds, assert_same, assert_same_text};
 use fluent_syntax::parser::recovered;
 use fluent_syntax::spans::{Span, parse_spans};
-use fluent_syntax_names::{Finding, Kind, Outline, Severity, findings, outline_of};
+use fluent_syntax_names::{Finding, Kind, NameIndex, Severity, findings, name_index_of};
 use std::alloc::Global;
 use std::test::Fail;
 
@@ -82,15 +82,15 @@ const ROWS: &[Row] = table! {
     "a message without a value", &["a =\n    .t = { a }\n"], "undefined-value 0 a 15\n";
 };
 
-/// The outline of a text, whose errors are left.
-pub(crate) fn outline<'a>(alloc: Global, text: &'a str) -> Result<Outline<'a>, Fail> {
+/// The name index of a text, whose errors are left.
+pub(crate) fn name_index<'a>(alloc: Global, text: &'a str) -> Result<NameIndex<'a>, Fail> {
     let (tree, _) = recovered(alloc, parse_spans(alloc, text))?;
-    Ok(outline_of(alloc, text, &tree.body)?)
+    Ok(name_index_of(alloc, text, &tree.body)?)
 }
 
 pub(crate) fn push_finding(
     out: &mut String,
-    files: &[Outline<'_>],
+    files: &[NameIndex<'_>],
     finding: &Finding,
 ) -> Result<(), Fail> {
     let alloc = *out.allocator();
@@ -114,7 +114,7 @@ fn assert_found(alloc: Global, row: &Row) -> Result<(), Fail> {
     let (shows, texts, expected) = row;
     let mut files = Vec::new(alloc);
     for text in *texts {
-        files.push(outline(alloc, *text)?)?;
+        files.push(name_index(alloc, *text)?)?;
     }
     let mut out = String::new(alloc);
     for finding in &findings(alloc, &files)? {
@@ -144,7 +144,7 @@ fn sentences_and_severities(rt: HostRuntime) -> Result<(), Fail> {
         let said = kind.sentence(alloc, "a", Some(3))?;
         assert_same_text(alloc, kind.name(), said.as_str(), *expected)?;
         assert_same(alloc, kind.name(), &kind.severity(), &Severity::Error)?;
-        assert_holds(alloc, kind.name(), kind.stands_alone())?;
+        assert_holds(alloc, kind.name(), kind.is_local())?;
     }
     Ok(())
 }
@@ -165,7 +165,7 @@ fn chain(alloc: Global, last: &str) -> Result<String, Fail> {
 
 fn count_found(alloc: Global, text: &str) -> Result<usize, Fail> {
     let mut files = Vec::new(alloc);
-    files.push(outline(alloc, text)?)?;
+    files.push(name_index(alloc, text)?)?;
     let found = findings(alloc, &files)?;
     for finding in &found {
         if finding.kind != Kind::CyclicReference {
@@ -176,7 +176,7 @@ fn count_found(alloc: Global, text: &str) -> Result<usize, Fail> {
 }
 
 #[test]
-fn a_long_chain_and_a_long_circle(rt: HostRuntime) -> Result<(), Fail> {
+fn a_long_chain_and_a_long_cycle(rt: HostRuntime) -> Result<(), Fail> {
     let alloc = rt.alloc();
     let open = chain(alloc, "m4999 = M\n")?;
     assert_eq!(rt; count_found(alloc, open.as_str())?, 0);

@@ -1,6 +1,6 @@
 //! Texts, and the trees that they are read as, by either edition.
 
-use crate::outline::{Row, assert_outline};
+use crate::tree_text::{Row, assert_tree_text};
 use fluent_syntax::parser::{Edition, parse, parse_edition, parse_runtime, parse_runtime_edition};
 use std::alloc::Global;
 use std::test::Fail;
@@ -82,7 +82,7 @@ const ROWS: &[Row] = table! {
 /// Fails where the row's text is not answered as it says.
 pub(crate) fn assert_read(alloc: Global, row: &Row) -> Result<(), Fail> {
     let (shows, text, expected) = row;
-    assert_outline(alloc, *shows, &parse(alloc, *text), *expected)
+    assert_tree_text(alloc, *shows, &parse(alloc, *text), *expected)
 }
 
 #[test]
@@ -105,12 +105,12 @@ const WITHOUT_COMMENTS: &[Row] = table! {
 fn without_comments(rt: HostRuntime) -> Result<(), Fail> {
     let alloc = rt.alloc();
     for (shows, text, expected) in WITHOUT_COMMENTS {
-        assert_outline(alloc, *shows, &parse_runtime(alloc, *text), *expected)?;
+        assert_tree_text(alloc, *shows, &parse_runtime(alloc, *text), *expected)?;
     }
     Ok(())
 }
 
-/// What it shows, the text, and the outlines of its answers in edition one and in edition two.
+/// What it shows, the text, and the tree texts of its answers in edition one and in edition two.
 const BY_EDITION: &[(&str, &str, &str, &str)] = table! {
     "a placeable counts for the common indent",
         "key =\n  {x} a\n    b\n", "key = {x} \" a\\n\" \"b\"\n", "key = {x} \" a\\n\" \"  b\"\n";
@@ -133,9 +133,9 @@ fn assert_read_by(
     edition: Edition,
     expected: &str,
 ) -> Result<(), Fail> {
-    assert_outline(alloc, shows, &parse_edition(alloc, text, edition), expected)?;
+    assert_tree_text(alloc, shows, &parse_edition(alloc, text, edition), expected)?;
     let runtime = parse_runtime_edition(alloc, text, edition);
-    assert_outline(alloc, shows, &runtime, expected)
+    assert_tree_text(alloc, shows, &runtime, expected)
 }
 
 #[test]

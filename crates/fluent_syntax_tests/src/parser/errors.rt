@@ -1,8 +1,8 @@
 //! Broken texts, and the errors at their places.
 
 use crate::alike::{assert_holds, assert_same};
-use crate::outline::{Row, assert_outline};
 use crate::parser::entries::assert_read;
+use crate::tree_text::{Row, assert_tree_text};
 use fluent_syntax::parser::{ErrorKind, parse, recovered};
 use std::alloc::Global;
 use std::fmt::Write;
@@ -77,7 +77,7 @@ fn assert_junk(
 ) -> Result<(), Fail> {
     let (len, next) = (text.len(), place.saturating_add(1));
     let expected = format!(in alloc; "Junk {text:?}\n{place}..{next} 0..{len} {kind}\n")?;
-    assert_outline(alloc, shows, &parse(alloc, text), expected.as_str())
+    assert_tree_text(alloc, shows, &parse(alloc, text), expected.as_str())
 }
 
 #[test]

@@ -1,11 +1,11 @@
 //! Texts, and the ranges that they are read as; and where the parts of messages and terms stand.
 
 use crate::alike::assert_same_text;
-use crate::outline::{Row, assert_outline};
+use crate::tree_text::{Row, assert_tree_text};
 use fluent_syntax::parser::Edition;
 use fluent_syntax::spans::{
-    EntryExtents, Span, entry_extents, parse_runtime_spans, parse_runtime_spans_edition,
-    parse_spans, parse_spans_edition,
+    EntryRanges, Span, entry_ranges, parse_runtime_spans, parse_runtime_spans_edition, parse_spans,
+    parse_spans_edition,
 };
 use std::alloc::{AllocError, Global};
 use std::fmt::Write;
@@ -26,12 +26,12 @@ const ROWS: &[Row] = table! {
 fn spans(rt: HostRuntime) -> Result<(), Fail> {
     let alloc = rt.alloc();
     for (shows, text, expected) in ROWS {
-        assert_outline(alloc, *shows, &parse_spans(alloc, *text), *expected)?;
+        assert_tree_text(alloc, *shows, &parse_spans(alloc, *text), *expected)?;
     }
     Ok(())
 }
 
-/// A comment, and a placeable beyond the common indent; its outline in edition two, but for the comment.
+/// A comment, and a placeable beyond the common indent; its tree text in edition two, but for the comment.
 const INDENTED: (&str, &str) = (
     "# c\nkey =\n    a\n      {x}\n",
     "4..7 = 14..16 20..22 {23..24}",
@@ -40,19 +40,19 @@ const INDENTED: (&str, &str) = (
 #[test]
 fn by_edition_and_without_comments(rt: HostRuntime) -> Result<(), Fail> {
     let alloc = rt.alloc();
-    let (text, outline) = INDENTED;
+    let (text, tree_text) = INDENTED;
     let answer = parse_spans_edition(alloc, text, Edition::Two);
-    let expected = format!(in alloc; "{outline} | # 2..3\n")?;
-    assert_outline(alloc, "with comments", &answer, expected.as_str())?;
+    let expected = format!(in alloc; "{tree_text} | # 2..3\n")?;
+    assert_tree_text(alloc, "with comments", &answer, expected.as_str())?;
     let answer = parse_runtime_spans_edition(alloc, text, Edition::Two);
-    let expected = format!(in alloc; "{outline}\n")?;
-    assert_outline(alloc, "without comments", &answer, expected.as_str())?;
+    let expected = format!(in alloc; "{tree_text}\n")?;
+    assert_tree_text(alloc, "without comments", &answer, expected.as_str())?;
     let answer = parse_runtime_spans(alloc, text);
-    assert_outline(alloc, "edition one", &answer, "4..7 = 14..16 {23..24}\n")
+    assert_tree_text(alloc, "edition one", &answer, "4..7 = 14..16 {23..24}\n")
 }
 
 /// What it shows, the text, the place, and the ranges of the name, of the value, and of each attribute with its parts.
-const EXTENTS: &[(&str, &str, usize, &str)] = table! {
+const RANGES: &[(&str, &str, usize, &str)] = table! {
     "a message", "a = b\n", 0, "0..1 3..6";
     "without a line end", "a = b", 0, "0..1 3..5";
     "a line end with CR", "a = b\r\n", 0, "0..1 3..7";
@@ -77,14 +77,14 @@ fn show_span(out: &mut String, span: Span) -> Result<(), AllocError> {
     write!(out, "{start}..{end}")
 }
 
-fn show_extents(out: &mut String, extents: &EntryExtents) -> Result<(), AllocError> {
-    show_span(out, extents.name)?;
+fn show_ranges(out: &mut String, ranges: &EntryRanges) -> Result<(), AllocError> {
+    show_span(out, ranges.name)?;
     out.push_str(" ")?;
-    match extents.value {
+    match ranges.value {
         Some(span) => show_span(out, span)?,
         None => out.push_str("-")?,
     }
-    for attribute in &extents.attributes {
+    for attribute in &ranges.attributes {
         out.push_str(" .")?;
         show_span(out, attribute.span)?;
         out.push_str(" ")?;
@@ -95,7 +95,7 @@ fn show_extents(out: &mut String, extents: &EntryExtents) -> Result<(), AllocErr
     Ok(())
 }
 
-fn extents_shown(
+fn ranges_shown(
     alloc: Global,
     text: &str,
     edition: Edition,
@@ -106,8 +106,8 @@ fn extents_shown(
     if start > text.len() {
         return Ok(out);
     }
-    match entry_extents(alloc, text, edition, nesting, start) {
-        Ok(Some(extents)) => show_extents(&mut out, &extents)?,
+    match entry_ranges(alloc, text, edition, nesting, start) {
+        Ok(Some(ranges)) => show_ranges(&mut out, &ranges)?,
         Ok(None) => out.push_str("none")?,
         Err(_) => out.push_str("!")?,
     }
@@ -115,10 +115,10 @@ fn extents_shown(
 }
 
 #[test]
-fn extents_of_entries(rt: HostRuntime) -> Result<(), Fail> {
+fn ranges_of_entries(rt: HostRuntime) -> Result<(), Fail> {
     let alloc = rt.alloc();
-    for (shows, text, start, expected) in EXTENTS {
-        let got = extents_shown(alloc, *text, Edition::One, 9, *start)?;
+    for (shows, text, start, expected) in RANGES {
+        let got = ranges_shown(alloc, *text, Edition::One, 9, *start)?;
         assert_same_text(alloc, *shows, got.as_str(), *expected)?;
     }
     Ok(())
@@ -126,13 +126,13 @@ fn extents_of_entries(rt: HostRuntime) -> Result<(), Fail> {
 
 /// A lone star is a variant of edition one alone, and nothing may nest where no placeable may open.
 #[test]
-fn extents_by_edition_and_nesting(rt: HostRuntime) -> Result<(), Fail> {
+fn ranges_by_edition_and_nesting(rt: HostRuntime) -> Result<(), Fail> {
     let alloc = rt.alloc();
     let text = "key = { $x ->\n * }";
-    let got = extents_shown(alloc, text, Edition::One, 9, 0)?;
+    let got = ranges_shown(alloc, text, Edition::One, 9, 0)?;
     assert_same_text(alloc, "edition one", got.as_str(), "0..3 5..18")?;
-    let got = extents_shown(alloc, text, Edition::Two, 9, 0)?;
+    let got = ranges_shown(alloc, text, Edition::Two, 9, 0)?;
     assert_same_text(alloc, "edition two", got.as_str(), "none")?;
-    let got = extents_shown(alloc, text, Edition::One, 0, 0)?;
+    let got = ranges_shown(alloc, text, Edition::One, 0, 0)?;
     assert_same_text(alloc, "too deep", got.as_str(), "!")
 }

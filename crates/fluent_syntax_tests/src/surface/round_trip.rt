@@ -2,9 +2,9 @@
 
 use crate::alike::assert_holds;
 use crate::made::{Text, owned_tree, owned_tree_without_errors};
-use crate::outline::{Row, assert_outline};
+use crate::tree_text::{Row, assert_tree_text};
 use fluent_syntax::laws::{
-    is_canonical, is_readable, joined, reads_back, reads_readable, reparse, same_texts,
+    is_canonical, is_readable, joined, parse_is_readable, reads_back, reparse, same_texts,
 };
 use fluent_syntax::parser::Edition;
 use std::alloc::Global;
@@ -29,7 +29,7 @@ const SAME: &[(&str, Text)] = table! {
 fn assert_reads_the_same(alloc: Global, shows: &str, text: Text) -> Result<(), Fail> {
     let tree = owned_tree_without_errors(alloc, text)?;
     reads_back(&tree);
-    reads_readable(text);
+    parse_is_readable(text);
     let is_same = match reparse(alloc, &tree) {
         Ok(back) => same_texts(&tree, &back),
         Err(_) => false,
@@ -45,7 +45,7 @@ fn reads_the_same_tree(rt: HostRuntime) -> Result<(), Fail> {
     Ok(())
 }
 
-/// What it shows, the text, and the outline of what its written tree is read as.
+/// What it shows, the text, and the tree text of what its written tree is read as.
 const OTHER: &[Row] = table! {
     "spaces that no line of the pattern lacks are lost", "key =\n{x}\n    b\n", "key = {x} \"\\n\" \"b\"\n";
     "an empty text is no value", "key = \r", "Junk \"key = \\n\"\n0..7 0..7 ExpectedMessageField(\"key\")\n";
@@ -64,7 +64,7 @@ fn reads_another_tree(rt: HostRuntime) -> Result<(), Fail> {
     let alloc = rt.alloc();
     for (shows, text, expected) in OTHER {
         let tree = owned_tree(alloc, *text)?;
-        assert_outline(alloc, *shows, &reparse(alloc, &tree), *expected)?;
+        assert_tree_text(alloc, *shows, &reparse(alloc, &tree), *expected)?;
     }
     Ok(())
 }
@@ -83,7 +83,7 @@ fn tells_what_is_only_readable(rt: HostRuntime) -> Result<(), Fail> {
     Ok(())
 }
 
-/// What it shows, the text, and the outline of its joined tree.
+/// What it shows, the text, and the tree text of its joined tree.
 const JOINED: &[Row] = table! {
     "only to a text that does not end in LF", "key = a\r\n\r\n    b", "key = \"a\\n\" \"\\n\" \"b\"\n";
     "not to a placeable", "key = {x}\r\n    b", "key = {x} \"\\n\" \"b\"\n";
@@ -96,7 +96,7 @@ fn joins_texts(rt: HostRuntime) -> Result<(), Fail> {
     let alloc = rt.alloc();
     for (shows, text, expected) in JOINED {
         let tree = owned_tree(alloc, *text)?;
-        assert_outline(alloc, *shows, &Ok(joined(alloc, &tree)?), *expected)?;
+        assert_tree_text(alloc, *shows, &Ok(joined(alloc, &tree)?), *expected)?;
     }
     Ok(())
 }

@@ -2,7 +2,7 @@
 
 use crate::alike::{assert_holds, assert_same_text};
 use crate::made::owned_tree_without_errors;
-use crate::outline::{assert_outline, outline_of};
+use crate::tree_text::{assert_tree_text, tree_text_of};
 use fluent_syntax::ast::*;
 use fluent_syntax::laws::{same_answers, same_texts};
 use fluent_syntax::parser::{Edition, is_flat, parse, recovered};
@@ -42,9 +42,14 @@ fn assert_one_answer(alloc: Global, text: &'static str) -> Result<(), Fail> {
     let lent = parse(alloc, text);
     let owned = parse(alloc, String::from_str(alloc, text)?);
     same_answers(text, Edition::One, &lent, &owned);
-    let lent_outline = outline_of(alloc, &lent)?;
-    let owned_outline = outline_of(alloc, &owned)?;
-    assert_same_text(alloc, text, owned_outline.as_str(), lent_outline.as_str())
+    let lent_tree_text = tree_text_of(alloc, &lent)?;
+    let owned_tree_text = tree_text_of(alloc, &owned)?;
+    assert_same_text(
+        alloc,
+        text,
+        owned_tree_text.as_str(),
+        lent_tree_text.as_str(),
+    )
 }
 
 #[test]
@@ -99,15 +104,15 @@ fn one_tree_by_each_way(rt: HostRuntime) -> Result<(), Fail> {
     let alloc = rt.alloc();
     for text in [TEXT, JUNK] {
         let (tree, _) = recovered(alloc, parse(alloc, text))?;
-        let outline = outline_of(alloc, &Ok(tree))?;
-        assert_outline(alloc, text, &Ok(put_back(alloc, text)?), &outline)?;
-        assert_outline(
+        let tree_text = tree_text_of(alloc, &Ok(tree))?;
+        assert_tree_text(alloc, text, &Ok(put_back(alloc, text)?), &tree_text)?;
+        assert_tree_text(
             alloc,
             text,
             &Ok(put_back_one_by_one(alloc, text)?),
-            &outline,
+            &tree_text,
         )?;
-        assert_outline(alloc, text, &Ok(gathered(alloc, text)?), &outline)?;
+        assert_tree_text(alloc, text, &Ok(gathered(alloc, text)?), &tree_text)?;
     }
     Ok(())
 }

@@ -149,8 +149,8 @@ fn entries(rt: HostRuntime) -> Result<(), Fail> {
     for (lines, rule) in COMMENTS {
         let free = Ok(Entry::GroupComment(comment(alloc, *lines)?));
         assert_broken(alloc, "a comment", free, Edition::One, *rule)?;
-        let hung = term_with_comment(alloc, *lines);
-        assert_broken(alloc, "a term's comment", hung, Edition::One, *rule)?;
+        let attached = term_with_comment(alloc, *lines);
+        assert_broken(alloc, "a term's comment", attached, Edition::One, *rule)?;
     }
     Ok(())
 }

@@ -1,6 +1,7 @@
 -- Texts by their lines and bytes.
 use Rattle.std.proofs.Common.{◌≡◌, ℕ, [], ◌∷◌, Bool, true, false, ◌&&◌, ◌||◌, ◌==◌, not, refl, sym, ap, ◌∙◌}
-use Rattle.std.proofs.Common.{subst}
+use Rattle.std.proofs.Common.{subst, length, arith}
+use Rattle.std.proofs.lemmas.Bool.Decides.{nat_tests}
 use Rattle.std.specs.List.{list_all, list_any}
 use Rattle.fluent_syntax_grammar.specs.Bytes.{lf, cr, left_brace, right_brace}
 use Rattle.fluent_syntax_grammar.specs.Elements.{without_last_lf}
@@ -10,7 +11,7 @@ use Rattle.fluent_syntax_grammar.specs.Readable.{is_text}
 use Rattle.fluent_syntax_grammar.specs.Written.{Text, has_lf}
 use Rattle.fluent_syntax_grammar.proofs.Facts.{equal}
 use Rattle.fluent_syntax_grammar.proofs.Tests.{and_false, neither_left, neither_right}
-use Rattle.fluent_syntax_writer.specs.Texts.{ends_in_crlf, is_text_by_line}
+use Rattle.fluent_syntax_writer.specs.Texts.{ends_in_crlf}
 
 -- whether an LF directly follows a CR, which may stand before the text
 abbrev pub has_crlf_after : Bool → Text → Bool
@@ -76,7 +77,12 @@ by_parts true false true crlf at_end same = sym (and_false (not crlf))
 by_parts true false false true at_end same = ap not (sym (same refl))
 by_parts true false false false at_end same = ap not (sym (same refl))
 
-pub is_text-line : (v : Text) → is_text_by_line v ≡ is_text v
+pub is_empty-length : (v : Text) → is_empty v ≡ (length v == 0)
+is_empty-length [] = refl
+is_empty-length (b ∷ bs) = grind (arith, nat_tests)
+
+pub is_text-line : (v : Text)
+    → (not (is_empty v) && (list_all is_passed (without_last_lf v) && not (ends_in_crlf v))) ≡ is_text v
 is_text-line v =
     let line = without_last_lf v in
     ap (λ passed. not (is_empty v) && (passed && not (ends_in_crlf v)))

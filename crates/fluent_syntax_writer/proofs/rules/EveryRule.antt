@@ -16,19 +16,23 @@ use Rattle.fluent_syntax_grammar.specs.Spellings.{is_name, is_number, is_string}
 use Rattle.fluent_syntax_grammar.specs.PatternTexts.{is_empty, is_brace, has_crlf, is_spaces, begins_with_space}
 use Rattle.fluent_syntax_grammar.specs.PatternTexts.{after_spaces}
 use Rattle.fluent_syntax_grammar.specs.Readable.{is_message, is_callee, is_text}
-use Rattle.fluent_syntax_grammar.specs.Readable.{Stand, opening, after_line, within_line, after_placeable, stand_after}
-use Rattle.fluent_syntax_grammar.specs.Readable.{indents, stands_well, ends_well, are_elements, is_pattern, defaults}
+use Rattle.fluent_syntax_grammar.specs.Readable.{ElementPosition, opening, after_line, within_line, after_placeable}
+use Rattle.fluent_syntax_grammar.specs.Readable.{position_after}
+use Rattle.fluent_syntax_grammar.specs.Readable.{indents, is_well_placed, ends_well, are_elements, is_pattern, defaults}
 use Rattle.fluent_syntax_grammar.specs.Readable.{are_lines, is_expression, are_arguments}
 use Rattle.fluent_syntax_grammar.specs.Canonical.{canonical_rules, is_plain_comment, is_plain_line, hides_mark}
-use Rattle.fluent_syntax_grammar.specs.Canonical.{are_lone, are_flush, first_stand, is_flush, has_one_default}
+use Rattle.fluent_syntax_grammar.specs.Canonical.{are_lone, are_flush, first_position, is_flush, has_one_default}
 use Rattle.fluent_syntax_grammar.specs.Rules.{entry_obeys}
-use Rattle.fluent_syntax_writer.specs.Alone.{every_rule, alone, entry_keeps, comment_keeps, text_keeps, texts_keep}
-use Rattle.fluent_syntax_writer.specs.Alone.{form_keeps, pattern_keeps, expression_keeps, have_values, have_new_names}
-use Rattle.fluent_syntax_writer.specs.Alone.{arguments_keep, is_zero_if_some, least_of_lines, begins_anew}
-use Rattle.fluent_syntax_writer.specs.Alone.{first_is_nonblank, first_is_tight, later_is_no_space, later_is_unmarked}
+use Rattle.fluent_syntax_writer.specs.SingleRule.{every_rule, single_rule, entry_keeps, comment_keeps, text_keeps}
+use Rattle.fluent_syntax_writer.specs.SingleRule.{texts_keep}
+use Rattle.fluent_syntax_writer.specs.SingleRule.{form_keeps, pattern_keeps, expression_keeps, have_values}
+use Rattle.fluent_syntax_writer.specs.SingleRule.{have_new_names}
+use Rattle.fluent_syntax_writer.specs.SingleRule.{arguments_keep, is_zero_if_some, least_of_lines, follows_no_text}
+use Rattle.fluent_syntax_writer.specs.SingleRule.{first_is_nonblank, first_is_tight, later_is_no_space}
+use Rattle.fluent_syntax_writer.specs.SingleRule.{later_is_unmarked}
 use Rattle.fluent_syntax_writer.specs.declared.canonical.rules.Rule.{Rule}
 use Rattle.fluent_syntax_writer.proofs.rules.Named.{nameds_whole}
-use Rattle.fluent_syntax_writer.proofs.rules.Stands.{and_assoc}
+use Rattle.fluent_syntax_writer.proofs.rules.Positions.{and_assoc}
 use Rattle.fluent_syntax_grammar.proofs.RulesTogether.{ArePartsOf, both_pass, entry_meets}
 
 and_true : (x : Bool) → x ≡ (x && true)
@@ -73,9 +77,9 @@ on_later_line false mark true = refl
 on_later_line false mark false = refl
 
 module _ (edition : Edition) where
-  place_whole : (multiline : Bool) (s : Stand) (v : Text) (es : PatternTree Text)
-      → (stands_well edition multiline s v es && ends_well v es)
-      ≡ (begins_anew s && (first_is_nonblank edition multiline s v es && (first_is_tight multiline s v
+  place_whole : (multiline : Bool) (s : ElementPosition) (v : Text) (es : PatternTree Text)
+      → (is_well_placed edition multiline s v es && ends_well v es)
+      ≡ (follows_no_text s && (first_is_nonblank edition multiline s v es && (first_is_tight multiline s v
       && (ends_well v es && (later_is_no_space edition s v es && (later_is_unmarked s v && true))))))
   place_whole true opening v es =
       ap (λ b. (is_nonblank v || indents edition v es) && b) (and_true (ends_well v es))
@@ -86,28 +90,28 @@ module _ (edition : Edition) where
   place_whole multiline within_line v es = refl
   place_whole multiline after_placeable v es = and_true (ends_well v es)
 
-  text_whole : (multiline : Bool) (s : Stand) (v : Text) (es : PatternTree Text)
-      → (is_text v && (stands_well edition multiline s v es && ends_well v es))
+  text_whole : (multiline : Bool) (s : ElementPosition) (v : Text) (es : PatternTree Text)
+      → (is_text v && (is_well_placed edition multiline s v es && ends_well v es))
       ≡ list_all (λ rule. text_keeps edition rule multiline s v es) every_rule
   text_whole multiline s v es =
       after_four (not (is_empty v)) (not (list_any is_brace v)) (not (has_crlf v)) (not (has_lf (without_last_lf v)))
       _ _ (place_whole multiline s v es)
 
-  texts_whole : (multiline : Bool) (s : Stand) (p : PatternTree Text)
+  texts_whole : (multiline : Bool) (s : ElementPosition) (p : PatternTree Text)
       → are_elements edition multiline s p ≡ list_all (λ rule. texts_keep edition rule multiline s p) every_rule
   texts_whole multiline s no_elements = refl
   texts_whole multiline s (elements (placeable e) es) = texts_whole multiline after_placeable es
   texts_whole multiline s (elements (text_element v) es) =
       let text = λ (rule : Rule). text_keeps edition rule multiline s v es in
-      let rest = λ (rule : Rule). texts_keep edition rule multiline (stand_after v) es in
-      and_assoc (is_text v) (stands_well edition multiline s v es) (ends_well v es)
-      (are_elements edition multiline (stand_after v) es)
-      ∙ rw (text_whole multiline s v es, texts_whole multiline (stand_after v) es)
+      let rest = λ (rule : Rule). texts_keep edition rule multiline (position_after v) es in
+      and_assoc (is_text v) (is_well_placed edition multiline s v es) (ends_well v es)
+      (are_elements edition multiline (position_after v) es)
+      ∙ rw (text_whole multiline s v es, texts_whole multiline (position_after v) es)
       (sym (both_pass text rest every_rule))
 
   -- ---- Patterns
 
-  lines_whole : (multiline hidden : Bool) (number : Option ℕ) (s : Stand) (p : PatternTree Text)
+  lines_whole : (multiline hidden : Bool) (number : Option ℕ) (s : ElementPosition) (p : PatternTree Text)
       → (not multiline || not hidden && are_flush number s p)
       ≡ ((not multiline || not hidden) && ((not multiline || is_zero_if_some number)
       && ((not multiline || (is_some number || are_lone s p)) && true)))
@@ -124,7 +128,7 @@ module _ (edition : Edition) where
       let form = λ (rule : Rule). form_keeps edition rule p in
       let texts = λ (rule : Rule). texts_keep edition rule (is_multiline p) opening p in
       let lines : is_flush edition p ≡ list_all form every_rule =
-      lines_whole (is_multiline p) (hides_mark p) (least_of_lines edition p) (first_stand p) p in
+      lines_whole (is_multiline p) (hides_mark p) (least_of_lines edition p) (first_position p) p in
       and_comm (is_pattern edition p) (is_flush edition p)
       ∙ rw (lines, texts_whole (is_multiline p) opening p) (sym (both_pass form texts every_rule))
 
@@ -158,7 +162,7 @@ arguments_whole (arguments ps ns) =
 
 -- ---- All kinds of nodes
 
-canonical_parts : (edition : Edition) → ArePartsOf every_rule (alone edition) (canonical_rules edition)
+canonical_parts : (edition : Edition) → ArePartsOf every_rule (single_rule edition) (canonical_rules edition)
 canonical_parts edition = record {
   junk_parts = refl;
   message_parts = λ m. and_true (is_message m);
@@ -175,4 +179,5 @@ canonical_parts edition = record {
 -- An entry is canonical exactly where it keeps each rule alone.
 pub keeps_every : (edition : Edition) (e : EntryTree Text)
     → entry_obeys (canonical_rules edition) e ≡ list_all (λ rule. entry_keeps edition rule e) every_rule
-keeps_every edition e = entry_meets every_rule (alone edition) (canonical_rules edition) (canonical_parts edition) e
+keeps_every edition e =
+    entry_meets every_rule (single_rule edition) (canonical_rules edition) (canonical_parts edition) e

@@ -9,9 +9,9 @@ use Rattle.fluent_syntax_tree.specs.declared.edition.Edition.{Edition}
 use Rattle.fluent_syntax_grammar.specs.Canonical.{canonical_rules, is_canonical}
 use Rattle.fluent_syntax_grammar.specs.Rules.{entry_obeys}
 use Rattle.fluent_syntax_grammar.specs.Written.{Text}
-use Rattle.fluent_syntax_writer.specs.Alone.{every_rule, entry_keeps}
+use Rattle.fluent_syntax_writer.specs.SingleRule.{every_rule, entry_keeps}
 use Rattle.fluent_syntax_writer.specs.Uncanonical.{broken_rule, or_after, first_from, first_uncanonical, IsFirstBroken}
-use Rattle.fluent_syntax_writer.specs.declared.canonical.first.Uncanonical.{Uncanonical}
+use Rattle.fluent_syntax_writer.specs.declared.canonical.broken_rules.Uncanonical.{Uncanonical}
 use Rattle.fluent_syntax_writer.specs.declared.canonical.rules.Rule.{Rule}
 use Rattle.fluent_syntax_writer.proofs.rules.EveryRule.{keeps_every}
 

@@ -3,7 +3,7 @@ ghost use Rattle.std.specs.Prelude.{◌≡◌, map, [], IfOk};
 ghost use Rattle.fluent_syntax_tree.specs.Tree.{nameds_of};
 ghost use Rattle.fluent_syntax_tree.specs.View.{named_view};
 ghost use Rattle.fluent_syntax_grammar.specs.Arguments.{is_used};
-ghost use Rattle.fluent_syntax_writer.specs.Alone.{have_new_names};
+ghost use Rattle.fluent_syntax_writer.specs.SingleRule.{have_new_names};
 ghost use Rattle.fluent_syntax_writer.specs.Names.{name_of};
 
 use fluent_syntax_tree::ast::NamedArgument;

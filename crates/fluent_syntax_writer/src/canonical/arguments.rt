@@ -3,7 +3,7 @@ ghost use Rattle.std.specs.Prelude.{◌≡◌, map};
 ghost use Rattle.fluent_syntax_tree.specs.Tree.{nameds_of};
 ghost use Rattle.fluent_syntax_tree.specs.View.{inline_view, arguments_view, named_view};
 ghost use Rattle.fluent_syntax_grammar.specs.Readable.{is_argument_value, are_arguments};
-ghost use Rattle.fluent_syntax_writer.specs.Alone.{have_values};
+ghost use Rattle.fluent_syntax_writer.specs.SingleRule.{have_values};
 
 use crate::canonical::argument_names::have_new_names;
 use crate::canonical::spellings::is_unsigned;

@@ -2,10 +2,10 @@
 ghost use Rattle.std.specs.Prelude.{◌≡◌, map};
 ghost use Rattle.fluent_syntax_tree.specs.Tree.{text_element, elements_of};
 ghost use Rattle.fluent_syntax_tree.specs.View.{element_view, pattern_view};
-ghost use Rattle.fluent_syntax_grammar.specs.Readable.{opening, is_line_start, stand_after, begins_with_placeable};
-ghost use Rattle.fluent_syntax_grammar.specs.Readable.{indents, opens_well, stands_well, ends_well, are_elements};
+ghost use Rattle.fluent_syntax_grammar.specs.Readable.{opening, is_line_start, position_after, begins_with_placeable};
+ghost use Rattle.fluent_syntax_grammar.specs.Readable.{indents, opens_well, is_well_placed, ends_well, are_elements};
 ghost use Rattle.fluent_syntax_grammar.specs.Readable.{is_pattern};
-ghost use Rattle.fluent_syntax_writer.specs.Places.{stand_of, stand_past, is_element, is_placeable};
+ghost use Rattle.fluent_syntax_writer.specs.Places.{position_of, position_past, is_element, is_placeable};
 
 use crate::canonical::patterns::is_multiline;
 use crate::canonical::texts::*;
@@ -16,7 +16,7 @@ use fluent_syntax_tree::texts::ReadTexts;
 
 /// Where an element stands.
 #[derive(Clone, Copy)]
-pub enum Stand {
+pub enum ElementPosition {
     /// First in its pattern.
     Opening,
     /// After a text that ends in LF.
@@ -26,30 +26,33 @@ pub enum Stand {
     AfterPlaceable,
 }
 
-pub fn is_line_start(stand: Stand) -> bool
-    ensures { result ≡ is_line_start (stand_of stand) }
+pub fn is_line_start(position: ElementPosition) -> bool
+    ensures { result ≡ is_line_start (position_of position) }
 {
-    matches!(stand, Stand::Opening | Stand::AfterLine)
+    matches!(
+        position,
+        ElementPosition::Opening | ElementPosition::AfterLine
+    )
 }
 
 /// Where the element stands that follows a text.
-fn stand_after(text: &str) -> Stand
-    ensures { stand_of result ≡ stand_after text.now }
+fn position_after(text: &str) -> ElementPosition
+    ensures { position_of result ≡ position_after text.now }
 {
     if ends_in_lf(text) {
-        Stand::AfterLine
+        ElementPosition::AfterLine
     } else {
-        Stand::WithinLine
+        ElementPosition::WithinLine
     }
 }
 
 /// Where the element stands that follows this one.
-pub fn stand_past<X, T: ReadTexts<X>>(element: &PatternElement<X>) -> Stand
-    ensures { stand_of result ≡ stand_past (element_view T.text element.now) }
+pub fn position_past<X, T: ReadTexts<X>>(element: &PatternElement<X>) -> ElementPosition
+    ensures { position_of result ≡ position_past (element_view T.text element.now) }
 {
     match element {
-        PatternElement::TextElement { value } => stand_after(T::as_str(value)),
-        PatternElement::Placeable { .. } => Stand::AfterPlaceable,
+        PatternElement::TextElement { value } => position_after(T::as_str(value)),
+        PatternElement::Placeable { .. } => ElementPosition::AfterPlaceable,
     }
 }
 
@@ -68,12 +71,18 @@ fn are_elements<X, T: ReadTexts<X>>(
 ) -> bool
     ensures { result ≡ are_elements edition multiline opening (elements_of (map (element_view T.text) elements.now)) }
 {
-    let mut stand = Stand::Opening;
+    let mut position = ElementPosition::Opening;
     for (index, element) in elements.iter().enumerate() {
-        if !is_element::<X, T>(edition, multiline, stand, element, &elements[index + 1..]) {
+        if !is_element::<X, T>(
+            edition,
+            multiline,
+            position,
+            element,
+            &elements[index + 1..],
+        ) {
             return false;
         }
-        stand = stand_past::<X, T>(element);
+        position = position_past::<X, T>(element);
     }
     true
 }
@@ -82,16 +91,16 @@ fn are_elements<X, T: ReadTexts<X>>(
 fn is_element<X, T: ReadTexts<X>>(
     edition: Edition,
     multiline: bool,
-    stand: Stand,
+    position: ElementPosition,
     element: &PatternElement<X>,
     rest: &[PatternElement<X>],
 ) -> bool
-    ensures { result ≡ is_element edition multiline (stand_of stand) (element_view T.text element.now)
+    ensures { result ≡ is_element edition multiline (position_of position) (element_view T.text element.now)
         (elements_of (map (element_view T.text) rest.now)) }
 {
     match element {
         PatternElement::TextElement { value } => {
-            is_text_at::<X, T>(edition, multiline, stand, T::as_str(value), rest)
+            is_text_at::<X, T>(edition, multiline, position, T::as_str(value), rest)
         }
         PatternElement::Placeable { .. } => true,
     }
@@ -100,37 +109,37 @@ fn is_element<X, T: ReadTexts<X>>(
 fn is_text_at<X, T: ReadTexts<X>>(
     edition: Edition,
     multiline: bool,
-    stand: Stand,
+    position: ElementPosition,
     text: &str,
     rest: &[PatternElement<X>],
 ) -> bool
-    ensures { result ≡ is_element edition multiline (stand_of stand) (text_element text.now)
+    ensures { result ≡ is_element edition multiline (position_of position) (text_element text.now)
         (elements_of (map (element_view T.text) rest.now)) }
 {
     is_text(text)
-        && stands_well::<X, T>(edition, multiline, stand, text, rest)
+        && is_well_placed::<X, T>(edition, multiline, position, text, rest)
         && ends_well::<X, T>(text, rest)
 }
 
 /// Whether the text may stand there.
-fn stands_well<X, T: ReadTexts<X>>(
+fn is_well_placed<X, T: ReadTexts<X>>(
     edition: Edition,
     multiline: bool,
-    stand: Stand,
+    position: ElementPosition,
     text: &str,
     rest: &[PatternElement<X>],
 ) -> bool
-    ensures { result ≡ stands_well edition multiline (stand_of stand) text.now
+    ensures { result ≡ is_well_placed edition multiline (position_of position) text.now
         (elements_of (map (element_view T.text) rest.now)) }
 {
-    match stand {
-        Stand::Opening => opens_well::<X, T>(edition, multiline, text, rest),
-        Stand::AfterLine => {
+    match position {
+        ElementPosition::Opening => opens_well::<X, T>(edition, multiline, text, rest),
+        ElementPosition::AfterLine => {
             (!is_spaces(text) || indents::<X, T>(edition, text, rest))
                 && !begins_line_with_mark(text)
         }
-        Stand::WithinLine => false,
-        Stand::AfterPlaceable => true,
+        ElementPosition::WithinLine => false,
+        ElementPosition::AfterPlaceable => true,
     }
 }
 

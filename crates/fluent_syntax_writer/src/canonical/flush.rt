@@ -3,13 +3,14 @@ ghost use Rattle.std.specs.Prelude.{◌≡◌, map, option_to_list};
 ghost use Rattle.fluent_syntax_tree.specs.Tree.{text_element, elements_of};
 ghost use Rattle.fluent_syntax_tree.specs.View.{element_view, pattern_view};
 ghost use Rattle.fluent_syntax_grammar.specs.Canonical.{hides_mark, text_numbers, placeable_numbers, line_numbers};
-ghost use Rattle.fluent_syntax_grammar.specs.Canonical.{are_lone, are_flush, first_stand, is_flush};
+ghost use Rattle.fluent_syntax_grammar.specs.Canonical.{are_lone, are_flush, first_position, is_flush};
 ghost use Rattle.fluent_syntax_grammar.specs.Layout.{least};
 ghost use Rattle.fluent_syntax_grammar.specs.PatternTexts.{is_lone_lf};
-ghost use Rattle.fluent_syntax_writer.specs.Places.{stand_of, numbers_at, element_numbers, element_hides_mark, is_lone};
-ghost use Rattle.fluent_syntax_writer.specs.Places.{stands_lone, lesser};
+ghost use Rattle.fluent_syntax_writer.specs.Places.{position_of, numbers_at, element_numbers, element_hides_mark};
+ghost use Rattle.fluent_syntax_writer.specs.Places.{is_lone};
+ghost use Rattle.fluent_syntax_writer.specs.Places.{is_lone_at_line_start, lesser};
 
-use crate::canonical::elements::{Stand, is_line_start, stand_past};
+use crate::canonical::elements::{ElementPosition, is_line_start, position_past};
 use crate::canonical::patterns::{has_leading_mark, is_multiline};
 use crate::canonical::texts::*;
 use fluent_syntax_grammar::texts::is_lone_lf;
@@ -24,19 +25,19 @@ pub fn is_flush<X, T: ReadTexts<X>>(edition: Edition, pattern: &Pattern<X>) -> b
     if !is_multiline::<X, T>(pattern) {
         return true;
     }
-    let stand = first_stand::<X, T>(pattern);
-    !hides_mark::<X, T>(pattern) && are_flush::<X, T>(edition, stand, &pattern.elements)
+    let position = first_position::<X, T>(pattern);
+    !hides_mark::<X, T>(pattern) && are_flush::<X, T>(edition, position, &pattern.elements)
 }
 
 /// Where the first element of a multiline pattern stands: at the beginning of a line, unless it would be read as
 /// something else there.
-pub fn first_stand<X, T: ReadTexts<X>>(pattern: &Pattern<X>) -> Stand
-    ensures { stand_of result ≡ first_stand (pattern_view T.text pattern.now) }
+pub fn first_position<X, T: ReadTexts<X>>(pattern: &Pattern<X>) -> ElementPosition
+    ensures { position_of result ≡ first_position (pattern_view T.text pattern.now) }
 {
     if is_multiline::<X, T>(pattern) && !has_leading_mark::<X, T>(pattern) {
-        Stand::Opening
+        ElementPosition::Opening
     } else {
-        Stand::AfterPlaceable
+        ElementPosition::AfterPlaceable
     }
 }
 
@@ -68,33 +69,33 @@ fn text_hides_mark(text: &str) -> bool
 /// Whether the least number of the lines is 0, or no line has a number and each text that begins a line is one LF.
 fn are_flush<X, T: ReadTexts<X>>(
     edition: Edition,
-    stand: Stand,
+    position: ElementPosition,
     elements: &[PatternElement<X>],
 ) -> bool
     ensures { result ≡ are_flush
-        (least (line_numbers edition (stand_of stand) (elements_of (map (element_view T.text) elements.now))))
-        (stand_of stand) (elements_of (map (element_view T.text) elements.now)) }
+        (least (line_numbers edition (position_of position) (elements_of (map (element_view T.text) elements.now))))
+        (position_of position) (elements_of (map (element_view T.text) elements.now)) }
 {
-    match least_number::<X, T>(edition, stand, elements) {
+    match least_number::<X, T>(edition, position, elements) {
         Some(number) => number == 0,
-        None => are_lone::<X, T>(stand, elements),
+        None => are_lone::<X, T>(position, elements),
     }
 }
 
 /// The least number of the lines that begin at these elements, if a line has one.
 pub fn least_number<X, T: ReadTexts<X>>(
     edition: Edition,
-    first: Stand,
+    first: ElementPosition,
     elements: &[PatternElement<X>],
 ) -> Option<usize>
     ensures { result ≡ least
-        (line_numbers edition (stand_of first) (elements_of (map (element_view T.text) elements.now))) }
+        (line_numbers edition (position_of first) (elements_of (map (element_view T.text) elements.now))) }
 {
-    let mut stand = first;
+    let mut position = first;
     let mut least = None;
     for element in elements {
-        least = lesser(least, line_number::<X, T>(edition, stand, element));
-        stand = stand_past::<X, T>(element);
+        least = lesser(least, line_number::<X, T>(edition, position, element));
+        position = position_past::<X, T>(element);
     }
     least
 }
@@ -112,12 +113,12 @@ fn lesser(a: Option<usize>, b: Option<usize>) -> Option<usize>
 /// The number of the line that begins at the element, if one begins there and has a number.
 fn line_number<X, T: ReadTexts<X>>(
     edition: Edition,
-    stand: Stand,
+    position: ElementPosition,
     element: &PatternElement<X>,
 ) -> Option<usize>
-    ensures { option_to_list result ≡ numbers_at edition (stand_of stand) (element_view T.text element.now) }
+    ensures { option_to_list result ≡ numbers_at edition (position_of position) (element_view T.text element.now) }
 {
-    if is_line_start(stand) {
+    if is_line_start(position) {
         element_number::<X, T>(edition, element)
     } else {
         None
@@ -159,24 +160,27 @@ fn placeable_number(edition: Edition) -> Option<usize>
 }
 
 /// Whether each text that begins a line is one LF.
-pub fn are_lone<X, T: ReadTexts<X>>(first: Stand, elements: &[PatternElement<X>]) -> bool
-    ensures { result ≡ are_lone (stand_of first) (elements_of (map (element_view T.text) elements.now)) }
+pub fn are_lone<X, T: ReadTexts<X>>(first: ElementPosition, elements: &[PatternElement<X>]) -> bool
+    ensures { result ≡ are_lone (position_of first) (elements_of (map (element_view T.text) elements.now)) }
 {
-    let mut stand = first;
+    let mut position = first;
     for element in elements {
-        if !stands_lone::<X, T>(stand, element) {
+        if !is_lone_at_line_start::<X, T>(position, element) {
             return false;
         }
-        stand = stand_past::<X, T>(element);
+        position = position_past::<X, T>(element);
     }
     true
 }
 
 /// Whether the element begins no line, is no text, or is one LF.
-fn stands_lone<X, T: ReadTexts<X>>(stand: Stand, element: &PatternElement<X>) -> bool
-    ensures { result ≡ stands_lone (stand_of stand) (element_view T.text element.now) }
+fn is_lone_at_line_start<X, T: ReadTexts<X>>(
+    position: ElementPosition,
+    element: &PatternElement<X>,
+) -> bool
+    ensures { result ≡ is_lone_at_line_start (position_of position) (element_view T.text element.now) }
 {
-    !is_line_start(stand) || is_lone::<X, T>(element)
+    !is_line_start(position) || is_lone::<X, T>(element)
 }
 
 /// Whether the element is no text, or one LF.

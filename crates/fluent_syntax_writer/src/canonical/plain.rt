@@ -1,20 +1,17 @@
 //! The usual pattern: one text on one line.
-ghost use Rattle.std.specs.Prelude.{◌≡◌, ◌&&◌, IsTrue, not};
+ghost use Rattle.std.specs.Prelude.{◌≡◌};
 ghost use Rattle.fluent_syntax_tree.specs.Tree.{no_elements, elements};
 ghost use Rattle.fluent_syntax_tree.specs.View.{element_view, pattern_view};
-ghost use Rattle.fluent_syntax_tree.specs.declared.edition.Edition.{Edition};
-ghost use Rattle.fluent_syntax_grammar.specs.Canonical.{canonical_rules};
-ghost use Rattle.fluent_syntax_grammar.specs.PatternTexts.{begins_with_space, ends_plainly};
-ghost use Rattle.fluent_syntax_grammar.specs.Readable.{is_text};
+ghost use Rattle.fluent_syntax_writer.specs.Texts.{is_plain_pattern, is_plain_text};
 
 use crate::canonical::texts::{begins_with_space, ends_plainly, is_text};
 use fluent_syntax_tree::ast::{Pattern, PatternElement};
 use fluent_syntax_tree::texts::ReadTexts;
 
-/// Whether the pattern is one text on one line, without a space at either end: so it obeys, in each edition.
+/// Whether the pattern is one text on one line, without a space at either end. Such a pattern obeys all rules of
+/// patterns, in each edition.
 pub fn is_plain_pattern<X, T: ReadTexts<X>>(pattern: &Pattern<X>) -> bool
-    ensures { (edition : Edition) → IsTrue result →
-        IsTrue ((canonical_rules edition).pattern (pattern_view T.text pattern.now)) }
+    ensures { result ≡ is_plain_pattern (pattern_view T.text pattern.now) }
 {
     match pattern.elements.as_slice() {
         [element] => is_plain_element::<X, T>(element),
@@ -23,8 +20,7 @@ pub fn is_plain_pattern<X, T: ReadTexts<X>>(pattern: &Pattern<X>) -> bool
 }
 
 fn is_plain_element<X, T: ReadTexts<X>>(element: &PatternElement<X>) -> bool
-    ensures { (edition : Edition) → IsTrue result →
-        IsTrue ((canonical_rules edition).pattern (elements (element_view T.text element.now) no_elements)) }
+    ensures { result ≡ is_plain_pattern (elements (element_view T.text element.now) no_elements) }
 {
     match element {
         PatternElement::TextElement { value } => is_plain_text(T::as_str(value)),
@@ -33,7 +29,7 @@ fn is_plain_element<X, T: ReadTexts<X>>(element: &PatternElement<X>) -> bool
 }
 
 fn is_plain_text(text: &str) -> bool
-    ensures { result ≡ (is_text text.now && (not (begins_with_space text.now) && ends_plainly text.now)) }
+    ensures { result ≡ is_plain_text text.now }
 {
     is_text(text) && !begins_with_space(text) && ends_plainly(text)
 }

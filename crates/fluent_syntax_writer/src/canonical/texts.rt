@@ -9,7 +9,7 @@ ghost use Rattle.fluent_syntax_grammar.specs.PatternTexts.{leading_spaces, after
 ghost use Rattle.fluent_syntax_grammar.specs.Readable.{is_text};
 ghost use Rattle.fluent_syntax_grammar.specs.Written.{has_lf, is_last, is_shown, last_of, begins_with_mark};
 ghost use Rattle.fluent_syntax_grammar.specs.Written.{is_leading_mark};
-ghost use Rattle.fluent_syntax_writer.specs.Texts.{ends_in_crlf, is_text_by_line};
+ghost use Rattle.fluent_syntax_writer.specs.Texts.{ends_in_crlf};
 
 use fluent_syntax_grammar::lanes::text_len;
 use fluent_syntax_grammar::texts::{self, ends_in_lf, without_last_lf};
@@ -19,15 +19,12 @@ use fluent_syntax_tree::trimming::is_trimmed;
 pub(crate) fn is_text(text: &str) -> bool
     ensures { result ≡ is_text text.now }
 {
-    is_text_by_line(text)
-}
-
-/// The same, by the line of the text, which is what stands before the LF that ends it.
-fn is_text_by_line(text: &str) -> bool
-    ensures { result ≡ is_text_by_line text.now }
-{
     let bytes = text.as_bytes();
-    !bytes.is_empty() && is_text_line(without_last_lf(bytes)) && !ends_in_crlf(text)
+    if bytes.is_empty() {
+        return false;
+    }
+    // its line is what stands before the LF that ends it
+    is_text_line(without_last_lf(bytes)) && !ends_in_crlf(text)
 }
 
 /// Whether the bytes hold no LF and no brace.

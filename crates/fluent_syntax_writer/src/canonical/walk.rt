@@ -10,108 +10,109 @@ ghost use Rattle.fluent_syntax_grammar.specs.Rules.{maybe_obeys, arguments_obey,
 ghost use Rattle.fluent_syntax_grammar.specs.Rules.{named_obeys, pattern_obeys, elements_obey, element_obeys};
 ghost use Rattle.fluent_syntax_grammar.specs.Rules.{variants_obey, variant_obeys, attribute_obeys, message_obeys};
 ghost use Rattle.fluent_syntax_grammar.specs.Rules.{term_obeys, entry_obeys, body_obeys};
-ghost use Rattle.fluent_syntax_writer.specs.Standards.{rules_of, parts_obey};
+ghost use Rattle.fluent_syntax_writer.specs.RuleSets.{rules_of, parts_obey};
 
-use crate::canonical::asked::Asked;
-use crate::canonical::standard::*;
+use crate::canonical::check_options::CheckOptions;
+use crate::canonical::rule_set::*;
 use fluent_syntax_tree::ast::*;
 use fluent_syntax_tree::texts::ReadTexts;
 
-pub fn body_obeys<X, T: ReadTexts<X>>(asked: Asked, entries: &[Entry<X>]) -> bool
-    ensures { result ≡ body_obeys (rules_of asked.standard) (map (entry_view T.text) entries.now) }
+pub fn body_obeys<X, T: ReadTexts<X>>(options: CheckOptions, entries: &[Entry<X>]) -> bool
+    ensures { result ≡ body_obeys (rules_of options.rule_set) (map (entry_view T.text) entries.now) }
 {
     for entry in entries {
-        if !entry_obeys::<X, T>(asked, entry) {
+        if !entry_obeys::<X, T>(options, entry) {
             return false;
         }
     }
     true
 }
 
-pub fn entry_obeys<X, T: ReadTexts<X>>(asked: Asked, entry: &Entry<X>) -> bool
-    ensures { result ≡ entry_obeys (rules_of asked.standard) (entry_view T.text entry.now) }
+pub fn entry_obeys<X, T: ReadTexts<X>>(options: CheckOptions, entry: &Entry<X>) -> bool
+    ensures { result ≡ entry_obeys (rules_of options.rule_set) (entry_view T.text entry.now) }
 {
     match entry {
-        Entry::Message(message) => message_obeys::<X, T>(asked, message),
-        Entry::Term(term) => term_obeys::<X, T>(asked, term),
-        Entry::Comment(comment) => is_comment_by::<X, T>(asked.standard, comment),
-        Entry::GroupComment(comment) => is_comment_by::<X, T>(asked.standard, comment),
-        Entry::ResourceComment(comment) => is_comment_by::<X, T>(asked.standard, comment),
-        Entry::Junk { .. } => allows_junk(asked.standard),
+        Entry::Message(message) => message_obeys::<X, T>(options, message),
+        Entry::Term(term) => term_obeys::<X, T>(options, term),
+        Entry::Comment(comment) => is_comment_by::<X, T>(options.rule_set, comment),
+        Entry::GroupComment(comment) => is_comment_by::<X, T>(options.rule_set, comment),
+        Entry::ResourceComment(comment) => is_comment_by::<X, T>(options.rule_set, comment),
+        Entry::Junk { .. } => allows_junk(options.rule_set),
     }
 }
 
-fn message_obeys<X, T: ReadTexts<X>>(asked: Asked, message: &Message<X>) -> bool
-    ensures { result ≡ message_obeys (rules_of asked.standard) (message_view T.text message.now) }
+fn message_obeys<X, T: ReadTexts<X>>(options: CheckOptions, message: &Message<X>) -> bool
+    ensures { result ≡ message_obeys (rules_of options.rule_set) (message_view T.text message.now) }
 {
-    is_message_by::<X, T>(asked.standard, message)
-        && comment_obeys::<X, T>(asked.standard, &message.comment)
-        && is_name_by(asked.standard, T::as_str(&message.id.name))
-        && value_obeys::<X, T>(asked, &message.value)
-        && attributes_obey::<X, T>(asked, &message.attributes)
+    is_message_by::<X, T>(options.rule_set, message)
+        && comment_obeys::<X, T>(options.rule_set, &message.comment)
+        && is_name_by(options.rule_set, T::as_str(&message.id.name))
+        && value_obeys::<X, T>(options, &message.value)
+        && attributes_obey::<X, T>(options, &message.attributes)
 }
 
-fn term_obeys<X, T: ReadTexts<X>>(asked: Asked, term: &Term<X>) -> bool
-    ensures { result ≡ term_obeys (rules_of asked.standard) (term_view T.text term.now) }
+fn term_obeys<X, T: ReadTexts<X>>(options: CheckOptions, term: &Term<X>) -> bool
+    ensures { result ≡ term_obeys (rules_of options.rule_set) (term_view T.text term.now) }
 {
-    comment_obeys::<X, T>(asked.standard, &term.comment)
-        && is_name_by(asked.standard, T::as_str(&term.id.name))
-        && pattern_obeys::<X, T>(asked, &term.value)
-        && attributes_obey::<X, T>(asked, &term.attributes)
+    comment_obeys::<X, T>(options.rule_set, &term.comment)
+        && is_name_by(options.rule_set, T::as_str(&term.id.name))
+        && pattern_obeys::<X, T>(options, &term.value)
+        && attributes_obey::<X, T>(options, &term.attributes)
 }
 
-fn comment_obeys<X, T: ReadTexts<X>>(standard: Standard, comment: &Option<Comment<X>>) -> bool
-    ensures { result ≡ option_obeys (rules_of standard).comment (option_map (comment_view T.text) comment.now) }
+fn comment_obeys<X, T: ReadTexts<X>>(rule_set: RuleSet, comment: &Option<Comment<X>>) -> bool
+    ensures { result ≡ option_obeys (rules_of rule_set).comment (option_map (comment_view T.text) comment.now) }
 {
     match comment {
-        Some(comment) => is_comment_by::<X, T>(standard, comment),
+        Some(comment) => is_comment_by::<X, T>(rule_set, comment),
         None => true,
     }
 }
 
-fn value_obeys<X, T: ReadTexts<X>>(asked: Asked, value: &Option<Pattern<X>>) -> bool
-    ensures { result ≡ option_obeys (pattern_obeys (rules_of asked.standard))
+fn value_obeys<X, T: ReadTexts<X>>(options: CheckOptions, value: &Option<Pattern<X>>) -> bool
+    ensures { result ≡ option_obeys (pattern_obeys (rules_of options.rule_set))
         (option_map (pattern_view T.text) value.now) }
 {
     match value {
-        Some(pattern) => pattern_obeys::<X, T>(asked, pattern),
+        Some(pattern) => pattern_obeys::<X, T>(options, pattern),
         None => true,
     }
 }
 
-fn attributes_obey<X, T: ReadTexts<X>>(asked: Asked, attributes: &[Attribute<X>]) -> bool
-    ensures { result ≡ list_all (attribute_obeys (rules_of asked.standard))
+fn attributes_obey<X, T: ReadTexts<X>>(options: CheckOptions, attributes: &[Attribute<X>]) -> bool
+    ensures { result ≡ list_all (attribute_obeys (rules_of options.rule_set))
         (map (attribute_view T.text) attributes.now) }
 {
     for attribute in attributes {
-        if !attribute_obeys::<X, T>(asked, attribute) {
+        if !attribute_obeys::<X, T>(options, attribute) {
             return false;
         }
     }
     true
 }
 
-fn attribute_obeys<X, T: ReadTexts<X>>(asked: Asked, attribute: &Attribute<X>) -> bool
-    ensures { result ≡ attribute_obeys (rules_of asked.standard) (attribute_view T.text attribute.now) }
+fn attribute_obeys<X, T: ReadTexts<X>>(options: CheckOptions, attribute: &Attribute<X>) -> bool
+    ensures { result ≡ attribute_obeys (rules_of options.rule_set) (attribute_view T.text attribute.now) }
 {
-    is_name_by(asked.standard, T::as_str(&attribute.id.name))
-        && pattern_obeys::<X, T>(asked, &attribute.value)
+    is_name_by(options.rule_set, T::as_str(&attribute.id.name))
+        && pattern_obeys::<X, T>(options, &attribute.value)
 }
 
 #[cycle(obeys)]
-fn pattern_obeys<X, T: ReadTexts<X>>(asked: Asked, pattern: &Pattern<X>) -> bool
-    ensures { result ≡ pattern_obeys (rules_of asked.standard) (pattern_view T.text pattern.now) }
+fn pattern_obeys<X, T: ReadTexts<X>>(options: CheckOptions, pattern: &Pattern<X>) -> bool
+    ensures { result ≡ pattern_obeys (rules_of options.rule_set) (pattern_view T.text pattern.now) }
 {
-    is_pattern_by::<X, T>(asked.standard, pattern)
-        && elements_obey::<X, T>(asked, &pattern.elements)
+    is_pattern_by::<X, T>(options.rule_set, pattern)
+        && elements_obey::<X, T>(options, &pattern.elements)
 }
 
 #[cycle(obeys)]
-fn elements_obey<X, T: ReadTexts<X>>(asked: Asked, elements: &[PatternElement<X>]) -> bool
-    ensures { result ≡ elements_obey (rules_of asked.standard) (elements_of (map (element_view T.text) elements.now)) }
+fn elements_obey<X, T: ReadTexts<X>>(options: CheckOptions, elements: &[PatternElement<X>]) -> bool
+    ensures { result ≡ elements_obey (rules_of options.rule_set)
+        (elements_of (map (element_view T.text) elements.now)) }
 {
     for element in elements {
-        if !element_obeys::<X, T>(asked, element) {
+        if !element_obeys::<X, T>(options, element) {
             return false;
         }
     }
@@ -119,41 +120,45 @@ fn elements_obey<X, T: ReadTexts<X>>(asked: Asked, elements: &[PatternElement<X>
 }
 
 #[cycle(obeys)]
-fn element_obeys<X, T: ReadTexts<X>>(asked: Asked, element: &PatternElement<X>) -> bool
-    ensures { result ≡ element_obeys (rules_of asked.standard) (element_view T.text element.now) }
+fn element_obeys<X, T: ReadTexts<X>>(options: CheckOptions, element: &PatternElement<X>) -> bool
+    ensures { result ≡ element_obeys (rules_of options.rule_set) (element_view T.text element.now) }
 {
     match element {
         PatternElement::TextElement { .. } => true,
-        PatternElement::Placeable { expression } => { expression_obeys::<X, T>(asked, expression) }
+        PatternElement::Placeable { expression } => {
+            expression_obeys::<X, T>(options, expression)
+        }
     }
 }
 
 #[cycle(obeys)]
-fn expression_obeys<X, T: ReadTexts<X>>(asked: Asked, expression: &Expression<X>) -> bool
-    ensures { result ≡ expression_obeys (rules_of asked.standard) (expression_view T.text expression.now) }
+fn expression_obeys<X, T: ReadTexts<X>>(options: CheckOptions, expression: &Expression<X>) -> bool
+    ensures { result ≡ expression_obeys (rules_of options.rule_set) (expression_view T.text expression.now) }
 {
-    is_expression_by::<X, T>(asked.standard, expression) && parts_obey::<X, T>(asked, expression)
+    is_expression_by::<X, T>(options.rule_set, expression)
+        && parts_obey::<X, T>(options, expression)
 }
 
 /// Whether all that the expression holds obeys.
 #[cycle(obeys)]
-fn parts_obey<X, T: ReadTexts<X>>(asked: Asked, expression: &Expression<X>) -> bool
-    ensures { result ≡ parts_obey (rules_of asked.standard) (expression_view T.text expression.now) }
+fn parts_obey<X, T: ReadTexts<X>>(options: CheckOptions, expression: &Expression<X>) -> bool
+    ensures { result ≡ parts_obey (rules_of options.rule_set) (expression_view T.text expression.now) }
 {
     match expression {
         Expression::Select { selector, variants } => {
-            inline_obeys::<X, T>(asked, selector) && variants_obey::<X, T>(asked, variants)
+            inline_obeys::<X, T>(options, selector) && variants_obey::<X, T>(options, variants)
         }
-        Expression::Inline(inline) => inline_obeys::<X, T>(asked, inline),
+        Expression::Inline(inline) => inline_obeys::<X, T>(options, inline),
     }
 }
 
 #[cycle(obeys)]
-fn variants_obey<X, T: ReadTexts<X>>(asked: Asked, variants: &[Variant<X>]) -> bool
-    ensures { result ≡ variants_obey (rules_of asked.standard) (variants_of (map (variant_view T.text) variants.now)) }
+fn variants_obey<X, T: ReadTexts<X>>(options: CheckOptions, variants: &[Variant<X>]) -> bool
+    ensures { result ≡ variants_obey (rules_of options.rule_set)
+        (variants_of (map (variant_view T.text) variants.now)) }
 {
     for variant in variants {
-        if !variant_obeys::<X, T>(asked, variant) {
+        if !variant_obeys::<X, T>(options, variant) {
             return false;
         }
     }
@@ -161,111 +166,121 @@ fn variants_obey<X, T: ReadTexts<X>>(asked: Asked, variants: &[Variant<X>]) -> b
 }
 
 #[cycle(obeys)]
-fn variant_obeys<X, T: ReadTexts<X>>(asked: Asked, variant: &Variant<X>) -> bool
-    ensures { result ≡ variant_obeys (rules_of asked.standard) (variant_view T.text variant.now) }
+fn variant_obeys<X, T: ReadTexts<X>>(options: CheckOptions, variant: &Variant<X>) -> bool
+    ensures { result ≡ variant_obeys (rules_of options.rule_set) (variant_view T.text variant.now) }
 {
-    key_obeys::<X, T>(asked.standard, &variant.key) && pattern_obeys::<X, T>(asked, &variant.value)
+    key_obeys::<X, T>(options.rule_set, &variant.key)
+        && pattern_obeys::<X, T>(options, &variant.value)
 }
 
-fn key_obeys<X, T: ReadTexts<X>>(standard: Standard, key: &VariantKey<X>) -> bool
-    ensures { result ≡ key_obeys (rules_of standard) (key_view T.text key.now) }
+fn key_obeys<X, T: ReadTexts<X>>(rule_set: RuleSet, key: &VariantKey<X>) -> bool
+    ensures { result ≡ key_obeys (rules_of rule_set) (key_view T.text key.now) }
 {
     match key {
-        VariantKey::Identifier { name } => is_name_by(standard, T::as_str(name)),
-        VariantKey::NumberLiteral { value } => is_number_by(standard, T::as_str(value)),
+        VariantKey::Identifier { name } => is_name_by(rule_set, T::as_str(name)),
+        VariantKey::NumberLiteral { value } => is_number_by(rule_set, T::as_str(value)),
     }
 }
 
 #[cycle(obeys)]
-fn inline_obeys<X, T: ReadTexts<X>>(asked: Asked, inline: &InlineExpression<X>) -> bool
-    ensures { result ≡ inline_obeys (rules_of asked.standard) (inline_view T.text inline.now) }
+fn inline_obeys<X, T: ReadTexts<X>>(options: CheckOptions, inline: &InlineExpression<X>) -> bool
+    ensures { result ≡ inline_obeys (rules_of options.rule_set) (inline_view T.text inline.now) }
 {
     match inline {
-        InlineExpression::StringLiteral { value } => is_string_by(asked.standard, T::as_str(value)),
-        InlineExpression::NumberLiteral { value } => is_number_by(asked.standard, T::as_str(value)),
+        InlineExpression::StringLiteral { value } => is_string_by(
+            options.rule_set,
+            T::as_str(value),
+        ),
+        InlineExpression::NumberLiteral { value } => is_number_by(
+            options.rule_set,
+            T::as_str(value),
+        ),
         InlineExpression::FunctionReference { id, arguments } => {
-            is_function_name(asked.standard, T::as_str(&id.name))
-                && arguments_obey::<X, T>(asked, arguments)
+            is_function_name(options.rule_set, T::as_str(&id.name))
+                && arguments_obey::<X, T>(options, arguments)
         }
         InlineExpression::MessageReference { id, attribute } => {
-            reference_obeys::<X, T>(asked.standard, id, attribute)
+            reference_obeys::<X, T>(options.rule_set, id, attribute)
         }
         InlineExpression::TermReference {
             id,
             attribute,
             arguments,
         } => {
-            reference_obeys::<X, T>(asked.standard, id, attribute)
-                && maybe_obeys::<X, T>(asked, arguments)
+            reference_obeys::<X, T>(options.rule_set, id, attribute)
+                && maybe_obeys::<X, T>(options, arguments)
         }
         InlineExpression::VariableReference { id } => is_name_by(
-            asked.standard,
+            options.rule_set,
             T::as_str(&id.name),
         ),
         InlineExpression::Placeable { expression } => {
-            expression_obeys::<X, T>(asked, expression)
+            expression_obeys::<X, T>(options, expression)
         }
     }
 }
 
-fn is_function_name(standard: Standard, name: &str) -> bool
-    ensures { result ≡ ((rules_of standard).name name.now && (rules_of standard).callee name.now) }
+fn is_function_name(rule_set: RuleSet, name: &str) -> bool
+    ensures { result ≡ ((rules_of rule_set).name name.now && (rules_of rule_set).callee name.now) }
 {
-    is_name_by(standard, name) && is_callee_by(standard, name)
+    is_name_by(rule_set, name) && is_callee_by(rule_set, name)
 }
 
 /// Whether the name, and that of the attribute, are names.
 fn reference_obeys<X, T: ReadTexts<X>>(
-    standard: Standard,
+    rule_set: RuleSet,
     id: &Identifier<X>,
     attribute: &Option<Identifier<X>>,
 ) -> bool
-    ensures { result ≡ ((rules_of standard).name (T.text id.now.name)
-        && option_obeys (rules_of standard).name (option_map (identifier_view T.text) attribute.now)) }
+    ensures { result ≡ ((rules_of rule_set).name (T.text id.now.name)
+        && option_obeys (rules_of rule_set).name (option_map (identifier_view T.text) attribute.now)) }
 {
-    is_name_by(standard, T::as_str(&id.name)) && attribute_name_obeys::<X, T>(standard, attribute)
+    is_name_by(rule_set, T::as_str(&id.name)) && attribute_name_obeys::<X, T>(rule_set, attribute)
 }
 
 fn attribute_name_obeys<X, T: ReadTexts<X>>(
-    standard: Standard,
+    rule_set: RuleSet,
     attribute: &Option<Identifier<X>>,
 ) -> bool
-    ensures { result ≡ option_obeys (rules_of standard).name (option_map (identifier_view T.text) attribute.now) }
+    ensures { result ≡ option_obeys (rules_of rule_set).name (option_map (identifier_view T.text) attribute.now) }
 {
     match attribute {
-        Some(id) => is_name_by(standard, T::as_str(&id.name)),
+        Some(id) => is_name_by(rule_set, T::as_str(&id.name)),
         None => true,
     }
 }
 
 #[cycle(obeys)]
-fn maybe_obeys<X, T: ReadTexts<X>>(asked: Asked, arguments: &Option<CallArguments<X>>) -> bool
-    ensures { result ≡ maybe_obeys (rules_of asked.standard)
+fn maybe_obeys<X, T: ReadTexts<X>>(
+    options: CheckOptions,
+    arguments: &Option<CallArguments<X>>,
+) -> bool
+    ensures { result ≡ maybe_obeys (rules_of options.rule_set)
         (arguments_of (option_map (arguments_view T.text) arguments.now)) }
 {
     match arguments {
-        Some(arguments) => arguments_obey::<X, T>(asked, arguments),
+        Some(arguments) => arguments_obey::<X, T>(options, arguments),
         None => true,
     }
 }
 
 #[cycle(obeys)]
-fn arguments_obey<X, T: ReadTexts<X>>(asked: Asked, arguments: &CallArguments<X>) -> bool
-    ensures { result ≡ arguments_obey (rules_of asked.standard) (arguments_view T.text arguments.now) }
+fn arguments_obey<X, T: ReadTexts<X>>(options: CheckOptions, arguments: &CallArguments<X>) -> bool
+    ensures { result ≡ arguments_obey (rules_of options.rule_set) (arguments_view T.text arguments.now) }
 {
-    if !are_arguments_by::<X, T>(asked, arguments) {
+    if !are_arguments_by::<X, T>(options, arguments) {
         return false;
     }
-    inlines_obey::<X, T>(asked, &arguments.positional)
-        && nameds_obey::<X, T>(asked, &arguments.named)
+    inlines_obey::<X, T>(options, &arguments.positional)
+        && nameds_obey::<X, T>(options, &arguments.named)
 }
 
 #[cycle(obeys)]
-fn inlines_obey<X, T: ReadTexts<X>>(asked: Asked, inlines: &[InlineExpression<X>]) -> bool
-    ensures { result ≡ inlines_obey (rules_of asked.standard) (inlines_of (map (inline_view T.text) inlines.now)) }
+fn inlines_obey<X, T: ReadTexts<X>>(options: CheckOptions, inlines: &[InlineExpression<X>]) -> bool
+    ensures { result ≡ inlines_obey (rules_of options.rule_set) (inlines_of (map (inline_view T.text) inlines.now)) }
 {
     for inline in inlines {
-        if !inline_obeys::<X, T>(asked, inline) {
+        if !inline_obeys::<X, T>(options, inline) {
             return false;
         }
     }
@@ -273,11 +288,11 @@ fn inlines_obey<X, T: ReadTexts<X>>(asked: Asked, inlines: &[InlineExpression<X>
 }
 
 #[cycle(obeys)]
-fn nameds_obey<X, T: ReadTexts<X>>(asked: Asked, nameds: &[NamedArgument<X>]) -> bool
-    ensures { result ≡ nameds_obey (rules_of asked.standard) (nameds_of (map (named_view T.text) nameds.now)) }
+fn nameds_obey<X, T: ReadTexts<X>>(options: CheckOptions, nameds: &[NamedArgument<X>]) -> bool
+    ensures { result ≡ nameds_obey (rules_of options.rule_set) (nameds_of (map (named_view T.text) nameds.now)) }
 {
     for named in nameds {
-        if !named_obeys::<X, T>(asked, named) {
+        if !named_obeys::<X, T>(options, named) {
             return false;
         }
     }
@@ -285,9 +300,9 @@ fn nameds_obey<X, T: ReadTexts<X>>(asked: Asked, nameds: &[NamedArgument<X>]) ->
 }
 
 #[cycle(obeys)]
-fn named_obeys<X, T: ReadTexts<X>>(asked: Asked, named: &NamedArgument<X>) -> bool
-    ensures { result ≡ named_obeys (rules_of asked.standard) (named_view T.text named.now) }
+fn named_obeys<X, T: ReadTexts<X>>(options: CheckOptions, named: &NamedArgument<X>) -> bool
+    ensures { result ≡ named_obeys (rules_of options.rule_set) (named_view T.text named.now) }
 {
-    is_name_by(asked.standard, T::as_str(&named.name.name))
-        && inline_obeys::<X, T>(asked, &named.value)
+    is_name_by(options.rule_set, T::as_str(&named.name.name))
+        && inline_obeys::<X, T>(options, &named.value)
 }

@@ -31,7 +31,7 @@ impl<W: TextSink> EntryWriter<W> {
     /// A writer to the sink, to which no entry came yet.
     pub fn new(sink: W, options: Options) -> Self
         ensures options { result.options ≡ options }
-        ensures none_came { HasWritten W.text W.room sink [] result }
+        ensures wrote_none { HasWritten W.text W.room sink [] result }
     {
         EntryWriter {
             sink,

@@ -4,7 +4,7 @@ use fluent_syntax::ast::Resource;
 use fluent_syntax::laws::Rule;
 use fluent_syntax::parser::{Edition, parse};
 use fluent_syntax_tests::alike::{assert_holds, assert_same, assert_same_text};
-use ftl::{JsonFault, first_unsafe, text_of_json, tree_of_json};
+use ftl::{JsonFault, first_lossy_entry, text_of_json, tree_of_json};
 use std::alloc::Global;
 use std::test::Fail;
 
@@ -71,15 +71,15 @@ fn faults(rt: HostRuntime) -> Result<(), Fail> {
 }
 
 /// A text, and the rule by which it would not read back.
-type Unsafe = (&'static str, Option<(usize, Rule)>);
+type Lossy = (&'static str, Option<(usize, Rule)>);
 
-const UNSAFE: [Unsafe; 3] = [
+const LOSSY: [Lossy; 3] = [
     ("a = b\n", None),
     ("a = b\nc = { $x ->\n *}\n", Some((1, Rule::NoDefault))),
     ("key =\n{$x}\n    b\n", Some((0, Rule::CommonIndent))),
 ];
 
-fn assert_unsafe(alloc: Global, row: &Unsafe) -> Result<(), Fail> {
+fn assert_lossy(alloc: Global, row: &Lossy) -> Result<(), Fail> {
     let (text, wanted) = row;
     let Ok(tree) = parse(alloc, *text) else {
         return assert_holds(alloc, *text, false);
@@ -93,15 +93,15 @@ fn assert_first(
     tree: &Resource<&str>,
     wanted: &Option<(usize, Rule)>,
 ) -> Result<(), Fail> {
-    let found = first_unsafe(alloc, tree, Edition::One)?;
+    let found = first_lossy_entry(alloc, tree, Edition::One)?;
     let found = found.map(|found| (found.entry, found.rule));
     assert_same(alloc, text, &found, wanted)
 }
 
 #[test]
-fn unsafe_entries(rt: HostRuntime) -> Result<(), Fail> {
-    for row in &UNSAFE {
-        assert_unsafe(rt.alloc(), row)?;
+fn lossy_entries(rt: HostRuntime) -> Result<(), Fail> {
+    for row in &LOSSY {
+        assert_lossy(rt.alloc(), row)?;
     }
     Ok(())
 }

@@ -76,7 +76,7 @@ fn formats_what_has_no_error(rt: HostRuntime) -> Result<(), Fail> {
     assert_holds(alloc, "the new bytes", stands(&state)? == (true, true))?;
     let expected = Tally {
         files: 3,
-        concerned: 1,
+        with_problems: 1,
         errors: 1,
         fault: 0,
     };

@@ -1,8 +1,10 @@
 //! Open documents of the language server: bytes of places, changes, what is found in them, and their tokens.
 
-use fluent_syntax_names::own_findings;
+use fluent_syntax_names::local_findings;
 use fluent_syntax_tests::alike::{assert_same, assert_same_text};
-use ftl_lsp::{Change, Document, Place, byte_of, changed, highlights_of, numbers_of, tokens_of};
+use ftl_lsp::{
+    Change, Document, Position, byte_of, encoded_tokens, semantic_tokens_of, text_after, tokens_of,
+};
 use std::alloc::Global;
 use std::fmt::Write;
 use std::test::Fail;
@@ -42,14 +44,14 @@ const BYTES: [ByteRow; 24] = [
 ];
 
 #[test]
-fn bytes_of_places(rt: HostRuntime) -> Result<(), Fail> {
+fn bytes_of_positions(rt: HostRuntime) -> Result<(), Fail> {
     for row in &BYTES {
         let (text, line, character, byte) = row;
-        let place = Place {
+        let position = Position {
             line: *line,
             character: *character,
         };
-        assert_same(rt.alloc(), *text, &byte_of(text, place), byte)?;
+        assert_same(rt.alloc(), *text, &byte_of(text, position), byte)?;
     }
     Ok(())
 }
@@ -75,8 +77,8 @@ const CHANGES: [ChangeRow; 9] = [
     ("a = b\nc = d\n", (0, 99), (1, 0), " ", "a = b c = d\n"),
 ];
 
-fn place_of(pair: (usize, usize)) -> Place {
-    Place {
+fn position_of(pair: (usize, usize)) -> Position {
+    Position {
         line: pair.0,
         character: pair.1,
     }
@@ -88,13 +90,13 @@ fn changes_of_a_text(rt: HostRuntime) -> Result<(), Fail> {
     for row in &CHANGES {
         let (text, start, end, new, whole) = row;
         let change = Change::Between {
-            start: place_of(*start),
-            end: place_of(*end),
+            start: position_of(*start),
+            end: position_of(*end),
             text: *new,
         };
-        let made = changed(alloc, text, &[change])?;
+        let made = text_after(alloc, text, &[change])?;
         assert_same_text(alloc, *text, made.as_str(), *whole)?;
-        let back = changed(alloc, text, &[change, Change::Whole(text)])?;
+        let back = text_after(alloc, text, &[change, Change::Whole(text)])?;
         assert_same_text(alloc, *text, back.as_str(), *text)?;
     }
     Ok(())
@@ -126,9 +128,9 @@ fn findings_of_a_document(rt: HostRuntime) -> Result<(), Fail> {
     for (text, wanted) in &FOUND {
         let document = document_of(alloc, text)?;
         let mut shown = String::new(alloc);
-        for finding in own_findings(alloc, &document.outline(alloc)?)?.iter() {
-            let place = finding.place.map_or(0, |span| span.start);
-            writeln!(shown, "{} {place}", finding.kind.name())?;
+        for finding in local_findings(alloc, &document.name_index(alloc)?)?.iter() {
+            let position = finding.place.map_or(0, |span| span.start);
+            writeln!(shown, "{} {position}", finding.kind.name())?;
         }
         assert_same_text(alloc, *text, shown.as_str(), *wanted)?;
     }
@@ -196,9 +198,9 @@ fn numbers_of_tokens(rt: HostRuntime) -> Result<(), Fail> {
     let alloc = rt.alloc();
     for (text, wanted) in &NUMBERS {
         let tokens = tokens_of(alloc, document_of(alloc, text)?.body())?;
-        let highlights = highlights_of(alloc, *text, &tokens)?;
+        let highlights = semantic_tokens_of(alloc, *text, &tokens)?;
         let mut shown = String::new(alloc);
-        for number in numbers_of(alloc, &highlights)?.iter() {
+        for number in encoded_tokens(alloc, &highlights)?.iter() {
             write!(shown, "{number} ")?;
         }
         assert_same_text(alloc, *text, shown.as_str(), *wanted)?;

@@ -5,17 +5,17 @@ use fluent_syntax_tests::alike::{assert_holds, assert_same, assert_same_text};
 use ftl::Watched;
 use ftl_files::Memory;
 use ftl_lsp::{
-    BODY_LIMIT, Diagnostic, Document, Ending, ErrorCode, FrameFault, Framing, Method, Phase, Place,
-    Places, first_frame, formatted, serve,
+    BODY_LIMIT, Diagnostic, Document, Ending, ErrorCode, FrameFault, Framing, Method, Phase,
+    Position, Positions, first_frame, formatted_text, serve,
 };
 use std::alloc::Global;
 use std::io::Read;
 use std::test::Fail;
 
 /// A text, a byte of it, and the byte's line and column.
-type PlaceRow = (&'static str, usize, usize, usize);
+type PositionRow = (&'static str, usize, usize, usize);
 
-const PLACES: [PlaceRow; 23] = [
+const POSITIONS: [PositionRow; 23] = [
     ("", 0, 0, 0),
     ("ab", 0, 0, 0),
     ("ab", 2, 0, 2),
@@ -44,19 +44,19 @@ const PLACES: [PlaceRow; 23] = [
     ("日b", 1, 0, 1),
 ];
 
-fn assert_placed(alloc: Global, row: &PlaceRow) -> Result<(), Fail> {
+fn assert_placed(alloc: Global, row: &PositionRow) -> Result<(), Fail> {
     let (text, byte, line, character) = row;
-    let place = Places::new(*text).place_or_end(*byte);
-    let expected = Place {
+    let position = Positions::new(*text).position_or_end(*byte);
+    let expected = Position {
         line: *line,
         character: *character,
     };
-    assert_holds(alloc, *text, place == expected)
+    assert_holds(alloc, *text, position == expected)
 }
 
 #[test]
-fn places_by_line_and_unit(rt: HostRuntime) -> Result<(), Fail> {
-    for row in &PLACES {
+fn positions_by_line_and_unit(rt: HostRuntime) -> Result<(), Fail> {
+    for row in &POSITIONS {
         assert_placed(rt.alloc(), row)?;
     }
     Ok(())
@@ -66,17 +66,17 @@ fn places_by_line_and_unit(rt: HostRuntime) -> Result<(), Fail> {
 const ANY_ORDER: [(usize, usize, usize); 4] = [(7, 1, 3), (1, 0, 1), (8, 2, 0), (100, 2, 1)];
 
 #[test]
-fn places_in_any_order(rt: HostRuntime) -> Result<(), Fail> {
-    let mut places = Places::new("a\n😀b\nc");
+fn positions_in_any_order(rt: HostRuntime) -> Result<(), Fail> {
+    let mut positions = Positions::new("a\n😀b\nc");
     for (byte, line, character) in &ANY_ORDER {
-        let expected = Place {
+        let expected = Position {
             line: *line,
             character: *character,
         };
         assert_holds(
             rt.alloc(),
             "a place",
-            places.place_or_end(*byte) == expected,
+            positions.position_or_end(*byte) == expected,
         )?;
     }
     Ok(())
@@ -490,7 +490,7 @@ const FORMATTED: [FormattedRow; 4] = [
 
 fn assert_formatted(alloc: Global, row: &FormattedRow) -> Result<(), Fail> {
     let (text, written) = row;
-    let found = formatted(alloc, *text)?;
+    let found = formatted_text(alloc, *text)?;
     let found = found.as_ref().map(|found| found.as_str());
     assert_same(alloc, *text, &found, written)
 }
@@ -536,10 +536,11 @@ fn a_text_that_nests_too_deeply(rt: HostRuntime) -> Result<(), Fail> {
     let alloc = rt.alloc();
     let shallow = nested_text(alloc, 500)?;
     let is_so = is_flawless(alloc, shallow.as_str())?
-        && formatted(alloc, shallow.as_str())?.is_some();
+        && formatted_text(alloc, shallow.as_str())?.is_some();
     assert_holds(alloc, "500 in one another", is_so)?;
     let deep = nested_text(alloc, 501)?;
-    let is_so = is_too_deep(alloc, deep.as_str())? && formatted(alloc, deep.as_str())?.is_none();
+    let is_so = is_too_deep(alloc, deep.as_str())?
+        && formatted_text(alloc, deep.as_str())?.is_none();
     assert_holds(alloc, "501 in one another", is_so)
 }
 

@@ -6,7 +6,7 @@ use ftl_files::{
     FILE_LIMIT, Folders, Memory, SourceFile, is_below, original_of, path_of_uri, read_files,
     shared_folders, uri_of_path,
 };
-use ftl_lsp::{Closed, NameKind, Occurrence, serve};
+use ftl_lsp::{ClosedFile, NameKind, Occurrence, serve};
 use std::alloc::Global;
 use std::test::Fail;
 
@@ -158,7 +158,7 @@ const NAMES: [(NameKind, usize, usize); 6] = [
 fn are_names(found: &[Occurrence], expected: &[(NameKind, usize, usize)]) -> bool {
     found.len() == expected.len()
         && found.iter().zip(expected).all(|(name, row)| {
-            name.kind == row.0 && name.place().start == row.1 && name.place().end == row.2
+            name.kind == row.0 && name.span().start == row.1 && name.span().end == row.2
         })
 }
 
@@ -166,7 +166,7 @@ fn are_names(found: &[Occurrence], expected: &[(NameKind, usize, usize)]) -> boo
 fn names_of_a_closed_file(rt: HostRuntime) -> Result<(), Fail> {
     let alloc = rt.alloc();
     let text = String::from_str(alloc, "a = { b.c } { $d }\n    .e = { F() }\n")?;
-    match Closed::new(alloc, "/w/a b.ftl", text)? {
+    match ClosedFile::new(alloc, "/w/a b.ftl", text)? {
         Some(file) => {
             assert_same_text(alloc, "its URI", file.uri.as_str(), "file:///w/a%20b.ftl")?;
             assert_holds(alloc, "its names", are_names(&file.occurrences, &NAMES))
@@ -326,12 +326,17 @@ fn whole_files(alloc: Global) -> Result<Memory, Fail> {
 const BESIDE: (&str, &str) = ("file:///w/open.ftl", "open = Open\\n-brand = Brand");
 
 /// What is told last in a session over the files.
-fn told_last(alloc: Global, files: &Memory, bodies: &[&str]) -> Result<String, Fail> {
-    told_of(alloc, files, "", bodies)
+fn last_diagnostics(alloc: Global, files: &Memory, bodies: &[&str]) -> Result<String, Fail> {
+    diagnostics_of(alloc, files, "", bodies)
 }
 
 /// What is told last of the document in a session over the files.
-fn told_of(alloc: Global, files: &Memory, uri: &str, bodies: &[&str]) -> Result<String, Fail> {
+fn diagnostics_of(
+    alloc: Global,
+    files: &Memory,
+    uri: &str,
+    bodies: &[&str],
+) -> Result<String, Fail> {
     let output = answers(alloc, files, bodies)?;
     let last = output
         .as_str()
@@ -373,7 +378,7 @@ fn references_that_nothing_defines(rt: HostRuntime) -> Result<(), Fail> {
         let uri = uri_of_path(alloc, path)?;
         let opened = opening(alloc, uri.as_str(), text)?;
         let bodies = [INITIALIZE, INITIALIZED, beside.as_str(), opened.as_str()];
-        let told = told_of(alloc, &files, uri.as_str(), &bodies)?;
+        let told = diagnostics_of(alloc, &files, uri.as_str(), &bodies)?;
         assert_told(alloc, shows, told.as_str(), findings)?;
     }
     Ok(())
@@ -392,17 +397,17 @@ fn documents_told_anew(rt: HostRuntime) -> Result<(), Fail> {
     let uses = uses.as_str();
     let defines = opening(alloc, "file:///w/b.ftl", "b = B")?;
     let missing = [("undefined-message", 6)];
-    let told = told_of(alloc, &files, uri, &[INITIALIZE, INITIALIZED, uses])?;
+    let told = diagnostics_of(alloc, &files, uri, &[INITIALIZE, INITIALIZED, uses])?;
     assert_told(alloc, "nothing defines it", told.as_str(), &missing)?;
     let bodies = [INITIALIZE, INITIALIZED, uses, defines.as_str(), CLOSED];
-    let told = told_of(alloc, &files, uri, &bodies[..4])?;
+    let told = diagnostics_of(alloc, &files, uri, &bodies[..4])?;
     assert_told(
         alloc,
         "a document that defines it is opened",
         told.as_str(),
         &[],
     )?;
-    let told = told_of(alloc, &files, uri, &bodies)?;
+    let told = diagnostics_of(alloc, &files, uri, &bodies)?;
     assert_told(alloc, "and closed", told.as_str(), &missing)
 }
 
@@ -411,7 +416,7 @@ fn references_where_a_file_is_left_out(rt: HostRuntime) -> Result<(), Fail> {
     let alloc = rt.alloc();
     let opened = opening(alloc, "file:///w/c.ftl", "c = { menus }")?;
     let mut files = whole_files(alloc)?;
-    let told = told_last(alloc, &files, &[INITIALIZE, INITIALIZED, opened.as_str()])?;
+    let told = last_diagnostics(alloc, &files, &[INITIALIZE, INITIALIZED, opened.as_str()])?;
     assert_told(
         alloc,
         "none left out",
@@ -419,7 +424,7 @@ fn references_where_a_file_is_left_out(rt: HostRuntime) -> Result<(), Fail> {
         &[("undefined-message", 6)],
     )?;
     files.put("/w/no.ftl", b"\xff")?;
-    let told = told_last(alloc, &files, &[INITIALIZE, INITIALIZED, opened.as_str()])?;
+    let told = last_diagnostics(alloc, &files, &[INITIALIZE, INITIALIZED, opened.as_str()])?;
     assert_told(alloc, "one left out", told.as_str(), &[])
 }
 
@@ -445,7 +450,7 @@ fn kinds_that_are_left_out(rt: HostRuntime) -> Result<(), Fail> {
         let mut files = whole_files(alloc)?;
         files.put("/w/ftl.toml", text.as_bytes())?;
         files.put("/w/de/ftl.toml", b"ignore = [\"undefined-message\"]\n")?;
-        let told = told_last(alloc, &files, &[INITIALIZE, INITIALIZED, opened.as_str()])?;
+        let told = last_diagnostics(alloc, &files, &[INITIALIZE, INITIALIZED, opened.as_str()])?;
         if is_told {
             assert_told(alloc, text, told.as_str(), &[("undefined-message", 6)])?;
         } else {
@@ -514,7 +519,7 @@ fn documents_beside_their_original(rt: HostRuntime) -> Result<(), Fail> {
     for row in &TRANSLATIONS {
         let (shows, text, differences) = *row;
         let opened = opening(alloc, "file:///w/l10n/de/menu.ftl", text)?;
-        let told = told_last(alloc, &files, &[INITIALIZE, INITIALIZED, opened.as_str()])?;
+        let told = last_diagnostics(alloc, &files, &[INITIALIZE, INITIALIZED, opened.as_str()])?;
         assert_told(alloc, shows, told.as_str(), differences)?;
     }
     Ok(())
@@ -527,7 +532,7 @@ fn references_that_come_back_through_files(rt: HostRuntime) -> Result<(), Fail> 
     files.put("/w/a.ftl", b"a = { b }\n")?;
     files.put("/w/b.ftl", b"b = { c }\n")?;
     let opened = opening(alloc, "file:///w/c.ftl", "c = { a }")?;
-    let told = told_last(alloc, &files, &[INITIALIZE, INITIALIZED, opened.as_str()])?;
+    let told = last_diagnostics(alloc, &files, &[INITIALIZE, INITIALIZED, opened.as_str()])?;
     assert_told(
         alloc,
         "through two",

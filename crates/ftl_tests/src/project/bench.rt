@@ -6,8 +6,8 @@ use fluent_syntax_tests::alike::{assert_holds, assert_same, assert_same_text};
 use ftl::{Command, Watched};
 use ftl_files::Memory;
 use ftl_project::{
-    Form, Pair, Reading, Share, Streams, Tally, Telling, check_files, compare_files, convert_files,
-    lint_files, name_files, print_files, write_files,
+    Form, LintOptions, Pair, Reading, Share, Streams, Tally, check_files, compare_files,
+    convert_files, lint_files, name_files, print_files, write_files,
 };
 use std::alloc::Global;
 use std::test::Fail;
@@ -88,8 +88,8 @@ impl Bench {
             Task::Print(command) => print_files(alloc, memory, files, command, 2, tally, to),
             Task::Convert => convert_files(alloc, memory, files, tally, to),
             Task::Lint(form, ignored) => {
-                let telling = Telling { form, ignored };
-                lint_files(alloc, memory, files, one, telling, tally, to)
+                let lint_options = LintOptions { form, ignored };
+                lint_files(alloc, memory, files, one, lint_options, tally, to)
             }
             Task::Compare(form) => {
                 compare_files(alloc, memory, &pairs, one, form, tally, share, to)

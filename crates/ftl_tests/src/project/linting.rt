@@ -108,7 +108,7 @@ fn counts_what_is_found(rt: HostRuntime) -> Result<(), Fail> {
     bench.run(alloc, Task::Lint(Form::Lines, &[]))?;
     let met = Tally {
         files: 2,
-        concerned: 1,
+        with_problems: 1,
         errors: 7,
         fault: 0,
     };

@@ -2,7 +2,7 @@
 
 use fluent_syntax::parser::{Edition, parse_within, recovered};
 use fluent_syntax_tests::alike::assert_same_text;
-use ftl_project::{Form, Refused, report};
+use ftl_project::{Form, TextWithErrors, report};
 use std::alloc::Global;
 use std::test::Fail;
 
@@ -67,7 +67,7 @@ fn assert_told(alloc: Global, row: &Row) -> Result<(), Fail> {
     };
     let (_, errors) = recovered(alloc, answer)?;
     let text = String::from_str(alloc, *text)?;
-    let refused = Refused { text, errors };
+    let refused = TextWithErrors { text, errors };
     let told = report(alloc, *path, &refused, *form)?;
     assert_same_text(alloc, *shows, told.as_str(), *expected)
 }

@@ -6,7 +6,8 @@ use fluent_syntax::parser::Edition;
 use fluent_syntax_tests::alike::{assert_holds, assert_same, assert_same_text};
 use ftl::Command;
 use ftl_project::{
-    Form, Reading, Tally, UnsafeEntry, check_summary, format_summary, unsafe_in, unsafe_line,
+    Form, LossyEntry, Reading, Tally, check_summary, format_summary, lossy_entry_in,
+    lossy_entry_line,
 };
 use std::alloc::Global;
 use std::test::Fail;
@@ -21,7 +22,7 @@ type Row = (
     u8,
 );
 
-const UNSAFE: &str =
+const LOSSY: &str =
     "/d/a.ftl:1:1: left as it is: the lines of a pattern that begin with text begin with spaces, \
     which would be read as its indent
 ";
@@ -50,7 +51,7 @@ const ROWS: [Row; 7] = [
         Edition::One,
         "key =\n{x}\n    b\n",
         "key =\n{x}\n    b\n",
-        UNSAFE,
+        LOSSY,
         1,
     ),
     (
@@ -159,11 +160,11 @@ fn runs(rt: HostRuntime) -> Result<(), Fail> {
         bench.run(alloc, *task)?;
         let Tally {
             files: answered,
-            concerned,
+            with_problems,
             errors,
             fault,
         } = bench.tally;
-        let counted = [answered, concerned, errors, usize::from(fault)];
+        let counted = [answered, with_problems, errors, usize::from(fault)];
         assert_same(alloc, *out, &counted, met)?;
         for (path, bytes) in *files {
             if !bytes.is_empty() {
@@ -176,7 +177,7 @@ fn runs(rt: HostRuntime) -> Result<(), Fail> {
 }
 
 /// A text, the line and the column of the first entry by which it would not read back, and its rule.
-const UNSAFE_ENTRIES: [(&str, usize, usize, Rule); 3] = [
+const LOSSY_ENTRIES: [(&str, usize, usize, Rule); 3] = [
     (
         "a = b\n\n# hangs\nc =\n{$x}\n    b\n",
         4,
@@ -193,23 +194,23 @@ const UNSAFE_ENTRIES: [(&str, usize, usize, Rule); 3] = [
 ];
 
 #[test]
-fn finds_what_is_unsafe(rt: HostRuntime) -> Result<(), Fail> {
+fn finds_what_is_lossy(rt: HostRuntime) -> Result<(), Fail> {
     let alloc = rt.alloc();
     let reading = Reading {
         edition: Edition::One,
         nesting: 9,
     };
-    for (text, line, column, rule) in &UNSAFE_ENTRIES {
-        let entry = UnsafeEntry {
+    for (text, line, column, rule) in &LOSSY_ENTRIES {
+        let entry = LossyEntry {
             line: *line,
             column: *column,
             rule: *rule,
         };
-        match unsafe_in(alloc, *text, reading) {
+        match lossy_entry_in(alloc, *text, reading) {
             Ok(found) => assert_same(alloc, *text, &found, &Some(entry))?,
             Err(_) => assert_holds(alloc, *text, false)?,
         }
-        let told = unsafe_line(alloc, "x.ftl", entry, "left")?;
+        let told = lossy_entry_line(alloc, "x.ftl", entry, "left")?;
         let begins = format!(in alloc; "x.ftl:{line}:{column}: left: the lines of a pattern")?;
         assert_holds(alloc, *text, told.as_str().starts_with(begins.as_str()))?;
     }
@@ -249,10 +250,10 @@ fn assert_summaries(
 
 #[test]
 fn summaries(rt: HostRuntime) -> Result<(), Fail> {
-    for (files, concerned, errors, checked, formatted) in &SUMMARIES {
+    for (files, with_problems, errors, checked, formatted) in &SUMMARIES {
         let tally = Tally {
             files: *files,
-            concerned: *concerned,
+            with_problems: *with_problems,
             errors: *errors,
             fault: 0,
         };

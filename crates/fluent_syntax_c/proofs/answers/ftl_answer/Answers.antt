@@ -1,9 +1,9 @@
 use Rattle.std.proofs.Common.{◌∙◌}
 use Rattle.fluent_syntax_c.specs.Answer.{IsCommandAnswer}
-use Rattle.fluent_syntax_c.specs.declared.arguments.Asked.TheVariants.{Answer}
+use Rattle.fluent_syntax_c.specs.declared.arguments.CommandKind.TheVariants.{Answer}
 use Rattle.fluent_syntax_c.specs.declared.status.Refusal.TheVariants.{Argument, Input, Depth, Tree}
 use Rattle.fluent_syntax_c.proofs.Commands.{is_of_text}
-use Rattle.fluent_syntax_c.proofs.Statuses.{leaves_answered, refused_deeper, told_where}
+use Rattle.fluent_syntax_c.proofs.Statuses.{leaves_answered, refused_deeper, status_where}
 use Rattle.fluent_syntax_c.proofs.answers.ftl_answer.Goals as goal
 
 pub returns-clause-leaves : goal.returns-clause-leaves
@@ -13,10 +13,10 @@ returns-clause-leaves c =
     c.give.ensures.leaves
 
 pub returns-clause-argument : goal.returns-clause-argument
-returns-clause-argument c = told_where (c.give.ensures.refused Argument) c.command_bytes.ensures.argument
+returns-clause-argument c = status_where (c.give.ensures.refused Argument) c.command_bytes.ensures.argument
 
 pub returns-clause-input : goal.returns-clause-input
-returns-clause-input c = λ known. told_where (c.give.ensures.refused Input) (c.command_bytes.ensures.input known)
+returns-clause-input c = λ known. status_where (c.give.ensures.refused Input) (c.command_bytes.ensures.input known)
 
 pub returns-clause-deep : goal.returns-clause-deep
 returns-clause-deep c = λ told. c.command_bytes.ensures.deep ((c.give.ensures.refused Depth).0 told)

@@ -11,9 +11,9 @@ overflow_sub-start-2 c =
 pub returns-clause-utf16 : goal.returns-clause-utf16
 returns-clause-utf16 c =
     line_sum c.args.text.now c.args.byte c.requires.in_text utf16_units c.args.column _ _ c.requires.column refl
-    c.counted_on.ensures.utf16
+    c.columns_from.ensures.utf16
 
 pub returns-clause-characters : goal.returns-clause-characters
 returns-clause-characters c =
     line_sum c.args.text.now c.args.byte c.requires.in_text characters c.args.column _ _ c.requires.column refl
-    c.counted_on.ensures.characters
+    c.columns_from.ensures.characters

@@ -4,6 +4,6 @@ use Rattle.fluent_syntax_c.proofs.findings.finding_rows.Given as goal
 
 abbrev pub invariant-loop-finding : goal.invariant-loop-finding
 invariant-loop-finding l = record {
-  places : l.places ≡ text_at l.outlines l.last;
-  so_far : l.rows.items ≡ map (finding_row l.outlines) (take l.finding-index l.finding-items);
+  positions : l.positions ≡ text_at l.name_indexes l.last;
+  so_far : l.rows.items ≡ map (finding_row l.name_indexes) (take l.finding-index l.finding-items);
 }

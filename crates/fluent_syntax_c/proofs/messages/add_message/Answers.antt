@@ -1,7 +1,7 @@
 use Rattle.std.proofs.Common.{◌≡◌, ◌++◌, ◌∙◌, OnOk, ap, codes, string_bytes, subst, sym}
 use Rattle.fluent_syntax_tree.specs.Kind.{kind_of}
 use Rattle.fluent_syntax_c.specs.Messages.{shown}
-use Rattle.fluent_syntax_c.proofs.Told.{message_of_range, three_behind}
+use Rattle.fluent_syntax_c.proofs.ErrorRows.{message_of_range, three_behind}
 use Rattle.fluent_syntax_c.proofs.messages.add_message.Goals as goal
 
 pub returns-in-ExpectedCharRange : goal.returns-in-ExpectedCharRange

@@ -1,6 +1,6 @@
 use Rattle.fluent_syntax_c.specs.Messages.{IsKindName}
 use Rattle.fluent_syntax_c.specs.declared.status.Refusal.TheVariants.{Argument}
-use Rattle.fluent_syntax_c.proofs.Statuses.{leaves_answered, told_where}
+use Rattle.fluent_syntax_c.proofs.Statuses.{leaves_answered, status_where}
 use Rattle.fluent_syntax_c.proofs.messages.ftl_kind_name.Goals as goal
 
 pub returns-clause-leaves : goal.returns-clause-leaves
@@ -9,4 +9,4 @@ returns-clause-leaves c =
     c.args.out.now c.give.new.out c.give.new.count c.give.result c.name_bytes.ensures.name c.give.ensures.leaves
 
 pub returns-clause-argument : goal.returns-clause-argument
-returns-clause-argument c = told_where (c.give.ensures.refused Argument) c.name_bytes.ensures.argument
+returns-clause-argument c = status_where (c.give.ensures.refused Argument) c.name_bytes.ensures.argument

@@ -5,8 +5,8 @@ use Rattle.fluent_syntax_c.proofs.names.add_owner.Given as goal
 
 abbrev pub invariant-loop-attribute : goal.invariant-loop-attribute
 invariant-loop-attribute l = record {
-  text : l.places ≡ l.fn.places;
+  text : l.positions ≡ l.fn.positions;
   so_far : l.rows.items ≡ l.fn.rows.items ++
-      owner_rows l.fn.places l.fn.named l.owner l.fn.whole l.fn.name
+      owner_rows l.fn.positions l.fn.named l.owner l.fn.whole l.fn.name
       (map (attribute_view (λ s. s)) (take l.attribute-index l.attribute-items));
 }

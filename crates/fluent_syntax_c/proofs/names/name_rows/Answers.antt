@@ -10,20 +10,20 @@ pub loop-found-init : goal.loop-found-init
 loop-found-init c = record {
   text = c.new-tiles.ensures.text;
   edition = c.new-tiles.ensures.edition;
-  places = c.new-places.ensures;
+  positions = c.new-positions.ensures;
   names = rw (c.new-tiles.ensures.start, c.new-rows.ensures.items)
       (names_of_nothing c.args.edition c.args.text.now c.utf8.text);
 }
 
-pub add_found-requires : goal.add_found-requires
-add_found-requires c =
+pub add_tile-requires : goal.add_tile-requires
+add_tile-requires c =
     let inv = c.loop-found.invariant in
     let t = c.args.text.now in
     let next = rw (inv.text, inv.edition, c.in-Ok-Some.field-0-is) at c.in-Ok-Some.ensures.next in
     let parts =
     parts_found c.args.edition t c.utf8.text c.loop-found.tiles.ptr c.next_tile.new.self.ptr c.in-Ok-Some.found
     c.loop-found.rows.items inv.names next in
-    subst (λ u. entry_every (IsPart u) (tree_of c.in-Ok-Some.found.entry)) (sym inv.places) parts
+    subst (λ u. entry_every (IsPart u) (tree_of c.in-Ok-Some.found.entry)) (sym inv.positions) parts
 
 pub loop-found-preserved : goal.loop-found-preserved
 loop-found-preserved c =
@@ -35,16 +35,16 @@ loop-found-preserved c =
     let found = c.in-Ok-Some.found in
     let counted : rows.len ≡ length rows.items = omega (arith, rows.ok.0) in
     let added =
-    c.in_ok-add_found-in-Ok-Some.ensures.rows
-    ∙ ap (λ u. rows.items ++ entry_rows u rows.len found.span (tree_of found.entry)) inv.places
+    c.in_ok-add_tile-in-Ok-Some.ensures.rows
+    ∙ ap (λ u. rows.items ++ entry_rows u rows.len found.span (tree_of found.entry)) inv.positions
     ∙ ap (λ n. rows.items ++ entry_rows t n found.span (tree_of found.entry)) counted in
     record {
       text = ap (λ source. source.bytes.now) here.text ∙ inv.text;
       edition = here.edition ∙ inv.edition;
-      places = c.in_ok-add_found-in-Ok-Some.ensures.text ∙ inv.places;
+      positions = c.in_ok-add_tile-in-Ok-Some.ensures.text ∙ inv.positions;
       names =
           names_on c.args.edition t c.utf8.text c.loop-found.tiles.ptr c.next_tile.new.self.ptr found rows.items
-          inv.names next c.add_found.new.rows.items added;
+          inv.names next c.add_tile.new.rows.items added;
     }
 
 pub returns-in-Ok-None : goal.returns-in-Ok-None

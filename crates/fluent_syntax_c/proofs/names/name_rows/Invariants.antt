@@ -6,7 +6,7 @@ abbrev pub invariant-loop-found : goal.invariant-loop-found
 invariant-loop-found l = record {
   text : l.tiles.source.bytes.now ≡ l.text;
   edition : l.tiles.edition ≡ l.fn.edition;
-  places : l.places ≡ l.text;
+  positions : l.positions ≡ l.text;
   names : NamesTo l.fn.edition l.text l.tiles.ptr l.rows.items;
 }
 

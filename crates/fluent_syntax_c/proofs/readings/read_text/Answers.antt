@@ -14,7 +14,7 @@ returns-in-Ok-recovered-clause-reading c =
       tiles = h.0;
       has_tiles = h.1;
       tree_is = same.0;
-      tells = same.1;
+      errors_are = same.1;
     }
 
 pub returns-in-Ok-recovered-clause-parts : goal.returns-in-Ok-recovered-clause-parts

@@ -5,5 +5,5 @@ use Rattle.fluent_syntax_c.proofs.values.add_values.Given as goal
 abbrev pub invariant-loop-attribute : goal.invariant-loop-attribute
 invariant-loop-attribute l = record {
   so_far : l.rows.items ≡ l.fn.rows.items ++
-      (value_row l.fn.extents.value ∷ map (λ a. value_row (Some a.value)) (take l.attribute-index l.attribute-items));
+      (value_row l.fn.ranges.value ∷ map (λ a. value_row (Some a.value)) (take l.attribute-index l.attribute-items));
 }

@@ -10,8 +10,8 @@ loop-found-init c = record {
       (values_of_nothing c.args.edition c.args.text.now);
 }
 
-pub add_found-requires : goal.add_found-requires
-add_found-requires c =
+pub add_tile-requires : goal.add_tile-requires
+add_tile-requires c =
     let inv = c.loop-found.invariant in
     let next = rw (inv.text, inv.edition, c.in-Ok-Some.field-0-is) at c.in-Ok-Some.ensures.next in
     omega (arith, next.inside)
@@ -27,8 +27,8 @@ loop-found-preserved c =
       edition = here.edition ∙ inv.edition;
       values =
           values_on c.args.edition t c.loop-found.tiles.ptr c.next_tile.new.self.ptr c.in-Ok-Some.found
-          c.loop-found.rows.items c.add_found.new.rows.items inv.values next
-          c.in_ok-add_found-in-Ok-Some.ensures;
+          c.loop-found.rows.items c.add_tile.new.rows.items inv.values next
+          c.in_ok-add_tile-in-Ok-Some.ensures;
     }
 
 pub returns-in-Ok-None : goal.returns-in-Ok-None

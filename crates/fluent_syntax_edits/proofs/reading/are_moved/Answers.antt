@@ -9,7 +9,7 @@ pub returns-then-not-is_moved : goal.returns-then-not-is_moved
 returns-then-not-is_moved c = (
   (λ so. cc),
   (λ e.
-      let moved = option_map (moved_fault c.args.shift.stretch c.args.shift.to) in
+      let moved = option_map (moved_fault c.args.shift.replaced c.args.shift.to) in
       let same =
       same_at fault_of moved c.args.errors.now c.args.others.now c.loop-index.index _ _ c.loop-index-test.true
       (omega arith) c.index-errors-index.is c.index-others-index.is e in

@@ -8,5 +8,5 @@ abbrev pub invariant-loop-index : goal.invariant-loop-index
 invariant-loop-index l = record {
   same :
       map fault_of (take l.index l.others)
-      ≡ map (option_map (moved_fault l.shift.stretch l.shift.to)) (map fault_of (take l.index l.errors));
+      ≡ map (option_map (moved_fault l.shift.replaced l.shift.to)) (map fault_of (take l.index l.errors));
 }

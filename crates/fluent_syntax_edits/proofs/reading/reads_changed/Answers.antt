@@ -10,7 +10,7 @@ returns c =
     let old = rw c.in_ok-source.ensures.ok at c.in_ok-tree.ensures in
     let compared =
     compared c.args.edition c.args.source.now (string_bytes c.args.made.now) c.args.index (change_of c.args.edit)
-    c.args.shift.stretch c.in_ok-tree.tree c.in_ok-new_tree.new_tree c.in_ok-tree.errors.items
+    c.args.shift.replaced c.in_ok-tree.tree c.in_ok-new_tree.new_tree c.in_ok-tree.errors.items
     c.in_ok-new_tree.new_errors.items old c.in_ok-new_tree.ensures in
     let applied = c.in_ok-apply.ensures in
     elim c.if-same_texts.branch [

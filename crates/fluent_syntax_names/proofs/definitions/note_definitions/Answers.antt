@@ -3,8 +3,8 @@ use Rattle.fluent_syntax_tree.specs.declared.spans.Span.{Span}
 use Rattle.fluent_syntax_names.specs.declared.mention.Mention.{Mention}
 use Rattle.fluent_syntax_names.specs.declared.mention.Mention.TheVariants as says
 use Rattle.fluent_syntax_names.specs.Findings.{defines, defined_in}
-use Rattle.fluent_syntax_names.specs.Spelled.{nameless}
-use Rattle.fluent_syntax_names.specs.Places.{place_of}
+use Rattle.fluent_syntax_names.specs.QualifiedNames.{nameless}
+use Rattle.fluent_syntax_names.specs.FirstPlaces.{place_of}
 use Rattle.fluent_syntax_names.proofs.Gathering.{names_next, names_none}
 use Rattle.fluent_syntax_names.proofs.definitions.note_definitions.Goals as goal
 

@@ -1,7 +1,7 @@
 use Rattle.std.proofs.Common.{drop}
 use Rattle.fluent_syntax_names.specs.Findings.{defined_in}
-use Rattle.fluent_syntax_names.specs.Spelled.{nameless}
-use Rattle.fluent_syntax_names.specs.Places.{place_of}
+use Rattle.fluent_syntax_names.specs.QualifiedNames.{nameless}
+use Rattle.fluent_syntax_names.specs.FirstPlaces.{place_of}
 use Rattle.fluent_syntax_names.specs.Tables.{LeavesNames}
 use Rattle.fluent_syntax_names.proofs.definitions.note_definitions.Given as goal
 

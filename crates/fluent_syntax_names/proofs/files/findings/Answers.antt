@@ -1,24 +1,24 @@
 use Rattle.std.proofs.Common.{◌≡◌, ◌∙◌, [], refl, sym}
 use Rattle.std.proofs.lemmas.Result.{IfOk-weaker}
-use Rattle.fluent_syntax_names.specs.Circles.{links}
+use Rattle.fluent_syntax_names.specs.Cycles.{links}
 use Rattle.fluent_syntax_names.specs.Findings.{all_findings}
 use Rattle.fluent_syntax_names.specs.Knowing.{others_define}
-use Rattle.fluent_syntax_names.specs.Findings.{findings_beside, is_defined, set_beside, set_of}
-use Rattle.fluent_syntax_names.specs.Spelled.{Text}
+use Rattle.fluent_syntax_names.specs.Findings.{findings_with_externals, is_defined, set_with_externals, set_of}
+use Rattle.fluent_syntax_names.specs.QualifiedNames.{Text}
 use Rattle.fluent_syntax_names.proofs.Gathering.{or_false}
-use Rattle.fluent_syntax_names.proofs.Growing.{found_from_same, same_on}
+use Rattle.fluent_syntax_names.proofs.Growing.{findings_from_same, same_on}
 use Rattle.fluent_syntax_names.proofs.Ways.{reaches_decides}
 use Rattle.fluent_syntax_names.proofs.files.findings.Goals as goal
 
 pub returns-clause-findings : goal.returns-clause-findings
 returns-clause-findings c =
     let files = c.args.files.now in
-    let A = set_beside files (others_define []) in
+    let A = set_with_externals files (others_define []) in
     let B = set_of files in
     let defines = λ (name : Text). sym (or_false (is_defined files name)) in
-    let same = found_from_same A B defines 0 files (same_on A B (links files) (λ from to leads. refl)) [] in
-    IfOk-weaker c.findings_beside.result (λ list. list.items ≡ findings_beside files (others_define []))
-    (λ list. list.items ≡ all_findings files) (λ list is. is ∙ same) c.findings_beside.ensures
+    let same = findings_from_same A B defines 0 files (same_on A B (links files) (λ from to links_to. refl)) [] in
+    IfOk-weaker c.findings_with_externals.result (λ list. list.items ≡ findings_with_externals files (others_define []))
+    (λ list. list.items ≡ all_findings files) (λ list is. is ∙ same) c.findings_with_externals.ensures
 
 pub returns-clause-reached : goal.returns-clause-reached
 returns-clause-reached c = reaches_decides (links c.args.files.now)

@@ -1,4 +1,4 @@
-use Rattle.fluent_syntax_names.specs.Places.{place_of}
+use Rattle.fluent_syntax_names.specs.FirstPlaces.{place_of}
 use Rattle.fluent_syntax_names.proofs.Gathering.{files_begin, files_next, files_none}
 use Rattle.fluent_syntax_names.proofs.files.note_files.Goals as goal
 

@@ -1,4 +1,4 @@
-use Rattle.fluent_syntax_names.specs.Places.{place_of}
+use Rattle.fluent_syntax_names.specs.FirstPlaces.{place_of}
 use Rattle.fluent_syntax_names.proofs.Gathering.{left_of_files}
 use Rattle.fluent_syntax_names.proofs.files.note_files.Given as goal
 

@@ -1,4 +1,4 @@
-use Rattle.fluent_syntax_names.specs.Places.{place_of}
+use Rattle.fluent_syntax_names.specs.FirstPlaces.{place_of}
 use Rattle.fluent_syntax_names.proofs.Gathering.{notes_one}
 use Rattle.fluent_syntax_names.proofs.uses.note_reference.Goals as goal
 

@@ -1,7 +1,7 @@
 use Rattle.std.proofs.Common.{drop}
-use Rattle.fluent_syntax_names.specs.Spelled.{nameless}
-use Rattle.fluent_syntax_names.specs.Lacks.{used_in}
-use Rattle.fluent_syntax_names.specs.Places.{place_of}
+use Rattle.fluent_syntax_names.specs.QualifiedNames.{nameless}
+use Rattle.fluent_syntax_names.specs.MissingParts.{used_in}
+use Rattle.fluent_syntax_names.specs.FirstPlaces.{place_of}
 use Rattle.fluent_syntax_names.specs.Tables.{LeavesNames}
 use Rattle.fluent_syntax_names.proofs.uses.note_uses.Given as goal
 

@@ -7,7 +7,8 @@ use Rattle.fluent_syntax_tree.proofs.Views.{view-Placeable, view-Pattern, view-V
 use Rattle.fluent_syntax_tree.proofs.Views.{view-CallArguments}
 use Rattle.fluent_syntax_grammar.proofs.MarksWritten.{writing, Writes-cons, Writes-append}
 use Rattle.fluent_syntax_writer.proofs.Splits.{Writes-split}
-use Rattle.fluent_syntax_grammar.proofs.Leaves.{Leaves-start, Leaves-more, Leaves-end, Leaves-last, drop_at}
+use Rattle.fluent_syntax_grammar.proofs.Remaining.{RemainingMarks-start, RemainingMarks-more, RemainingMarks-end}
+use Rattle.fluent_syntax_grammar.proofs.Remaining.{RemainingMarks-last, drop_at}
 use Rattle.fluent_syntax_writer.proofs.Arguments.{argument_at, none_left}
 use Rattle.fluent_syntax_writer.proofs.Placeables.{in_braces}
 use Rattle.fluent_syntax_writer.proofs.serializer.+serialized.Goals as goal
@@ -65,14 +66,14 @@ pub expressions::serialize_expression-loop-variant-preserved :
     goal.expressions::serialize_expression-loop-variant-preserved
 expressions::serialize_expression-loop-variant-preserved g t c =
     let next = drop_at c.deref-variant-items.result.now _ _ c.loop-variant-test.true c.variant-item.is in
-    let after = Leaves-more (rw next at c.loop-variant.invariant.rest) c.serialize_variant.ensures.written in
-    record { rest = Leaves-more after c.newline-in-loop-variant.ensures.written }
+    let after = RemainingMarks-more (rw next at c.loop-variant.invariant.rest) c.serialize_variant.ensures.written in
+    record { rest = RemainingMarks-more after c.newline-in-loop-variant.ensures.written }
 
 pub expressions::serialize_expression-returns-after-loop-variant :
     goal.expressions::serialize_expression-returns-after-loop-variant
 expressions::serialize_expression-returns-after-loop-variant g t c =
     let none = drop_all _ c.deref-variant-items.result.now c.loop-variant-test.false in
-    let variants = Leaves-end (rw none at c.loop-variant.invariant.rest) in
+    let variants = RemainingMarks-end (rw none at c.loop-variant.invariant.rest) in
     let arrow = Writes-cons c.write_literal.ensures.written (Writes-cons c.newline.ensures.written variants) in
     let select = Writes-append c.serialize_inline_expression.ensures.written arrow in
     record { written = rw (c.in-Select.is, view-Select, ← c.deref-variant-items.ensures.value) select }
@@ -80,7 +81,7 @@ expressions::serialize_expression-returns-after-loop-variant g t c =
 pub expressions::serialize_call_arguments-loop-argument-init :
     goal.expressions::serialize_call_arguments-loop-argument-init
 expressions::serialize_call_arguments-loop-argument-init g t c =
-    let opened = Leaves-more Leaves-start c.write_literal.ensures.written in
+    let opened = RemainingMarks-more RemainingMarks-start c.write_literal.ensures.written in
     record { rest = rw (view-CallArguments, ← c.deref-argument-items.ensures.value) opened }
 
 pub expressions::serialize_call_arguments-loop-argument-preserved :
@@ -88,8 +89,8 @@ pub expressions::serialize_call_arguments-loop-argument-preserved :
 expressions::serialize_call_arguments-loop-argument-preserved g t c =
     let next = drop_at c.deref-argument-items.result.now _ _ c.loop-argument-test.true c.argument-item.is in
     let rest = rw (next, argument_at) at c.loop-argument.invariant.rest in
-    let after = Leaves-more rest c.serialize_separator.ensures.written in
-    record { rest = Leaves-more after c.serialize_inline_expression.ensures.written }
+    let after = RemainingMarks-more rest c.serialize_separator.ensures.written in
+    record { rest = RemainingMarks-more after c.serialize_inline_expression.ensures.written }
 
 pub expressions::serialize_call_arguments-loop-argument-2-preserved :
     goal.expressions::serialize_call_arguments-loop-argument-2-preserved
@@ -97,8 +98,8 @@ expressions::serialize_call_arguments-loop-argument-2-preserved g t c =
     let item = c.argument-item-in-loop-argument-2 in
     let next = drop_at c.deref-argument-items-2.result.now _ _ c.loop-argument-2-test.true item.is in
     let rest = rw (next, argument_at) at c.loop-argument-2.invariant.rest in
-    let after = Leaves-more rest c.serialize_separator-in-loop-argument-2.ensures.written in
-    record { rest = Leaves-more after c.serialize_named_argument.ensures.written }
+    let after = RemainingMarks-more rest c.serialize_separator-in-loop-argument-2.ensures.written in
+    record { rest = RemainingMarks-more after c.serialize_named_argument.ensures.written }
 
 pub expressions::serialize_call_arguments-loop-argument-2-init :
     goal.expressions::serialize_call_arguments-loop-argument-2-init
@@ -110,17 +111,17 @@ pub expressions::serialize_call_arguments-returns : goal.expressions::serialize_
 expressions::serialize_call_arguments-returns g t c =
     let none = drop_all _ c.deref-argument-items-2.result.now c.loop-argument-2-test.false in
     let rest = rw (none, none_left) at c.loop-argument-2.invariant.rest in
-    record { written = Leaves-last rest c.write_literal-2.ensures.written }
+    record { written = RemainingMarks-last rest c.write_literal-2.ensures.written }
 
 pub patterns::serialize_elements-loop-element-preserved : goal.patterns::serialize_elements-loop-element-preserved
 patterns::serialize_elements-loop-element-preserved g t c =
     let next = drop_at c.args.elements.now _ _ c.loop-element-test.true c.element-item.is in
-    record { rest = Leaves-more (rw next at c.loop-element.invariant.rest) c.serialize_element.ensures.written }
+    record { rest = RemainingMarks-more (rw next at c.loop-element.invariant.rest) c.serialize_element.ensures.written }
 
 pub patterns::serialize_elements-returns : goal.patterns::serialize_elements-returns
 patterns::serialize_elements-returns g t c =
     let none = drop_all _ c.args.elements.now c.loop-element-test.false in
-    record { written = Leaves-end (rw none at c.loop-element.invariant.rest) }
+    record { written = RemainingMarks-end (rw none at c.loop-element.invariant.rest) }
 
 pub patterns::serialize_element-returns-in-TextElement : goal.patterns::serialize_element-returns-in-TextElement
 patterns::serialize_element-returns-in-TextElement g t c =

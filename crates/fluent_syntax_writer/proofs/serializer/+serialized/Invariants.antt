@@ -7,7 +7,7 @@ use Rattle.fluent_syntax_tree.specs.View.{inline_view, element_view, named_view,
 use Rattle.fluent_syntax_grammar.specs.Written.{literal, positional_marks, named_marks, arguments_marks, elements_marks}
 use Rattle.fluent_syntax_grammar.specs.Written.{variants_marks}
 use Rattle.fluent_syntax_grammar.specs.Writing.{depth}
-use Rattle.fluent_syntax_grammar.proofs.Leaves.{Leaves}
+use Rattle.fluent_syntax_grammar.proofs.Remaining.{RemainingMarks}
 use Rattle.fluent_syntax_writer.proofs.Arguments.{arguments_left}
 use Rattle.fluent_syntax_writer.proofs.serializer.+serialized.Given as goal
 
@@ -17,7 +17,7 @@ invariant-expressions::serialize_expression-loop-variant g l =
     let trees = λ (vs : List (Variant g.row.X.Denot)). variants_of (map (variant_view g.T.ReadTexts.text) vs) in
     let left = variants_marks (depth l.deeper) (trees (drop l.variant-index l.variant-items)) in
     let all = variants_marks (depth l.deeper) (trees l.variant-items) in
-    record { rest : Leaves g.W.TextSink.text g.W.TextSink.room l.initial.writer l.writer left all }
+    record { rest : RemainingMarks g.W.TextSink.text g.W.TextSink.room l.initial.writer l.writer left all }
 
 abbrev pub invariant-expressions::serialize_call_arguments-loop-argument :
     goal.invariant-expressions::serialize_call_arguments-loop-argument
@@ -29,7 +29,7 @@ invariant-expressions::serialize_call_arguments-loop-argument g l =
     let left = arguments_left level l.follows (positional_marks level inlines ++ named) in
     let closed = left ++ (literal level (codes ")") ∷ []) in
     let all = arguments_marks level (arguments_view g.T.ReadTexts.text l.arguments) in
-    record { rest : Leaves g.W.TextSink.text g.W.TextSink.room l.fn.writer l.writer closed all }
+    record { rest : RemainingMarks g.W.TextSink.text g.W.TextSink.room l.fn.writer l.writer closed all }
 
 abbrev pub invariant-expressions::serialize_call_arguments-loop-argument-2 :
     goal.invariant-expressions::serialize_call_arguments-loop-argument-2
@@ -39,7 +39,7 @@ invariant-expressions::serialize_call_arguments-loop-argument-2 g l =
     let left = arguments_left level l.follows (named_marks level nameds) in
     let closed = left ++ (literal level (codes ")") ∷ []) in
     let all = arguments_marks level (arguments_view g.T.ReadTexts.text l.arguments) in
-    record { rest : Leaves g.W.TextSink.text g.W.TextSink.room l.fn.writer l.writer closed all }
+    record { rest : RemainingMarks g.W.TextSink.text g.W.TextSink.room l.fn.writer l.writer closed all }
 
 abbrev pub invariant-patterns::serialize_elements-loop-element :
     goal.invariant-patterns::serialize_elements-loop-element
@@ -47,4 +47,4 @@ invariant-patterns::serialize_elements-loop-element g l =
     let trees = λ (es : List (PatternElement g.row.X.Denot)). elements_of (map (element_view g.T.ReadTexts.text) es) in
     let left = elements_marks (depth l.level) (trees (drop l.element-index l.elements)) in
     let all = elements_marks (depth l.level) (trees l.elements) in
-    record { rest : Leaves g.W.TextSink.text g.W.TextSink.room l.initial.writer l.writer left all }
+    record { rest : RemainingMarks g.W.TextSink.text g.W.TextSink.room l.initial.writer l.writer left all }

@@ -1,21 +1,21 @@
 use Rattle.std.proofs.Common.{◌≡◌, ◌∙◌, ap, map}
 use Rattle.std.specs.List.{flat_map}
 use Rattle.fluent_syntax_grammar.specs.Body.{faults}
-use Rattle.ftl.specs.Answer.{error_line, outcome_with, told}
-use Rattle.ftl.proofs.FaultLines.{told_faults}
+use Rattle.ftl.specs.Answer.{error_line, outcome_with, error_fault}
+use Rattle.ftl.proofs.FaultLines.{error_faults}
 use Rattle.ftl.proofs.answers.check.Goals as goal
 
 pub returns-in-Ok-error_lines-clause-text : goal.returns-in-Ok-error_lines-clause-text
 returns-in-Ok-error_lines-clause-text c =
     let found = c.in-Ok.ensures.errors in
     let errors = c.in-Ok.errors.items in
-    let same : map told errors ≡ faults found.0 = told_faults errors (faults found.0) found.2 in (
+    let same : map error_fault errors ≡ faults found.0 = error_faults errors (faults found.0) found.2 in (
       found.0,
       found.1,
       c.in-Ok-error_lines.ensures
-          ∙ ap (λ es. flat_map (error_line c.args.text.now) (map told es)) c.deref.ensures.value
+          ∙ ap (λ es. flat_map (error_line c.args.text.now) (map error_fault es)) c.deref.ensures.value
           ∙ ap (flat_map (error_line c.args.text.now)) same,
       c.outcome_of.ensures
-          ∙ ap (λ es. outcome_with (map told es)) c.deref-in-Ok-error_lines.ensures.value
+          ∙ ap (λ es. outcome_with (map error_fault es)) c.deref-in-Ok-error_lines.ensures.value
           ∙ ap outcome_with same,
     )

@@ -3,7 +3,7 @@ use Rattle.std.specs.Prelude.{option_to_list}
 use Rattle.fluent_syntax_tree.specs.View.{entry_view}
 use Rattle.fluent_syntax_parser.specs.Rest.{faults_of}
 use Rattle.fluent_syntax_parser.proofs.tilings.Rests.{entry_to}
-use Rattle.ftl.specs.OneByOne.{none_came, one_more}
+use Rattle.ftl.specs.OneByOne.{wrote_none, one_more}
 use Rattle.ftl.proofs.ReadTo.{all_read, nothing_read, read_on}
 use Rattle.ftl.proofs.one_by_one.write_one_by_one.Goals as goal
 
@@ -17,7 +17,7 @@ loop-errors-init g c =
       no_error = c.new-errors.ensures.items;
       so_far = (
         [],
-        none_came,
+        wrote_none,
         rw c.new-entries.ensures.start (nothing_read options.comments options.edition c.args.text.now),
       );
       deeper = rw c.new-entries.ensures.start (λ d. d, λ d. d);
@@ -35,7 +35,7 @@ loop-errors-preserved g c =
     let there = entry_to options.comments options.edition t _ _ _ put.tree (faults_of put.error) stands in
     let longer = read_on options.comments options.edition t _ _ _ inv.so_far.2 _ put.tree put.error there in
     let entry = put.added ∙ ap (λ xs. xs ++ put.entry ∷ []) inv.no_entry in
-    let error = put.tells ∙ ap (λ xs. xs ++ option_to_list put.error) inv.no_error in
+    let error = put.errors_are ∙ ap (λ xs. xs ++ option_to_list put.error) inv.no_error in
     let written = c.write_read-outcome.ensures.written (entry_view (λ s. s.now) put.entry)
     (ap (map (entry_view (λ s. s.now))) (c.deref.ensures.value ∙ entry)) in
     let outcome = c.write_read-outcome.ensures.outcome put.error (c.deref-in-Some.ensures.value ∙ error) in

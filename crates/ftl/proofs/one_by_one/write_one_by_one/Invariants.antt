@@ -3,7 +3,7 @@ use Rattle.fluent_syntax_tree.specs.Entry.{BodyTree}
 use Rattle.fluent_syntax_grammar.specs.Nesting.{TextDeeper}
 use Rattle.fluent_syntax_grammar.specs.Written.{Text}
 use Rattle.fluent_syntax_parser.specs.Rest.{TileIn}
-use Rattle.ftl.specs.OneByOne.{Came}
+use Rattle.ftl.specs.OneByOne.{WroteEntries}
 use Rattle.ftl.proofs.ReadTo.{ReadTo}
 use Rattle.ftl.proofs.one_by_one.write_one_by_one.Given as goal
 
@@ -14,7 +14,7 @@ invariant-loop-errors g l = let t = l.fn.text in let asked = l.fn.options in
       options : l.entries.options ≡ asked;
       no_entry : l.body.items ≡ [];
       no_error : l.errors.items ≡ [];
-      so_far : (tree : BodyTree Text) × Came g.W.WriteEntries.writes l.initial.writer tree l.writer ×
+      so_far : (tree : BodyTree Text) × WroteEntries g.W.WriteEntries.writes l.initial.writer tree l.writer ×
           ReadTo asked.comments asked.edition t l.entries.ptr tree l.outcome;
       deeper : (deeper l.entries.ptr → deeper 0) × (deeper 0 → deeper l.entries.ptr);
     }

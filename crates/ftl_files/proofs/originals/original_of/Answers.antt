@@ -5,20 +5,20 @@ use Rattle.ftl_files.proofs.originals.original_of.Goals as goal
 
 pub returns-in_default-split_once : goal.returns-in_default-split_once
 returns-in_default-split_once c =
-    let (n, front, beside, size) = c.in-Some.ensures.cases in
+    let (n, front, temporary, size) = c.in-Some.ensures.cases in
     let below = c.in-Some-strip_prefix.below in
     let slash = strip_prefix_char 47 _ (Some below) c.in-Some-strip_prefix.ensures.cases (omega arith) in
-    rw (below_folder c.args.above.now _ below.now c.args.path.now n front.1 beside slash) c.lone_original.ensures
+    rw (below_folder c.args.above.now _ below.now c.args.path.now n front.1 temporary slash) c.lone_original.ensures
 
 pub returns : goal.returns
 returns c =
-    let (n, front, beside, size) = c.in-Some.ensures.cases in
+    let (n, front, temporary, size) = c.in-Some.ensures.cases in
     let below = c.in-Some-strip_prefix.below in
     let slash = strip_prefix_char 47 _ (Some below) c.in-Some-strip_prefix.ensures.cases (omega arith) in
     let language = c.in-Some-split_once.language in
     let rest = c.in-Some-split_once.rest in
     let parts = split_parts 47 _ (Some (language, rest)) c.in-Some-split_once.ensures.cases (omega arith) in
-    let place = below_folder c.args.above.now _ below.now c.args.path.now n front.1 beside slash in
+    let place = below_folder c.args.above.now _ below.now c.args.path.now n front.1 temporary slash in
     record {
       language = language.now;
       rest = 47 ∷ rest.now;

@@ -15,5 +15,6 @@ returns-clause-any_moment g c =
     c.requires (λ bytes is. MatchOption-at_some _ _ bytes is c.in_ok-write.ensures.written) in
     let synced = subst (λ p. IsSynced (files c.sync.new.self) p) (c.write.ensures.path ∙ c.requires)
     c.in_ok-sync.ensures.synced in
-    filling _ _ _ _ c.args.beside.now c.args.path.now c.args.text.now write c.sync.ensures.same c.rename.ensures.changes
+    filling _ _ _ _ c.args.temporary.now c.args.path.now c.args.text.now write c.sync.ensures.same
+    c.rename.ensures.changes
     had synced

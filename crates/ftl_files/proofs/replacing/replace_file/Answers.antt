@@ -9,11 +9,11 @@ returns-in-Ok-clause-any_moment g c =
     let path = c.args.path.now in
     let text = c.args.text.now in
     let fill = subst
-    (λ b. GoesOn (files c.create_beside.new.system) (files c.fill_and_rename.new.system)
-    (filled (files c.create_beside.new.system) b path text))
+    (λ b. GoesOn (files c.create_temporary.new.system) (files c.fill_and_rename.new.system)
+    (filled (files c.create_temporary.new.system) b path text))
     c.as_str.ensures.value c.fill_and_rename.ensures.any_moment in
-    replacing _ _ _ _ _ path text nowhere c.create_beside.ensures.any_moment fill c.sync_name.ensures.same
-    (λ p left none. absurd none) c.in_ok-beside.ensures.free c.in_ok-beside.ensures.empty
+    replacing _ _ _ _ _ path text nowhere c.create_temporary.ensures.any_moment fill c.sync_name.ensures.same
+    (λ p left none. absurd none) c.in_ok-temporary.ensures.free c.in_ok-temporary.ensures.empty
 
 pub returns-clause-any_moment : goal.returns-clause-any_moment
 returns-clause-any_moment g c =
@@ -21,24 +21,24 @@ returns-clause-any_moment g c =
     let path = c.args.path.now in
     let text = c.args.text.now in
     let fill = subst
-    (λ b. GoesOn (files c.create_beside.new.system) (files c.fill_and_rename.new.system)
-    (filled (files c.create_beside.new.system) b path text))
+    (λ b. GoesOn (files c.create_temporary.new.system) (files c.fill_and_rename.new.system)
+    (filled (files c.create_temporary.new.system) b path text))
     c.as_str.ensures.value c.fill_and_rename.ensures.any_moment in
     let remove = subst
     (λ b. GoesOn (files c.fill_and_rename.new.system) (files c.remove.new.self) (at_path b))
     c.as_str-in-Err.ensures.value c.remove.ensures.changes in
-    replacing _ _ _ _ _ path text _ c.create_beside.ensures.any_moment fill remove
-    (removed_part (files c.args.system.now) _ path text c.in_ok-beside.ensures.free)
-    c.in_ok-beside.ensures.free c.in_ok-beside.ensures.empty
+    replacing _ _ _ _ _ path text _ c.create_temporary.ensures.any_moment fill remove
+    (removed_part (files c.args.system.now) _ path text c.in_ok-temporary.ensures.free)
+    c.in_ok-temporary.ensures.free c.in_ok-temporary.ensures.empty
 
 pub returns-in-Ok-clause-durable : goal.returns-in-Ok-clause-durable
 returns-in-Ok-clause-durable g c =
     let files = g.F.FileSystem.files in
     let empty = subst
     (λ b. IfSome ((files c.args.system.now).bytes_at c.args.path.now)
-    (λ _. (files c.create_beside.new.system).bytes_at b ≡ Some []))
-    (sym c.as_str.ensures.value) c.in_ok-beside.ensures.empty in
+    (λ _. (files c.create_temporary.new.system).bytes_at b ≡ Some []))
+    (sym c.as_str.ensures.value) c.in_ok-temporary.ensures.empty in
     on_ok _ _ _ c.sync_name.ensures.named
-    (durable (files c.args.system.now) (files c.create_beside.new.system) (files c.fill_and_rename.new.system)
+    (durable (files c.args.system.now) (files c.create_temporary.new.system) (files c.fill_and_rename.new.system)
     (files c.sync_name.new.self) c.as_str.result.now c.args.path.now c.args.text.now empty c.in-Ok.ensures.synced
     c.sync_name.ensures.same)

@@ -21,8 +21,8 @@ returns-then-eq c =
 pub returns : goal.returns
 returns c =
     let t = c.args.text.now in
-    let formatted' = rw c.in-Some.is at c.in_ok-written.ensures in
+    let formatted_text' = rw c.in-Some.is at c.in_ok-written.ensures in
     IfOk-weaker c.whole_edit.result _ _
     (λ value is. subst (FormatsText t) (sym (is ∙ ap (whole_edit_form t) c.as_str-2.ensures.value))
-    (formats (string_bytes c.in-Some.written) formatted'))
+    (formats (string_bytes c.in-Some.written) formatted_text'))
     c.whole_edit.ensures

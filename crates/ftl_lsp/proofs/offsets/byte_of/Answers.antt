@@ -1,8 +1,8 @@
 use Rattle.std.proofs.Common.{◌≡◌, ◌≤◌, ◌∙◌, sym, ap, subst, arith, length, slice_index, refl, true, false}
-use Rattle.ftl_lsp.specs.Places.{character_at, place_at}
+use Rattle.ftl_lsp.specs.Positions.{character_at, position_at}
 use Rattle.ftl_lsp.specs.Offsets.{is_reached, IsByteOf}
 use Rattle.ftl_lsp.proofs.ByteLemmas.{IsAhead, ahead_of_line, at_the_end, starts_at, still_ahead, there}
-use Rattle.ftl_lsp.proofs.PlaceLemmas.{character_at-le}
+use Rattle.ftl_lsp.proofs.PositionLemmas.{character_at-le}
 use Rattle.ftl_lsp.proofs.offsets.byte_of.Goals as goal
 
 pub loop-at-init : goal.loop-at-init
@@ -10,8 +10,8 @@ loop-at-init c =
     let t = c.as_bytes-bytes.result.now in
     let begins = rw c.in-Some.is at c.line_start.ensures.begins in
     record {
-      here = starts_at t c.args.place.line c.in-Some.start begins;
-      ahead = ahead_of_line t c.args.place c.in-Some.start begins;
+      here = starts_at t c.args.position.line c.in-Some.start begins;
+      ahead = ahead_of_line t c.args.position c.in-Some.start begins;
     }
 
 pub is_reached-requires : goal.is_reached-requires
@@ -24,24 +24,24 @@ is_reached-requires c =
 pub returns-then-is_reached : goal.returns-then-is_reached
 returns-then-is_reached c =
     let t = c.as_bytes-bytes.result.now in
-    let reached : is_reached (slice_index t c.loop-at.at) (place_at t c.loop-at.at) c.args.place ≡ true =
-    ap (λ here. is_reached (slice_index t c.loop-at.at) here c.args.place) (sym c.loop-at.invariant.here)
+    let reached : is_reached (slice_index t c.loop-at.at) (position_at t c.loop-at.at) c.args.position ≡ true =
+    ap (λ here. is_reached (slice_index t c.loop-at.at) here c.args.position) (sym c.loop-at.invariant.here)
     ∙ sym c.is_reached.ensures ∙ c.if-is_reached.true in
-    subst (λ u. IsByteOf u c.args.place c.loop-at.at) c.as_bytes-bytes.ensures.value
-    (there t c.args.place c.loop-at.at c.loop-at.invariant.ahead c.loop-at-test.true reached)
+    subst (λ u. IsByteOf u c.args.position c.loop-at.at) c.as_bytes-bytes.ensures.value
+    (there t c.args.position c.loop-at.at c.loop-at.invariant.ahead c.loop-at-test.true reached)
 
-pub place_behind-here-requires-clause-place : goal.place_behind-here-requires-clause-place
-place_behind-here-requires-clause-place c = c.loop-at.invariant.here
+pub position_behind-here-requires-clause-position : goal.position_behind-here-requires-clause-position
+position_behind-here-requires-clause-position c = c.loop-at.invariant.here
 
 pub loop-at-preserved : goal.loop-at-preserved
 loop-at-preserved c =
     let t = c.as_bytes-bytes.result.now in
-    let goes_on : is_reached (slice_index t c.loop-at.at) (place_at t c.loop-at.at) c.args.place ≡ false =
-    ap (λ here. is_reached (slice_index t c.loop-at.at) here c.args.place) (sym c.loop-at.invariant.here)
+    let goes_on : is_reached (slice_index t c.loop-at.at) (position_at t c.loop-at.at) c.args.position ≡ false =
+    ap (λ here. is_reached (slice_index t c.loop-at.at) here c.args.position) (sym c.loop-at.invariant.here)
     ∙ sym c.is_reached.ensures ∙ c.if-is_reached.false in
     record {
-      here = c.place_behind-here.ensures;
-      ahead = still_ahead t c.args.place c.loop-at.at c.loop-at.invariant.ahead goes_on;
+      here = c.position_behind-here.ensures;
+      ahead = still_ahead t c.args.position c.loop-at.at c.loop-at.invariant.ahead goes_on;
     }
 
 pub returns : goal.returns
@@ -50,5 +50,5 @@ returns c =
     let begins = rw c.in-Some.is at c.line_start.ensures.begins in
     let low : c.loop-at.at ≤ length t = c.loop-at.auto.at-end begins.within in
     let end : c.loop-at.at ≡ length t = omega (arith, low, c.loop-at-test.false) in
-    subst (λ u. IsByteOf u c.args.place (length t)) c.as_bytes-bytes.ensures.value
-    (at_the_end t c.args.place (subst (IsAhead t c.args.place) end c.loop-at.invariant.ahead))
+    subst (λ u. IsByteOf u c.args.position (length t)) c.as_bytes-bytes.ensures.value
+    (at_the_end t c.args.position (subst (IsAhead t c.args.position) end c.loop-at.invariant.ahead))

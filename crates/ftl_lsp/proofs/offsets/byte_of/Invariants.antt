@@ -1,10 +1,10 @@
 use Rattle.std.proofs.Common.{◌≡◌, ◌≤◌}
-use Rattle.ftl_lsp.specs.Places.{place_at}
+use Rattle.ftl_lsp.specs.Positions.{position_at}
 use Rattle.ftl_lsp.proofs.ByteLemmas.{IsAhead}
 use Rattle.ftl_lsp.proofs.offsets.byte_of.Given as goal
 
 abbrev pub invariant-loop-at : goal.invariant-loop-at
 invariant-loop-at l = record {
-  here : l.here ≡ place_at l.bytes l.at;
-  ahead : IsAhead l.bytes l.place l.at;
+  here : l.here ≡ position_at l.bytes l.at;
+  ahead : IsAhead l.bytes l.position l.at;
 }

@@ -1,5 +1,5 @@
 use Rattle.std.proofs.Common.{◌≡◌, ◌≤◌, ◌-◌, length}
-use Rattle.ftl_lsp.specs.Places.{character_at, line_at}
+use Rattle.ftl_lsp.specs.Positions.{character_at, line_at}
 use Rattle.ftl_lsp.proofs.offsets.line_start.Given as goal
 
 abbrev pub invariant-loop-line : goal.invariant-loop-line

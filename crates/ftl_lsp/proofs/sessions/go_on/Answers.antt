@@ -1,30 +1,30 @@
 use Rattle.std.proofs.Common.{ap, refl}
 use Rattle.serde_json.specs.View.{view}
-use Rattle.ftl_lsp.specs.Served.{is_untold, tells_without_memory}
+use Rattle.ftl_lsp.specs.Served.{is_unpublished, has_no_memory_to_publish}
 use Rattle.ftl_lsp.specs.Sessions.{session_of}
-use Rattle.ftl_lsp.proofs.ServedLemmas.{takes_behind, tells_behind, stops_behind, untold}
+use Rattle.ftl_lsp.proofs.ServedLemmas.{takes_behind, republishes_behind, stops_behind, not_published}
 use Rattle.ftl_lsp.proofs.sessions.go_on.Goals as goal
 
 pub returns-in-Ok-Some-clause-step : goal.returns-in-Ok-Some-clause-step
 returns-in-Ok-Some-clause-step g c =
-    tells_behind c.send.result _ _ _ _ _ (view c.in-Ok-Some.told) c.in-Ok-Some.ensures.same
-    (rw c.in-Ok-Some.field-0-is at c.in-Ok-Some.ensures.told) c.send.ensures.sent
+    republishes_behind c.send.result _ _ _ _ _ (view c.in-Ok-Some.diagnostics) c.in-Ok-Some.ensures.same
+    (rw c.in-Ok-Some.field-0-is at c.in-Ok-Some.ensures.diagnostics) c.send.ensures.sent
 
 pub returns-in-Ok-Some-clause-stops : goal.returns-in-Ok-Some-clause-stops
 returns-in-Ok-Some-clause-stops g c =
-    untold c.send.result (session_of c.args.server.now) _ _ _ (view c.in-Ok-Some.told)
-    (rw c.in-Ok-Some.field-0-is at c.in-Ok-Some.ensures.told) c.send.ensures.fault
+    not_published c.send.result (session_of c.args.server.now) _ _ _ (view c.in-Ok-Some.diagnostics)
+    (rw c.in-Ok-Some.field-0-is at c.in-Ok-Some.ensures.diagnostics) c.send.ensures.fault
     (λ is. ap g.W.Write.contents (c.send.ensures.unwritten is))
 
 pub returns-in-Ok-None-clause-step : goal.returns-in-Ok-None-clause-step
 returns-in-Ok-None-clause-step g c =
-    takes_behind c.answer_next.result (session_of c.args.server.now) (session_of c.tell_anew.new.self) _ _ _ _ _
+    takes_behind c.answer_next.result (session_of c.args.server.now) (session_of c.republish_next.new.self) _ _ _ _ _
     c.in-Ok-None.ensures.same c.answer_next.ensures.step
 
 pub returns-in-Ok-None-clause-stops : goal.returns-in-Ok-None-clause-stops
 returns-in-Ok-None-clause-stops g c =
-    stops_behind c.answer_next.result (session_of c.args.server.now) (session_of c.tell_anew.new.self) _ _ _
+    stops_behind c.answer_next.result (session_of c.args.server.now) (session_of c.republish_next.new.self) _ _ _
     c.in-Ok-None.ensures.same c.answer_next.ensures.stops
 
 pub returns-in-Err-clause-stops : goal.returns-in-Err-clause-stops
-returns-in-Err-clause-stops g c = is_untold _ _ (tells_without_memory _ refl)
+returns-in-Err-clause-stops g c = is_unpublished _ _ (has_no_memory_to_publish _ refl)

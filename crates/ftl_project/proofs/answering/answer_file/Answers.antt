@@ -1,9 +1,9 @@
 use Rattle.std.proofs.Common.{ap, refl, string_bytes}
 use Rattle.ftl.specs.Watched.{inner_of}
 use Rattle.ftl_project.specs.Faults.{IsFault}
-use Rattle.ftl_project.specs.Runs.{MeetsFile}
+use Rattle.ftl_project.specs.Runs.{ProcessesFile}
 use Rattle.ftl_project.specs.Tally.{answered}
-use Rattle.ftl_project.proofs.Counting.{Writes-told, on_ok_then}
+use Rattle.ftl_project.proofs.Counting.{Writes-report_text, on_ok_then}
 use Rattle.ftl_project.proofs.answering.answer_file.Goals as goal
 
 pub returns-in-Ok-clause-counted : goal.returns-in-Ok-clause-counted
@@ -11,7 +11,7 @@ returns-in-Ok-clause-counted g c =
     let answer = c.in-Ok.answer in
     let found = c.in-Ok.ensures.answer in
     on_ok_then c.put_answer.result (λ appends. (
-      answered answer.errors answer.is_concerned,
+      answered answer.errors answer.has_problems,
       string_bytes answer.text,
       (found.0, found.1, found.2),
       c.put_answer.ensures.counted,
@@ -24,8 +24,9 @@ returns-in-Err-clause-counted g c =
     let bytes = g.S.Store.bytes_at c.args.store.now c.args.path.now in
     let written = g.O.Write.contents in
     let refuses = g.A.Answering.refuses answering in
-    Writes-told (MeetsFile g.S.Store.fails (g.A.Answering.answers answering) refuses c.args.path.now bytes)
-    (IsFault g.S.Store.fails bytes refuses) c.tell.result c.in-Err.fault c.args.tally.now c.tell.new.tally
-    (written (inner_of c.args.streams.now.out.now)) (written (inner_of c.tell.new.streams.out.now))
-    (λ status fails. (fails, refl)) c.in-Err.ensures.fault c.tell.ensures.counted
-    (ap (λ out. written (inner_of out.now)) c.tell.ensures.out)
+    Writes-report_text (ProcessesFile g.S.Store.fails (g.A.Answering.answers answering) refuses c.args.path.now bytes)
+    (IsFault g.S.Store.fails bytes refuses) c.report_fault.result c.in-Err.fault c.args.tally.now
+    c.report_fault.new.tally
+    (written (inner_of c.args.streams.now.out.now)) (written (inner_of c.report_fault.new.streams.out.now))
+    (λ status fails. (fails, refl)) c.in-Err.ensures.fault c.report_fault.ensures.counted
+    (ap (λ out. written (inner_of out.now)) c.report_fault.ensures.out)

@@ -1,6 +1,6 @@
 use Rattle.ftl.specs.Watched.{inner_of}
-use Rattle.ftl_files.specs.Store.{AllStand}
-use Rattle.ftl_project.specs.Runs.{MeetsFile}
+use Rattle.ftl_files.specs.Store.{AllUnchanged}
+use Rattle.ftl_project.specs.Runs.{ProcessesFile}
 use Rattle.ftl_project.proofs.Counting.{WritesSo}
 use Rattle.ftl_project.proofs.answering.answer_files.Given as goal
 
@@ -9,8 +9,8 @@ invariant-loop-file g l =
     let at = g.S.Store.bytes_at in
     let written = g.O.Write.contents in
     record {
-      stand : AllStand (at l.fn.store) (at l.store);
-      each : WritesSo (MeetsFile g.S.Store.fails (g.A.Answering.answers l.answering) (g.A.Answering.refuses
+      stand : AllUnchanged (at l.fn.store) (at l.store);
+      each : WritesSo (ProcessesFile g.S.Store.fails (g.A.Answering.answers l.answering) (g.A.Answering.refuses
           l.answering))
           (at l.fn.store) l.files l.file-index l.fn.tally l.tally (written (inner_of l.fn.streams.out.now))
           (written (inner_of l.streams.out.now));

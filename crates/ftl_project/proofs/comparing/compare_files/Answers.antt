@@ -1,7 +1,7 @@
 use Rattle.std.proofs.Common.{◌∙◌, arith, refl, subst}
 use Rattle.ftl.specs.Watched.{inner_of}
 use Rattle.ftl_project.specs.Comparing.{Compares, no_pairs}
-use Rattle.ftl_project.proofs.Compared.{same_files}
+use Rattle.ftl_project.proofs.Comparisons.{same_files}
 use Rattle.ftl_project.proofs.InOrder.{ComparesEach-more}
 use Rattle.ftl_project.proofs.comparing.compare_files.Goals as goal
 
@@ -15,16 +15,16 @@ loop-pair-preserved g c =
     let start = at c.args.store.now in
     let compares = subst (λ files. Compares g.S.Store.fails c.args.reading c.args.form files c.pair-item.result
     c.loop-pair.tally
-    c.tell_pair.new.tally c.loop-pair.share c.tell_pair.new.share (written (inner_of c.loop-pair.streams.out.now))
-    (written (inner_of c.tell_pair.new.streams.out.now))) (same_files start (at c.loop-pair.store)
+    c.report_pair.new.tally c.loop-pair.share c.report_pair.new.share (written (inner_of c.loop-pair.streams.out.now))
+    (written (inner_of c.report_pair.new.streams.out.now))) (same_files start (at c.loop-pair.store)
     c.loop-pair.invariant.stand)
-    c.in_ok-tell_pair.ensures.counted in
+    c.in_ok-report_pair.ensures.counted in
     record {
-      stand = λ path. c.tell_pair.ensures.stand path ∙ c.loop-pair.invariant.stand path;
+      stand = λ path. c.report_pair.ensures.stand path ∙ c.loop-pair.invariant.stand path;
       each = ComparesEach-more g.S.Store.fails c.args.reading c.args.form start c.args.pairs.now c.loop-pair.pair-index
-          c.pair-item.result c.args.tally.now c.loop-pair.tally c.tell_pair.new.tally c.args.share.now
-          c.loop-pair.share c.tell_pair.new.share (written (inner_of c.args.streams.now.out.now))
-          (written (inner_of c.loop-pair.streams.out.now)) (written (inner_of c.tell_pair.new.streams.out.now)) (omega
+          c.pair-item.result c.args.tally.now c.loop-pair.tally c.report_pair.new.tally c.args.share.now
+          c.loop-pair.share c.report_pair.new.share (written (inner_of c.args.streams.now.out.now))
+          (written (inner_of c.loop-pair.streams.out.now)) (written (inner_of c.report_pair.new.streams.out.now)) (omega
           arith) c.pair-item.is
           c.loop-pair.invariant.each compares;
     }

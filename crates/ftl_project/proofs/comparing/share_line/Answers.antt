@@ -1,6 +1,6 @@
 use Rattle.std.proofs.Common.{append_assoc}
 use Rattle.ftl_project.specs.Summaries.{share_line_of}
-use Rattle.ftl_project.proofs.Said.{said_as}
+use Rattle.ftl_project.proofs.NoteTexts.{said_as}
 use Rattle.ftl_project.proofs.comparing.share_line.Goals as goal
 
 pub returns : goal.returns

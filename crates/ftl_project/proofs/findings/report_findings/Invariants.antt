@@ -1,12 +1,12 @@
 use Rattle.std.proofs.Common.{◌≡◌, string_bytes, take}
 use Rattle.std.specs.Prelude.{slice_get}
-use Rattle.ftl_project.specs.Linting.{IsFindingTold, text_of}
-use Rattle.ftl_project.specs.Remarks.{TellsEach}
+use Rattle.ftl_project.specs.Linting.{IsFindingReport, text_of}
+use Rattle.ftl_project.specs.Diagnostics.{ReportsEach}
 use Rattle.ftl_project.proofs.findings.report_findings.Given as goal
 
 abbrev pub invariant-loop-finding : goal.invariant-loop-finding
 invariant-loop-finding l = record {
-  lines : l.lines ≡ text_of (slice_get l.outlines l.file);
-  tells : TellsEach (IsFindingTold l.form l.sources l.outlines) (take l.finding-index l.findings)
+  lines : l.lines ≡ text_of (slice_get l.name_indexes l.file);
+  reports : ReportsEach (IsFindingReport l.form l.sources l.name_indexes) (take l.finding-index l.findings)
       (string_bytes l.out);
 }

@@ -1,5 +1,5 @@
 use Rattle.std.proofs.Common.{refl, subst, sym}
-use Rattle.ftl_project.specs.Formatting.{IsMet}
+use Rattle.ftl_project.specs.Formatting.{IsProcessed}
 use Rattle.ftl_project.specs.Tally.{failed}
 use Rattle.ftl_project.proofs.Counting.{on_ok}
 use Rattle.ftl_project.proofs.Reaching.{AllReach-rewrites}
@@ -13,9 +13,10 @@ returns-in-Err-clause-reaches g c =
 
 pub returns-in-Err-clause-counted : goal.returns-in-Err-clause-counted
 returns-in-Err-clause-counted g c =
-    let told = c.tell.ensures.counted in
-    let met = subst (λ r. IsMet r (failed told.0)) (sym c.in-Err.is) (told.0, told.1, refl) in
-    on_ok c.tell.result (c.rewrite.result, c.rewrite.ensures, failed told.0, met, told.2)
+    let report_text = c.report_fault.ensures.counted in
+    let processed = subst (λ r. IsProcessed r (failed report_text.0)) (sym c.in-Err.is)
+    (report_text.0, report_text.1, refl) in
+    on_ok c.report_fault.result (c.rewrite.result, c.rewrite.ensures, failed report_text.0, processed, report_text.2)
 
 pub returns-in-Ok-left_note-clause-reaches : goal.returns-in-Ok-left_note-clause-reaches
 returns-in-Ok-left_note-clause-reaches g c =

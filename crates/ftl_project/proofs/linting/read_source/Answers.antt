@@ -7,12 +7,12 @@ use Rattle.ftl_project.proofs.linting.read_source.Goals as goal
 
 pub returns-in-Err-clause-read : goal.returns-in-Err-clause-read
 returns-in-Err-clause-read g c =
-    let told = c.tell.ensures.counted in
-    let least = status_least c.in-Err.fault told.0 told.1 in
-    let fault = ap (λ (t : Tally). t.fault) told.2 in
-    on_ok c.tell.result (record {
+    let report_text = c.report_fault.ensures.counted in
+    let least = status_least c.in-Err.fault report_text.0 report_text.1 in
+    let fault = ap (λ (t : Tally). t.fault) report_text.2 in
+    on_ok c.report_fault.result (record {
       one = inr (omega arith, omega (arith, least, fault));
-      files_same = ap (λ (t : Tally). t.files) told.2;
+      files_same = ap (λ (t : Tally). t.files) report_text.2;
     })
 
 pub returns-in-Ok-add_source-clause-source : goal.returns-in-Ok-add_source-clause-source

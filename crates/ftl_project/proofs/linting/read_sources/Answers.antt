@@ -1,5 +1,5 @@
 use Rattle.std.proofs.Common.{◌∙◌, arith, refl, subst}
-use Rattle.ftl_project.proofs.Compared.{same_files}
+use Rattle.ftl_project.proofs.Comparisons.{same_files}
 use Rattle.ftl_project.proofs.InOrder.{Reads-more}
 use Rattle.ftl_project.proofs.Statuses.{HasRead-more}
 use Rattle.ftl_project.specs.Linting.{ReadsSource, no_files}

@@ -1,5 +1,5 @@
 use Rattle.std.proofs.Common.{◌≡◌, take, vec_len}
-use Rattle.ftl_files.specs.Store.{AllStand}
+use Rattle.ftl_files.specs.Store.{AllUnchanged}
 use Rattle.ftl_project.specs.Linting.{HasRead, Reads}
 use Rattle.ftl_project.proofs.linting.read_sources.Given as goal
 
@@ -7,7 +7,7 @@ abbrev pub invariant-loop-file : goal.invariant-loop-file
 invariant-loop-file g l =
     let at = g.S.Store.bytes_at in
     record {
-      stand : AllStand (at l.fn.store) (at l.store);
+      stand : AllUnchanged (at l.fn.store) (at l.store);
       read : HasRead l.file-index (vec_len l.sources) l.fn.tally l.tally;
       sources : Reads g.S.Store.fails (at l.fn.store) (take l.file-index l.files) l.sources.items l.fn.tally l.tally;
       out : l.streams.out ≡ l.fn.streams.out;

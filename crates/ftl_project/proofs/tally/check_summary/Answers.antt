@@ -1,6 +1,6 @@
 use Rattle.std.proofs.Common.{◌≡◌, ◌==◌, append_assoc, false, rules, tests}
 use Rattle.ftl_project.specs.Summaries.{check_summary_of}
-use Rattle.ftl_project.proofs.Said.{said_as}
+use Rattle.ftl_project.proofs.NoteTexts.{said_as}
 use Rattle.ftl_project.proofs.tally.check_summary.Goals as goal
 
 pub returns : goal.returns

@@ -10,7 +10,7 @@ returns g c =
     (Appends-append c.write_pattern.ensures.written
     c.write_piece-5.ensures.written) in
     let rest = Appends-append c.write_piece-3.ensures.written (Appends-append c.write_name.ensures.written closed) in
-    let left = Appends-append c.write_piece-2.ensures.written (Appends-append c.write_hung.ensures.written rest) in
+    let left = Appends-append c.write_piece-2.ensures.written (Appends-append c.write_attached.ensures.written rest) in
     record {
       written = rw (← c.deref.ensures.value)
           (Appends-append c.write_piece.ensures.written

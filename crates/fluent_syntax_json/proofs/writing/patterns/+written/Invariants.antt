@@ -6,7 +6,7 @@ use Rattle.fluent_syntax_tree.specs.declared.ast.PatternElement.{PatternElement}
 use Rattle.fluent_syntax_tree.specs.declared.ast.Variant.{Variant}
 use Rattle.fluent_syntax_tree.specs.declared.ast.InlineExpression.{InlineExpression}
 use Rattle.fluent_syntax_tree.specs.declared.ast.NamedArgument.{NamedArgument}
-use Rattle.fluent_syntax_grammar.proofs.Leaves.{LeavesBytes}
+use Rattle.fluent_syntax_grammar.proofs.Remaining.{RemainingBytes}
 use Rattle.fluent_syntax_json.specs.Form.{element_forms, variant_forms, inline_forms, named_forms}
 use Rattle.fluent_syntax_json.proofs.writing.patterns.+written.Given as goal
 
@@ -16,7 +16,7 @@ invariant-write_elements-loop-element g l =
     element_forms (elements_of (map (element_view g.T.ReadTexts.text) xs)) in
     let left = items_text l.later (forms (drop l.element-index l.elements)) in
     let all = items_text false (forms l.elements) in
-    record { rest : LeavesBytes g.W.TextSink.text g.W.TextSink.room l.initial.writer l.writer left all }
+    record { rest : RemainingBytes g.W.TextSink.text g.W.TextSink.room l.initial.writer l.writer left all }
 
 abbrev pub invariant-write_variants-loop-variant : goal.invariant-write_variants-loop-variant
 invariant-write_variants-loop-variant g l =
@@ -24,7 +24,7 @@ invariant-write_variants-loop-variant g l =
     variant_forms (variants_of (map (variant_view g.T.ReadTexts.text) xs)) in
     let left = items_text l.later (forms (drop l.variant-index l.variants)) in
     let all = items_text false (forms l.variants) in
-    record { rest : LeavesBytes g.W.TextSink.text g.W.TextSink.room l.initial.writer l.writer left all }
+    record { rest : RemainingBytes g.W.TextSink.text g.W.TextSink.room l.initial.writer l.writer left all }
 
 abbrev pub invariant-write_positional-loop-inline : goal.invariant-write_positional-loop-inline
 invariant-write_positional-loop-inline g l =
@@ -32,7 +32,7 @@ invariant-write_positional-loop-inline g l =
     inline_forms (inlines_of (map (inline_view g.T.ReadTexts.text) xs)) in
     let left = items_text l.later (forms (drop l.inline-index l.inlines)) in
     let all = items_text false (forms l.inlines) in
-    record { rest : LeavesBytes g.W.TextSink.text g.W.TextSink.room l.initial.writer l.writer left all }
+    record { rest : RemainingBytes g.W.TextSink.text g.W.TextSink.room l.initial.writer l.writer left all }
 
 abbrev pub invariant-write_nameds-loop-named : goal.invariant-write_nameds-loop-named
 invariant-write_nameds-loop-named g l =
@@ -40,4 +40,4 @@ invariant-write_nameds-loop-named g l =
     named_forms (nameds_of (map (named_view g.T.ReadTexts.text) xs)) in
     let left = items_text l.later (forms (drop l.named-index l.nameds)) in
     let all = items_text false (forms l.nameds) in
-    record { rest : LeavesBytes g.W.TextSink.text g.W.TextSink.room l.initial.writer l.writer left all }
+    record { rest : RemainingBytes g.W.TextSink.text g.W.TextSink.room l.initial.writer l.writer left all }

@@ -1,6 +1,6 @@
 use Rattle.std.proofs.Common.{◌≡◌, inr, None, arith, rules}
 use Rattle.fluent_syntax_names.specs.NamedLists.{numbers_of}
-use Rattle.fluent_syntax_names.specs.Places.{place_of}
+use Rattle.fluent_syntax_names.specs.FirstPlaces.{place_of}
 use Rattle.fluent_syntax_names.proofs.Listed.{length-items, list_more}
 use Rattle.fluent_syntax_names.proofs.Numbered.{name_known, name_stays}
 use Rattle.fluent_syntax_names.proofs.named_lists.NamedLists.number_for.Goals as goal

@@ -1,6 +1,6 @@
 use Rattle.std.proofs.Common.{ap, ◌∙◌}
-use Rattle.fluent_syntax_names.specs.Places.{place_of}
-use Rattle.fluent_syntax_names.specs.Spelled.{name_at}
+use Rattle.fluent_syntax_names.specs.FirstPlaces.{place_of}
+use Rattle.fluent_syntax_names.specs.QualifiedNames.{name_at}
 use Rattle.fluent_syntax_names.proofs.refused_names.RefusedNames.place_of.Goals as goal
 
 pub returns : goal.returns

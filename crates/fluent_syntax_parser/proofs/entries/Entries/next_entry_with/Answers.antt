@@ -33,7 +33,7 @@ returns-clause-next g c =
     (put.added ∙ ap (λ xs. xs ++ put.entry ∷ []) c.new-body.ensures.items) in
     let told =
     c.only_item-2.ensures put.error
-    (put.tells ∙ ap (λ xs. xs ++ option_to_list put.error) c.new-errors.ensures.items) in
+    (put.errors_are ∙ ap (λ xs. xs ++ option_to_list put.error) c.new-errors.ensures.items) in
     rw (same_some c.in-Some-only_item.entry put.entry same, told) (put.tree, rw stands at put.stands, put.same)
 
 pub returns-clause-places : goal.returns-clause-places
@@ -45,7 +45,7 @@ returns-clause-places g c =
     let source = ap (λ source. length source.bytes.now) c.in_ok-_span.ensures.text in
     let told =
     c.only_item-2.ensures put.error
-    (put.tells ∙ ap (λ xs. xs ++ option_to_list put.error) c.new-errors.ensures.items) in
+    (put.errors_are ∙ ap (λ xs. xs ++ option_to_list put.error) c.new-errors.ensures.items) in
     let there = entry_to options.comments options.edition t _ _ _ put.tree _ (rw stands at put.stands) in
     rw told
     (error_behind t options.comments options.edition _ _ put.tree put.error

@@ -15,7 +15,8 @@ returns-then-is_empty g c =
     let none = none_named l.pieces.items (c.if-is_empty.ensures ∙ ap (λ n. n == 0) size) in
     IfOk-equal c.add_bare_line.result _ _ _ c.add_bare_line.ensures
     (ap (λ xs. map item_shape c.args.items.now.items ++ xs)
-    (bare_line c.args.edition c.args.common (line_shape l) _ c.kept_from-kept.ensures (ap (map piece_shape) none)))
+    (bare_line c.args.edition c.args.common (line_shape l) _ c.common_indent_end-kept.ensures
+    (ap (map piece_shape) none)))
 
 pub returns : goal.returns
 returns g c =
@@ -23,12 +24,12 @@ returns g c =
     let size : vec_len l.pieces ≡ length l.pieces.items = omega (arith, l.pieces.ok.0) in
     let some = some_named l.pieces.items (c.if-is_empty.ensures ∙ ap (λ n. n == 0) size) in
     let old = map item_shape c.args.items.now.items in
-    let kept = c.kept_from-kept.result in
+    let kept = c.common_indent_end-kept.result in
     let line = with_ending (leading (Some kept) (map piece_shape l.pieces.items)) (ending_view l.ending) in
     let indent =
     c.indent_of-indent.ensures
     ∙ ap (λ ps. indent_of c.args.edition kept (l.start + l.spaces) (map piece_shape ps)) c.deref.ensures.value in
     IfOk-equal c.add_pieces.result _ _ _ c.add_pieces.ensures
-    (ap (λ xs. xs ++ line) (c.in_ok-add_waiting.ensures ∙ ap (flushed old) indent)
-    ∙ full_line c.args.edition c.args.common (line_shape l) kept c.kept_from-kept.ensures old
+    (ap (λ xs. xs ++ line) (c.in_ok-add_pending_run.ensures ∙ ap (flushed old) indent)
+    ∙ full_line c.args.edition c.args.common (line_shape l) kept c.common_indent_end-kept.ensures old
     (λ e. some (none_mapped piece_shape l.pieces.items e)))

@@ -3,7 +3,7 @@ use Rattle.std.specs.Vec.Iter.{into_iter_items}
 use Rattle.std.proofs.lemmas.List.{nil_from_length}
 use Rattle.std.proofs.lemmas.Result.{IfOk-equal}
 use Rattle.fluent_syntax_tree.proofs.Lists.{map_added}
-use Rattle.fluent_syntax_parser.specs.Elements.{flushed, item_shape, leading, waiting}
+use Rattle.fluent_syntax_parser.specs.Elements.{flushed, item_shape, leading, pending_run}
 use Rattle.fluent_syntax_grammar.specs.Elements.{filled, with_ending}
 use Rattle.fluent_syntax_grammar.specs.Layout.{placed, run}
 use Rattle.fluent_syntax_parser.specs.Lines.{ending_view, piece_shape}
@@ -21,10 +21,10 @@ loop-piece-preserved-in-Run g c =
     ap (map piece_shape) c.in-Some.ensures.steps.0 ∙ ap (λ p. piece_shape p ∷ rest) c.in-Run.is in
     record {
       whole =
-          ap (λ ys. ys ++ with_ending (run c.unwrap_or.result to ∷ rest) end) c.in_ok-add_waiting.ensures
+          ap (λ ys. ys ++ with_ending (run c.unwrap_or.result to ∷ rest) end) c.in_ok-add_pending_run.ensures
           ∙ ap (λ k. flushed xs old.pending ++ with_ending (run k to ∷ rest) end) c.unwrap_or.ensures
           ∙ run_waits end xs old.pending old.led c.in-Run.from to rest
-          ∙ ap (λ ps. xs ++ with_ending (waiting old.pending (leading old.led ps)) end) (sym found)
+          ∙ ap (λ ps. xs ++ with_ending (pending_run old.pending (leading old.led ps)) end) (sym found)
           ∙ old.invariant.whole;
     }
 
@@ -39,12 +39,12 @@ loop-piece-preserved g c =
     ap (map piece_shape) c.in-Some.ensures.steps.0 ∙ ap (λ p. piece_shape p ∷ rest) c.in-Placed.is in
     let added : map item_shape c.push.new.self.items ≡ flushed xs old.pending ++ filled e ∷ [] =
     map_added item_shape _ _ _ (filled e) c.in_ok-push-in-Placed.ensures.items refl
-    ∙ ap (λ ys. ys ++ filled e ∷ []) c.in_ok-add_waiting.ensures in
+    ∙ ap (λ ys. ys ++ filled e ∷ []) c.in_ok-add_pending_run.ensures in
     record {
       whole =
           ap (λ ys. ys ++ with_ending rest end) added
           ∙ placed_added end xs old.pending old.led e rest
-          ∙ ap (λ ps. xs ++ with_ending (waiting old.pending (leading old.led ps)) end) (sym found)
+          ∙ ap (λ ps. xs ++ with_ending (pending_run old.pending (leading old.led ps)) end) (sym found)
           ∙ old.invariant.whole;
     }
 
@@ -58,4 +58,4 @@ returns g c =
     let ended : leading old.led (map piece_shape (into_iter_items old.piece-iterator)) ≡ [] =
     ap (λ ps. leading old.led (map piece_shape ps)) nothing ∙ none_leads old.led in
     IfOk-equal c.add_ending.result _ _ _ c.add_ending.ensures
-    (ap (λ ps. xs ++ with_ending (waiting old.pending ps) end) (sym ended) ∙ old.invariant.whole)
+    (ap (λ ps. xs ++ with_ending (pending_run old.pending ps) end) (sym ended) ∙ old.invariant.whole)

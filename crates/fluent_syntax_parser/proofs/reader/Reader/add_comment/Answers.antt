@@ -4,7 +4,7 @@ use Rattle.fluent_syntax_tree.specs.Entry.{group, regular, resource}
 use Rattle.fluent_syntax_grammar.specs.Comments.{comment_of}
 use Rattle.fluent_syntax_parser.proofs.entry_forms.CommentEntries.{comment_made, level_other}
 use Rattle.fluent_syntax_parser.proofs.readers.Fails.{fails_seen, out_of_memory}
-use Rattle.fluent_syntax_parser.specs.Meets.{no_memory}
+use Rattle.fluent_syntax_parser.specs.Outcomes.{no_memory}
 use Rattle.fluent_syntax_parser.proofs.reader.Reader.add_comment.Goals as goal
 use Rattle.fluent_syntax_parser.proofs.reader.Reader.add_comment.Goals.{in-1, in-2, in_default}
 
@@ -13,7 +13,7 @@ returns-in_err-content-clause-adds g c =
     let t = c.args.self.now.source.bytes.now in
     let p = err_from_is_err_and c.from_residual.result c.from_residual.ensures.1 in
     rw (p.1, p.2)
-    (fails_seen (comment_of t) _ c.comment_level-level.ensures.level c.in_err-content.ensures.meets, refl)
+    (fails_seen (comment_of t) _ c.comment_level-level.ensures.level c.in_err-content.ensures.parses, refl)
 
 pub returns-in_err-add-clause-adds : goal.returns-in_err-add-clause-adds
 returns-in_err-add-clause-adds g c =
@@ -25,7 +25,7 @@ returns-clause-adds g c =
     let count = c.comment_level-level.result in
     let hashed = sym c.comment_level-level.ensures.level in
     let named = comment_made c.args.self.now.source.bytes.now c.args.ptr c.in_ok-content.end count _ hashed
-    c.in_ok-content.ensures.meets in (
+    c.in_ok-content.ensures.parses in (
       _,
       c.in_ok-add.ensures.added,
       elim c.match-level.branch [

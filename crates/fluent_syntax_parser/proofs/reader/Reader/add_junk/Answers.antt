@@ -7,7 +7,7 @@ returns-clause-adds g c = record {
   entry = _;
   error = _;
   added = c.in_ok-add.ensures.added;
-  tells = c.in_ok-add-2.ensures.added;
+  errors_are = c.in_ok-add-2.ensures.added;
   same = ap junk c.in_ok-content.ensures;
   fault = c.in_ok-error.ensures;
 }

@@ -12,7 +12,7 @@ use Rattle.fluent_syntax_parser.proofs.entry_forms.FieldForms.{some_items}
 use Rattle.fluent_syntax_parser.proofs.reader.Reader.add_message.Goals.{else-is_none-via-then-is_none+else-is_empty}
 use Rattle.fluent_syntax_parser.proofs.reader.Reader.add_message.Goals.{else-is_none-via-else-is_none}
 use Rattle.fluent_syntax_grammar.proofs.FunctionalWords.{functional_identifier}
-use Rattle.fluent_syntax_parser.specs.Meets.{no_memory, refused}
+use Rattle.fluent_syntax_parser.specs.Outcomes.{no_memory, refused}
 use Rattle.fluent_syntax_parser.specs.declared.fault.Fault.TheVariants as fault
 use Rattle.fluent_syntax_parser.specs.Made.{made}
 use Rattle.fluent_syntax_parser.proofs.readers.Made.{on_made}
@@ -23,7 +23,7 @@ use Rattle.fluent_syntax_parser.proofs.reader.Reader.add_message.Goals as goal
 pub returns-in_err-end-clause-adds : goal.returns-in_err-end-clause-adds
 returns-in_err-end-clause-adds g c =
     let p = err_from_is_err_and c.from_residual.result c.from_residual.ensures.1 in
-    rw (p.1, p.2) (refused (λ k from to h. goes_on at_place (stops (c.in_err-end.ensures.meets k from to h))), refl)
+    rw (p.1, p.2) (refused (λ k from to h. goes_on at_place (stops (c.in_err-end.ensures.parses k from to h))), refl)
 
 pub returns-in_err-fields-clause-adds : goal.returns-in_err-fields-clause-adds
 returns-in_err-fields-clause-adds g c =
@@ -32,8 +32,8 @@ returns-in_err-fields-clause-adds g c =
     let p = err_from_is_err_and c.from_residual-in_err-fields.result c.from_residual-in_err-fields.ensures.1 in
     rw (p.1, p.2) (
       fails_next functional_here at_place
-          (fails_next (functional_identifier t) c.in_ok-end.ensures.meets
-          (fields_fail c.args.self.now.edition t _ (message_with t c.args.start name) c.in_err-fields.ensures.meets)),
+          (fails_next (functional_identifier t) c.in_ok-end.ensures.parses
+          (fields_fail c.args.self.now.edition t _ (message_with t c.args.start name) c.in_err-fields.ensures.parses)),
       refl,
     )
 
@@ -44,12 +44,12 @@ returns-then-is_empty-clause-adds g c =
     let found = c.in_ok-fields.fields in
     let size : length found.attributes.items ≡ vec_len found.attributes = omega (arith, found.attributes.ok.0) in
     let none = no_items found.attributes.items _ size c.if-is_empty.ensures in
-    let text = sym (identifier_text t c.in_ok-end.ensures.meets) in
-    on_made c.in_ok-fields.ensures.meets (λ x read same. (
+    let text = sym (identifier_text t c.in_ok-end.ensures.parses) in
+    on_made c.in_ok-fields.ensures.parses (λ x read same. (
       refused {f = fault.MessageField} {from = c.args.start} {place = c.in_ok-fields.place} (λ k from to (a, b, d).
           rw (a ∙ ap ExpectedMessageField text, b, d)
           (goes_on at_place
-          (goes_on c.in_ok-end.ensures.meets
+          (goes_on c.in_ok-end.ensures.parses
           (fields_then c.args.self.now.edition t _ (message_with t c.args.start name) _ _ x _ read
           (message_without t c.args.start _ name x.0 x.1
           (is_some_of _ _ found.value x.0 (ap (λ y. y.0) same) ∙ c.if-is_none.ensures)
@@ -74,12 +74,12 @@ returns-clause-adds g c =
     let found = c.in_ok-fields.fields in
     let rest = found.attributes.items in
     let size : length rest ≡ vec_len found.attributes = omega (arith, found.attributes.ok.0) in
-    on_made c.in_ok-fields.ensures.meets (λ x read same. (
+    on_made c.in_ok-fields.ensures.parses (λ x read same. (
       _,
       c.in_ok-add.ensures.added,
       made
           (goes_on at_place
-          (goes_on c.in_ok-end.ensures.meets
+          (goes_on c.in_ok-end.ensures.parses
           (fields_then c.args.self.now.edition t _ (message_with t c.args.start name) _ _ x _ read
           (elim c.else-is_none.branch [
             | else-is_none-via-then-is_none+else-is_empty w ↦

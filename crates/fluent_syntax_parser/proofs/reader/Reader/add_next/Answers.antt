@@ -1,7 +1,7 @@
 use Rattle.std.proofs.Common.{◌<◌, ◌∷◌, ◌++◌, ◌∙◌, [], length, refl, sym, ap, arith}
 use Rattle.std.proofs.lemmas.Result.{err_from_is_err_and}
-use Rattle.fluent_syntax_parser.proofs.tilings.DeeperTiles.{behind_comment, behind_hung, behind_one, entry_deeper}
-use Rattle.fluent_syntax_parser.proofs.tilings.DeeperTiles.{hung_led}
+use Rattle.fluent_syntax_parser.proofs.tilings.DeeperTiles.{behind_comment, behind_attached, behind_one, entry_deeper}
+use Rattle.fluent_syntax_parser.proofs.tilings.DeeperTiles.{attached_led}
 use Rattle.fluent_syntax_parser.proofs.tilings.DeeperTiles.{one_led, tile_at_end}
 use Rattle.fluent_syntax_parser.proofs.entry_forms.MadeEntries.{comment_added, other_added}
 use Rattle.fluent_syntax_parser.specs.MadeEntries.{ends_with_comment}
@@ -36,7 +36,7 @@ returns-then-not-ends_with_comment-clause-next g c =
       entry = put.entry;
       error = put.error;
       added = put.added;
-      tells = put.tells;
+      errors_are = put.errors_are;
       tree = tile.tree;
       stands = record {
         order = (start.ensures.within.0, read.within.0);
@@ -63,13 +63,13 @@ returns-clause-next g c =
     comment_added f g.M.MakeTexts.made _ _ put.entry tile.tree put.added tile.same
     (last ∙ c.if-not-ends_with_comment.false) in
     let before = c.args.body.now.items in
-    let hung = c.in_ok-end-2.ensures.hangs before is.lines (put.added ∙ ap (λ x. before ++ x ∷ []) is.is) in
-    let made = hung.2 is.content is.same in
+    let attached = c.in_ok-end-2.ensures.attaches before is.lines (put.added ∙ ap (λ x. before ++ x ∷ []) is.is) in
+    let made = attached.2 is.content is.same in
     record {
-      entry = hung.0;
+      entry = attached.0;
       error = put.error;
-      added = hung.1;
-      tells = put.tells;
+      added = attached.1;
+      errors_are = put.errors_are;
       tree = made.0;
       stands = record {
         order = (start.ensures.within.0, omega (arith, read.within.0, c.in_ok-end-2.ensures.within.0));
@@ -132,12 +132,12 @@ returns-clause-shallow g c =
     let is =
     comment_added f g.M.MakeTexts.made _ _ put.entry tile.tree put.added tile.same
     (last ∙ c.if-not-ends_with_comment.false) in
-    let hung = c.in_ok-end-2.ensures in (
-      λ h. hung_led edition t c.args.nesting _ _ inside tile.tree put.error tile.gives is.content is.tree_is
-          c.args.comments start.ensures.dropped _ hung.shallow (start.ensures.shallow edition c.args.nesting h),
+    let attached = c.in_ok-end-2.ensures in (
+      λ h. attached_led edition t c.args.nesting _ _ inside tile.tree put.error tile.gives is.content is.tree_is
+          c.args.comments start.ensures.dropped _ attached.shallow (start.ensures.shallow edition c.args.nesting h),
       λ h. start.ensures.deeper edition c.args.nesting
-          (behind_hung edition t c.args.nesting _ _ inside tile.tree put.error tile.gives is.content is.tree_is
-          c.args.comments start.ensures.dropped _ hung.behind h),
+          (behind_attached edition t c.args.nesting _ _ inside tile.tree put.error tile.gives is.content is.tree_is
+          c.args.comments start.ensures.dropped _ attached.behind h),
     )
 
 pub returns-then-not-ends_with_comment-clause-shallow : goal.returns-then-not-ends_with_comment-clause-shallow

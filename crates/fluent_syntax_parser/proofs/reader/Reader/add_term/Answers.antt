@@ -10,7 +10,7 @@ use Rattle.fluent_syntax_parser.specs.Fields.{fields}
 use Rattle.fluent_syntax_parser.proofs.entry_forms.FieldForms.{fields_fail, fields_then, no_field, some_field}
 use Rattle.fluent_syntax_grammar.specs.Bytes.{hyphen}
 use Rattle.fluent_syntax_grammar.proofs.FunctionalWords.{functional_identifier, functional_token}
-use Rattle.fluent_syntax_parser.specs.Meets.{no_memory, refused}
+use Rattle.fluent_syntax_parser.specs.Outcomes.{no_memory, refused}
 use Rattle.fluent_syntax_parser.specs.declared.fault.Fault.TheVariants as fault
 use Rattle.fluent_syntax_parser.specs.Made.{made}
 use Rattle.fluent_syntax_parser.proofs.readers.Made.{on_made}
@@ -21,7 +21,7 @@ use Rattle.fluent_syntax_parser.proofs.reader.Reader.add_term.Goals as goal
 pub returns-in_err-letter-clause-adds : goal.returns-in_err-letter-clause-adds
 returns-in_err-letter-clause-adds g c =
     let p = err_from_is_err_and c.from_residual.result c.from_residual.ensures.1 in
-    rw (p.1, p.2) (refused (λ k from to h. goes_on at_place (stops (c.in_err-letter.ensures.meets k from to h))), refl)
+    rw (p.1, p.2) (refused (λ k from to h. goes_on at_place (stops (c.in_err-letter.ensures.parses k from to h))), refl)
 
 pub returns-in_err-end-clause-adds : goal.returns-in_err-end-clause-adds
 returns-in_err-end-clause-adds g c =
@@ -29,8 +29,8 @@ returns-in_err-end-clause-adds g c =
     rw (p.1, p.2) (
       refused (λ k from to h.
           goes_on at_place
-          (goes_on c.in_ok-letter.ensures.meets
-          (stops (c.in_err-end.ensures.meets k from to h)))),
+          (goes_on c.in_ok-letter.ensures.parses
+          (stops (c.in_err-end.ensures.parses k from to h)))),
       refl,
     )
 
@@ -41,9 +41,9 @@ returns-in_err-fields-clause-adds g c =
     let p = err_from_is_err_and c.from_residual-in_err-fields.result c.from_residual-in_err-fields.ensures.1 in
     rw (p.1, p.2) (
       fails_next functional_here at_place
-          (fails_next (functional_token t hyphen) c.in_ok-letter.ensures.meets
-          (fails_next (functional_identifier t) c.in_ok-end.ensures.meets
-          (fields_fail c.args.self.now.edition t _ (term_with t c.args.start name) c.in_err-fields.ensures.meets))),
+          (fails_next (functional_token t hyphen) c.in_ok-letter.ensures.parses
+          (fails_next (functional_identifier t) c.in_ok-end.ensures.parses
+          (fields_fail c.args.self.now.edition t _ (term_with t c.args.start name) c.in_err-fields.ensures.parses))),
       refl,
     )
 
@@ -62,7 +62,7 @@ returns-in_ok-add-in-Some-clause-adds g c =
     let t = c.args.self.now.source.bytes.now in
     let name : Span = record { start = c.in_ok-letter.letter; end = c.in_ok-end.end } in
     let edition = c.args.self.now.edition in
-    let found = rw c.in-Some.is at c.in_ok-fields.ensures.meets in
+    let found = rw c.in-Some.is at c.in_ok-fields.ensures.parses in
     on_made found (λ x read same.
     some_field (pattern_map (g.M.MakeTexts.source c.args.self.now.texts.now))
     (fields edition t (within edition t c.args.nesting)) x read (ap (λ y. y.0) same) (λ value there same_value. (
@@ -70,8 +70,8 @@ returns-in_ok-add-in-Some-clause-adds g c =
       c.in_ok-add-in-Some.ensures.added,
       made
           (goes_on at_place
-          (goes_on c.in_ok-letter.ensures.meets
-          (goes_on c.in_ok-end.ensures.meets
+          (goes_on c.in_ok-letter.ensures.parses
+          (goes_on c.in_ok-end.ensures.parses
           (fields_then edition t _ (term_with t c.args.start name) _ _ (Some value, x.1) _ there given))))
           (rw (c.in_ok-id-in-Some.ensures, same_value, ap (λ y. y.1) same) refl),
     )))
@@ -81,16 +81,16 @@ returns-in-None-clause-adds g c =
     let t = c.args.self.now.source.bytes.now in
     let name : Span = record { start = c.in_ok-letter.letter; end = c.in_ok-end.end } in
     let edition = c.args.self.now.edition in
-    let found = rw c.in-None.is at c.in_ok-fields.ensures.meets in
-    let text = sym (identifier_text t c.in_ok-end.ensures.meets) in
-    let before = mark_before t c.in_ok-letter.ensures.meets in
+    let found = rw c.in-None.is at c.in_ok-fields.ensures.parses in
+    let text = sym (identifier_text t c.in_ok-end.ensures.parses) in
+    let before = mark_before t c.in_ok-letter.ensures.parses in
     let letter = c.in_ok-letter.letter in
     on_made found (λ x read same. (
       refused {f = fault.TermField} {from = letter} {place = c.in_ok-fields.place} (λ k from to (a, b, d).
           rw (a ∙ ap ExpectedTermField text, b ∙ before, d)
           (goes_on at_place
-          (goes_on c.in_ok-letter.ensures.meets
-          (goes_on c.in_ok-end.ensures.meets
+          (goes_on c.in_ok-letter.ensures.parses
+          (goes_on c.in_ok-end.ensures.parses
           (fields_then c.args.self.now.edition t _ (term_with t c.args.start name) _ _ (None, x.1) _
           (no_field (pattern_map (g.M.MakeTexts.source c.args.self.now.texts.now))
           (fields edition t (within edition t c.args.nesting)) x read (ap (λ y. y.0) same)) failed_from))))),

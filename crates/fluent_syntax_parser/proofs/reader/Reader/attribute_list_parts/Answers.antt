@@ -4,17 +4,17 @@ use Rattle.fluent_syntax_grammar.specs.Entries.{attribute_of}
 use Rattle.fluent_syntax_grammar.specs.Grammar.{within}
 use Rattle.fluent_syntax_grammar.proofs.DeeperEntries.{deeper_attribute, deeper_attributes}
 use Rattle.fluent_syntax_grammar.proofs.Nesting.{functional_within}
-use Rattle.fluent_syntax_parser.specs.Meets.{no_memory, too_deep}
-use Rattle.fluent_syntax_parser.proofs.entry_forms.ExtentForms.{all_extents, no_extents, one_extent}
+use Rattle.fluent_syntax_parser.specs.Outcomes.{no_memory, too_deep}
+use Rattle.fluent_syntax_parser.proofs.entry_forms.ExtentForms.{all_ranges, no_ranges, one_extent}
 use Rattle.fluent_syntax_parser.proofs.readers.Fails.{out_of_memory, shown, too_deep_there}
 use Rattle.fluent_syntax_parser.proofs.reader.Reader.attribute_list_parts.Goals as goal
 
-pub loop-extents-preserved-in_ok-add-in-Ok : goal.loop-extents-preserved-in_ok-add-in-Ok
-loop-extents-preserved-in_ok-add-in-Ok g c =
+pub loop-ranges-preserved-in_ok-add-in-Ok : goal.loop-ranges-preserved-in_ok-add-in-Ok
+loop-ranges-preserved-in_ok-add-in-Ok g c =
     let t = c.args.self.now.source.bytes.now in
     let edition = c.args.self.now.edition in
     let R = within edition t c.args.nesting in
-    let old = c.loop-extents.invariant in
+    let old = c.loop-ranges.invariant in
     let read = c.in-Ok.ensures in
     let (a, parts, begins, same) = read.finds in
     record {
@@ -24,7 +24,7 @@ loop-extents-preserved-in_ok-add-in-Ok g c =
           one_extent edition t R c.args.ptr _ _ _ _ c.in_ok-add-in-Ok.ensures.added old.gathered a parts begins;
       deeper = λ h. old.deeper
           (deeper_attributes edition t R (functional_within edition t c.args.nesting)
-          (subst (λ i. attribute_of edition t R i (Read a c.in-Ok.extents.span.end)) begins parts.whole) h);
+          (subst (λ i. attribute_of edition t R i (Read a c.in-Ok.ranges.span.end)) begins parts.whole) h);
     }
 
 pub returns-in-Err-Refused-clause-finds : goal.returns-in-Err-Refused-clause-finds
@@ -32,13 +32,13 @@ returns-in-Err-Refused-clause-finds g c =
     let t = c.args.self.now.source.bytes.now in
     let R = within c.args.self.now.edition t c.args.nesting in
     let found = rw c.in-Err-Refused.field-0-is at c.in-Err-Refused.ensures.finds in
-    (_, all_extents c.args.self.now.edition t R c.args.ptr _ _ c.loop-extents.invariant.gathered (shown found))
+    (_, all_ranges c.args.self.now.edition t R c.args.ptr _ _ c.loop-ranges.invariant.gathered (shown found))
 
 pub returns-in-Err-TooDeep-clause-finds : goal.returns-in-Err-TooDeep-clause-finds
 returns-in-Err-TooDeep-clause-finds g c =
     let t = c.args.self.now.source.bytes.now in
     let found = rw c.in-Err-TooDeep.field-0-is at c.in-Err-TooDeep.ensures.finds in
-    too_deep (c.loop-extents.invariant.deeper
+    too_deep (c.loop-ranges.invariant.deeper
     (deeper_attribute c.args.self.now.edition t (within c.args.self.now.edition t c.args.nesting)
     (too_deep_there found)))
 
@@ -49,10 +49,10 @@ returns-in_err-add-in-Ok-clause-finds g c =
 pub returns-in-Err-Memory-clause-finds : goal.returns-in-Err-Memory-clause-finds
 returns-in-Err-Memory-clause-finds g c = no_memory
 
-pub loop-extents-init : goal.loop-extents-init
-loop-extents-init g c = record {
+pub loop-ranges-init : goal.loop-ranges-init
+loop-ranges-init g c = record {
   forward = omega arith;
   within = c.requires;
-  gathered = rw c.new-attributes.ensures.items (no_extents _ _ _ _);
+  gathered = rw c.new-attributes.ensures.items (no_ranges _ _ _ _);
   deeper = λ h. h;
 }

@@ -2,15 +2,15 @@ use Rattle.std.proofs.Common.{length, ◌-◌, ◌≤◌}
 use Rattle.fluent_syntax_grammar.specs.Entries.{attributes_of}
 use Rattle.fluent_syntax_grammar.specs.Grammar as grammar
 use Rattle.fluent_syntax_grammar.specs.Nesting.{TooDeep}
-use Rattle.fluent_syntax_parser.proofs.entry_forms.ExtentForms.{GathersExtents}
+use Rattle.fluent_syntax_parser.proofs.entry_forms.ExtentForms.{GathersRanges}
 use Rattle.fluent_syntax_parser.proofs.reader.Reader.attribute_list_parts.Given as goal
 
-abbrev pub invariant-loop-extents : goal.invariant-loop-extents
-invariant-loop-extents g l = record {
+abbrev pub invariant-loop-ranges : goal.invariant-loop-ranges
+invariant-loop-ranges g l = record {
   forward : l.ptr ≤ l.place;
   within : l.place ≤ length l.self.source.bytes.now;
   gathered :
-      GathersExtents l.self.edition l.self.source.bytes.now
+      GathersRanges l.self.edition l.self.source.bytes.now
       (grammar.within l.self.edition l.self.source.bytes.now l.nesting) l.ptr l.attributes.items l.place;
   deeper :
       TooDeep
@@ -21,5 +21,5 @@ invariant-loop-extents g l = record {
       (grammar.within l.self.edition l.self.source.bytes.now l.nesting)) l.ptr;
 }
 
-abbrev pub decreases-loop-extents : goal.decreases-loop-extents
-decreases-loop-extents g l = length l.self.source.bytes.now - l.place
+abbrev pub decreases-loop-ranges : goal.decreases-loop-ranges
+decreases-loop-ranges g l = length l.self.source.bytes.now - l.place

@@ -7,7 +7,7 @@ use Rattle.fluent_syntax_grammar.specs.Grammar.{within}
 use Rattle.fluent_syntax_grammar.specs.Patterns.{pattern}
 use Rattle.fluent_syntax_grammar.proofs.FunctionalWords.{functional_identifier, functional_inline_blank}
 use Rattle.fluent_syntax_grammar.proofs.FunctionalWords.{functional_token}
-use Rattle.fluent_syntax_parser.specs.Meets.{refused}
+use Rattle.fluent_syntax_parser.specs.Outcomes.{refused}
 use Rattle.fluent_syntax_parser.proofs.readers.Made.{no_value_read, on_made, on_value}
 use Rattle.fluent_syntax_parser.proofs.readers.Fails.{fails_first, fails_next}
 use Rattle.fluent_syntax_parser.proofs.reader.Reader.attribute_parts.Goals as goal
@@ -17,25 +17,25 @@ returns-in_err-letter-clause-finds g c =
     let p = err_from_is_err_and c.from_residual.result c.from_residual.ensures.1 in
     rw (p.1, p.2) (refused (λ k from to h.
     goes_on (passed c.skip_blank_inline-dot.ensures.blank)
-    (stops (c.in_err-letter.ensures.meets k from to h))))
+    (stops (c.in_err-letter.ensures.parses k from to h))))
 
 pub returns-in_err-name_end-clause-finds : goal.returns-in_err-name_end-clause-finds
 returns-in_err-name_end-clause-finds g c =
     let p = err_from_is_err_and c.from_residual-in_err-name_end.result c.from_residual-in_err-name_end.ensures.1 in
     rw (p.1, p.2) (refused (λ k from to h.
     goes_on (passed c.skip_blank_inline-dot.ensures.blank)
-    (goes_on c.in_ok-letter.ensures.meets
-    (stops (c.in_err-name_end.ensures.meets k from to h)))))
+    (goes_on c.in_ok-letter.ensures.parses
+    (stops (c.in_err-name_end.ensures.parses k from to h)))))
 
 pub returns-in_err-start-clause-finds : goal.returns-in_err-start-clause-finds
 returns-in_err-start-clause-finds g c =
     let p = err_from_is_err_and c.from_residual-in_err-start.result c.from_residual-in_err-start.ensures.1 in
     rw (p.1, p.2) (refused (λ k from to h.
     goes_on (passed c.skip_blank_inline-dot.ensures.blank)
-    (goes_on c.in_ok-letter.ensures.meets
-    (goes_on c.in_ok-name_end.ensures.meets
+    (goes_on c.in_ok-letter.ensures.parses
+    (goes_on c.in_ok-name_end.ensures.parses
     (goes_on (passed c.skip_blank_inline-equals.ensures.blank)
-    (stops (c.in_err-start.ensures.meets k from to h)))))))
+    (stops (c.in_err-start.ensures.parses k from to h)))))))
 
 pub returns-in_err-value-clause-finds : goal.returns-in_err-value-clause-finds
 returns-in_err-value-clause-finds g c =
@@ -43,18 +43,18 @@ returns-in_err-value-clause-finds g c =
     let p = err_from_is_err_and c.from_residual-in_err-value.result c.from_residual-in_err-value.ensures.1 in
     rw (p.1, p.2)
     (fails_next (functional_inline_blank t) (passed c.skip_blank_inline-dot.ensures.blank)
-    (fails_next (functional_token t full_stop) c.in_ok-letter.ensures.meets
-    (fails_next (functional_identifier t) c.in_ok-name_end.ensures.meets
+    (fails_next (functional_token t full_stop) c.in_ok-letter.ensures.parses
+    (fails_next (functional_identifier t) c.in_ok-name_end.ensures.parses
     (fails_next (functional_inline_blank t) (passed c.skip_blank_inline-equals.ensures.blank)
-    (fails_next (functional_token t equals_sign) c.in_ok-start.ensures.meets
-    (fails_first c.in_err-value.ensures.meets))))))
+    (fails_next (functional_token t equals_sign) c.in_ok-start.ensures.parses
+    (fails_first c.in_err-value.ensures.parses))))))
 
 pub returns-in-Some-clause-finds : goal.returns-in-Some-clause-finds
 returns-in-Some-clause-finds g c =
     let t = c.args.self.now.source.bytes.now in
     let edition = c.args.self.now.edition in
     let n = c.args.nesting in
-    let found = rw c.in-Some.is at c.in_ok-value.ensures.meets in
+    let found = rw c.in-Some.is at c.in_ok-value.ensures.parses in
     on_made found (λ o read same.
     on_value (pattern_map (g.M.MakeTexts.source c.args.self.now.texts.now)) (pattern edition t (within edition t n)) o
     read same (λ value there same_value. (
@@ -62,20 +62,20 @@ returns-in-Some-clause-finds g c =
       record {
         whole =
             goes_on (passed c.skip_blank_inline-dot.ensures.blank)
-            (goes_on c.in_ok-letter.ensures.meets
-            (goes_on c.in_ok-name_end.ensures.meets
+            (goes_on c.in_ok-letter.ensures.parses
+            (goes_on c.in_ok-name_end.ensures.parses
             (goes_on (passed c.skip_blank_inline-equals.ensures.blank)
-            (goes_on c.in_ok-start.ensures.meets
+            (goes_on c.in_ok-start.ensures.parses
             (goes_on there
             given)))));
         dot = _;
         before = c.skip_blank_inline-dot.ensures.blank;
-        point = c.in_ok-letter.ensures.meets;
-        name = c.in_ok-name_end.ensures.meets;
+        point = c.in_ok-letter.ensures.parses;
+        name = c.in_ok-name_end.ensures.parses;
         named = refl;
         equals = _;
         behind = c.skip_blank_inline-equals.ensures.blank;
-        sign = c.in_ok-start.ensures.meets;
+        sign = c.in_ok-start.ensures.parses;
         value = there;
         ends = refl;
       },
@@ -88,13 +88,13 @@ returns-in-None-clause-finds g c =
     let t = c.args.self.now.source.bytes.now in
     let edition = c.args.self.now.edition in
     let n = c.args.nesting in
-    let found = rw c.in-None.is at c.in_ok-value.ensures.meets in
+    let found = rw c.in-None.is at c.in_ok-value.ensures.parses in
     on_made found (λ o read same. refused (λ k from to (a, b, d). rw (a, b, d)
     (goes_on (passed c.skip_blank_inline-dot.ensures.blank)
-    (goes_on c.in_ok-letter.ensures.meets
-    (goes_on c.in_ok-name_end.ensures.meets
+    (goes_on c.in_ok-letter.ensures.parses
+    (goes_on c.in_ok-name_end.ensures.parses
     (goes_on (passed c.skip_blank_inline-equals.ensures.blank)
-    (goes_on c.in_ok-start.ensures.meets
+    (goes_on c.in_ok-start.ensures.parses
     (goes_on (no_value_read (pattern_map (g.M.MakeTexts.source c.args.self.now.texts.now))
     (pattern edition t (within edition t n)) o read same)
     (failed refl)))))))))

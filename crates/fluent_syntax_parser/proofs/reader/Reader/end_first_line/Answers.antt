@@ -3,4 +3,4 @@ use Rattle.fluent_syntax_parser.proofs.reader.Reader.end_first_line.Goals as goa
 
 pub returns-clause-ends : goal.returns-clause-ends
 returns-clause-ends g c =
-    (_, opening_viewed g.M.MakeTexts.made _ _ _ c.in_ok-end_opening.ensures, c.get_ending-ending.ensures.meets)
+    (_, opening_viewed g.M.MakeTexts.made _ _ _ c.in_ok-end_opening.ensures, c.get_ending-ending.ensures.parses)

@@ -4,25 +4,25 @@ use Rattle.fluent_syntax_grammar.specs.Grammar.{within}
 use Rattle.fluent_syntax_parser.proofs.entry_forms.EntryForms.{message_fails, message_there, term_fails, term_there}
 use Rattle.fluent_syntax_parser.proofs.reader.Reader.entry_parts.Goals as goal
 
-pub returns-in_err-extents : goal.returns-in_err-extents
-returns-in_err-extents g c =
+pub returns-in_err-ranges : goal.returns-in_err-ranges
+returns-in_err-ranges g c =
     let p = err_from_is_err_and c.from_residual.result c.from_residual.ensures.1 in
     rw (p.1, p.2)
     (term_fails c.args.self.now.edition c.args.self.now.source.bytes.now _ _ (sym c.if-is_byte_at.ensures)
-    (sym c.if-is_byte_at-2.ensures) c.in_err-extents.ensures)
+    (sym c.if-is_byte_at-2.ensures) c.in_err-ranges.ensures)
 
-pub returns-in_err-extents-2 : goal.returns-in_err-extents-2
-returns-in_err-extents-2 g c =
-    let p = err_from_is_err_and c.from_residual-in_err-extents-2.result c.from_residual-in_err-extents-2.ensures.1 in
+pub returns-in_err-ranges-2 : goal.returns-in_err-ranges-2
+returns-in_err-ranges-2 g c =
+    let p = err_from_is_err_and c.from_residual-in_err-ranges-2.result c.from_residual-in_err-ranges-2.ensures.1 in
     rw (p.1, p.2)
     (message_fails c.args.self.now.edition c.args.self.now.source.bytes.now _ _ (sym c.if-is_byte_at.ensures)
-    (sym c.if-is_byte_at-2.ensures) c.in_err-extents-2.ensures)
+    (sym c.if-is_byte_at-2.ensures) c.in_err-ranges-2.ensures)
 
-pub returns-in_ok-extents : goal.returns-in_ok-extents
-returns-in_ok-extents g c =
+pub returns-in_ok-ranges : goal.returns-in_ok-ranges
+returns-in_ok-ranges g c =
     let t = c.args.self.now.source.bytes.now in
     let edition = c.args.self.now.edition in
-    let (tree, end, read, parts) = c.in_ok-extents.ensures in
+    let (tree, end, read, parts) = c.in_ok-ranges.ensures in
     record {
       tree = tree;
       end = end;
@@ -32,11 +32,11 @@ returns-in_ok-extents g c =
       parts = parts;
     }
 
-pub returns-in_ok-extents-2 : goal.returns-in_ok-extents-2
-returns-in_ok-extents-2 g c =
+pub returns-in_ok-ranges-2 : goal.returns-in_ok-ranges-2
+returns-in_ok-ranges-2 g c =
     let t = c.args.self.now.source.bytes.now in
     let edition = c.args.self.now.edition in
-    let (tree, end, read, parts) = c.in_ok-extents-2.ensures in
+    let (tree, end, read, parts) = c.in_ok-ranges-2.ensures in
     record {
       tree = tree;
       end = end;

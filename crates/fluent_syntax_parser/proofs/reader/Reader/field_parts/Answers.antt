@@ -9,7 +9,7 @@ use Rattle.fluent_syntax_grammar.proofs.FunctionalRules.{functional_pattern}
 use Rattle.fluent_syntax_grammar.proofs.FunctionalWords.{functional_blank_block, functional_inline_blank}
 use Rattle.fluent_syntax_grammar.proofs.FunctionalWords.{functional_token}
 use Rattle.fluent_syntax_grammar.proofs.Nesting.{functional_within}
-use Rattle.fluent_syntax_parser.specs.Meets.{refused}
+use Rattle.fluent_syntax_parser.specs.Outcomes.{refused}
 use Rattle.fluent_syntax_parser.proofs.entry_forms.ExtentForms.{same_place}
 use Rattle.fluent_syntax_parser.proofs.readers.Made.{on_made}
 use Rattle.fluent_syntax_parser.proofs.readers.Fails.{fails_first, fails_next}
@@ -20,7 +20,7 @@ returns-in_err-start g c =
     let p = err_from_is_err_and c.from_residual.result c.from_residual.ensures.1 in
     rw (p.1, p.2) (refused (λ k from to h.
     goes_on (passed c.skip_blank_inline-equals.ensures.blank)
-    (stops (c.in_err-start.ensures.meets k from to h))))
+    (stops (c.in_err-start.ensures.parses k from to h))))
 
 pub returns-in_err-value : goal.returns-in_err-value
 returns-in_err-value g c =
@@ -28,8 +28,8 @@ returns-in_err-value g c =
     let p = err_from_is_err_and c.from_residual-in_err-value.result c.from_residual-in_err-value.ensures.1 in
     rw (p.1, p.2)
     (fails_next (functional_inline_blank t) (passed c.skip_blank_inline-equals.ensures.blank)
-    (fails_next (functional_token t equals_sign) c.in_ok-start.ensures.meets
-    (fails_first c.in_err-value.ensures.meets)))
+    (fails_next (functional_token t equals_sign) c.in_ok-start.ensures.parses
+    (fails_first c.in_err-value.ensures.parses)))
 
 pub returns-in_err-attributes : goal.returns-in_err-attributes
 returns-in_err-attributes g c =
@@ -37,9 +37,9 @@ returns-in_err-attributes g c =
     let edition = c.args.self.now.edition in
     let p = err_from_is_err_and c.from_residual-in_err-attributes.result c.from_residual-in_err-attributes.ensures.1 in
     rw (p.1, p.2)
-    (on_made c.in_ok-value.ensures.meets (λ value read same.
+    (on_made c.in_ok-value.ensures.parses (λ value read same.
     fails_next (functional_inline_blank t) (passed c.skip_blank_inline-equals.ensures.blank)
-    (fails_next (functional_token t equals_sign) c.in_ok-start.ensures.meets
+    (fails_next (functional_token t equals_sign) c.in_ok-start.ensures.parses
     (fails_next (functional_pattern edition t _ (functional_within edition t _)) read
     (fails_next (functional_blank_block t) (passed c.in_ok-value.ensures.behind)
     (fails_first c.in_err-attributes.ensures.finds))))))
@@ -50,14 +50,14 @@ returns g c =
     let f = g.M.MakeTexts.source c.args.self.now.texts.now in
     let view = pattern_view g.M.MakeTexts.made in
     let place : Span = record { start = c.in_ok-start.start; end = c.in_ok-value.end } in
-    on_made c.in_ok-value.ensures.meets (λ value read same.
+    on_made c.in_ok-value.ensures.parses (λ value read same.
     let (rest, attributes) = c.in_ok-attributes.ensures.finds in (
       (value, rest),
       record {
         equals = _;
         behind = c.skip_blank_inline-equals.ensures.blank;
         place = place;
-        sign = c.in_ok-start.ensures.meets;
+        sign = c.in_ok-start.ensures.parses;
         value = read;
         there = c.place_if.ensures ∙ same_place view (pattern_map f) place c.in_ok-value.value value same;
         line = _;

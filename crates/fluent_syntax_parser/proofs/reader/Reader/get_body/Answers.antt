@@ -1,6 +1,6 @@
 use Rattle.std.proofs.Common.{rules}
 use Rattle.fluent_syntax_parser.specs.Rest.{faults_of}
-use Rattle.fluent_syntax_parser.proofs.entry_forms.MadeEntries.{all_read, none_read, read_on, told_faults}
+use Rattle.fluent_syntax_parser.proofs.entry_forms.MadeEntries.{all_read, none_read, read_on, error_faults}
 use Rattle.fluent_syntax_parser.proofs.tilings.Rests.{entry_to}
 use Rattle.fluent_syntax_parser.proofs.reader.Reader.get_body.Goals as goal
 
@@ -28,7 +28,7 @@ loop-errors-preserved g c =
       within = search rules;
       read = read_on f g.M.MakeTexts.made c.args.comments c.args.self.now.edition c.args.self.now.source.bytes.now _ _ _
           old.invariant.read _ next.entry next.tree (faults_of next.error) stands next.same _ next.added _
-          (told_faults _ _ next.error next.tells);
+          (error_faults _ _ next.error next.errors_are);
       deeper = λ h. old.invariant.deeper (nested.1 h);
       shallow = λ h. nested.0 (old.invariant.shallow h);
       blank = search rules;

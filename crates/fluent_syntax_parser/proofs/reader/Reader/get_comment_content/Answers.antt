@@ -4,15 +4,15 @@ use Rattle.std.proofs.lemmas.Result.{err_from_is_err_and}
 use Rattle.fluent_syntax_grammar.specs.Comments.{one_more, other_level, no_comment_line}
 use Rattle.fluent_syntax_grammar.specs.Construct.{stops, goes_on, given}
 use Rattle.fluent_syntax_parser.specs.CommentLines.{line_of}
-use Rattle.fluent_syntax_parser.specs.Meets.{no_memory, refused}
+use Rattle.fluent_syntax_parser.specs.Outcomes.{no_memory, refused}
 use Rattle.fluent_syntax_parser.proofs.entry_forms.CommentEntries.{all_lines}
 use Rattle.fluent_syntax_parser.proofs.readers.Fails.{out_of_memory}
 use Rattle.fluent_syntax_parser.proofs.reader.Reader.get_comment_content.Goals as goal
 
-pub returns-in_err-first-clause-meets : goal.returns-in_err-first-clause-meets
-returns-in_err-first-clause-meets g c =
+pub returns-in_err-first-clause-parses : goal.returns-in_err-first-clause-parses
+returns-in_err-first-clause-parses g c =
     let p = err_from_is_err_and c.from_residual.result c.from_residual.ensures.1 in
-    rw (p.1, p.2) (refused (λ k from to h. stops (c.in_err-first.ensures.meets k from to h)))
+    rw (p.1, p.2) (refused (λ k from to h. stops (c.in_err-first.ensures.parses k from to h)))
 
 pub loop-line-init : goal.loop-line-init
 loop-line-init g c =
@@ -27,7 +27,7 @@ loop-line-init g c =
       lines = record {
         lines = line_of c.in_ok-first.first;
         same = first;
-        read = λ more j h. goes_on c.in_ok-first.ensures.meets (goes_on h given);
+        read = λ more j h. goes_on c.in_ok-first.ensures.parses (goes_on h given);
       };
     }
 
@@ -48,25 +48,25 @@ loop-line-preserved g c =
             c.in_ok-add_line-in-Ok.ensures ∙ ap (λ xs. xs ++ map f line) old.same
             ∙ sym (map-append f old.lines line);
         read = λ more j h.
-            rw (append_assoc old.lines line more) (old.read (line ++ more) j (one_more level read.meets h));
+            rw (append_assoc old.lines line more) (old.read (line ++ more) j (one_more level read.parses h));
       };
     }
 
-pub returns-in-Err-clause-meets : goal.returns-in-Err-clause-meets
-returns-in-Err-clause-meets g c =
+pub returns-in-Err-clause-parses : goal.returns-in-Err-clause-parses
+returns-in-Err-clause-parses g c =
     let level = sym c.comment_level.ensures.level ∙ c.loop-line-test.true in
-    all_lines c.loop-line.invariant.lines (no_comment_line level (c.in-Err.ensures.meets _ _ _ (refl, refl, refl)))
+    all_lines c.loop-line.invariant.lines (no_comment_line level (c.in-Err.ensures.parses _ _ _ (refl, refl, refl)))
 
-pub returns-clause-meets : goal.returns-clause-meets
-returns-clause-meets g c =
+pub returns-clause-parses : goal.returns-clause-parses
+returns-clause-parses g c =
     all_lines c.loop-line.invariant.lines
     (other_level (λ level. c.loop-line-test.false (c.comment_level.ensures.level ∙ level)))
 
-pub returns-in_err-add_line-clause-meets : goal.returns-in_err-add_line-clause-meets
-returns-in_err-add_line-clause-meets g c =
+pub returns-in_err-add_line-clause-parses : goal.returns-in_err-add_line-clause-parses
+returns-in_err-add_line-clause-parses g c =
     rw (out_of_memory c.from_residual-in_err-add_line.result c.from_residual-in_err-add_line.ensures.1) no_memory
 
-pub returns-in_err-add_line-in-Ok-clause-meets : goal.returns-in_err-add_line-in-Ok-clause-meets
-returns-in_err-add_line-in-Ok-clause-meets g c =
+pub returns-in_err-add_line-in-Ok-clause-parses : goal.returns-in_err-add_line-in-Ok-clause-parses
+returns-in_err-add_line-in-Ok-clause-parses g c =
     rw (out_of_memory c.from_residual-in_err-add_line-in-Ok.result
     c.from_residual-in_err-add_line-in-Ok.ensures.1) no_memory

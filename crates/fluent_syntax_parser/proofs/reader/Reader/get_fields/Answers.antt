@@ -6,47 +6,47 @@ use Rattle.fluent_syntax_grammar.proofs.FunctionalRules.{functional_pattern}
 use Rattle.fluent_syntax_grammar.proofs.FunctionalWords.{functional_blank_block, functional_inline_blank}
 use Rattle.fluent_syntax_grammar.proofs.FunctionalWords.{functional_token}
 use Rattle.fluent_syntax_grammar.proofs.Nesting.{functional_within}
-use Rattle.fluent_syntax_parser.specs.Meets.{refused}
+use Rattle.fluent_syntax_parser.specs.Outcomes.{refused}
 use Rattle.fluent_syntax_parser.specs.Made.{made}
 use Rattle.fluent_syntax_parser.proofs.readers.Made.{on_made}
 use Rattle.fluent_syntax_parser.proofs.readers.Fails.{fails_first, fails_next}
 use Rattle.fluent_syntax_parser.proofs.reader.Reader.get_fields.Goals as goal
 
-pub returns-in_err-start-clause-meets : goal.returns-in_err-start-clause-meets
-returns-in_err-start-clause-meets g c =
+pub returns-in_err-start-clause-parses : goal.returns-in_err-start-clause-parses
+returns-in_err-start-clause-parses g c =
     let p = err_from_is_err_and c.from_residual.result c.from_residual.ensures.1 in
     rw (p.1, p.2) (refused (λ k from to h.
     goes_on (passed c.skip_blank_inline-equals.ensures.blank)
-    (stops (c.in_err-start.ensures.meets k from to h))))
+    (stops (c.in_err-start.ensures.parses k from to h))))
 
-pub returns-in_err-value-clause-meets : goal.returns-in_err-value-clause-meets
-returns-in_err-value-clause-meets g c =
+pub returns-in_err-value-clause-parses : goal.returns-in_err-value-clause-parses
+returns-in_err-value-clause-parses g c =
     let t = c.args.self.now.source.bytes.now in
     let p = err_from_is_err_and c.from_residual-in_err-value.result c.from_residual-in_err-value.ensures.1 in
     rw (p.1, p.2)
     (fails_next (functional_inline_blank t) (passed c.skip_blank_inline-equals.ensures.blank)
-    (fails_next (functional_token t equals_sign) c.in_ok-start.ensures.meets
-    (fails_first c.in_err-value.ensures.meets)))
+    (fails_next (functional_token t equals_sign) c.in_ok-start.ensures.parses
+    (fails_first c.in_err-value.ensures.parses)))
 
-pub returns-in_err-attributes-clause-meets : goal.returns-in_err-attributes-clause-meets
-returns-in_err-attributes-clause-meets g c =
+pub returns-in_err-attributes-clause-parses : goal.returns-in_err-attributes-clause-parses
+returns-in_err-attributes-clause-parses g c =
     let t = c.args.self.now.source.bytes.now in
     let edition = c.args.self.now.edition in
     let p = err_from_is_err_and c.from_residual-in_err-attributes.result c.from_residual-in_err-attributes.ensures.1 in
     rw (p.1, p.2)
-    (on_made c.in_ok-value.ensures.meets (λ value read same.
+    (on_made c.in_ok-value.ensures.parses (λ value read same.
     fails_next (functional_inline_blank t) (passed c.skip_blank_inline-equals.ensures.blank)
-    (fails_next (functional_token t equals_sign) c.in_ok-start.ensures.meets
+    (fails_next (functional_token t equals_sign) c.in_ok-start.ensures.parses
     (fails_next (functional_pattern edition t _ (functional_within edition t _)) read
     (fails_next (functional_blank_block t) (passed c.in_ok-value.ensures.behind)
-    (fails_first c.in_err-attributes.ensures.meets))))))
+    (fails_first c.in_err-attributes.ensures.parses))))))
 
-pub returns-clause-meets : goal.returns-clause-meets
-returns-clause-meets g c =
-    on_made c.in_ok-value.ensures.meets (λ value read same.
-    on_made c.in_ok-attributes.ensures.meets (λ rest read_rest same_rest. made
+pub returns-clause-parses : goal.returns-clause-parses
+returns-clause-parses g c =
+    on_made c.in_ok-value.ensures.parses (λ value read same.
+    on_made c.in_ok-attributes.ensures.parses (λ rest read_rest same_rest. made
     (goes_on (passed c.skip_blank_inline-equals.ensures.blank)
-    (goes_on c.in_ok-start.ensures.meets
+    (goes_on c.in_ok-start.ensures.parses
     (goes_on read
     (goes_on (passed c.in_ok-value.ensures.behind)
     (goes_on read_rest

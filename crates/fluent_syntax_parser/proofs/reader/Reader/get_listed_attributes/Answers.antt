@@ -6,7 +6,7 @@ use Rattle.fluent_syntax_grammar.specs.Entries.{attributes_of}
 use Rattle.fluent_syntax_grammar.specs.Grammar.{within}
 use Rattle.fluent_syntax_grammar.proofs.DeeperEntries.{deeper_attribute, deeper_attributes}
 use Rattle.fluent_syntax_grammar.proofs.Nesting.{functional_within}
-use Rattle.fluent_syntax_parser.specs.Meets.{no_memory, too_deep}
+use Rattle.fluent_syntax_parser.specs.Outcomes.{no_memory, too_deep}
 use Rattle.fluent_syntax_parser.proofs.readers.Made.{on_made}
 use Rattle.fluent_syntax_parser.proofs.readers.Fails.{out_of_memory, shown, too_deep_there}
 use Rattle.fluent_syntax_parser.proofs.reader.Reader.get_listed_attributes.Goals as goal
@@ -28,8 +28,8 @@ loop-next-preserved g c =
           (functional_within c.args.self.now.edition t c.args.nesting) there h);
     })
 
-pub returns-in-Err-Refused-clause-meets : goal.returns-in-Err-Refused-clause-meets
-returns-in-Err-Refused-clause-meets g c =
+pub returns-in-Err-Refused-clause-parses : goal.returns-in-Err-Refused-clause-parses
+returns-in-Err-Refused-clause-parses g c =
     let t = c.args.self.now.source.bytes.now in
     let R = within c.args.self.now.edition t c.args.nesting in
     let found = rw c.in-Err-Refused.field-0-is at c.in-Err-Refused.ensures.adds in
@@ -37,19 +37,19 @@ returns-in-Err-Refused-clause-meets g c =
     (gathers.list_made (attributes_of c.args.self.now.edition t R) _ (attribute_view g.M.MakeTexts.made) c.args.ptr _ _
     _ c.loop-next.invariant.gathered (no_more (shown found.0)))
 
-pub returns-in-Err-TooDeep-clause-meets : goal.returns-in-Err-TooDeep-clause-meets
-returns-in-Err-TooDeep-clause-meets g c =
+pub returns-in-Err-TooDeep-clause-parses : goal.returns-in-Err-TooDeep-clause-parses
+returns-in-Err-TooDeep-clause-parses g c =
     let t = c.args.self.now.source.bytes.now in
     let found = rw c.in-Err-TooDeep.field-0-is at c.in-Err-TooDeep.ensures.adds in
     too_deep (c.loop-next.invariant.deeper
     (deeper_attribute c.args.self.now.edition t (within c.args.self.now.edition t c.args.nesting)
     (too_deep_there found.0)))
 
-pub returns-in-Err-Memory-clause-meets : goal.returns-in-Err-Memory-clause-meets
-returns-in-Err-Memory-clause-meets g c = no_memory
+pub returns-in-Err-Memory-clause-parses : goal.returns-in-Err-Memory-clause-parses
+returns-in-Err-Memory-clause-parses g c = no_memory
 
-pub returns-in_err-attributes-clause-meets : goal.returns-in_err-attributes-clause-meets
-returns-in_err-attributes-clause-meets g c =
+pub returns-in_err-attributes-clause-parses : goal.returns-in_err-attributes-clause-parses
+returns-in_err-attributes-clause-parses g c =
     rw (out_of_memory c.from_residual.result c.from_residual.ensures.1) no_memory
 
 pub loop-next-init : goal.loop-next-init

@@ -6,30 +6,30 @@ use Rattle.fluent_syntax_tree.proofs.Views.{view-FunctionReference, view-Inline,
 use Rattle.fluent_syntax_grammar.specs.Construct.{stops, goes_on, given, failed, first, second}
 use Rattle.fluent_syntax_parser.specs.Gathered.{maybe_view}
 use Rattle.fluent_syntax_parser.specs.Made.{made}
-use Rattle.fluent_syntax_parser.specs.Meets.{no_memory, refused}
+use Rattle.fluent_syntax_parser.specs.Outcomes.{no_memory, refused}
 use Rattle.fluent_syntax_parser.specs.declared.fault.Fault.TheVariants as fault
 use Rattle.fluent_syntax_parser.proofs.readers.Fails.{out_of_memory}
 use Rattle.fluent_syntax_parser.proofs.expressions.Given.{none_given, some_given}
 use Rattle.fluent_syntax_parser.proofs.reader.Reader.get_named_reference.Goals as goal
 
-pub returns-then-not-is_callee-clause-meets : goal.returns-then-not-is_callee-clause-meets
-returns-then-not-is_callee-clause-meets g c = λ a same.
+pub returns-then-not-is_callee-clause-parses : goal.returns-then-not-is_callee-clause-parses
+returns-then-not-is_callee-clause-parses g c = λ a same.
     let found = some_given _ a (ap (maybe_view g.M.MakeTexts.made) (sym c.in-Some.is) ∙ same) in
     rw found.1 (refused {f = fault.Callee} {from = c.args.ptr} {place = c.args.ptr} (λ k from to (a, b, d).
     rw (a, b, d)
     (second (sym c.if-not-is_callee.ensures) (failed refl))))
 
-pub returns-in_err-id-in-Some-clause-meets : goal.returns-in_err-id-in-Some-clause-meets
-returns-in_err-id-in-Some-clause-meets g c = λ a same.
+pub returns-in_err-id-in-Some-clause-parses : goal.returns-in_err-id-in-Some-clause-parses
+returns-in_err-id-in-Some-clause-parses g c = λ a same.
     rw (out_of_memory c.from_residual.result c.from_residual.ensures.1) no_memory
 
-pub returns-in_err-expression-in-Some-clause-meets : goal.returns-in_err-expression-in-Some-clause-meets
-returns-in_err-expression-in-Some-clause-meets g c = λ a same.
+pub returns-in_err-expression-in-Some-clause-parses : goal.returns-in_err-expression-in-Some-clause-parses
+returns-in_err-expression-in-Some-clause-parses g c = λ a same.
     rw (out_of_memory c.from_residual-in_err-expression-in-Some.result
     c.from_residual-in_err-expression-in-Some.ensures.1) no_memory
 
-pub returns-in_ok-expression-in-Some-clause-meets : goal.returns-in_ok-expression-in-Some-clause-meets
-returns-in_ok-expression-in-Some-clause-meets g c = λ a same.
+pub returns-in_ok-expression-in-Some-clause-parses : goal.returns-in_ok-expression-in-Some-clause-parses
+returns-in_ok-expression-in-Some-clause-parses g c = λ a same.
     let found = some_given _ a (ap (maybe_view g.M.MakeTexts.made) (sym c.in-Some.is) ∙ same) in
     rw found.1 (made
     (first (sym c.if-not-is_callee.ensures) given)
@@ -38,32 +38,32 @@ returns-in_ok-expression-in-Some-clause-meets g c = λ a same.
     ∙ ap (λ x. function_reference x (arguments_view g.M.MakeTexts.made c.in-Some.arguments)) c.in_ok-id-in-Some.ensures
     ∙ ap (function_reference (g.M.MakeTexts.source c.args.self.now.texts.now c.args.name)) found.2)))
 
-pub returns-in_err-attribute-in-None-clause-meets : goal.returns-in_err-attribute-in-None-clause-meets
-returns-in_err-attribute-in-None-clause-meets g c = λ a same.
+pub returns-in_err-attribute-in-None-clause-parses : goal.returns-in_err-attribute-in-None-clause-parses
+returns-in_err-attribute-in-None-clause-parses g c = λ a same.
     let p = err_from_is_err_and c.from_residual-in_err-attribute-in-None.result
     c.from_residual-in_err-attribute-in-None.ensures.1 in
     let none = none_given _ a (ap (maybe_view g.M.MakeTexts.made) (sym c.in-None.is) ∙ same) in
-    rw (p.1, p.2, none) (refused (λ k from to h. stops (c.in_err-attribute-in-None.ensures.meets k from to h)))
+    rw (p.1, p.2, none) (refused (λ k from to h. stops (c.in_err-attribute-in-None.ensures.parses k from to h)))
 
-pub returns-in_err-id-in-None-clause-meets : goal.returns-in_err-id-in-None-clause-meets
-returns-in_err-id-in-None-clause-meets g c = λ a same.
+pub returns-in_err-id-in-None-clause-parses : goal.returns-in_err-id-in-None-clause-parses
+returns-in_err-id-in-None-clause-parses g c = λ a same.
     rw (out_of_memory c.from_residual-in_err-id-in-None.result c.from_residual-in_err-id-in-None.ensures.1) no_memory
 
-pub returns-in_err-attribute-in-None-2-clause-meets : goal.returns-in_err-attribute-in-None-2-clause-meets
-returns-in_err-attribute-in-None-2-clause-meets g c = λ a same.
+pub returns-in_err-attribute-in-None-2-clause-parses : goal.returns-in_err-attribute-in-None-2-clause-parses
+returns-in_err-attribute-in-None-2-clause-parses g c = λ a same.
     rw (out_of_memory c.from_residual-in_err-attribute-in-None-2.result
     c.from_residual-in_err-attribute-in-None-2.ensures.1) no_memory
 
-pub returns-in_err-expression-in-None-clause-meets : goal.returns-in_err-expression-in-None-clause-meets
-returns-in_err-expression-in-None-clause-meets g c = λ a same.
+pub returns-in_err-expression-in-None-clause-parses : goal.returns-in_err-expression-in-None-clause-parses
+returns-in_err-expression-in-None-clause-parses g c = λ a same.
     rw (out_of_memory c.from_residual-in_err-expression-in-None.result
     c.from_residual-in_err-expression-in-None.ensures.1) no_memory
 
-pub returns-in_ok-expression-in-None-clause-meets : goal.returns-in_ok-expression-in-None-clause-meets
-returns-in_ok-expression-in-None-clause-meets g c = λ a same.
+pub returns-in_ok-expression-in-None-clause-parses : goal.returns-in_ok-expression-in-None-clause-parses
+returns-in_ok-expression-in-None-clause-parses g c = λ a same.
     let none = none_given _ a (ap (maybe_view g.M.MakeTexts.made) (sym c.in-None.is) ∙ same) in
     rw none (made
-    (goes_on c.in_ok-attribute-in-None.ensures.meets given)
+    (goes_on c.in_ok-attribute-in-None.ensures.parses given)
     (ap (expression_view g.M.MakeTexts.made) c.in_ok-expression-in-None.ensures.ok ∙ view-Inline g.M.MakeTexts.made _
     ∙ ap inline (view-MessageReference g.M.MakeTexts.made c.in_ok-id-in-None.id c.in_ok-attribute-in-None-2.attribute
     ∙ rw (c.in_ok-id-in-None.ensures, c.in_ok-attribute-in-None-2.ensures) refl)))

@@ -5,32 +5,32 @@ use Rattle.fluent_syntax_tree.specs.View.{expression_view}
 use Rattle.fluent_syntax_tree.proofs.Views.{view-Inline, view-NumberLiteral}
 use Rattle.fluent_syntax_grammar.specs.Construct.{stops, goes_on, given}
 use Rattle.fluent_syntax_parser.specs.Made.{made}
-use Rattle.fluent_syntax_parser.specs.Meets.{no_memory, refused}
+use Rattle.fluent_syntax_parser.specs.Outcomes.{no_memory, refused}
 use Rattle.fluent_syntax_parser.proofs.expressions.InlineStarts.{by_number}
 use Rattle.fluent_syntax_parser.proofs.readers.Fails.{out_of_memory}
 use Rattle.fluent_syntax_parser.proofs.reader.Reader.get_number.Goals as goal
 
-pub returns-in_err-end-clause-meets : goal.returns-in_err-end-clause-meets
-returns-in_err-end-clause-meets g c = λ n.
+pub returns-in_err-end-clause-parses : goal.returns-in_err-end-clause-parses
+returns-in_err-end-clause-parses g c = λ n.
     let p = err_from_is_err_and c.from_residual.result c.from_residual.ensures.1 in
     rw (p.1, p.2) (refused (λ k from to h.
     by_number c.args.self.now.source.bytes.now _ _ _ c.requires.starts
-    (stops (c.in_err-end.ensures.meets k from to h))))
+    (stops (c.in_err-end.ensures.parses k from to h))))
 
-pub returns-in_err-value-clause-meets : goal.returns-in_err-value-clause-meets
-returns-in_err-value-clause-meets g c = λ n.
+pub returns-in_err-value-clause-parses : goal.returns-in_err-value-clause-parses
+returns-in_err-value-clause-parses g c = λ n.
     rw (out_of_memory c.from_residual-in_err-value.result c.from_residual-in_err-value.ensures.1) no_memory
 
-pub returns-in_err-expression-clause-meets : goal.returns-in_err-expression-clause-meets
-returns-in_err-expression-clause-meets g c = λ n.
+pub returns-in_err-expression-clause-parses : goal.returns-in_err-expression-clause-parses
+returns-in_err-expression-clause-parses g c = λ n.
     rw (out_of_memory c.from_residual-in_err-expression.result c.from_residual-in_err-expression.ensures.1) no_memory
 
-pub returns-clause-meets : goal.returns-clause-meets
-returns-clause-meets g c = λ n.
+pub returns-clause-parses : goal.returns-clause-parses
+returns-clause-parses g c = λ n.
     let v = g.M.MakeTexts.made in
     made
     (by_number c.args.self.now.source.bytes.now _ _ _ c.requires.starts
-    (goes_on c.in_ok-end.ensures.meets
+    (goes_on c.in_ok-end.ensures.parses
     given))
     (ap (expression_view v) c.in_ok-expression.ensures.ok ∙ view-Inline v _
     ∙ ap inline (view-NumberLiteral v c.in_ok-value.value

@@ -7,10 +7,10 @@ use Rattle.fluent_syntax_grammar.specs.Construct.{stops, goes_on, at_place}
 use Rattle.fluent_syntax_grammar.specs.Entries.{message_with}
 use Rattle.fluent_syntax_grammar.specs.Grammar.{within}
 use Rattle.fluent_syntax_grammar.proofs.FunctionalWords.{functional_identifier}
-use Rattle.fluent_syntax_parser.specs.Extents.{message_stands}
-use Rattle.fluent_syntax_parser.specs.Meets.{refused}
+use Rattle.fluent_syntax_parser.specs.PartRanges.{message_has_parts}
+use Rattle.fluent_syntax_parser.specs.Outcomes.{refused}
 use Rattle.fluent_syntax_parser.specs.declared.fault.Fault.TheVariants as fault
-use Rattle.fluent_syntax_parser.proofs.entry_forms.ExtentForms.{fields_there, no_attribute_extents, no_attributes}
+use Rattle.fluent_syntax_parser.proofs.entry_forms.ExtentForms.{fields_there, no_attribute_ranges, no_attributes}
 use Rattle.fluent_syntax_parser.proofs.entry_forms.ExtentForms.{same_value}
 use Rattle.fluent_syntax_parser.proofs.readers.Fails.{fails_next, functional_here}
 use Rattle.fluent_syntax_parser.proofs.entry_forms.FieldForms.{fields_fail, fields_then, message_of_attributes}
@@ -24,7 +24,7 @@ use Rattle.fluent_syntax_parser.proofs.reader.Reader.message_parts.Goals as goal
 pub returns-in_err-end : goal.returns-in_err-end
 returns-in_err-end g c =
     let p = err_from_is_err_and c.from_residual.result c.from_residual.ensures.1 in
-    rw (p.1, p.2) (refused (λ k from to h. goes_on at_place (stops (c.in_err-end.ensures.meets k from to h))))
+    rw (p.1, p.2) (refused (λ k from to h. goes_on at_place (stops (c.in_err-end.ensures.parses k from to h))))
 
 pub returns-in_err-value : goal.returns-in_err-value
 returns-in_err-value g c =
@@ -33,7 +33,7 @@ returns-in_err-value g c =
     let p = err_from_is_err_and c.from_residual-in_err-value.result c.from_residual-in_err-value.ensures.1 in
     rw (p.1, p.2)
     (fails_next functional_here at_place
-    (fails_next (functional_identifier t) c.in_ok-end.ensures.meets
+    (fails_next (functional_identifier t) c.in_ok-end.ensures.parses
     (fields_fail c.args.self.now.edition t _ (message_with t c.args.start name) c.in_err-value.ensures)))
 
 pub returns-then-is_empty : goal.returns-then-is_empty
@@ -45,12 +45,12 @@ returns-then-is_empty g c =
     let found = c.in_ok-value in
     let size : length found.attributes.items ≡ vec_len found.attributes = omega (arith, found.attributes.ok.0) in
     let none = no_items found.attributes.items _ size c.if-is_empty.ensures in
-    let text = sym (identifier_text t c.in_ok-end.ensures.meets) in
+    let text = sym (identifier_text t c.in_ok-end.ensures.parses) in
     let (f, stand) = found.ensures in
     refused {f = fault.MessageField} {from = c.args.start} {place = found.place} (λ k from to (a, b, d).
     rw (a ∙ ap ExpectedMessageField text, b, d)
     (goes_on at_place
-    (goes_on c.in_ok-end.ensures.meets
+    (goes_on c.in_ok-end.ensures.parses
     (fields_then edition t R (message_with t c.args.start name) _ _ f _
     (fields_there edition t R _ _ _ found.value f stand)
     (message_without t c.args.start _ name f.0 f.1
@@ -69,17 +69,17 @@ returns g c =
       _,
       _,
       goes_on at_place
-          (goes_on c.in_ok-end.ensures.meets
+          (goes_on c.in_ok-end.ensures.parses
           (fields_then edition t R (message_with t c.args.start name) _ _ f _
           (fields_there edition t R _ _ _ found.value f stand)
           (elim c.else-is_none.branch [
             | else-is_none-via-then-is_none+else-is_empty w ↦
                 message_of_attributes t c.args.start found.place name f.0 f.1
                 (λ none. some_items found.attributes.items _ size w.if-is_empty.ensures
-                (no_attribute_extents edition t R stand.attributes none))
+                (no_attribute_ranges edition t R stand.attributes none))
             | else-is_none-via-else-is_none w ↦
                 message_of_value t c.args.start found.place name f.0 f.1
                 (same_value edition t R _ _ _ found.value f stand ∙ w.if-is_none.ensures)
           ]))),
-      message_stands refl c.in_ok-end.ensures.meets stand,
+      message_has_parts refl c.in_ok-end.ensures.parses stand,
     )

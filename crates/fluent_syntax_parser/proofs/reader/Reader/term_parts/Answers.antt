@@ -7,8 +7,8 @@ use Rattle.fluent_syntax_grammar.specs.Construct.{stops, goes_on, at_place, give
 use Rattle.fluent_syntax_grammar.specs.Entries.{term_with}
 use Rattle.fluent_syntax_grammar.specs.Grammar.{within}
 use Rattle.fluent_syntax_grammar.proofs.FunctionalWords.{functional_identifier, functional_token}
-use Rattle.fluent_syntax_parser.specs.Extents.{term_stands}
-use Rattle.fluent_syntax_parser.specs.Meets.{refused}
+use Rattle.fluent_syntax_parser.specs.PartRanges.{term_has_parts}
+use Rattle.fluent_syntax_parser.specs.Outcomes.{refused}
 use Rattle.fluent_syntax_parser.specs.declared.fault.Fault.TheVariants as fault
 use Rattle.fluent_syntax_parser.proofs.entry_forms.ExtentForms.{fields_there, with_value, without_value}
 use Rattle.fluent_syntax_parser.proofs.readers.Fails.{fails_next, functional_here}
@@ -19,15 +19,15 @@ use Rattle.fluent_syntax_parser.proofs.reader.Reader.term_parts.Goals as goal
 pub returns-in_err-letter : goal.returns-in_err-letter
 returns-in_err-letter g c =
     let p = err_from_is_err_and c.from_residual.result c.from_residual.ensures.1 in
-    rw (p.1, p.2) (refused (λ k from to h. goes_on at_place (stops (c.in_err-letter.ensures.meets k from to h))))
+    rw (p.1, p.2) (refused (λ k from to h. goes_on at_place (stops (c.in_err-letter.ensures.parses k from to h))))
 
 pub returns-in_err-end : goal.returns-in_err-end
 returns-in_err-end g c =
     let p = err_from_is_err_and c.from_residual-in_err-end.result c.from_residual-in_err-end.ensures.1 in
     rw (p.1, p.2) (refused (λ k from to h.
     goes_on at_place
-    (goes_on c.in_ok-letter.ensures.meets
-    (stops (c.in_err-end.ensures.meets k from to h)))))
+    (goes_on c.in_ok-letter.ensures.parses
+    (stops (c.in_err-end.ensures.parses k from to h)))))
 
 pub returns-in_err-value : goal.returns-in_err-value
 returns-in_err-value g c =
@@ -36,8 +36,8 @@ returns-in_err-value g c =
     let p = err_from_is_err_and c.from_residual-in_err-value.result c.from_residual-in_err-value.ensures.1 in
     rw (p.1, p.2)
     (fails_next functional_here at_place
-    (fails_next (functional_token t hyphen) c.in_ok-letter.ensures.meets
-    (fails_next (functional_identifier t) c.in_ok-end.ensures.meets
+    (fails_next (functional_token t hyphen) c.in_ok-letter.ensures.parses
+    (fails_next (functional_identifier t) c.in_ok-end.ensures.parses
     (fields_fail c.args.self.now.edition t _ (term_with t c.args.start name) c.in_err-value.ensures))))
 
 pub returns-then-is_none : goal.returns-then-is_none
@@ -48,13 +48,13 @@ returns-then-is_none g c =
     let name : Span = record { start = c.in_ok-letter.letter; end = c.in_ok-end.end } in
     let found = c.in_ok-value in
     let (f, stand) = found.ensures in
-    let text = sym (identifier_text t c.in_ok-end.ensures.meets) in
-    let before = mark_before t c.in_ok-letter.ensures.meets in
+    let text = sym (identifier_text t c.in_ok-end.ensures.parses) in
+    let before = mark_before t c.in_ok-letter.ensures.parses in
     refused {f = fault.TermField} {from = c.in_ok-letter.letter} {place = found.place} (λ k from to (a, b, d).
     rw (a ∙ ap ExpectedTermField text, b ∙ before, d)
     (goes_on at_place
-    (goes_on c.in_ok-letter.ensures.meets
-    (goes_on c.in_ok-end.ensures.meets
+    (goes_on c.in_ok-letter.ensures.parses
+    (goes_on c.in_ok-end.ensures.parses
     (fields_then edition t R (term_with t c.args.start name) _ _ (None, f.1) _
     (fields_there edition t R _ _ _ found.value (None, f.1)
     (without_value edition t R _ _ _ found.value f stand c.if-is_none.ensures))
@@ -72,10 +72,10 @@ returns g c =
       _,
       _,
       goes_on at_place
-          (goes_on c.in_ok-letter.ensures.meets
-          (goes_on c.in_ok-end.ensures.meets
+          (goes_on c.in_ok-letter.ensures.parses
+          (goes_on c.in_ok-end.ensures.parses
           (fields_then edition t R (term_with t c.args.start name) _ _ (Some value, f.1) _
           (fields_there edition t R _ _ _ found.value (Some value, f.1) parts)
           given))),
-      term_stands c.in_ok-letter.ensures.meets c.in_ok-end.ensures.meets parts,
+      term_has_parts c.in_ok-letter.ensures.parses c.in_ok-end.ensures.parses parts,
     ))

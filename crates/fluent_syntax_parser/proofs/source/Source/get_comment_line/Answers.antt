@@ -5,14 +5,14 @@ use Rattle.fluent_syntax_grammar.specs.Construct.{Read, Refused, stops, goes_on,
 use Rattle.fluent_syntax_parser.proofs.scanning.LineEnds.{line_rest}
 use Rattle.fluent_syntax_parser.proofs.source.Source.get_comment_line.Goals as goal
 
-pub returns-then-ptr-self-clause-meets : goal.returns-then-ptr-self-clause-meets
-returns-then-ptr-self-clause-meets c =
+pub returns-then-ptr-self-clause-parses : goal.returns-then-ptr-self-clause-parses
+returns-then-ptr-self-clause-parses c =
     let t = c.args.self.now.bytes.now in
     let end = slice_get_past t (c.args.ptr + c.args.level) (omega (arith, c.if-ptr-self.true)) in
     goes_on (passed (record { by = refl })) (chosen (rw end given))
 
-pub returns-then-is_eol_at-clause-meets : goal.returns-then-is_eol_at-clause-meets
-returns-then-is_eol_at-clause-meets c =
+pub returns-then-is_eol_at-clause-parses : goal.returns-then-is_eol_at-clause-parses
+returns-then-is_eol_at-clause-parses c =
     let t = c.args.self.now.bytes.now in
     let start = c.args.ptr + c.args.level in
     let inside : start < length t = omega (arith, c.requires, c.if-ptr-self.false) in
@@ -20,11 +20,11 @@ returns-then-is_eol_at-clause-meets c =
     (chosen (rw (slice_get-get_or t start 0 inside)
     (goes_on (chosen {i = start} {o = Read (record { start = start; end = start }) start}
     (rw (← c.if-is_eol_at.ensures) (goes_on at_place (goes_on at_place given))))
-    (goes_on c.skip_eol.ensures.meets
+    (goes_on c.skip_eol.ensures.parses
     given))))
 
-pub returns-in_err-start-clause-meets : goal.returns-in_err-start-clause-meets
-returns-in_err-start-clause-meets c =
+pub returns-in_err-start-clause-parses : goal.returns-in_err-start-clause-parses
+returns-in_err-start-clause-parses c =
     let t = c.args.self.now.bytes.now in
     let start = c.args.ptr + c.args.level in
     let inside : start < length t = omega (arith, c.requires, c.if-ptr-self.false) in
@@ -33,10 +33,10 @@ returns-in_err-start-clause-meets c =
     goes_on (passed (record { by = refl }))
     (chosen {i = start} {o = Refused k from to} (rw (slice_get-get_or t start 0 inside)
     (stops (chosen {i = start} {o = Refused k from to} (rw (← c.if-is_eol_at.ensures)
-    (stops (c.in_err-start.ensures.meets k from to h))))))))
+    (stops (c.in_err-start.ensures.parses k from to h))))))))
 
-pub returns-clause-meets : goal.returns-clause-meets
-returns-clause-meets c =
+pub returns-clause-parses : goal.returns-clause-parses
+returns-clause-parses c =
     let t = c.args.self.now.bytes.now in
     let start = c.args.ptr + c.args.level in
     let end = c.line_end-end.result in
@@ -45,7 +45,7 @@ returns-clause-meets c =
     (chosen (rw (slice_get-get_or t start 0 inside)
     (goes_on (chosen {i = start} {o = Read (record { start = c.in_ok-start.start; end = end }) end}
     (rw (← c.if-is_eol_at.ensures)
-    (goes_on c.in_ok-start.ensures.meets
+    (goes_on c.in_ok-start.ensures.parses
     (line_rest t _ _ c.line_end-end.ensures.line))))
-    (goes_on c.skip_eol-2.ensures.meets
+    (goes_on c.skip_eol-2.ensures.parses
     given))))

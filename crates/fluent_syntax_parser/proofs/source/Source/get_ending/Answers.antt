@@ -3,12 +3,12 @@ use Rattle.fluent_syntax_grammar.proofs.LineEnds.{after_none}
 use Rattle.fluent_syntax_parser.proofs.patterns.LineEndings.{ends_line, ends_text}
 use Rattle.fluent_syntax_parser.proofs.source.Source.get_ending.Goals as goal
 
-pub returns-in-Some-clause-meets : goal.returns-in-Some-clause-meets
-returns-in-Some-clause-meets c =
+pub returns-in-Some-clause-parses : goal.returns-in-Some-clause-parses
+returns-in-Some-clause-parses c =
     rw c.ending_at.ensures.seen (ends_line c.args.self.now.bytes.now _ _ (sym c.in-Some.ensures.eol))
 
-pub returns-in-None-clause-meets : goal.returns-in-None-clause-meets
-returns-in-None-clause-meets c = ends_text c.args.self.now.bytes.now _ (sym c.in-None.ensures.eol)
+pub returns-in-None-clause-parses : goal.returns-in-None-clause-parses
+returns-in-None-clause-parses c = ends_text c.args.self.now.bytes.now _ (sym c.in-None.ensures.eol)
 
 pub returns-in-None-clause-further : goal.returns-in-None-clause-further
 returns-in-None-clause-further c = λ eol.

@@ -4,4 +4,4 @@ use Rattle.fluent_syntax_parser.proofs.source.Source.skip_comment.Goals as goal
 
 pub returns-clause-line : goal.returns-clause-line
 returns-clause-line c =
-    goes_on (line_rest c.args.self.now.bytes.now _ _ c.line_end.ensures.line) c.skip_eol.ensures.meets
+    goes_on (line_rest c.args.self.now.bytes.now _ _ c.line_end.ensures.line) c.skip_eol.ensures.parses

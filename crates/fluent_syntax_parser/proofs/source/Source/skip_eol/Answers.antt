@@ -3,7 +3,7 @@ use Rattle.fluent_syntax_grammar.specs.Places.{after_eol}
 use Rattle.fluent_syntax_parser.proofs.scanning.LineEnds.{eol_passed}
 use Rattle.fluent_syntax_parser.proofs.source.Source.skip_eol.Goals as goal
 
-pub returns-clause-meets : goal.returns-clause-meets
-returns-clause-meets c =
+pub returns-clause-parses : goal.returns-clause-parses
+returns-clause-parses c =
     rw (c.unwrap_or.ensures, c.eol_end.ensures.eol)
     (chosen (eol_passed (after_eol c.args.self.now.bytes.now c.args.ptr) c.args.ptr))

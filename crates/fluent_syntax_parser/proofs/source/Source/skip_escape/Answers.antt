@@ -8,12 +8,12 @@ use Rattle.fluent_syntax_parser.proofs.readers.Carried.{end_as}
 use Rattle.fluent_syntax_parser.proofs.scanning.StringBytes.{decimal_32, simple, not_simple, unequal}
 use Rattle.fluent_syntax_parser.proofs.source.Source.skip_escape.Goals as goal
 
-pub returns-in-None-clause-meets : goal.returns-in-None-clause-meets
-returns-in-None-clause-meets c =
+pub returns-in-None-clause-parses : goal.returns-in-None-clause-parses
+returns-in-None-clause-parses c =
     λ k from to (a, b, d). chosen {o = Refused k from to} (rw (a, b, d, ← c.in-None.ensures, decimal_32) (failed refl))
 
-pub returns-in-Some-eq92-clause-meets : goal.returns-in-Some-eq92-clause-meets
-returns-in-Some-eq92-clause-meets c =
+pub returns-in-Some-eq92-clause-parses : goal.returns-in-Some-eq92-clause-parses
+returns-in-Some-eq92-clause-parses c =
     chosen
     (rw (← c.in-Some-eq92.ensures)
     (first (simple _ c.in-Some-eq92.field-0-test)
@@ -23,8 +23,8 @@ returns-in-Some-eq92-clause-meets c =
 pub returns-in-Some-eq92-clause-within : goal.returns-in-Some-eq92-clause-within
 returns-in-Some-eq92-clause-within c = grind (arith, gets)
 
-pub returns-in-Some-eq117-clause-meets : goal.returns-in-Some-eq117-clause-meets
-returns-in-Some-eq117-clause-meets c =
+pub returns-in-Some-eq117-clause-parses : goal.returns-in-Some-eq117-clause-parses
+returns-in-Some-eq117-clause-parses c =
     let t = c.args.self.now.bytes.now in
     let found = rw c.in-Some-eq117.field-0-test at c.in-Some-eq117.ensures in
     end_as t (hex_digits t 4) (escape t) _ _ _
@@ -32,10 +32,10 @@ returns-in-Some-eq117-clause-meets c =
     (second refl
     (first refl
     (goes_on (passed (record { by = refl })) h)))))
-    c.skip_hex.ensures.meets
+    c.skip_hex.ensures.parses
 
-pub returns-in-Some-eq85-clause-meets : goal.returns-in-Some-eq85-clause-meets
-returns-in-Some-eq85-clause-meets c =
+pub returns-in-Some-eq85-clause-parses : goal.returns-in-Some-eq85-clause-parses
+returns-in-Some-eq85-clause-parses c =
     let t = c.args.self.now.bytes.now in
     let found = rw c.in-Some-eq85.field-0-test at c.in-Some-eq85.ensures in
     end_as t (hex_digits t 6) (escape t) _ _ _
@@ -44,10 +44,10 @@ returns-in-Some-eq85-clause-meets c =
     (second refl
     (first refl
     (goes_on (passed (record { by = refl })) h))))))
-    c.skip_hex-in-Some-eq85.ensures.meets
+    c.skip_hex-in-Some-eq85.ensures.parses
 
-pub returns-in-Some-clause-meets : goal.returns-in-Some-clause-meets
-returns-in-Some-clause-meets c =
+pub returns-in-Some-clause-parses : goal.returns-in-Some-clause-parses
+returns-in-Some-clause-parses c =
     let test = c.in-Some.byte-test in
     λ k from to (a, b, d). chosen {o = Refused k from to}
     (rw (a, b, d, ← c.in-Some.ensures)

@@ -1,8 +1,8 @@
 use Rattle.fluent_syntax_grammar.specs.Construct.{goes_on, passed}
 use Rattle.fluent_syntax_parser.proofs.source.Source.skip_separator.Goals as goal
 
-pub returns-clause-meets : goal.returns-clause-meets
-returns-clause-meets c =
+pub returns-clause-parses : goal.returns-clause-parses
+returns-clause-parses c =
     goes_on (passed c.skip_blank-ptr.ensures.blank)
-    (goes_on c.take_byte_if-ptr.ensures.meets
+    (goes_on c.take_byte_if-ptr.ensures.parses
     (passed c.skip_blank.ensures.blank))

@@ -6,8 +6,8 @@ use Rattle.fluent_syntax_grammar.specs.Strings.{before_quote, unit_and_more, bad
 use Rattle.fluent_syntax_parser.proofs.scanning.StringBytes.{plain_units, lf_there}
 use Rattle.fluent_syntax_parser.proofs.source.Source.skip_string_units.Goals as goal
 
-pub returns-in-None-clause-meets : goal.returns-in-None-clause-meets
-returns-in-None-clause-meets c =
+pub returns-in-None-clause-parses : goal.returns-in-None-clause-parses
+returns-in-None-clause-parses c =
     let none = sym c.in-None.ensures in
     λ k from to (a, b, d). rw (a, b, d)
     (c.loop-unit.invariant.rest _
@@ -16,16 +16,16 @@ returns-in-None-clause-meets c =
     (rw none
     (failed refl)))))
 
-pub returns-in-Some-eq34-clause-meets : goal.returns-in-Some-eq34-clause-meets
-returns-in-Some-eq34-clause-meets c =
+pub returns-in-Some-eq34-clause-parses : goal.returns-in-Some-eq34-clause-parses
+returns-in-Some-eq34-clause-parses c =
     let quote = sym (rw c.in-Some-eq34.field-0-test at c.in-Some-eq34.ensures) in
     c.loop-unit.invariant.rest _ (plain_units _ _ _ _ c.plain_end-end.ensures.text (before_quote (rw quote refl)))
 
 pub skip_escape-requires : goal.skip_escape-requires
 skip_escape-requires c = grind (arith, gets)
 
-pub returns-in_err-unit-in-Some-eq92-clause-meets : goal.returns-in_err-unit-in-Some-eq92-clause-meets
-returns-in_err-unit-in-Some-eq92-clause-meets c =
+pub returns-in_err-unit-in-Some-eq92-clause-parses : goal.returns-in_err-unit-in-Some-eq92-clause-parses
+returns-in_err-unit-in-Some-eq92-clause-parses c =
     let p = err_from_is_err_and c.from_residual.result c.from_residual.ensures.1 in
     let found = sym (rw c.in-Some-eq92.field-0-test at c.in-Some-eq92.ensures) in
     rw (p.1, p.2) (λ k from to h.
@@ -35,7 +35,7 @@ returns-in_err-unit-in-Some-eq92-clause-meets c =
     (rw found
     (second refl
     (first refl
-    (c.in_err-unit-in-Some-eq92.ensures.meets k from to h)))))))
+    (c.in_err-unit-in-Some-eq92.ensures.parses k from to h)))))))
 
 pub loop-unit-preserved : goal.loop-unit-preserved
 loop-unit-preserved c =
@@ -52,12 +52,12 @@ loop-unit-preserved c =
       rest =
           λ o h. c.loop-unit.invariant.rest o
           (plain_units _ _ _ o c.plain_end-end.ensures.text
-          (unit_and_more (rw found refl) (rw found (second refl (first refl c.in_ok-unit-in-Some-eq92.ensures.meets)))
+          (unit_and_more (rw found refl) (rw found (second refl (first refl c.in_ok-unit-in-Some-eq92.ensures.parses)))
           h));
     }
 
-pub returns-in-Some-clause-meets : goal.returns-in-Some-clause-meets
-returns-in-Some-clause-meets c =
+pub returns-in-Some-clause-parses : goal.returns-in-Some-clause-parses
+returns-in-Some-clause-parses c =
     let text = c.plain_end-end.ensures.text in
     let found = lf_there c.args.self.now.bytes.now c.plain_end-end.result c.in-Some.field-0 (sym c.in-Some.ensures)
     text.longest c.in-Some.field-0-test.0.1 c.in-Some.field-0-test.1 in

@@ -31,7 +31,7 @@ loop-start-preserved c =
       inside = text.within.1;
       passed = λ n rest end found.
           let attribute = attribute_stands c.args.edition t _ _ _ _ _ _ c.skip_blank_inline-dot.ensures.blank
-          mark.meets field.opens opens n in
+          mark.parses field.opens opens n in
           inv.passed n _ end (one_more attribute.1 found);
     }
 
@@ -39,4 +39,4 @@ pub returns-in_default-clause-attributes : goal.returns-in_default-clause-attrib
 returns-in_default-clause-attributes c = λ n.
     c.loop-start.invariant.passed n [] _
     (no_more (goes_on (passed c.skip_blank_inline-dot.ensures.blank)
-    (stops (c.in_default.ensures.meets _ _ _ (refl, refl, refl)))))
+    (stops (c.in_default.ensures.parses _ _ _ (refl, refl, refl)))))

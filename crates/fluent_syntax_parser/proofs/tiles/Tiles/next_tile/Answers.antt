@@ -26,7 +26,7 @@ returns-clause-next c =
     (put.added ∙ ap (λ xs. xs ++ put.entry ∷ []) c.new-body.ensures.items) in
     let told =
     c.only_item-error.ensures put.error
-    (put.tells ∙ ap (λ xs. xs ++ option_to_list put.error) c.new-errors.ensures.items) in
+    (put.errors_are ∙ ap (λ xs. xs ++ option_to_list put.error) c.new-errors.ensures.items) in
     record {
       tile = found.tile;
       blank = c.skip_blank_block-start.ensures.blank;

@@ -9,8 +9,8 @@ returns-then-is_used g c =
     let f = g.T.ReadTexts.text in
     let named = c.args.named.now in
     let earlier = take c.loop-index.index named in
-    let asked = rw c.as_str.ensures at c.is_used.ensures in
-    let fails = ap not (sym (asked ∙ new_name-used f earlier c.index-named-index.result) ∙ c.if-is_used.true) in
+    let options = rw c.as_str.ensures at c.is_used.ensures in
+    let fails = ap not (sym (options ∙ new_name-used f earlier c.index-named-index.result) ∙ c.if-is_used.true) in
     item_fails (new_names f) (one_new_name f) (with_name f) (first_new_name f) (used f earlier) named _ _ _
     c.loop-index-test.true c.index-named-index.is fails c.loop-index.invariant.rest
 
@@ -19,8 +19,8 @@ loop-index-preserved g c =
     let f = g.T.ReadTexts.text in
     let named = c.args.named.now in
     let earlier = take c.loop-index.index named in
-    let asked = rw c.as_str.ensures at c.is_used.ensures in
-    let holds = ap not (sym (asked ∙ new_name-used f earlier c.index-named-index.result) ∙ c.if-is_used.false) in
+    let options = rw c.as_str.ensures at c.is_used.ensures in
+    let holds = ap not (sym (options ∙ new_name-used f earlier c.index-named-index.result) ∙ c.if-is_used.false) in
     let rest =
     item_passes (new_names f) (one_new_name f) (with_name f) (first_new_name f) (used f earlier) named _ _ _
     c.loop-index-test.true c.index-named-index.is holds c.loop-index.invariant.rest in

@@ -3,7 +3,7 @@ use Rattle.fluent_syntax_tree.specs.declared.ast.NamedArgument.{NamedArgument}
 use Rattle.fluent_syntax_tree.specs.Tree.{nameds_of}
 use Rattle.fluent_syntax_tree.specs.View.{named_view}
 use Rattle.fluent_syntax_grammar.specs.NameKeys.{NotesAll}
-use Rattle.fluent_syntax_writer.specs.Alone.{have_new_names}
+use Rattle.fluent_syntax_writer.specs.SingleRule.{have_new_names}
 use Rattle.fluent_syntax_writer.specs.Names.{name_of}
 use Rattle.fluent_syntax_writer.proofs.canonical.argument_names.have_new_names_by_table.Given as goal
 

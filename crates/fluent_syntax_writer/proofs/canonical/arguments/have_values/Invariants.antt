@@ -2,7 +2,7 @@ use Rattle.std.proofs.Common.{◌≡◌, List, drop, map}
 use Rattle.fluent_syntax_tree.specs.declared.ast.NamedArgument.{NamedArgument}
 use Rattle.fluent_syntax_tree.specs.Tree.{nameds_of}
 use Rattle.fluent_syntax_tree.specs.View.{named_view}
-use Rattle.fluent_syntax_writer.specs.Alone.{have_values}
+use Rattle.fluent_syntax_writer.specs.SingleRule.{have_values}
 use Rattle.fluent_syntax_writer.proofs.canonical.arguments.have_values.Given as goal
 
 abbrev pub invariant-loop-argument : goal.invariant-loop-argument

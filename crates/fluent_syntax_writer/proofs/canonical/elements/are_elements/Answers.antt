@@ -1,8 +1,8 @@
 use Rattle.std.proofs.Common.{sym, ◌∙◌}
 use Rattle.std.proofs.lemmas.List.{take_rest}
 use Rattle.fluent_syntax_tree.specs.View.{element_view}
-use Rattle.fluent_syntax_writer.specs.Places.{stand_of}
-use Rattle.fluent_syntax_writer.proofs.rules.Stands.{obey, obeys, past, first_obeys}
+use Rattle.fluent_syntax_writer.specs.Places.{position_of}
+use Rattle.fluent_syntax_writer.proofs.rules.Positions.{obey, obeys, past, first_obeys}
 use Rattle.fluent_syntax_writer.proofs.rules.Steps.{item_passes, item_fails}
 use Rattle.fluent_syntax_writer.proofs.canonical.elements.are_elements.Goals as goal
 
@@ -24,6 +24,7 @@ loop-index-preserved g c =
     let tested = rw take_rest at c.is_element.ensures in
     let rest =
     item_passes (obey view edition multiline) (obeys view edition multiline) (past view)
-    (first_obeys view edition multiline) (stand_of c.loop-index.stand) c.args.elements.now _ _ _ c.loop-index-test.true
+    (first_obeys view edition multiline) (position_of c.loop-index.position) c.args.elements.now _ _ _
+    c.loop-index-test.true
     c.index-elements-index.is (sym tested ∙ c.if-not-is_element.false) c.loop-index.invariant.rest in
-    record { rest = rw c.stand_past-stand.ensures rest }
+    record { rest = rw c.position_past-position.ensures rest }

@@ -3,7 +3,7 @@ use Rattle.std.specs.Option.{option_copied}
 use Rattle.fluent_syntax_tree.specs.View.{element_view}
 use Rattle.fluent_syntax_grammar.specs.Readable.{begins_with_placeable}
 use Rattle.fluent_syntax_writer.specs.Places.{is_placeable}
-use Rattle.fluent_syntax_writer.proofs.rules.Stands.{first_tested, none_tested, begins_with_placeable-first}
+use Rattle.fluent_syntax_writer.proofs.rules.Positions.{first_tested, none_tested, begins_with_placeable-first}
 use Rattle.fluent_syntax_writer.proofs.canonical.elements.begins_with_placeable.Goals as goal
 
 pub returns-in-Some : goal.returns-in-Some

@@ -1,6 +1,6 @@
 use Rattle.std.proofs.Common.{sym, ap, not, ◌∙◌}
 use Rattle.fluent_syntax_tree.specs.View.{element_view}
-use Rattle.fluent_syntax_writer.proofs.rules.Stands.{ends_well-before}
+use Rattle.fluent_syntax_writer.proofs.rules.Positions.{ends_well-before}
 use Rattle.fluent_syntax_writer.proofs.canonical.elements.ends_well.Goals as goal
 
 pub returns-then-not-is_empty : goal.returns-then-not-is_empty

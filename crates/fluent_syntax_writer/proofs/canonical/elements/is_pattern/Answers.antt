@@ -2,7 +2,7 @@ use Rattle.std.proofs.Common.{◌≡◌, ◌≤◌, length, sym, ap, not, ◌∙
 use Rattle.std.proofs.lemmas.Bool.{eqb-true, eqb-false}
 use Rattle.fluent_syntax_tree.specs.View.{element_view}
 use Rattle.fluent_syntax_tree.proofs.Views.{view-Pattern}
-use Rattle.fluent_syntax_writer.proofs.rules.Stands.{is_pattern-some, is_pattern-none}
+use Rattle.fluent_syntax_writer.proofs.rules.Positions.{is_pattern-some, is_pattern-none}
 use Rattle.fluent_syntax_writer.proofs.canonical.elements.is_pattern.Goals as goal
 
 pub returns-then-not-is_empty : goal.returns-then-not-is_empty

@@ -5,7 +5,7 @@ use Rattle.fluent_syntax_tree.specs.View.{element_view}
 use Rattle.fluent_syntax_tree.proofs.Views.{view-Pattern}
 use Rattle.fluent_syntax_grammar.specs.Canonical.{hides_mark}
 use Rattle.fluent_syntax_writer.specs.Places.{element_hides_mark}
-use Rattle.fluent_syntax_writer.proofs.rules.Stands.{first_tested, none_tested, hides_mark-first}
+use Rattle.fluent_syntax_writer.proofs.rules.Positions.{first_tested, none_tested, hides_mark-first}
 use Rattle.fluent_syntax_writer.proofs.canonical.flush.hides_mark.Goals as goal
 
 pub returns-in-Some : goal.returns-in-Some

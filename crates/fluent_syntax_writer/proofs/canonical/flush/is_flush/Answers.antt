@@ -11,5 +11,5 @@ returns-then-not-hides_mark g c =
     let spans = sym c.is_multiline.ensures ∙ c.if-not-is_multiline.false in
     let shows = sym c.hides_mark.ensures ∙ c.if-not-hides_mark.true in
     let same = view-Pattern f pattern in
-    let flush = rw (c.first_stand-stand.ensures, c.deref.ensures.value, ← same) at c.are_flush.ensures in
+    let flush = rw (c.first_position-position.ensures, c.deref.ensures.value, ← same) at c.are_flush.ensures in
     flush ∙ sym (flush_by_lines c.args.edition (pattern_view f pattern) spans shows)

@@ -3,9 +3,9 @@ use Rattle.fluent_syntax_tree.specs.declared.ast.PatternElement.{PatternElement}
 use Rattle.fluent_syntax_tree.specs.View.{element_view}
 use Rattle.fluent_syntax_grammar.specs.Canonical.{line_numbers}
 use Rattle.fluent_syntax_grammar.specs.Layout.{least}
-use Rattle.fluent_syntax_writer.specs.Places.{stand_of, lesser}
+use Rattle.fluent_syntax_writer.specs.Places.{position_of, lesser}
 use Rattle.fluent_syntax_writer.proofs.rules.Lines.{least-step}
-use Rattle.fluent_syntax_writer.proofs.rules.Stands.{tree}
+use Rattle.fluent_syntax_writer.proofs.rules.Positions.{tree}
 use Rattle.fluent_syntax_writer.proofs.rules.Steps.{next_of}
 use Rattle.fluent_syntax_writer.proofs.canonical.flush.least_number.Goals as goal
 
@@ -14,12 +14,12 @@ loop-element-preserved g c =
     let view = element_view g.T.ReadTexts.text in
     let elements = c.args.elements.now in
     let place = c.loop-element.element-index in
-    let stand = stand_of c.loop-element.stand in
+    let position = position_of c.loop-element.position in
     let so_far = c.loop-element.least in
     let left = λ (es : List (PatternElement g.row.X.Denot)).
-    lesser so_far (least (line_numbers c.args.edition stand (tree view es))) in
+    lesser so_far (least (line_numbers c.args.edition position (tree view es))) in
     let next = next_of left elements place _ c.loop-element-test.true c.element-item.is in
     let later = tree view (drop (place + 1) elements) in
-    let step = least-step c.args.edition stand _ later so_far c.line_number.result c.line_number.ensures in
+    let step = least-step c.args.edition position _ later so_far c.line_number.result c.line_number.ensures in
     let rest = sym (next ∙ step) ∙ c.loop-element.invariant.rest in
-    record { rest = rw (c.lesser-least.ensures, c.stand_past-stand.ensures) rest }
+    record { rest = rw (c.lesser-least.ensures, c.position_past-position.ensures) rest }

@@ -4,7 +4,7 @@ use Rattle.std.specs.Option.{option_copied}
 use Rattle.fluent_syntax_tree.specs.View.{element_view}
 use Rattle.fluent_syntax_tree.proofs.Views.{view-Pattern}
 use Rattle.fluent_syntax_grammar.specs.Written.{has_leading_mark, element_begins_with_mark}
-use Rattle.fluent_syntax_writer.proofs.rules.Stands.{first_tested, none_tested}
+use Rattle.fluent_syntax_writer.proofs.rules.Positions.{first_tested, none_tested}
 use Rattle.fluent_syntax_writer.proofs.canonical.patterns.has_leading_mark.Goals as goal
 
 pub returns-in-Some : goal.returns-in-Some

@@ -4,7 +4,7 @@ use Rattle.std.proofs.lemmas.Iterator.Search.{any_from_yields_List}
 use Rattle.fluent_syntax_tree.specs.View.{element_view}
 use Rattle.fluent_syntax_tree.proofs.Views.{view-Pattern}
 use Rattle.fluent_syntax_grammar.specs.Written.{spans_lines, is_multiline}
-use Rattle.fluent_syntax_writer.proofs.rules.Stands.{is_multiline-list}
+use Rattle.fluent_syntax_writer.proofs.rules.Positions.{is_multiline-list}
 use Rattle.fluent_syntax_writer.proofs.canonical.patterns.is_multiline.Goals as goal
 
 pub returns : goal.returns

@@ -7,7 +7,7 @@ use Rattle.fluent_syntax_tree.proofs.Views.{view-VariableReference, view-InlineP
 use Rattle.fluent_syntax_tree.proofs.Views.{view-Placeable, view-Pattern, view-Variant, view-NamedArgument}
 use Rattle.fluent_syntax_tree.proofs.Views.{view-CallArguments}
 use Rattle.fluent_syntax_grammar.specs.Rules.{option_obeys, maybe_obeys, arguments_obey}
-use Rattle.fluent_syntax_writer.specs.Standards.{rules_of}
+use Rattle.fluent_syntax_writer.specs.RuleSets.{rules_of}
 use Rattle.fluent_syntax_writer.proofs.rules.Nodes.{pattern_parts}
 use Rattle.fluent_syntax_writer.proofs.rules.Steps.{three_hold, three_fail}
 use Rattle.fluent_syntax_writer.proofs.canonical.walk.+obeys.Goals as goal
@@ -17,7 +17,7 @@ pattern_obeys-returns-then-is_pattern_by g t c =
     let f = g.T.ReadTexts.text in
     let holds = sym c.is_pattern_by.ensures ∙ c.if-is_pattern_by.true in
     let elements = rw (c.deref.ensures.value, ← view-Pattern f c.args.pattern.now) at c.elements_obey.ensures in
-    elements ∙ pattern_parts (rules_of c.args.asked.standard) (pattern_view f c.args.pattern.now) holds
+    elements ∙ pattern_parts (rules_of c.args.options.rule_set) (pattern_view f c.args.pattern.now) holds
 
 pub element_obeys-returns-in-TextElement : goal.element_obeys-returns-in-TextElement
 element_obeys-returns-in-TextElement g t c = rw (c.in-TextElement.is, view-TextElement)
@@ -62,7 +62,7 @@ inline_obeys-returns-then-is_function_name g t c =
     let tested = rw c.as_str-in-FunctionReference.ensures at c.is_function_name.ensures in
     let both = sym tested ∙ c.if-is_function_name.true in
     rw (c.in-FunctionReference.is, view-FunctionReference)
-    (three_hold ((rules_of c.args.asked.standard).name name) ((rules_of c.args.asked.standard).callee name) _ _ both
+    (three_hold ((rules_of c.args.options.rule_set).name name) ((rules_of c.args.options.rule_set).callee name) _ _ both
     c.arguments_obey.ensures)
 
 pub inline_obeys-returns-else-is_function_name : goal.inline_obeys-returns-else-is_function_name
@@ -73,8 +73,8 @@ inline_obeys-returns-else-is_function_name g t c =
     let both = sym tested ∙ c.if-is_function_name.false in
     rw (c.in-FunctionReference.is, view-FunctionReference)
     (c.if-is_function_name.false
-    ∙ three_fail ((rules_of c.args.asked.standard).name name) ((rules_of c.args.asked.standard).callee name)
-    (arguments_obey (rules_of c.args.asked.standard) given) both)
+    ∙ three_fail ((rules_of c.args.options.rule_set).name name) ((rules_of c.args.options.rule_set).callee name)
+    (arguments_obey (rules_of c.args.options.rule_set) given) both)
 
 pub inline_obeys-returns-in-MessageReference : goal.inline_obeys-returns-in-MessageReference
 inline_obeys-returns-in-MessageReference g t c =
@@ -84,7 +84,7 @@ pub inline_obeys-returns-then-reference_obeys : goal.inline_obeys-returns-then-r
 inline_obeys-returns-then-reference_obeys g t c =
     let f = g.T.ReadTexts.text in
     let reference = c.in-TermReference in
-    let name = (rules_of c.args.asked.standard).name in
+    let name = (rules_of c.args.options.rule_set).name in
     let named = option_obeys name (option_map (identifier_view f) reference.attribute) in
     let both = sym c.reference_obeys-in-TermReference.ensures ∙ c.if-reference_obeys.true in
     rw (reference.is, view-TermReference)
@@ -94,14 +94,14 @@ pub inline_obeys-returns-else-reference_obeys : goal.inline_obeys-returns-else-r
 inline_obeys-returns-else-reference_obeys g t c =
     let f = g.T.ReadTexts.text in
     let reference = c.in-TermReference in
-    let name = (rules_of c.args.asked.standard).name in
+    let name = (rules_of c.args.options.rule_set).name in
     let named = option_obeys name (option_map (identifier_view f) reference.attribute) in
     let given = arguments_of (option_map (arguments_view f) reference.arguments) in
     let both = sym c.reference_obeys-in-TermReference.ensures ∙ c.if-reference_obeys.false in
     rw (reference.is, view-TermReference)
     (c.if-reference_obeys.false
     ∙ three_fail (name (f reference.id.name)) named
-    (maybe_obeys (rules_of c.args.asked.standard) given) both)
+    (maybe_obeys (rules_of c.args.options.rule_set) given) both)
 
 pub inline_obeys-returns-in-VariableReference : goal.inline_obeys-returns-in-VariableReference
 inline_obeys-returns-in-VariableReference g t c =

@@ -1,13 +1,16 @@
 use Rattle.std.proofs.lemmas.List.{drop_all}
-use Rattle.fluent_syntax_grammar.proofs.Leaves.{Leaves-more, Leaves-end, drop_at}
+use Rattle.fluent_syntax_grammar.proofs.Remaining.{RemainingMarks-more, RemainingMarks-end, drop_at}
 use Rattle.fluent_syntax_writer.proofs.serializer.entries.serialize_attributes.Goals as goal
 
 pub loop-attribute-preserved : goal.loop-attribute-preserved
 loop-attribute-preserved g c =
     let next = drop_at c.args.attributes.now _ _ c.loop-attribute-test.true c.attribute-item.is in
-    record { rest = Leaves-more (rw next at c.loop-attribute.invariant.rest) c.serialize_attribute.ensures.written }
+    record {
+      rest = RemainingMarks-more (rw next at c.loop-attribute.invariant.rest)
+          c.serialize_attribute.ensures.written;
+    }
 
 pub returns : goal.returns
 returns g c =
     let none = drop_all _ c.args.attributes.now c.loop-attribute-test.false in
-    record { written = Leaves-end (rw none at c.loop-attribute.invariant.rest) }
+    record { written = RemainingMarks-end (rw none at c.loop-attribute.invariant.rest) }

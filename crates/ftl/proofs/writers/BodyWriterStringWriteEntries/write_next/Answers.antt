@@ -6,7 +6,7 @@ returns c = record {
     added = λ {tree} has. record {
       start = has.start;
       is_empty = has.is_empty;
-      came = c.write_entry.ensures.written has.start tree has.came;
+      wrote = c.write_entry.ensures.written has.start tree has.wrote;
     };
   };
 }

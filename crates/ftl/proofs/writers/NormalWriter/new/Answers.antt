@@ -5,7 +5,7 @@ pub returns : goal.returns
 returns c = record {
   start = c.text_for.result;
   is_empty = c.text_for.ensures;
-  came = c.new.ensures.none_came;
+  wrote = c.new.ensures.wrote_none;
   no_junk = ap (λ options. options.with_junk) c.new.ensures.options ∙ c.default.ensures;
   by_edition = refl;
   canonical = λ all. refl;

@@ -3,7 +3,7 @@ use Rattle.fluent_syntax_grammar.specs.Canonical.{canonical_rules}
 use Rattle.fluent_syntax_grammar.specs.Rules.{entry_obeys}
 use Rattle.fluent_syntax_grammar.proofs.Facts.{left_true, right_true}
 use Rattle.fluent_syntax_tree.specs.View.{entry_view}
-use Rattle.ftl.proofs.Came.{obeys_on}
+use Rattle.ftl.proofs.WroteEntries.{obeys_on}
 use Rattle.ftl.proofs.writers.NormalWriterWriteEntries.write_next.Goals as goal
 
 pub returns : goal.returns
@@ -12,7 +12,7 @@ returns c = record {
     added = λ {edition} {tree} has. record {
       start = has.start;
       is_empty = has.is_empty;
-      came = c.write_entry.ensures.written has.start tree has.came;
+      wrote = c.write_entry.ensures.written has.start tree has.wrote;
       no_junk = ap (λ options. options.with_junk) c.write_entry.ensures.options ∙ has.no_junk;
       by_edition = has.by_edition;
       canonical = λ all.

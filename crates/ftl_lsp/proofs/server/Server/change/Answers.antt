@@ -4,12 +4,12 @@ use Rattle.std.proofs.lemmas.Result.{IfOk-weaker}
 use Rattle.serde_json.specs.View.{items_view, view}
 use Rattle.serde_json.specs.declared.value.Value.{Value}
 use Rattle.ftl_lsp.specs.Edits.{edit_of, edits_in}
-use Rattle.ftl_lsp.specs.Opened.{texts}
+use Rattle.ftl_lsp.specs.OpenDocuments.{texts}
 use Rattle.ftl_lsp.specs.Replies.{silence, sends_none}
 use Rattle.ftl_lsp.specs.Sessions.{passes, session_of}
 use Rattle.ftl_lsp.specs.declared.changes.Change.{Change}
 use Rattle.ftl_lsp.specs.declared.methods.Method.TheVariants.{DidChange}
-use Rattle.ftl_lsp.proofs.SessionLemmas.{edits_of_changes, named_open, not_named, tells_changed}
+use Rattle.ftl_lsp.proofs.SessionLemmas.{edits_of_changes, named_open, not_named, publishes_changed}
 use Rattle.ftl_lsp.proofs.SessionLemmas.{unless_open, unreadable}
 use Rattle.ftl_lsp.proofs.server.Server.change.Goals as goal
 
@@ -67,7 +67,7 @@ returns-clause-follows c =
     let is_read = ap (λ (vs : List Value). edits_in (items_view vs)) (sym c.deref.ensures.value)
     ∙ sym c.in_ok-changes.ensures ∙ ap (option_map (λ changes. map edit_of changes.items)) c.in-Some-2.is
     ∙ ap (λ (cs : List Change). Some (map edit_of cs)) (sym c.deref-2.ensures.value) in
-    tells_changed c.publish.result (view c.args.message.now) c.in-Some.uri.now (items_view values)
+    publishes_changed c.publish.result (view c.args.message.now) c.in-Some.uri.now (items_view values)
     (map edit_of c.deref-2.result.now) c.version_of.result c.in_ok-change.field-0 (session_of c.args.self.now)
     (record { phase = c.args.self.now.phase; texts = texts c.change.new.self }) (session_of c.publish.new.self)
     (sym c.in-Some.ensures) (sym c.in-Some-changes_in.ensures) is_read c.version_of.ensures

@@ -1,6 +1,6 @@
 use Rattle.std.proofs.Common.{ap, map, refl, sym}
 use Rattle.serde_json.specs.View.{view}
-use Rattle.ftl_lsp.specs.Opened.{texts}
+use Rattle.ftl_lsp.specs.OpenDocuments.{texts}
 use Rattle.ftl_lsp.specs.Replies.{silence, sends_none, withdrawn}
 use Rattle.ftl_lsp.specs.Sessions.{closes, passes}
 use Rattle.ftl_lsp.specs.declared.methods.Method.TheVariants.{DidClose}

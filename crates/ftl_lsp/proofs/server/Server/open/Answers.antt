@@ -2,11 +2,11 @@ use Rattle.std.proofs.Common.{ap, refl, sym}
 use Rattle.std.proofs.Common.{Some}
 use Rattle.std.proofs.lemmas.Result.{IfOk-weaker}
 use Rattle.serde_json.specs.View.{view}
-use Rattle.ftl_lsp.specs.Opened.{texts}
+use Rattle.ftl_lsp.specs.OpenDocuments.{texts}
 use Rattle.ftl_lsp.specs.Replies.{silence, sends_none}
 use Rattle.ftl_lsp.specs.Sessions.{passes, session_of}
 use Rattle.ftl_lsp.specs.declared.methods.Method.TheVariants.{DidOpen}
-use Rattle.ftl_lsp.proofs.SessionLemmas.{no_name, no_text, tells_opened}
+use Rattle.ftl_lsp.proofs.SessionLemmas.{no_name, no_text, publishes_opened}
 use Rattle.ftl_lsp.proofs.server.Server.open.Goals as goal
 
 pub returns-in_default-clause-follows : goal.returns-in_default-clause-follows
@@ -28,7 +28,7 @@ returns-clause-phase c = IfOk-weaker c.publish.result _ _ (λ sent e. ap (λ s. 
 
 pub returns-clause-follows : goal.returns-clause-follows
 returns-clause-follows c =
-    tells_opened c.publish.result (view c.args.message.now) c.in-Some.uri.now c.in-Some-opened_text.text.now
+    publishes_opened c.publish.result (view c.args.message.now) c.in-Some.uri.now c.in-Some-opened_text.text.now
     c.version_of.result (session_of c.args.self.now)
     (record { phase = c.args.self.now.phase; texts = texts c.open.new.self }) (session_of c.publish.new.self)
     (sym c.in-Some.ensures) (sym c.in-Some-opened_text.ensures) c.version_of.ensures c.in_ok-open.ensures

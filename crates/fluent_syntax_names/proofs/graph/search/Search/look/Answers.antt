@@ -2,7 +2,7 @@ use Rattle.std.proofs.Common.{◌≡◌, ◌<◌, ◌≤◌, ◌+◌, ◌-◌, �
 use Rattle.std.proofs.Common.{get_or, vec_len}
 use Rattle.std.specs.declared.alloc.Global.{Global}
 use Rattle.std.proofs.lemmas.List.{get_or_read, get_or-set_same, length-set}
-use Rattle.fluent_syntax_names.specs.Graph.{targets_of, Leads, edges, target}
+use Rattle.fluent_syntax_names.specs.Graph.{targets_of, HasEdge, edges, target}
 use Rattle.fluent_syntax_names.specs.Search.{at, Looked, pending_at, Sound}
 use Rattle.fluent_syntax_names.specs.declared.graph.search.Pending.{Pending}
 use Rattle.fluent_syntax_names.specs.declared.graph.search.State.{State}
@@ -44,7 +44,7 @@ returns-in-New-clause-found c =
     let edge =
     edge_read g l.stack.items s.stack.items p x c.edges_of-targets.result.now inv.stack x_is c.edges_of-targets.ensures
     c.loop-next.next k_in in
-    let leads : Leads g (at l.stack.items p) t = (c.loop-next.next, edge.0, edge.1) in
+    let leads : HasEdge g (at l.stack.items p) t = (c.loop-next.next, edge.0, edge.1) in
     let t_in : t < length g =
     subst (λ (y : ℕ). y < length g) edge.1 (c.requires.graph (at l.stack.items p) c.loop-next.next edge.0) in
     let within : t < length l.states.items = omega (arith, inv.sound.sizes) in

@@ -1,7 +1,7 @@
 use Rattle.std.proofs.Common.{◌≡◌, ◌<◌, ℕ, List, Vec, length, take, sym, ap, ◌∙◌, subst, arith, vec_len}
 use Rattle.std.specs.declared.alloc.Global.{Global}
 use Rattle.std.proofs.lemmas.List.{length-map}
-use Rattle.fluent_syntax_names.specs.Graph.{targets_of, Leads}
+use Rattle.fluent_syntax_names.specs.Graph.{targets_of, HasEdge}
 use Rattle.fluent_syntax_names.specs.Search.{State_of, at, Back, at_done, at_open}
 use Rattle.fluent_syntax_names.specs.declared.graph.search.Pending.{Pending}
 use Rattle.fluent_syntax_names.specs.declared.graph.search.State.{State}
@@ -21,7 +21,7 @@ returns-in-Open-clause-sound c =
     let known =
     state_read s.states.items c.args.target c.index.result.now (state.Open j) within c.index.ensures c.in-Open.is in
     let placed = c.requires.sound.placed c.args.target j known in
-    let leads = subst (λ (x : ℕ). Leads g (at s.stack.items c.args.from) x) (sym placed.1) c.requires.leads in
+    let leads = subst (λ (x : ℕ). HasEdge g (at s.stack.items c.args.from) x) (sym placed.1) c.requires.leads in
     let m = vec_len t.starts in
     let e = c.merge.ensures in
     sound_same g s.states.items t.states.items s.stack.items t.stack.items (take m s.starts.items) t.starts.items
@@ -42,7 +42,7 @@ returns-in-Open-clause-seen c =
     let known =
     state_read s.states.items c.args.target c.index.result.now (state.Open j) within c.index.ensures c.in-Open.is in
     let placed = c.requires.sound.placed c.args.target j known in
-    let leads = subst (λ (x : ℕ). Leads g (at s.stack.items c.args.from) x) (sym placed.1) c.requires.leads in
+    let leads = subst (λ (x : ℕ). HasEdge g (at s.stack.items c.args.from) x) (sym placed.1) c.requires.leads in
     let m = vec_len t.starts in
     let e = c.merge.ensures in
     let still : State_of t.states.items c.args.target ≡ state.Open j =

@@ -18,7 +18,7 @@ use Rattle.fluent_syntax_grammar.specs.Places.{has_byte}
 use Rattle.fluent_syntax_grammar.proofs.FunctionalWords.{functional_blank, functional_optional, functional_token}
 use Rattle.fluent_syntax_grammar.proofs.Nesting.{functional_within}
 use Rattle.fluent_syntax_parser.specs.Made.{made}
-use Rattle.fluent_syntax_parser.specs.Meets.{no_memory, refused, too_deep}
+use Rattle.fluent_syntax_parser.specs.Outcomes.{no_memory, refused, too_deep}
 use Rattle.fluent_syntax_parser.specs.declared.fault.Fault.TheVariants as fault
 use Rattle.fluent_syntax_parser.proofs.expressions.ArgumentNames.{argument_text}
 use Rattle.fluent_syntax_parser.proofs.expressions.ArgumentLists.{all_arguments, inline_fails, late, list_closed}
@@ -36,63 +36,63 @@ use Rattle.fluent_syntax_parser.proofs.reader.Reader.+readers.Goals.{
 }
 use Rattle.fluent_syntax_parser.proofs.reader.Reader.+readers.Goals.{get_arguments-in_default-via-in_default}
 
-pub get_call_arguments-returns-then-not-bracket-clause-meets :
-    goal.get_call_arguments-returns-then-not-bracket-clause-meets
-get_call_arguments-returns-then-not-bracket-clause-meets g m c =
+pub get_call_arguments-returns-then-not-bracket-clause-parses :
+    goal.get_call_arguments-returns-then-not-bracket-clause-parses
+get_call_arguments-returns-then-not-bracket-clause-parses g m c =
     made
     (goes_on (passed c.skip_blank-start.ensures.blank)
-    (goes_on c.take_byte_if-bracket.ensures.meets
+    (goes_on c.take_byte_if-bracket.ensures.parses
     (second c.if-not-bracket.true given)))
     refl
 
-pub get_call_arguments-returns-then-nesting-eq0-clause-meets :
-    goal.get_call_arguments-returns-then-nesting-eq0-clause-meets
-get_call_arguments-returns-then-nesting-eq0-clause-meets g m c =
+pub get_call_arguments-returns-then-nesting-eq0-clause-parses :
+    goal.get_call_arguments-returns-then-nesting-eq0-clause-parses
+get_call_arguments-returns-then-nesting-eq0-clause-parses g m c =
     too_deep (no_call _ _ _ _ _ _ _ c.if-nesting-eq0.true c.skip_blank-start.ensures.blank
-    c.take_byte_if-bracket.ensures.meets c.if-not-bracket.false)
+    c.take_byte_if-bracket.ensures.parses c.if-not-bracket.false)
 
-pub get_call_arguments-returns-in_err-arguments-clause-meets :
-    goal.get_call_arguments-returns-in_err-arguments-clause-meets
-get_call_arguments-returns-in_err-arguments-clause-meets g m c =
+pub get_call_arguments-returns-in_err-arguments-clause-parses :
+    goal.get_call_arguments-returns-in_err-arguments-clause-parses
+get_call_arguments-returns-in_err-arguments-clause-parses g m c =
     let t = c.args.self.now.source.bytes.now in
     let p = err_from_is_err_and c.from_residual.result c.from_residual.ensures.1 in
     rw (p.1, p.2)
     (fails_next (functional_blank t) (passed c.skip_blank-start.ensures.blank)
-    (fails_next (functional_optional t left_parenthesis) c.take_byte_if-bracket.ensures.meets
+    (fails_next (functional_optional t left_parenthesis) c.take_byte_if-bracket.ensures.parses
     (fails_yes c.if-not-bracket.false
     (fails_first
     (fails_next (functional_blank t) (passed c.skip_blank-start-2.ensures.blank)
-    (fails_list c.args.self.now.edition t c.if-nesting-eq0.false c.in_err-arguments.ensures.meets))))))
+    (fails_list c.args.self.now.edition t c.if-nesting-eq0.false c.in_err-arguments.ensures.parses))))))
 
-pub get_call_arguments-returns-clause-meets : goal.get_call_arguments-returns-clause-meets
-get_call_arguments-returns-clause-meets g m c =
-    on_made c.in_ok-arguments.ensures.meets (λ a read same. made
+pub get_call_arguments-returns-clause-parses : goal.get_call_arguments-returns-clause-parses
+get_call_arguments-returns-clause-parses g m c =
+    on_made c.in_ok-arguments.ensures.parses (λ a read same. made
     (goes_on (passed c.skip_blank-start.ensures.blank)
-    (goes_on c.take_byte_if-bracket.ensures.meets
+    (goes_on c.take_byte_if-bracket.ensures.parses
     (first c.if-not-bracket.false
     (goes_on (goes_on (passed c.skip_blank-start-2.ensures.blank)
     (list c.args.self.now.edition c.args.self.now.source.bytes.now _ _ _ c.if-nesting-eq0.false read))
     given))))
     (ap some_arguments same))
 
-pub get_argument_value-returns-in_err-value-in-Quote-clause-meets :
-    goal.get_argument_value-returns-in_err-value-in-Quote-clause-meets
-get_argument_value-returns-in_err-value-in-Quote-clause-meets g m c =
+pub get_argument_value-returns-in_err-value-in-Quote-clause-parses :
+    goal.get_argument_value-returns-in_err-value-in-Quote-clause-parses
+get_argument_value-returns-in_err-value-in-Quote-clause-parses g m c =
     let t = c.args.self.now.source.bytes.now in
     let p = err_from_is_err_and c.from_residual.result c.from_residual.ensures.1 in
     rw (p.1, p.2)
-    (value_fails t _ c.args.ptr c.start.result c.in-Quote.is c.start.ensures c.in_err-value-in-Quote.ensures.meets)
+    (value_fails t _ c.args.ptr c.start.result c.in-Quote.is c.start.ensures c.in_err-value-in-Quote.ensures.parses)
 
-pub get_argument_value-returns-in_ok-value-in-Quote-clause-meets :
-    goal.get_argument_value-returns-in_ok-value-in-Quote-clause-meets
-get_argument_value-returns-in_ok-value-in-Quote-clause-meets g m c =
-    on_made c.in_ok-value-in-Quote.ensures.meets (λ e read same. made
+pub get_argument_value-returns-in_ok-value-in-Quote-clause-parses :
+    goal.get_argument_value-returns-in_ok-value-in-Quote-clause-parses
+get_argument_value-returns-in_ok-value-in-Quote-clause-parses g m c =
+    on_made c.in_ok-value-in-Quote.ensures.parses (λ e read same. made
     (by_value c.args.self.now.source.bytes.now _ c.args.ptr c.start.result _ c.in-Quote.is c.start.ensures read)
     same)
 
 pub get_argument_value-returns-in_default : goal.get_argument_value-returns-in_default
 get_argument_value-returns-in_default g m c = record {
-  meets = refused (λ k from to (a, b, d).
+  parses = refused (λ k from to (a, b, d).
       let arm = c.in_default in
       rw (a, b, d)
       (no_value c.args.self.now.source.bytes.now _ c.args.ptr c.start.result arm.not-Quote arm.not-Digit arm.not-Letter
@@ -102,39 +102,39 @@ get_argument_value-returns-in_default g m c = record {
 
 pub get_arguments-inline_in-requires : goal.get_arguments-inline_in-requires
 get_arguments-inline_in-requires g m c =
-    on_made c.in_ok-expression.ensures.meets (λ e read same.
+    on_made c.in_ok-expression.ensures.parses (λ e read same.
     (_, ap (expression_view g.M.MakeTexts.made) c.deref.ensures ∙ same))
 
 pub get_arguments-add_named-requires : goal.get_arguments-add_named-requires
 get_arguments-add_named-requires g m c =
-    on_made c.in_ok-value-in-Some.ensures.meets (λ e read same. (_, same))
+    on_made c.in_ok-value-in-Some.ensures.parses (λ e read same. (_, same))
 
 pub get_arguments-add_positional-requires : goal.get_arguments-add_positional-requires
 get_arguments-add_positional-requires g m c =
-    on_made c.in_ok-expression.ensures.meets (λ e read same. (_, same))
+    on_made c.in_ok-expression.ensures.parses (λ e read same. (_, same))
 
-pub get_arguments-returns-then-place-self-clause-meets : goal.get_arguments-returns-then-place-self-clause-meets
-get_arguments-returns-then-place-self-clause-meets g m c =
+pub get_arguments-returns-then-place-self-clause-parses : goal.get_arguments-returns-then-place-self-clause-parses
+get_arguments-returns-then-place-self-clause-parses g m c =
     item_fails c.loop-noted.invariant.gathered.behind (refused (λ k from to (a, b, d). rw (a, b, d)
     (list_open c.args.self.now.source.bytes.now _ _ _ (omega (arith, c.if-place-self.true)))))
 
-pub get_arguments-returns-in_err-expression-clause-meets :
-    goal.get_arguments-returns-in_err-expression-clause-meets
-get_arguments-returns-in_err-expression-clause-meets g m c =
+pub get_arguments-returns-in_err-expression-clause-parses :
+    goal.get_arguments-returns-in_err-expression-clause-parses
+get_arguments-returns-in_err-expression-clause-parses g m c =
     let t = c.args.self.now.source.bytes.now in
     let p = err_from_is_err_and c.from_residual.result c.from_residual.ensures.1 in
     rw (p.1, p.2)
     (item_fails c.loop-noted.invariant.gathered.behind
     (inline_fails t _ _ _ (omega (arith, c.if-place-self.false, c.loop-noted.invariant.within))
-    (sym c.loop-noted-test.ensures) c.in_err-expression.ensures.meets))
+    (sym c.loop-noted-test.ensures) c.in_err-expression.ensures.parses))
 
-pub get_arguments-returns-then-not-is_new-clause-meets : goal.get_arguments-returns-then-not-is_new-clause-meets
-get_arguments-returns-then-not-is_new-clause-meets g m c =
+pub get_arguments-returns-then-not-is_new-clause-parses : goal.get_arguments-returns-then-not-is_new-clause-parses
+get_arguments-returns-then-not-is_new-clause-parses g m c =
     let t = c.args.self.now.source.bytes.now in
     let names = c.loop-noted.noted.names.items in
     let used = used_in_order t (bytes_at t c.in-Some.name) names ∙ c.in_ok-is_new-in-Some.ensures.new
     ∙ ap not c.if-not-is_new.true in
-    on_made c.in_ok-expression.ensures.meets (λ e read same.
+    on_made c.in_ok-expression.ensures.parses (λ e read same.
     let there = inline_seen _ _ c.deref.ensures c.inline_in.ensures same in
     let is = sym (c.in-Some.ensures c.args.nesting _ e read there) in
     let text = sym (argument_text t _ _ e _ read c.in-Some.name is) in
@@ -150,9 +150,9 @@ get_arguments-returns-then-not-is_new-clause-meets g m c =
 pub get_arguments-skip_blank-start-requires : goal.get_arguments-skip_blank-start-requires
 get_arguments-skip_blank-start-requires g m c = grind (arith, gets)
 
-pub get_arguments-returns-in_err-value-in-Some-clause-meets :
-    goal.get_arguments-returns-in_err-value-in-Some-clause-meets
-get_arguments-returns-in_err-value-in-Some-clause-meets g m c =
+pub get_arguments-returns-in_err-value-in-Some-clause-parses :
+    goal.get_arguments-returns-in_err-value-in-Some-clause-parses
+get_arguments-returns-in_err-value-in-Some-clause-parses g m c =
     let t = c.args.self.now.source.bytes.now in
     let names = c.loop-noted.noted.names.items in
     let new = used_in_order t (bytes_at t c.in-Some.name) names ∙ c.in_ok-is_new-in-Some.ensures.new
@@ -161,7 +161,7 @@ get_arguments-returns-in_err-value-in-Some-clause-meets g m c =
     let p = err_from_is_err_and c.from_residual-in_err-value-in-Some.result
     c.from_residual-in_err-value-in-Some.ensures.1 in
     rw (p.1, p.2)
-    (on_made c.in_ok-expression.ensures.meets (λ e read same.
+    (on_made c.in_ok-expression.ensures.parses (λ e read same.
     let there = inline_seen _ _ c.deref.ensures c.inline_in.ensures same in
     item_fails c.loop-noted.invariant.gathered.behind
     (named_fails t _ (names_in t names) _
@@ -171,10 +171,10 @@ get_arguments-returns-in_err-value-in-Some-clause-meets g m c =
     (fails_no new
     (fails_next (functional_token t colon) (token_there t colon _ mark)
     (fails_next (functional_blank t) (passed c.skip_blank-start.ensures.blank)
-    (fails_first c.in_err-value-in-Some.ensures.meets)))))))
+    (fails_first c.in_err-value-in-Some.ensures.parses)))))))
 
-pub get_arguments-returns-clause-meets : goal.get_arguments-returns-clause-meets
-get_arguments-returns-clause-meets g m c =
+pub get_arguments-returns-clause-parses : goal.get_arguments-returns-clause-parses
+get_arguments-returns-clause-parses g m c =
     let whole = view-roll-CallArguments g.M.MakeTexts.made (record {
       positional = c.loop-noted.positional;
       named = c.loop-noted.named;
@@ -191,9 +191,9 @@ get_arguments-loop-noted-preserved-then-is_byte_at g m c =
     ∙ ap not c.if-not-is_new.false in
     let noted = c.in_ok-is_new-in-Some.ensures.noted c.if-not-is_new.false in
     let named = c.in_ok-add_named-in-Some.ensures in
-    on_made c.in_ok-expression.ensures.meets (λ e read same.
+    on_made c.in_ok-expression.ensures.parses (λ e read same.
     let there = inline_seen _ _ c.deref.ensures c.inline_in.ensures same in
-    on_made c.in_ok-value-in-Some.ensures.meets (λ value read_value same_value. record {
+    on_made c.in_ok-value-in-Some.ensures.parses (λ value read_value same_value. record {
       forward =
           omega (
             arith,
@@ -212,16 +212,16 @@ get_arguments-loop-noted-preserved-then-is_byte_at g m c =
           (sym (c.in-Some.ensures c.args.nesting _ e read there)) (sym c.if-is_byte_at.ensures) new
           named.2 _ named.1 _ noted.0 _ _ _
           c.skip_blank-start.ensures.blank value read_value (inline_seen _ _ refl named.3 same_value)
-          c.skip_separator-place.ensures.meets;
+          c.skip_separator-place.ensures.parses;
       noted = noted.1;
     }))
 
-pub get_arguments-returns-then-not-is_empty-clause-meets : goal.get_arguments-returns-then-not-is_empty-clause-meets
-get_arguments-returns-then-not-is_empty-clause-meets g m c =
+pub get_arguments-returns-then-not-is_empty-clause-parses : goal.get_arguments-returns-then-not-is_empty-clause-parses
+get_arguments-returns-then-not-is_empty-clause-parses g m c =
     let t = c.args.self.now.source.bytes.now in
     let old = c.loop-noted in
     let some = some_named old.noted.names.items c.if-not-is_empty.ensures in
-    on_made c.in_ok-expression.ensures.meets (λ e read same.
+    on_made c.in_ok-expression.ensures.parses (λ e read same.
     let there = inline_seen _ _ c.deref.ensures c.inline_in.ensures same in
     let is : (argument_name e ≡ None) ⊎ (has_byte t colon c.in_ok-expression.next ≡ false) =
     elim c.in_default.branch [
@@ -241,7 +241,7 @@ get_arguments-loop-noted-preserved g m c =
     let old = c.loop-noted in
     let none = none_named old.noted.names.items c.if-not-is_empty.ensures in
     let added = c.in_ok-add_positional-in_default.ensures in
-    on_made c.in_ok-expression.ensures.meets (λ e read same.
+    on_made c.in_ok-expression.ensures.parses (λ e read same.
     let there = inline_seen _ _ c.deref.ensures c.inline_in.ensures same in
     let is : (argument_name e ≡ None) ⊎ (has_byte t colon c.in_ok-expression.next ≡ false) =
     elim c.in_default.branch [
@@ -262,28 +262,28 @@ get_arguments-loop-noted-preserved g m c =
           old.noted.names.items
           old.invariant.gathered (omega (arith, c.if-place-self.false, old.invariant.within))
           (sym c.loop-noted-test.ensures) e _ read is none added.0 (inline_seen _ _ refl added.2 same) _ added.1 _
-          c.skip_separator-place-in_default.ensures.meets;
+          c.skip_separator-place-in_default.ensures.parses;
       noted = old.invariant.noted;
     })
 
 pub get_arguments-returns-clause-within : goal.get_arguments-returns-clause-within
 get_arguments-returns-clause-within g m c = grind (arith, gets)
 
-pub get_arguments-returns-in_err-add_named-in-Some-clause-meets :
-    goal.get_arguments-returns-in_err-add_named-in-Some-clause-meets
-get_arguments-returns-in_err-add_named-in-Some-clause-meets g m c =
+pub get_arguments-returns-in_err-add_named-in-Some-clause-parses :
+    goal.get_arguments-returns-in_err-add_named-in-Some-clause-parses
+get_arguments-returns-in_err-add_named-in-Some-clause-parses g m c =
     rw (out_of_memory c.from_residual-in_err-add_named-in-Some.result
     c.from_residual-in_err-add_named-in-Some.ensures.1) no_memory
 
-pub get_arguments-returns-in_err-add_positional-in_default-clause-meets :
-    goal.get_arguments-returns-in_err-add_positional-in_default-clause-meets
-get_arguments-returns-in_err-add_positional-in_default-clause-meets g m c =
+pub get_arguments-returns-in_err-add_positional-in_default-clause-parses :
+    goal.get_arguments-returns-in_err-add_positional-in_default-clause-parses
+get_arguments-returns-in_err-add_positional-in_default-clause-parses g m c =
     rw (out_of_memory c.from_residual-in_err-add_positional-in_default.result
     c.from_residual-in_err-add_positional-in_default.ensures.1) no_memory
 
-pub get_arguments-returns-in_err-is_new-in-Some-clause-meets :
-    goal.get_arguments-returns-in_err-is_new-in-Some-clause-meets
-get_arguments-returns-in_err-is_new-in-Some-clause-meets g m c =
+pub get_arguments-returns-in_err-is_new-in-Some-clause-parses :
+    goal.get_arguments-returns-in_err-is_new-in-Some-clause-parses
+get_arguments-returns-in_err-is_new-in-Some-clause-parses g m c =
     rw (out_of_memory c.from_residual-in_err-is_new-in-Some.result
     c.from_residual-in_err-is_new-in-Some.ensures.1) no_memory
 

@@ -14,7 +14,7 @@ use Rattle.fluent_syntax_grammar.specs.Elements.{with_ending}
 use Rattle.fluent_syntax_grammar.specs.Layout.{placed}
 use Rattle.fluent_syntax_parser.specs.Lines.{line_view, piece_view}
 use Rattle.fluent_syntax_parser.specs.Made.{made}
-use Rattle.fluent_syntax_parser.specs.Meets.{no_memory, refused}
+use Rattle.fluent_syntax_parser.specs.Outcomes.{no_memory, refused}
 use Rattle.fluent_syntax_parser.proofs.readers.Behind.{all_made, item_fails, item_made, no_items}
 use Rattle.fluent_syntax_parser.proofs.readers.Fails.{fails_first, fails_next, fails_seen, functional_here}
 use Rattle.fluent_syntax_parser.proofs.readers.Fails.{functional_reaches, out_of_memory}
@@ -45,14 +45,14 @@ gather_opening-returns-in_err-end-in-None-clause-opens g m c =
     let p = err_from_is_err_and c.from_residual.result c.from_residual.ensures.1 in
     rw (p.1, p.2)
     (fails_seen (layout_at t _) _ c.in-None.ensures.eol
-    (fails_next functional_here at_place (fails_first c.in_err-end-in-None.ensures.meets)))
+    (fails_next functional_here at_place (fails_first c.in_err-end-in-None.ensures.parses)))
 
 pub gather_opening-returns-in_ok-next-in-None-clause-opens : goal.gather_opening-returns-in_ok-next-in-None-clause-opens
 gather_opening-returns-in_ok-next-in-None-clause-opens g m c =
     let t = c.args.self.now.source.bytes.now in
     let R = within c.args.self.now.edition t c.args.nesting in
     let (end, opening, ends) = c.in_ok-next-in-None.ensures.ends in
-    on_made c.in_ok-end-in-None.ensures.meets (λ ps there same. record {
+    on_made c.in_ok-end-in-None.ensures.parses (λ ps there same. record {
       opening = Some (record { start = c.args.ptr; spaces = 0; pieces = ps; ending = end });
       same = opening ∙ ap (λ xs. with_ending xs end) same;
       read = λ ls last h. by_eol t _ _ _ _ c.in-None.ensures.eol
@@ -70,95 +70,96 @@ gather_opening-returns-in_err-next-in-None-clause-opens g m c =
     rw (out_of_memory c.from_residual-in_err-next-in-None.result
     c.from_residual-in_err-next-in-None.ensures.1) no_memory
 
-pub gather_layout-returns-in_err-next-clause-meets : goal.gather_layout-returns-in_err-next-clause-meets
-gather_layout-returns-in_err-next-clause-meets g m c =
+pub gather_layout-returns-in_err-next-clause-parses : goal.gather_layout-returns-in_err-next-clause-parses
+gather_layout-returns-in_err-next-clause-parses g m c =
     let p = err_from_is_err_and c.from_residual.result c.from_residual.ensures.1 in
     rw (p.1, p.2) c.in_err-next.ensures.opens
 
-pub gather_layout-returns-in_err-end-clause-meets : goal.gather_layout-returns-in_err-end-clause-meets
-gather_layout-returns-in_err-end-clause-meets g m c =
+pub gather_layout-returns-in_err-end-clause-parses : goal.gather_layout-returns-in_err-end-clause-parses
+gather_layout-returns-in_err-end-clause-parses g m c =
     let p = err_from_is_err_and c.from_residual-in_err-end.result c.from_residual-in_err-end.ensures.1 in
-    rw (p.1, p.2) (c.in_ok-next.ensures.opens.fails _ c.in_err-end.ensures.meets)
+    rw (p.1, p.2) (c.in_ok-next.ensures.opens.fails _ c.in_err-end.ensures.parses)
 
-pub gather_layout-returns-clause-meets : goal.gather_layout-returns-clause-meets
-gather_layout-returns-clause-meets g m c =
+pub gather_layout-returns-clause-parses : goal.gather_layout-returns-clause-parses
+gather_layout-returns-clause-parses g m c =
     let opened = c.in_ok-next.ensures.opens in
-    on_made c.in_ok-end.ensures.meets (λ ls there same. record {
+    on_made c.in_ok-end.ensures.parses (λ ls there same. record {
       layout = record { opening = opened.opening; lines = ls };
       read = opened.read ls _ there;
       same_opening = opened.same;
       same_lines = same;
     })
 
-pub get_long_pattern-returns-in_err-end-clause-meets : goal.get_long_pattern-returns-in_err-end-clause-meets
-get_long_pattern-returns-in_err-end-clause-meets g m c =
+pub get_long_pattern-returns-in_err-end-clause-parses : goal.get_long_pattern-returns-in_err-end-clause-parses
+get_long_pattern-returns-in_err-end-clause-parses g m c =
     let t = c.args.self.now.source.bytes.now in
     let p = err_from_is_err_and c.from_residual.result c.from_residual.ensures.1 in
     rw (p.1, p.2)
-    (fails_first (fails_next (functional_inline_blank t) (passed c.requires.blank) c.in_err-end.ensures.meets))
+    (fails_first (fails_next (functional_inline_blank t) (passed c.requires.blank) c.in_err-end.ensures.parses))
 
-pub get_long_pattern-returns-clause-meets : goal.get_long_pattern-returns-clause-meets
-get_long_pattern-returns-clause-meets g m c =
-    let laid = c.in_ok-end.ensures.meets in
+pub get_long_pattern-returns-clause-parses : goal.get_long_pattern-returns-clause-parses
+get_long_pattern-returns-clause-parses g m c =
+    let laid = c.in_ok-end.ensures.parses in
     made (goes_on (goes_on (passed c.requires.blank) laid.read) given)
     (c.in_ok-pattern.ensures laid.layout laid.same_opening laid.same_lines)
 
-pub get_long_pattern-returns-in_err-pattern-clause-meets :
-    goal.get_long_pattern-returns-in_err-pattern-clause-meets
-get_long_pattern-returns-in_err-pattern-clause-meets g m c =
+pub get_long_pattern-returns-in_err-pattern-clause-parses :
+    goal.get_long_pattern-returns-in_err-pattern-clause-parses
+get_long_pattern-returns-in_err-pattern-clause-parses g m c =
     rw (out_of_memory c.from_residual-in_err-pattern.result
     c.from_residual-in_err-pattern.ensures.1) no_memory
 
-pub get_pattern-returns-in_ok-pattern-in-Some-clause-meets : goal.get_pattern-returns-in_ok-pattern-in-Some-clause-meets
-get_pattern-returns-in_ok-pattern-in-Some-clause-meets g m c =
+pub get_pattern-returns-in_ok-pattern-in-Some-clause-parses :
+    goal.get_pattern-returns-in_ok-pattern-in-Some-clause-parses
+get_pattern-returns-in_ok-pattern-in-Some-clause-parses g m c =
     made (c.in-Some.ensures.opens _ c.args.ptr c.skip_blank_inline-start.ensures.blank)
     c.in_ok-pattern-in-Some.ensures
 
-pub get_pattern-returns-in-None-clause-meets : goal.get_pattern-returns-in-None-clause-meets
-get_pattern-returns-in-None-clause-meets g m c = c.get_long_pattern.ensures.meets
+pub get_pattern-returns-in-None-clause-parses : goal.get_pattern-returns-in-None-clause-parses
+get_pattern-returns-in-None-clause-parses g m c = c.get_long_pattern.ensures.parses
 
-pub get_pattern-returns-in_err-pattern-in-Some-clause-meets :
-    goal.get_pattern-returns-in_err-pattern-in-Some-clause-meets
-get_pattern-returns-in_err-pattern-in-Some-clause-meets g m c =
+pub get_pattern-returns-in_err-pattern-in-Some-clause-parses :
+    goal.get_pattern-returns-in_err-pattern-in-Some-clause-parses
+get_pattern-returns-in_err-pattern-in-Some-clause-parses g m c =
     rw (out_of_memory c.from_residual.result c.from_residual.ensures.1) no_memory
 
-pub gather_pieces-returns-in-None-clause-meets : goal.gather_pieces-returns-in-None-clause-meets
-gather_pieces-returns-in-None-clause-meets g m c =
+pub gather_pieces-returns-in-None-clause-parses : goal.gather_pieces-returns-in-None-clause-parses
+gather_pieces-returns-in-None-clause-parses g m c =
     all_made (piece_view g.M.MakeTexts.made) _ c.loop-byte.invariant.gathered (end_pieces
     c.args.self.now.source.bytes.now
     (within c.args.self.now.edition c.args.self.now.source.bytes.now c.args.nesting) _ (sym c.in-None.ensures))
 
-pub gather_pieces-returns-then-is_eol_at-clause-meets : goal.gather_pieces-returns-then-is_eol_at-clause-meets
-gather_pieces-returns-then-is_eol_at-clause-meets g m c =
+pub gather_pieces-returns-then-is_eol_at-clause-parses : goal.gather_pieces-returns-then-is_eol_at-clause-parses
+gather_pieces-returns-then-is_eol_at-clause-parses g m c =
     all_made (piece_view g.M.MakeTexts.made) _ c.loop-byte.invariant.gathered
     (no_pieces c.args.self.now.source.bytes.now (within c.args.self.now.edition c.args.self.now.source.bytes.now
     c.args.nesting) _ _
     (sym c.in-Some.ensures) (λ e. cc) (sym c.if-is_eol_at.ensures))
 
-pub gather_pieces-returns-then-byte-eq125-clause-meets : goal.gather_pieces-returns-then-byte-eq125-clause-meets
-gather_pieces-returns-then-byte-eq125-clause-meets g m c =
+pub gather_pieces-returns-then-byte-eq125-clause-parses : goal.gather_pieces-returns-then-byte-eq125-clause-parses
+gather_pieces-returns-then-byte-eq125-clause-parses g m c =
     item_fails c.loop-byte.invariant.gathered.behind (refused (λ k from to (a, b, d). rw (a, b, d)
     (bare_brace c.args.self.now.source.bytes.now (within c.args.self.now.edition c.args.self.now.source.bytes.now
     c.args.nesting) _ _
     (sym c.in-Some.ensures) (sym c.if-is_eol_at.ensures)
     c.if-byte-eq125.true)))
 
-pub gather_pieces-returns-in_err-expression-in-Some-clause-meets :
-    goal.gather_pieces-returns-in_err-expression-in-Some-clause-meets
-gather_pieces-returns-in_err-expression-in-Some-clause-meets g m c =
+pub gather_pieces-returns-in_err-expression-in-Some-clause-parses :
+    goal.gather_pieces-returns-in_err-expression-in-Some-clause-parses
+gather_pieces-returns-in_err-expression-in-Some-clause-parses g m c =
     let p = err_from_is_err_and c.from_residual.result c.from_residual.ensures.1 in
     rw (p.1, p.2)
     (item_fails c.loop-byte.invariant.gathered.behind
     (placed_fails c.args.self.now.source.bytes.now (within c.args.self.now.edition c.args.self.now.source.bytes.now
     c.args.nesting) _ _
     (sym c.in-Some.ensures) (sym c.if-is_eol_at.ensures)
-    c.if-byte-eq123.true (fails_first c.in_err-expression-in-Some.ensures.meets)))
+    c.if-byte-eq123.true (fails_first c.in_err-expression-in-Some.ensures.parses)))
 
 pub gather_pieces-loop-byte-preserved-then-byte-eq123 : goal.gather_pieces-loop-byte-preserved-then-byte-eq123
 gather_pieces-loop-byte-preserved-then-byte-eq123 g m c =
     let t = c.args.self.now.source.bytes.now in
     let read = c.in_ok-expression-in-Some.ensures in
-    on_made read.meets (λ e there same. record {
+    on_made read.parses (λ e there same. record {
       forward = omega (arith, c.loop-byte.invariant.forward, read.within.0);
       within = read.within.1;
       gathered =
@@ -188,15 +189,15 @@ gather_pieces-loop-byte-preserved g m c =
           c.if-byte-eq123.false _ run) refl;
     }
 
-pub gather_pieces-returns-in_err-add_placed-in-Some-clause-meets :
-    goal.gather_pieces-returns-in_err-add_placed-in-Some-clause-meets
-gather_pieces-returns-in_err-add_placed-in-Some-clause-meets g m c =
+pub gather_pieces-returns-in_err-add_placed-in-Some-clause-parses :
+    goal.gather_pieces-returns-in_err-add_placed-in-Some-clause-parses
+gather_pieces-returns-in_err-add_placed-in-Some-clause-parses g m c =
     rw (out_of_memory c.from_residual-in_err-add_placed-in-Some.result
     c.from_residual-in_err-add_placed-in-Some.ensures.1) no_memory
 
-pub gather_pieces-returns-in_err-add_run-in-Some-clause-meets :
-    goal.gather_pieces-returns-in_err-add_run-in-Some-clause-meets
-gather_pieces-returns-in_err-add_run-in-Some-clause-meets g m c =
+pub gather_pieces-returns-in_err-add_run-in-Some-clause-parses :
+    goal.gather_pieces-returns-in_err-add_run-in-Some-clause-parses
+gather_pieces-returns-in_err-add_run-in-Some-clause-parses g m c =
     rw (out_of_memory c.from_residual-in_err-add_run-in-Some.result
     c.from_residual-in_err-add_run-in-Some.ensures.1) no_memory
 
@@ -224,7 +225,7 @@ gather_line-returns-in_err-end-clause-adds g m c =
       fails_next functional_here at_place
           (fails_next (functional_inline_blank t) (passed c.requires.blank)
           (fails_next functional_here at_place
-          (fails_first c.in_err-end.ensures.meets))),
+          (fails_first c.in_err-end.ensures.parses))),
       refl,
     )
 
@@ -237,7 +238,7 @@ pub gather_line-returns-clause-adds : goal.gather_line-returns-clause-adds
 gather_line-returns-clause-adds g m c =
     let t = c.args.self.now.source.bytes.now in
     let (added, found, pushed, is, ends) = c.in_ok-next.ensures.adds in
-    on_made c.in_ok-end.ensures.meets (λ ps there same. (
+    on_made c.in_ok-end.ensures.parses (λ ps there same. (
       added,
       pushed,
       made (line_read t (within c.args.self.now.edition t c.args.nesting) _ _ c.requires.blank _ _ _ _ there ends)
@@ -253,8 +254,8 @@ gather_line-returns-clause-within g m c =
     next.further in
     (omega (arith, onward, c.requires.blank.forward), next.within.1)
 
-pub gather_lines-returns-in-None-clause-meets : goal.gather_lines-returns-in-None-clause-meets
-gather_lines-returns-in-None-clause-meets g m c =
+pub gather_lines-returns-in-None-clause-parses : goal.gather_lines-returns-in-None-clause-parses
+gather_lines-returns-in-None-clause-parses g m c =
     all_made (line_view g.M.MakeTexts.made) _ c.loop-byte.invariant.gathered
     (no_byte c.skip_blank_inline-first.ensures.blank (sym c.in-None.ensures))
 
@@ -267,14 +268,14 @@ gather_lines-returns-then-not-belongs-clause-behind g m c =
     none_before_other c.args.self.now.source.bytes.now c.skip_blank_inline-first.ensures.blank _
     (sym c.if-not-belongs.ensures)
 
-pub gather_lines-returns-then-not-belongs-clause-meets : goal.gather_lines-returns-then-not-belongs-clause-meets
-gather_lines-returns-then-not-belongs-clause-meets g m c =
+pub gather_lines-returns-then-not-belongs-clause-parses : goal.gather_lines-returns-then-not-belongs-clause-parses
+gather_lines-returns-then-not-belongs-clause-parses g m c =
     all_made (line_view g.M.MakeTexts.made) _ c.loop-byte.invariant.gathered
     (other_line c.skip_blank_inline-first.ensures.blank (sym c.in-Some.ensures) (sym c.if-not-belongs.ensures))
 
-pub gather_lines-returns-in_err-start-in-Some-clause-meets :
-    goal.gather_lines-returns-in_err-start-in-Some-clause-meets
-gather_lines-returns-in_err-start-in-Some-clause-meets g m c =
+pub gather_lines-returns-in_err-start-in-Some-clause-parses :
+    goal.gather_lines-returns-in_err-start-in-Some-clause-parses
+gather_lines-returns-in_err-start-in-Some-clause-parses g m c =
     let t = c.args.self.now.source.bytes.now in
     let p = err_from_is_err_and c.from_residual.result c.from_residual.ensures.1 in
     rw (p.1, p.2)

@@ -8,71 +8,71 @@ use Rattle.fluent_syntax_grammar.specs.Placeables.{is_term_attribute}
 use Rattle.fluent_syntax_grammar.proofs.FunctionalWords.{functional_blank, functional_token}
 use Rattle.fluent_syntax_grammar.proofs.Nesting.{functional_within}
 use Rattle.fluent_syntax_parser.specs.Made.{made}
-use Rattle.fluent_syntax_parser.specs.Meets.{refused, too_deep}
+use Rattle.fluent_syntax_parser.specs.Outcomes.{refused, too_deep}
 use Rattle.fluent_syntax_parser.proofs.readers.Fails.{braces, fails_braces, fails_first, fails_next, no_placeable}
 use Rattle.fluent_syntax_parser.proofs.expressions.Inlines.{inline_seen}
 use Rattle.fluent_syntax_parser.proofs.readers.Made.{on_made, same_term_attribute}
 use Rattle.fluent_syntax_parser.proofs.expressions.Selects.{behind_blank}
 use Rattle.fluent_syntax_parser.proofs.reader.Reader.+readers.Goals as goal
 
-pub get_placeable-returns-in_err-start-clause-meets : goal.get_placeable-returns-in_err-start-clause-meets
-get_placeable-returns-in_err-start-clause-meets g m c =
+pub get_placeable-returns-in_err-start-clause-parses : goal.get_placeable-returns-in_err-start-clause-parses
+get_placeable-returns-in_err-start-clause-parses g m c =
     let p = err_from_is_err_and c.from_residual.result c.from_residual.ensures.1 in
     rw (p.1, p.2) (refused (λ k from to h.
-    stops (c.in_err-start.ensures.meets k from to h)))
+    stops (c.in_err-start.ensures.parses k from to h)))
 
-pub get_placeable-returns-then-nesting-eq0-clause-meets : goal.get_placeable-returns-then-nesting-eq0-clause-meets
-get_placeable-returns-then-nesting-eq0-clause-meets g m c =
-    too_deep (no_placeable _ _ _ _ _ c.if-nesting-eq0.true c.in_ok-start.ensures.meets)
+pub get_placeable-returns-then-nesting-eq0-clause-parses : goal.get_placeable-returns-then-nesting-eq0-clause-parses
+get_placeable-returns-then-nesting-eq0-clause-parses g m c =
+    too_deep (no_placeable _ _ _ _ _ c.if-nesting-eq0.true c.in_ok-start.ensures.parses)
 
-pub get_placeable-returns-in_err-expression-clause-meets :
-    goal.get_placeable-returns-in_err-expression-clause-meets
-get_placeable-returns-in_err-expression-clause-meets g m c =
+pub get_placeable-returns-in_err-expression-clause-parses :
+    goal.get_placeable-returns-in_err-expression-clause-parses
+get_placeable-returns-in_err-expression-clause-parses g m c =
     let t = c.args.self.now.source.bytes.now in
     let p = err_from_is_err_and c.from_residual-in_err-expression.result c.from_residual-in_err-expression.ensures.1 in
     rw (p.1, p.2)
-    (fails_next (functional_token t left_brace) c.in_ok-start.ensures.meets
+    (fails_next (functional_token t left_brace) c.in_ok-start.ensures.parses
     (fails_next (functional_blank t) (passed c.skip_blank-start.ensures.blank)
-    (fails_first (fails_braces c.args.self.now.edition t c.if-nesting-eq0.false c.in_err-expression.ensures.meets))))
+    (fails_first (fails_braces c.args.self.now.edition t c.if-nesting-eq0.false c.in_err-expression.ensures.parses))))
 
-pub get_placeable-returns-in_err-ptr-clause-meets : goal.get_placeable-returns-in_err-ptr-clause-meets
-get_placeable-returns-in_err-ptr-clause-meets g m c =
+pub get_placeable-returns-in_err-ptr-clause-parses : goal.get_placeable-returns-in_err-ptr-clause-parses
+get_placeable-returns-in_err-ptr-clause-parses g m c =
     let p = err_from_is_err_and c.from_residual-in_err-ptr.result c.from_residual-in_err-ptr.ensures.1 in
-    rw (p.1, p.2) (on_made c.in_ok-expression.ensures.meets (λ a read same. refused (λ k from to h.
-    goes_on c.in_ok-start.ensures.meets
+    rw (p.1, p.2) (on_made c.in_ok-expression.ensures.parses (λ a read same. refused (λ k from to h.
+    goes_on c.in_ok-start.ensures.parses
     (goes_on (passed c.skip_blank-start.ensures.blank)
     (goes_on (braces c.args.self.now.edition c.args.self.now.source.bytes.now _ _ _ c.if-nesting-eq0.false read)
     (goes_on (passed c.skip_blank_inline-ptr.ensures.blank)
-    (stops (c.in_err-ptr.ensures.meets k from to h))))))))
+    (stops (c.in_err-ptr.ensures.parses k from to h))))))))
 
-pub get_placeable-returns-clause-meets : goal.get_placeable-returns-clause-meets
-get_placeable-returns-clause-meets g m c =
-    on_made c.in_ok-expression.ensures.meets (λ a read same. made
-    (goes_on c.in_ok-start.ensures.meets
+pub get_placeable-returns-clause-parses : goal.get_placeable-returns-clause-parses
+get_placeable-returns-clause-parses g m c =
+    on_made c.in_ok-expression.ensures.parses (λ a read same. made
+    (goes_on c.in_ok-start.ensures.parses
     (goes_on (passed c.skip_blank-start.ensures.blank)
     (goes_on (braces c.args.self.now.edition c.args.self.now.source.bytes.now _ _ _ c.if-nesting-eq0.false read)
     (goes_on (passed c.skip_blank_inline-ptr.ensures.blank)
-    (goes_on c.in_ok-ptr.ensures.meets
+    (goes_on c.in_ok-ptr.ensures.parses
     given)))))
     same)
 
-pub get_expression-returns-in_err-expression-clause-meets :
-    goal.get_expression-returns-in_err-expression-clause-meets
-get_expression-returns-in_err-expression-clause-meets g m c =
+pub get_expression-returns-in_err-expression-clause-parses :
+    goal.get_expression-returns-in_err-expression-clause-parses
+get_expression-returns-in_err-expression-clause-parses g m c =
     let p = err_from_is_err_and c.from_residual.result c.from_residual.ensures.1 in
-    rw (p.1, p.2) (fails_first c.in_err-expression.ensures.meets)
+    rw (p.1, p.2) (fails_first c.in_err-expression.ensures.parses)
 
-pub get_expression-returns-then-is_arrow-clause-meets : goal.get_expression-returns-then-is_arrow-clause-meets
-get_expression-returns-then-is_arrow-clause-meets g m c =
+pub get_expression-returns-then-is_arrow-clause-parses : goal.get_expression-returns-then-is_arrow-clause-parses
+get_expression-returns-then-is_arrow-clause-parses g m c =
     let t = c.args.self.now.source.bytes.now in
-    on_made c.in_ok-expression.ensures.meets (λ e read same.
+    on_made c.in_ok-expression.ensures.parses (λ e read same.
     behind_blank c.args.self.now.edition t _ _ _ _ read c.skip_blank-ptr.ensures.blank (sym c.if-is_arrow.ensures)
-    (functional_within c.args.self.now.edition t _) (c.get_select.ensures.meets e same))
+    (functional_within c.args.self.now.edition t _) (c.get_select.ensures.parses e same))
 
-pub get_expression-returns-then-is_term_attribute-clause-meets :
-    goal.get_expression-returns-then-is_term_attribute-clause-meets
-get_expression-returns-then-is_term_attribute-clause-meets g m c =
-    on_made c.in_ok-expression.ensures.meets (λ e read same.
+pub get_expression-returns-then-is_term_attribute-clause-parses :
+    goal.get_expression-returns-then-is_term_attribute-clause-parses
+get_expression-returns-then-is_term_attribute-clause-parses g m c =
+    on_made c.in_ok-expression.ensures.parses (λ e read same.
     let there = inline_seen _ _ c.deref.ensures c.inline_in.ensures same in
     refused (λ k from to (a, b, d). rw (a, b, d)
     (goes_on read
@@ -82,9 +82,9 @@ get_expression-returns-then-is_term_attribute-clause-meets g m c =
     (first (sym (same_term_attribute _ e) ∙ ap is_term_attribute (sym there) ∙ sym c.if-is_term_attribute.ensures)
     (failed refl))))))))
 
-pub get_expression-returns-clause-meets : goal.get_expression-returns-clause-meets
-get_expression-returns-clause-meets g m c =
-    on_made c.in_ok-expression.ensures.meets (λ e read same.
+pub get_expression-returns-clause-parses : goal.get_expression-returns-clause-parses
+get_expression-returns-clause-parses g m c =
+    on_made c.in_ok-expression.ensures.parses (λ e read same.
     let there = inline_seen _ _ c.deref.ensures c.inline_in.ensures same in
     made
     (goes_on read
@@ -97,10 +97,10 @@ get_expression-returns-clause-meets g m c =
 
 pub get_expression-inline_in-requires : goal.get_expression-inline_in-requires
 get_expression-inline_in-requires g m c =
-    on_made c.in_ok-expression.ensures.meets (λ e read same.
+    on_made c.in_ok-expression.ensures.parses (λ e read same.
     (_, ap (expression_view g.M.MakeTexts.made) c.deref.ensures ∙ same))
 
 pub get_expression-get_select-requires : goal.get_expression-get_select-requires
 get_expression-get_select-requires g m c = λ κs le.
-    on_made c.in_ok-expression.ensures.meets (λ e read same.
+    on_made c.in_ok-expression.ensures.parses (λ e read same.
     (search rules, (le.0, (le.1, (c.skip_blank-ptr.ensures.within, (sym c.if-is_arrow.ensures, (_, same)))))))

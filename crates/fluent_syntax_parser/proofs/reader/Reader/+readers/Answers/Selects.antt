@@ -13,7 +13,7 @@ use Rattle.fluent_syntax_grammar.proofs.FunctionalRules.{functional_key, functio
 use Rattle.fluent_syntax_grammar.proofs.FunctionalWords.{functional_blank, functional_optional, functional_token}
 use Rattle.fluent_syntax_grammar.proofs.Nesting.{functional_within}
 use Rattle.fluent_syntax_parser.specs.Made.{made}
-use Rattle.fluent_syntax_parser.specs.Meets.{no_memory, refused}
+use Rattle.fluent_syntax_parser.specs.Outcomes.{no_memory, refused}
 use Rattle.fluent_syntax_parser.proofs.readers.Behind.{item_fails}
 use Rattle.fluent_syntax_parser.proofs.readers.Fails.{fails_first, fails_next, fails_yes, functional_star}
 use Rattle.fluent_syntax_parser.proofs.readers.Fails.{out_of_memory}
@@ -27,135 +27,135 @@ pub get_select-inline_in-requires : goal.get_select-inline_in-requires
 get_select-inline_in-requires g m c =
     (c.requires.selector.0, ap (expression_view g.M.MakeTexts.made) c.deref.ensures ∙ c.requires.selector.1)
 
-pub get_select-returns-in_err-end-clause-meets : goal.get_select-returns-in_err-end-clause-meets
-get_select-returns-in_err-end-clause-meets g m c = λ e same.
+pub get_select-returns-in_err-end-clause-parses : goal.get_select-returns-in_err-end-clause-parses
+get_select-returns-in_err-end-clause-parses g m c = λ e same.
     let t = c.args.self.now.source.bytes.now in
     let is = same_fault _ _ e (inline_seen _ _ c.deref.ensures c.inline_in.ensures same) in
     let p = err_from_is_err_and c.from_residual.result c.from_residual.ensures.1 in
-    rw (p.1, p.2) (select_fails c.args.self.now.edition t _ e _ is c.in_err-end.ensures.meets)
+    rw (p.1, p.2) (select_fails c.args.self.now.edition t _ e _ is c.in_err-end.ensures.parses)
 
-pub get_select-returns-in_err-expression-clause-meets : goal.get_select-returns-in_err-expression-clause-meets
-get_select-returns-in_err-expression-clause-meets g m c = λ e same.
+pub get_select-returns-in_err-expression-clause-parses : goal.get_select-returns-in_err-expression-clause-parses
+get_select-returns-in_err-expression-clause-parses g m c = λ e same.
     rw (out_of_memory c.from_residual-in_err-expression.result
     c.from_residual-in_err-expression.ensures.1) no_memory
 
-pub get_select-returns-clause-meets : goal.get_select-returns-clause-meets
-get_select-returns-clause-meets g m c = λ e same.
+pub get_select-returns-clause-parses : goal.get_select-returns-clause-parses
+get_select-returns-clause-parses g m c = λ e same.
     let t = c.args.self.now.source.bytes.now in
     let is = same_fault _ _ e (inline_seen _ _ c.deref.ensures c.inline_in.ensures same) in
-    on_made c.in_ok-end.ensures.meets (λ vs read same_variants. made
+    on_made c.in_ok-end.ensures.parses (λ vs read same_variants. made
     (select_read c.args.self.now.edition t _ e _ is read)
     (c.in_ok-expression.ensures _ same ∙ rw same_variants refl))
 
-pub gather_from_arrow-returns-in_err-start-clause-meets : goal.gather_from_arrow-returns-in_err-start-clause-meets
-gather_from_arrow-returns-in_err-start-clause-meets g m c =
+pub gather_from_arrow-returns-in_err-start-clause-parses : goal.gather_from_arrow-returns-in_err-start-clause-parses
+gather_from_arrow-returns-in_err-start-clause-parses g m c =
     let p = err_from_is_err_and c.from_residual.result c.from_residual.ensures.1 in
-    rw (p.1, p.2) (refused (λ k from to h. stops (c.in_err-start.ensures.meets k from to h)))
+    rw (p.1, p.2) (refused (λ k from to h. stops (c.in_err-start.ensures.parses k from to h)))
 
-pub gather_from_arrow-returns-in_err-end-clause-meets : goal.gather_from_arrow-returns-in_err-end-clause-meets
-gather_from_arrow-returns-in_err-end-clause-meets g m c =
+pub gather_from_arrow-returns-in_err-end-clause-parses : goal.gather_from_arrow-returns-in_err-end-clause-parses
+gather_from_arrow-returns-in_err-end-clause-parses g m c =
     let t = c.args.self.now.source.bytes.now in
     let p = err_from_is_err_and c.from_residual-in_err-end.result c.from_residual-in_err-end.ensures.1 in
     rw (p.1, p.2)
-    (fails_next (functional_start t _) c.in_ok-start.ensures.meets c.in_err-end.ensures.meets)
+    (fails_next (functional_start t _) c.in_ok-start.ensures.parses c.in_err-end.ensures.parses)
 
-pub gather_from_arrow-returns-clause-meets : goal.gather_from_arrow-returns-clause-meets
-gather_from_arrow-returns-clause-meets g m c =
-    on_made c.in_ok-end.ensures.meets (λ vs read same. made (goes_on c.in_ok-start.ensures.meets read) same)
+pub gather_from_arrow-returns-clause-parses : goal.gather_from_arrow-returns-clause-parses
+gather_from_arrow-returns-clause-parses g m c =
+    on_made c.in_ok-end.ensures.parses (λ vs read same. made (goes_on c.in_ok-start.ensures.parses read) same)
 
-pub gather_variants-returns-then-star-clause-meets : goal.gather_variants-returns-then-star-clause-meets
-gather_variants-returns-then-star-clause-meets g m c =
+pub gather_variants-returns-then-star-clause-parses : goal.gather_variants-returns-then-star-clause-parses
+gather_variants-returns-then-star-clause-parses g m c =
     item_fails c.loop-starred.invariant.gathered.behind (refused (λ k from to (a, b, d). rw (a, b, d)
-    (goes_on c.take_byte_if-star.ensures.meets
+    (goes_on c.take_byte_if-star.ensures.parses
     (stops
     (first (both c.if-starred.true c.if-star.true)
     (failed refl))))))
 
-pub gather_variants-returns-then-has_default-clause-meets : goal.gather_variants-returns-then-has_default-clause-meets
-gather_variants-returns-then-has_default-clause-meets g m c =
+pub gather_variants-returns-then-has_default-clause-parses : goal.gather_variants-returns-then-has_default-clause-parses
+gather_variants-returns-then-has_default-clause-parses g m c =
     all_variants g.M.MakeTexts.made _ c.loop-starred.invariant.gathered
-    (goes_on c.take_byte_if-star.ensures.meets
+    (goes_on c.take_byte_if-star.ensures.parses
     (goes_on (second (one_false _ _ c.else-starred.either) given)
-    (goes_on c.take_byte_if-bracket.ensures.meets
+    (goes_on c.take_byte_if-bracket.ensures.parses
     (second c.if-not-bracket.true
     (first (sym c.if-has_default.ensures)
     given)))))
 
-pub gather_variants-returns-then-not-bracket-clause-meets : goal.gather_variants-returns-then-not-bracket-clause-meets
-gather_variants-returns-then-not-bracket-clause-meets g m c =
+pub gather_variants-returns-then-not-bracket-clause-parses : goal.gather_variants-returns-then-not-bracket-clause-parses
+gather_variants-returns-then-not-bracket-clause-parses g m c =
     item_fails c.loop-starred.invariant.gathered.behind (refused (λ k from to (a, b, d). rw (a, b, d)
-    (goes_on c.take_byte_if-star.ensures.meets
+    (goes_on c.take_byte_if-star.ensures.parses
     (goes_on (second (one_false _ _ c.else-starred.either) given)
-    (goes_on c.take_byte_if-bracket.ensures.meets
+    (goes_on c.take_byte_if-bracket.ensures.parses
     (second c.if-not-bracket.true
     (second (sym c.if-has_default.ensures)
     (failed refl))))))))
 
-pub gather_variants-returns-in_err-key-clause-meets : goal.gather_variants-returns-in_err-key-clause-meets
-gather_variants-returns-in_err-key-clause-meets g m c =
+pub gather_variants-returns-in_err-key-clause-parses : goal.gather_variants-returns-in_err-key-clause-parses
+gather_variants-returns-in_err-key-clause-parses g m c =
     let p = err_from_is_err_and c.from_residual.result c.from_residual.ensures.1 in
     rw (p.1, p.2) (item_fails c.loop-starred.invariant.gathered.behind (refused (λ k from to h.
-    (goes_on c.take_byte_if-star.ensures.meets
+    (goes_on c.take_byte_if-star.ensures.parses
     (goes_on (second (one_false _ _ c.else-starred.either) given)
-    (goes_on c.take_byte_if-bracket.ensures.meets
+    (goes_on c.take_byte_if-bracket.ensures.parses
     (first c.if-not-bracket.false
     (goes_on (passed c.skip_blank-start.ensures.blank)
-    (stops (c.in_err-key.ensures.meets k from to h))))))))))
+    (stops (c.in_err-key.ensures.parses k from to h))))))))))
 
-pub gather_variants-returns-in_err-next-clause-meets : goal.gather_variants-returns-in_err-next-clause-meets
-gather_variants-returns-in_err-next-clause-meets g m c =
+pub gather_variants-returns-in_err-next-clause-parses : goal.gather_variants-returns-in_err-next-clause-parses
+gather_variants-returns-in_err-next-clause-parses g m c =
     let p = err_from_is_err_and c.from_residual-in_err-next.result c.from_residual-in_err-next.ensures.1 in
     rw (p.1, p.2) (item_fails c.loop-starred.invariant.gathered.behind (refused (λ k from to h.
-    (goes_on c.take_byte_if-star.ensures.meets
+    (goes_on c.take_byte_if-star.ensures.parses
     (goes_on (second (one_false _ _ c.else-starred.either) given)
-    (goes_on c.take_byte_if-bracket.ensures.meets
+    (goes_on c.take_byte_if-bracket.ensures.parses
     (first c.if-not-bracket.false
     (goes_on (passed c.skip_blank-start.ensures.blank)
-    (goes_on c.in_ok-key.ensures.meets
+    (goes_on c.in_ok-key.ensures.parses
     (goes_on (passed c.skip_blank-next.ensures.blank)
-    (stops (c.in_err-next.ensures.meets k from to h))))))))))))
+    (stops (c.in_err-next.ensures.parses k from to h))))))))))))
 
-pub gather_variants-returns-in_err-value-clause-meets :
-    goal.gather_variants-returns-in_err-value-clause-meets
-gather_variants-returns-in_err-value-clause-meets g m c =
+pub gather_variants-returns-in_err-value-clause-parses :
+    goal.gather_variants-returns-in_err-value-clause-parses
+gather_variants-returns-in_err-value-clause-parses g m c =
     let t = c.args.self.now.source.bytes.now in
     let p = err_from_is_err_and c.from_residual-in_err-value.result c.from_residual-in_err-value.ensures.1 in
     rw (p.1, p.2)
     (item_fails c.loop-starred.invariant.gathered.behind
-    (fails_next (functional_optional t asterisk) c.take_byte_if-star.ensures.meets
+    (fails_next (functional_optional t asterisk) c.take_byte_if-star.ensures.parses
     (fails_next (functional_star c.loop-starred.starred c.take_byte_if-star.result.0)
     (second (one_false _ _ c.else-starred.either) given)
-    (fails_next (functional_optional t left_bracket) c.take_byte_if-bracket.ensures.meets
+    (fails_next (functional_optional t left_bracket) c.take_byte_if-bracket.ensures.parses
     (fails_yes c.if-not-bracket.false
     (fails_next (functional_blank t) (passed c.skip_blank-start.ensures.blank)
-    (fails_next (functional_key t) c.in_ok-key.ensures.meets
+    (fails_next (functional_key t) c.in_ok-key.ensures.parses
     (fails_next (functional_blank t) (passed c.skip_blank-next.ensures.blank)
-    (fails_next (functional_token t right_bracket) c.in_ok-next.ensures.meets
-    (fails_first c.in_err-value.ensures.meets))))))))))
+    (fails_next (functional_token t right_bracket) c.in_ok-next.ensures.parses
+    (fails_first c.in_err-value.ensures.parses))))))))))
 
-pub gather_variants-returns-in_default-clause-meets : goal.gather_variants-returns-in_default-clause-meets
-gather_variants-returns-in_default-clause-meets g m c =
+pub gather_variants-returns-in_default-clause-parses : goal.gather_variants-returns-in_default-clause-parses
+gather_variants-returns-in_default-clause-parses g m c =
     let t = c.args.self.now.source.bytes.now in
-    let found = rw c.in_default.is at c.in_ok-value.ensures.meets in
+    let found = rw c.in_default.is at c.in_ok-value.ensures.parses in
     let value_read = pattern c.args.self.now.edition t (within c.args.self.now.edition t c.args.nesting) in
     on_made found (λ o read same.
     let none = no_value_read (pattern_map (g.M.MakeTexts.source c.args.self.now.texts.now)) value_read o read same in
     item_fails c.loop-starred.invariant.gathered.behind (refused (λ k from to (a, b, d). rw (a, b, d)
-    (goes_on c.take_byte_if-star.ensures.meets
+    (goes_on c.take_byte_if-star.ensures.parses
     (goes_on (second (one_false _ _ c.else-starred.either) given)
-    (goes_on c.take_byte_if-bracket.ensures.meets
+    (goes_on c.take_byte_if-bracket.ensures.parses
     (first c.if-not-bracket.false
     (goes_on (passed c.skip_blank-start.ensures.blank)
-    (goes_on c.in_ok-key.ensures.meets
+    (goes_on c.in_ok-key.ensures.parses
     (goes_on (passed c.skip_blank-next.ensures.blank)
-    (goes_on c.in_ok-next.ensures.meets
+    (goes_on c.in_ok-next.ensures.parses
     (goes_on none
     (failed refl)))))))))))))
 
 pub gather_variants-loop-starred-preserved : goal.gather_variants-loop-starred-preserved
 gather_variants-loop-starred-preserved g m c =
     let t = c.args.self.now.source.bytes.now in
-    let found = rw c.in-Some.is at c.in_ok-value.ensures.meets in
+    let found = rw c.in-Some.is at c.in_ok-value.ensures.parses in
     let old = c.loop-starred in
     let added = c.in_ok-add_variant.ensures in
     let value_read = pattern c.args.self.now.edition t (within c.args.self.now.edition t c.args.nesting) in
@@ -181,23 +181,23 @@ gather_variants-loop-starred-preserved g m c =
           (functional_next_variant c.args.self.now.edition t _ (functional_within c.args.self.now.edition t _)
           old.starred)
           (variant (key_view (λ s. s) c.in_ok-key.key) value c.take_byte_if-star.result.0) _
-          (goes_on c.take_byte_if-star.ensures.meets
+          (goes_on c.take_byte_if-star.ensures.parses
           (goes_on (second (one_false _ _ c.else-starred.either) given)
-          (goes_on c.take_byte_if-bracket.ensures.meets
+          (goes_on c.take_byte_if-bracket.ensures.parses
           (first c.if-not-bracket.false
           (goes_on (passed c.skip_blank-start.ensures.blank)
-          (goes_on c.in_ok-key.ensures.meets
+          (goes_on c.in_ok-key.ensures.parses
           (goes_on (passed c.skip_blank-next.ensures.blank)
-          (goes_on c.in_ok-next.ensures.meets
+          (goes_on c.in_ok-next.ensures.parses
           (goes_on there
           (goes_on (passed c.skip_blank-place.ensures.blank)
           given))))))))))
           (added.2 ∙ rw same_value refl);
     }))
 
-pub gather_variants-returns-in_err-add_variant-clause-meets :
-    goal.gather_variants-returns-in_err-add_variant-clause-meets
-gather_variants-returns-in_err-add_variant-clause-meets g m c =
+pub gather_variants-returns-in_err-add_variant-clause-parses :
+    goal.gather_variants-returns-in_err-add_variant-clause-parses
+gather_variants-returns-in_err-add_variant-clause-parses g m c =
     rw (out_of_memory c.from_residual-in_err-add_variant.result c.from_residual-in_err-add_variant.ensures.1) no_memory
 
 pub gather_variants-loop-starred-init : goal.gather_variants-loop-starred-init

@@ -1,0 +1,93 @@
+-- What is found of a file by itself doesn't depend on what other files may define.
+use Rattle.std.proofs.Common.{◌≡◌, ℕ, Bool, true, false, List, [], ◌∷◌, refl, sym, ap, ◌∙◌}
+use Rattle.std.proofs.Common.{Option, Some, None}
+use Rattle.std.specs.Prelude.{filter, cond, if◌then◌else◌}
+use Rattle.fluent_syntax_tree.specs.declared.spans.Span.{Span}
+use Rattle.fluent_syntax_names.specs.Mentions.{Mentions}
+use Rattle.fluent_syntax_names.specs.declared.mention.Mention.{Mention}
+use Rattle.fluent_syntax_names.specs.declared.mention.Mention.TheVariants as says
+use Rattle.fluent_syntax_names.specs.declared.name_index.NameIndex.{NameIndex}
+use Rattle.fluent_syntax_names.specs.declared.qualified_names.EntryName.{EntryName}
+use Rattle.fluent_syntax_names.specs.declared.qualified_names.PatternName.{PatternName}
+use Rattle.fluent_syntax_names.specs.declared.finding.Finding.{Finding}
+use Rattle.fluent_syntax_names.specs.declared.finding.Kind.{Kind}
+use Rattle.fluent_syntax_names.specs.declared.finding.Kind.TheVariants as kind
+use Rattle.fluent_syntax_names.specs.Cycles.{Link, links_in, links, pattern_after, referenced_pattern, no_pattern}
+use Rattle.fluent_syntax_names.specs.Findings.{Known, Set, put, finding_of, findings_in, findings_from, after, nothing}
+use Rattle.fluent_syntax_names.specs.Findings.{twice}
+use Rattle.fluent_syntax_names.specs.Findings.{cycle, undefined, undefined_part, finding_at}
+use Rattle.fluent_syntax_names.specs.Severities.{is_local}
+use Rattle.fluent_syntax_names.specs.QualifiedNames.{Text, message_name, term_name, qualified_name, qualified_attribute}
+use Rattle.fluent_syntax_names.specs.QualifiedNames.{qualified_value}
+use Rattle.fluent_syntax_names.proofs.Growing.{SameOn, cycle_same}
+
+abbrev pub own : List Finding → List Finding
+own list = filter (λ f. is_local f.kind) list
+
+put_own : (o : Option Finding) (l l' : List Finding) → own l ≡ own l' → own (put o l) ≡ own (put o l')
+put_own None l l' same = same
+put_own (Some f) l l' same = ap (λ left. cond (is_local f.kind) (f ∷ left) left) same
+
+-- ---- What is missing is left out
+
+module _ (file : ℕ) (text : Text) where
+  either_out : (b : Bool) (o p : Option Finding) (l : List Finding) → own (put o l) ≡ own l → own (put p l) ≡ own l
+      → own (put (if b then o else p) l) ≡ own l
+  either_out true o p l first second = first
+  either_out false o p l first second = second
+
+  part_out : (D : Text → Bool) (entry : EntryName) (a : Option Span) (l : List Finding)
+      → own (put (undefined_part D file text entry a) l) ≡ own l
+  part_out D entry None l =
+      let missing = Some (finding_at kind.UndefinedValue file entry.name None) in
+      let value = if D (qualified_value text entry) then None else missing in
+      either_out entry.is_term None value l refl (either_out (D (qualified_value text entry)) None missing l refl refl)
+  part_out D entry (Some a) l =
+      let missing = Some (finding_at kind.UndefinedAttribute file a None) in
+      either_out (D (qualified_attribute text entry a)) None missing l refl refl
+
+  undefined_out : (D : Text → Bool) (k : Kind) (entry : EntryName) (a : Option Span) (l : List Finding)
+      → is_local k ≡ false → own (put (undefined D file text k entry a) l) ≡ own l
+  undefined_out D k entry a l out =
+      let missing = Some (finding_at k file entry.name None) in
+      either_out (D (qualified_name text entry)) (undefined_part D file text entry a) missing l (part_out D entry a l)
+      (ap (λ b. cond b (finding_at k file entry.name None ∷ own l) (own l)) out)
+
+  finding_local : (D E : Text → Bool) (known : Known) (m : Mention Span) (l l' : List Finding) → own l ≡ own l'
+      → own (put (finding_of D file text known m) l) ≡ own (put (finding_of E file text known m) l')
+  finding_local D E known (says.Message x v) l l' same =
+      put_own (twice kind.DefinedTwice file x (known.names (qualified_name text (message_name x)))) l l' same
+  finding_local D E known (says.Term x) l l' same =
+      put_own (twice kind.DefinedTwice file x (known.names (qualified_name text (term_name x)))) l l' same
+  finding_local D E known (says.Attribute x) l l' same =
+      put_own (finding_of D file text known (says.Attribute x)) l l' same
+  finding_local D E known (says.Junk x) l l' same = same
+  finding_local D E known (says.MessageReference x a) l l' same =
+      undefined_out D kind.UndefinedMessage (message_name x) a l refl
+      ∙ same ∙ sym (undefined_out E kind.UndefinedMessage (message_name x) a l' refl)
+  finding_local D E known (says.TermReference x a) l l' same =
+      undefined_out D kind.UndefinedTerm (term_name x) a l refl
+      ∙ same ∙ sym (undefined_out E kind.UndefinedTerm (term_name x) a l' refl)
+  finding_local D E known (says.Variable x) l l' same = same
+  finding_local D E known (says.Function x) l l' same = same
+
+-- ---- So what the sets define may differ
+
+module _ (A B : Set) where
+  findings_in_local : (file : ℕ) (text : Text) (known : Known) (pattern : PatternName) (ms : Mentions Span)
+      (others : List Link) → SameOn A B (links_in text pattern ms others) → (tail : List Finding)
+      → own (findings_in A file text known pattern ms tail) ≡ own (findings_in B file text known pattern ms tail)
+  findings_in_local file text known pattern [] others same tail = refl
+  findings_in_local file text known pattern (m ∷ ms) others same tail =
+      let rest = links_in text (pattern_after pattern m) ms others in
+      let here = cycle_same A B file text pattern (referenced_pattern m) rest same in
+      let left = λ (S : Set). findings_in S file text (after text known m) (pattern_after pattern m) ms tail in
+      let behind = findings_in_local file text (after text known m) (pattern_after pattern m) ms others here.1 tail in
+      let comes = cycle A.is_cyclic file text pattern m in
+      finding_local file text A.defines B.defines known m (put comes (left A)) (put comes (left B))
+      (put_own comes (left A) (left B) behind)
+      ∙ ap (λ o. own (put (finding_of B.defines file text known m) (put o (left B)))) here.0
+
+  pub findings_local : (file : NameIndex) → SameOn A B (links (file ∷ []))
+      → own (findings_from A 0 (file ∷ []) []) ≡ own (findings_from B 0 (file ∷ []) [])
+  findings_local file same = findings_in_local 0 file.text.now nothing no_pattern file.mentions.items [] same []

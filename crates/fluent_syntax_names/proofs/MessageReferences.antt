@@ -1,0 +1,243 @@
+-- A table of references that grows by one name or one reference after another.
+use Rattle.std.proofs.Common.{◌≡◌, inl, inr, ℕ, ◌+◌, ◌<◌, ◌≤◌, Bool, true, false, List, [], ◌∷◌, ◌++◌, length}
+use Rattle.std.proofs.Common.{get_or, set, map, drop, Vec, Option, Some, None, refl, sym, ap, ◌∙◌, subst, arith}
+use Rattle.std.specs.Prelude.{filter, cond, if◌then◌else◌}
+use Rattle.std.specs.Borrow.{Bor}
+use Rattle.std.specs.Str.{bytes_eq}
+use Rattle.std.specs.declared.alloc.Global.{Global}
+use Rattle.std.proofs.lemmas.Bool.{cases_eq}
+use Rattle.std.proofs.lemmas.List.{append-nil, map-append, map-set, map_push}
+use Rattle.std.proofs.lemmas.List.{get_or_append_left, get_or_push, length_push}
+use Rattle.std.proofs.lemmas.List.{get_or-map, length-map, get_or-set_same, get_or-set_other, length-set}
+use Rattle.std.proofs.lemmas.List.{drop_all}
+use Rattle.std.proofs.lemmas.List.Elements.{filter-append}
+use Rattle.std.proofs.lemmas.Slice.Eq.{bytes_eq-Decides}
+use Rattle.fluent_syntax_tree.specs.declared.spans.Span.{Span}
+use Rattle.fluent_syntax_names.proofs.Adding.{drop_next}
+use Rattle.fluent_syntax_names.specs.Cycles.{Link}
+use Rattle.fluent_syntax_names.specs.Findings.{owner_after}
+use Rattle.fluent_syntax_names.specs.MessageReferences.{followed_limit, refers, references_in, messages_of}
+use Rattle.fluent_syntax_names.specs.Mentions.{Mentions}
+use Rattle.fluent_syntax_names.specs.NamedLists.{AddsItem, AddsName, IsNew, Numbering, Within, lists_of, numbers_of}
+use Rattle.fluent_syntax_names.specs.FirstPlaces.{first_of, place_of, place_where}
+use Rattle.fluent_syntax_names.specs.Rows.{Rows, row_at, rows_of, texts_at, texts_of, HasReferences}
+use Rattle.fluent_syntax_names.specs.Rows.{IsMessageReferences, AddsReferences}
+use Rattle.fluent_syntax_names.specs.QualifiedNames.{Text, nameless}
+use Rattle.fluent_syntax_names.specs.declared.message_references.MessageReferences.{MessageReferences}
+use Rattle.fluent_syntax_names.specs.declared.mention.Mention.{Mention}
+use Rattle.fluent_syntax_names.specs.declared.named_lists.NamedLists.{NamedLists}
+use Rattle.fluent_syntax_names.specs.declared.first_places.FirstPlaces.{FirstPlaces}
+use Rattle.fluent_syntax_names.specs.declared.qualified_names.EntryName.{EntryName}
+use Rattle.fluent_syntax_names.proofs.Listed.{length-items, list_read}
+use Rattle.fluent_syntax_names.proofs.Numbered.{apart_more, none_apart, none_within, within_more}
+
+-- before any name
+pub no_references : (number : Numbering) → ((x : Text) → number x ≡ None) → HasReferences [] number []
+no_references number none = record {
+  within = none_within number none;
+  apart = none_apart number none;
+  has_messages = λ x. ap (row_at []) (none x);
+}
+
+-- ---- A new name
+
+abbrev Lists : Type 0
+Lists = NamedLists (Vec ℕ Global)
+
+module _ (all : List Link) (old new : Lists) (name : Text) (last : ℕ) (is : IsNew old new name last)
+    (adds_references : HasReferences all (numbers_of old) (rows_of old)) where
+  abbrev rows : Rows
+  rows = rows_of old
+
+  abbrev more : Rows
+  more = rows ++ [] ∷ []
+
+  is_last : last ≡ length rows
+  is_last = is.last ∙ sym (length-map (lists_of old) texts_of)
+
+  -- the row of the new name is empty
+  new_row : (b : Bool) → row_at more (if b then Some last else None) ≡ []
+  new_row true = get_or_push rows [] [] last (sym is_last)
+  new_row false = refl
+
+  same_row : (x : Text) (o : Option ℕ) → numbers_of old x ≡ o
+      → row_at more (first_of o (place_where x name last)) ≡ row_at rows o
+  same_row x None was = new_row (bytes_eq x name)
+  same_row x (Some u) was = get_or_append_left rows ([] ∷ []) [] u (adds_references.within x u was)
+
+  new_name : HasReferences all (numbers_of new) more
+  new_name = record {
+    within = subst (Within (numbers_of new)) (sym (length_push rows []))
+        (within_more (numbers_of old) (numbers_of new) name last is.absent is.notes
+        (length rows) is_last adds_references.within);
+    apart = apart_more (numbers_of old) (numbers_of new) name last is.absent is.notes (length rows) is_last
+        adds_references.within adds_references.apart;
+    has_messages = λ x. ap (row_at more) (is.notes x) ∙ same_row x (numbers_of old x) refl
+        ∙ adds_references.has_messages x;
+  }
+
+pub row_more : (all : List Link) (old new : Lists) (name : Text) (number : ℕ) → AddsName old new name number
+    → HasReferences all (numbers_of old) (rows_of old) → HasReferences all (numbers_of new) (rows_of new)
+row_more all old new name number adds adds_references = elim adds.adds [
+  | inl same ↦ subst (λ (n : Lists). HasReferences all (numbers_of n) (rows_of n)) (sym same) adds_references
+  | inr is ↦
+      subst (λ (r : Rows). HasReferences all (numbers_of new) r)
+      (sym (ap (map texts_of) is.longer ∙ map_push texts_of (lists_of old) []))
+      (new_name all old new name number is adds_references)
+]
+
+-- ---- A new reference
+
+module _ (before : List Link) (number : Numbering) (rows : Rows) (adds_references : HasReferences before number rows)
+    (link : Link)
+    (u : ℕ) (from : number link.from ≡ Some u) where
+  abbrev longer : List Text
+  longer = get_or rows u [] ++ link.to ∷ []
+
+  abbrev reference_rows : Rows
+  reference_rows = set rows u longer
+
+  abbrev with_link : List Link
+  with_link = before ++ link ∷ []
+
+  -- what the link adds for a name
+  abbrev added : Bool → List Text
+  added b = cond b (link.to ∷ []) []
+
+  of_one : (b : Bool) → map (λ (l : Link). l.to) (cond b (link ∷ []) []) ≡ added b
+  of_one true = refl
+  of_one false = refl
+
+  referred_more : (x : Text) → messages_of with_link x ≡ messages_of before x ++ added (bytes_eq x link.from)
+  referred_more x =
+      let test = λ (l : Link). bytes_eq x l.from in
+      ap (map (λ (l : Link). l.to)) (filter-append test before (link ∷ []))
+      ∙ map-append (λ (l : Link). l.to) (filter test before) (filter test (link ∷ []))
+      ∙ ap (λ l. messages_of before x ++ l) (of_one (bytes_eq x link.from))
+
+  -- another name has what it had
+  row_other : (x : Text) → bytes_eq x link.from ≡ false → row_at rows (number x) ≡ messages_of with_link x
+  row_other x apart =
+      adds_references.has_messages x
+      ∙ sym (append-nil (messages_of before x))
+      ∙ ap (λ b. messages_of before x ++ added b) (sym apart)
+      ∙ sym (referred_more x)
+
+  by_number : (x : Text) (o : Option ℕ) → number x ≡ o → (b : Bool) → bytes_eq x link.from ≡ b
+      → row_at reference_rows o ≡ messages_of with_link x
+  by_number x None is true same =
+      let never : None ≡ Some u = sym is ∙ ap number ((bytes_eq-Decides x link.from).0 same) ∙ from in absurd (cc)
+  by_number x None is false apart = ap (row_at rows) (sym is) ∙ row_other x apart
+  by_number x (Some v) is true same =
+      let e : x ≡ link.from = (bytes_eq-Decides x link.from).0 same in
+      let at : Some v ≡ Some u = sym is ∙ ap number e ∙ from in
+      let v_is : v ≡ u = cc in
+      ap (λ w. get_or reference_rows w []) v_is
+      ∙ get_or-set_same rows u longer [] (adds_references.within link.from u from)
+      ∙ ap (λ l. l ++ link.to ∷ []) (ap (row_at rows) (sym from) ∙ adds_references.has_messages link.from)
+      ∙ ap (λ n. messages_of before n ++ link.to ∷ []) (sym e)
+      ∙ ap (λ b. messages_of before x ++ added b) (sym same)
+      ∙ sym (referred_more x)
+  by_number x (Some v) is false apart = elim (cases_eq v u) [
+    | inl e ↦
+        let there : x ≡ link.from = adds_references.apart x link.from u (is ∙ ap Some e) from in
+        let never : true ≡ false = sym ((bytes_eq-Decides x link.from).1 there) ∙ apart in absurd (cc)
+    | inr n ↦
+        get_or-set_other rows u v longer [] n ∙ ap (row_at rows) (sym is) ∙ row_other x apart
+  ]
+
+  new_reference : HasReferences with_link number reference_rows
+  new_reference = record {
+    within = λ x w e. omega (arith, adds_references.within x w e, length-set rows u longer);
+    apart = adds_references.apart;
+    has_messages = λ x. by_number x (number x) refl (bytes_eq x link.from) refl;
+  }
+
+pub row_within : (all : List Link) (names : Lists) → HasReferences all (numbers_of names) (rows_of names)
+    → (x : Text) (u : ℕ) → numbers_of names x ≡ Some u → u < length (lists_of names)
+row_within all names adds_references x u e =
+    omega (arith, adds_references.within x u e, length-map (lists_of names) texts_of)
+
+pub reference_more : (before : List Link) (old new : Lists) → HasReferences before (numbers_of old) (rows_of old)
+    → (link : Link) (u : ℕ) → numbers_of old link.from ≡ Some u → (to : Vec ℕ Global) → to.items ≡ link.to
+    → AddsItem old new u to → HasReferences (before ++ link ∷ []) (numbers_of new) (rows_of new)
+reference_more before old new adds_references link u from to is adds =
+    let lists = lists_of old in
+    let list = get_or lists u [] in
+    let rows = rows_of old in
+    let row : texts_of list ≡ get_or rows u [] =
+    sym (get_or-map texts_of lists u [] [] (row_within before old adds_references link.from u from)) in
+    let longer : rows_of new ≡ set rows u (get_or rows u [] ++ link.to ∷ []) =
+    ap (map texts_of) adds.longer
+    ∙ map-set texts_of lists u (list ++ to ∷ [])
+    ∙ ap (set rows u) (map_push (λ (v : Vec ℕ Global). v.items) list to
+    ∙ ap (λ (x : Text). texts_of list ++ x ∷ []) is
+    ∙ ap (λ (l : List Text). l ++ link.to ∷ []) row) in
+    subst (λ (n : FirstPlaces ℕ). HasReferences (before ++ link ∷ []) (place_of n.table) (rows_of new)) (sym adds.same)
+    (subst (λ (r : Rows). HasReferences (before ++ link ∷ []) (numbers_of old) r) (sym longer)
+    (new_reference before (numbers_of old) rows adds_references link u from))
+
+-- a row, as it is read
+pub row_read : (names : Lists) (u : ℕ) (row : Vec (Vec ℕ Global) Global) → u < length names.lists.items
+    → row ≡ get_or names.lists.items u row → get_or (rows_of names) u [] ≡ texts_of row.items
+row_read names u row within is =
+    let lists = names.lists.items in
+    get_or-map texts_of (lists_of names) u [] [] (omega (arith, within, length-items lists))
+    ∙ ap texts_of (list_read lists u row within is)
+
+-- ---- Messages that are followed
+
+pub length-texts_at : (names : List (Bor Text)) → length (texts_at names) ≡ length names
+length-texts_at names = length-map names (λ (b : Bor Text). b.now)
+
+pub length-texts_of : (names : List (Vec ℕ Global)) → length (texts_of names) ≡ length names
+length-texts_of names = length-map names (λ (v : Vec ℕ Global). v.items)
+
+-- with those of a row there are so many
+pub both_lengths : (names : List (Bor Text)) (more : List (Vec ℕ Global)) (row : List Text) → texts_of more ≡ row
+    → length names + length more ≡ length (texts_at names) + length row
+both_lengths names more row is = omega (arith, length-texts_at names, length-texts_of more, ap length is)
+
+-- the message at an index is one of few
+pub record IsRead (names : List (Bor Text)) (i : ℕ) (x : Text) : Type 0 where
+  pub few : length (texts_at names) ≤ followed_limit
+  pub within : i < length (texts_at names)
+  pub is : x ≡ get_or (texts_at names) i []
+
+pub message_read : (names : List (Bor Text)) (i : ℕ) (name : Bor Text) → length names ≤ followed_limit
+    → i < length names → name ≡ get_or names i name → IsRead names i name.now
+message_read names i name few within is = record {
+  few = omega (arith, few, length-texts_at names);
+  within = omega (arith, within, length-texts_at names);
+  is = ap (λ (b : Bor Text). b.now) is ∙ sym (get_or-map (λ (b : Bor Text). b.now) names i name [] within);
+}
+
+-- ---- The mentions of a file
+
+module _ (text : Text) (now : MessageReferences) (ms : Mentions Span) (i : ℕ) where
+  abbrev pub LeavesReferences : MessageReferences → EntryName → ℕ → Type 0
+  LeavesReferences message_references owner n = (list : List Link) × IsMessageReferences list message_references
+      × (list ++ references_in text owner (drop n ms) [] ≡ references_in text nameless ms [])
+
+  pub references_next : (next : MessageReferences) (owner : EntryName) (m d : Mention Span) → i < length ms
+      → m ≡ get_or ms i d
+      → LeavesReferences now owner i → AddsReferences now next (refers text owner m)
+      → LeavesReferences next (owner_after owner m) (i + 1)
+  references_next next owner m d within is left adds_references =
+      let cut = drop_next ms i m d within is in
+      let second = adds_references left.0 left.1 in (
+        second.0,
+        second.1,
+        second.2 (references_in text (owner_after owner m) (drop (i + 1) ms) [])
+            ∙ ap (λ (l : Mentions Span). left.0 ++ references_in text owner l []) (sym cut)
+            ∙ left.2,
+      )
+
+  pub references_none : (owner : EntryName) → length ms ≤ i → LeavesReferences now owner i
+      → IsMessageReferences (references_in text nameless ms []) now
+  references_none owner end left =
+      let same : left.0 ≡ references_in text nameless ms [] =
+      sym (append-nil left.0)
+      ∙ ap (λ (l : Mentions Span). left.0 ++ references_in text owner l []) (sym (drop_all i ms end))
+      ∙ left.2 in
+      subst (λ (l : List Link). IsMessageReferences l now) same left.1

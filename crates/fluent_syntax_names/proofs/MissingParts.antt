@@ -1,0 +1,152 @@
+-- Lists of what is lacked, that grow by one mention after another.
+use Rattle.std.proofs.Common.{◌≡◌, ℕ, ◌+◌, ◌<◌, ◌≤◌, Bool, true, false, List, []}
+use Rattle.std.proofs.Common.{◌∷◌, ◌++◌, length, get_or, drop, refl, sym, ap, ◌∙◌}
+use Rattle.std.proofs.Common.{Option, Some, None}
+use Rattle.std.specs.Borrow.{Bor}
+use Rattle.std.specs.Prelude.{if◌then◌else◌, not, ◌||◌}
+use Rattle.std.specs.List.{list_any}
+use Rattle.std.proofs.lemmas.List.{append-nil, at_drop_more, drop_all}
+use Rattle.fluent_syntax_tree.specs.declared.spans.Span.{Span}
+use Rattle.fluent_syntax_names.specs.declared.missing_part.MissingPart.{MissingPart}
+use Rattle.fluent_syntax_names.specs.declared.missing_part.Part.{Part}
+use Rattle.fluent_syntax_names.specs.declared.missing_part.Part.TheVariants as part
+use Rattle.fluent_syntax_names.specs.declared.mention.Mention.{Mention}
+use Rattle.fluent_syntax_names.specs.declared.mention.Mention.TheVariants as says
+use Rattle.fluent_syntax_names.specs.declared.qualified_names.EntryName.{EntryName}
+use Rattle.fluent_syntax_names.specs.Findings.{put, owner_after}
+use Rattle.fluent_syntax_names.specs.QualifiedNames.{Text, message_name, term_name}
+use Rattle.fluent_syntax_names.specs.Growing.{Adds, Leaves}
+use Rattle.fluent_syntax_names.proofs.Adding.{drop_next, leaves_rest, leaves_nothing}
+use Rattle.fluent_syntax_names.specs.MissingParts.{Other, missing_part_at, missing_entry, missing_value}
+use Rattle.fluent_syntax_names.specs.MissingParts.{missing_attribute, missing_part}
+use Rattle.fluent_syntax_names.specs.MissingParts.{missing_reference, missing_variable, missing_part_of}
+use Rattle.fluent_syntax_names.specs.MissingParts.{missing_parts_in}
+use Rattle.fluent_syntax_names.specs.MissingParts.{may_use, some_may_use, one_may_use}
+use Rattle.fluent_syntax_names.specs.Mentions.{Mentions}
+use Rattle.fluent_syntax_names.specs.Rows.{texts_at}
+use Rattle.fluent_syntax_names.specs.QualifiedNames.{qualified_name, qualified_attribute, qualified_value}
+use Rattle.fluent_syntax_names.specs.QualifiedNames.{qualified_variable}
+use Rattle.fluent_syntax_names.specs.QualifiedNames.{name_at, qualified_reference, variable_of}
+
+-- ---- What is lacked depends on what the tables have alone
+
+module _ (text : Text) (D E : Other) (defines : (name : Text) → D.defines name ≡ E.defines name)
+    (uses : (name : Text) → D.uses name ≡ E.uses name) (reachable : (name : Text)
+    → D.reachable name ≡ E.reachable name) where
+  part_same : (owner : EntryName) (b c : Bool) → b ≡ c → (p : Part) (x : Span)
+      → missing_part D text owner b p x ≡ missing_part E text owner c p x
+  part_same owner b c e p x =
+      ap (λ d. if not d then None else if b then None else missing_part_of p x) (defines (qualified_name text owner))
+      ∙ ap (λ t. if not (E.defines (qualified_name text owner)) then None else if t then None else missing_part_of p x)
+      e
+
+  value_same : (message : EntryName) (v : Bool) → missing_value D text message v ≡ missing_value E text message v
+  value_same message false = refl
+  value_same message true =
+      part_same message (D.defines (qualified_value text message)) (E.defines (qualified_value text message))
+      (defines (qualified_value text message)) part.Value message.name
+
+  entry_same : (entry : EntryName) (v : Bool) → missing_entry D text entry v ≡ missing_entry E text entry v
+  entry_same entry v =
+      ap (λ d. if d then missing_value D text entry v else missing_part_of part.Entry entry.name)
+      (defines (qualified_name text entry))
+      ∙ ap (λ o. if E.defines (qualified_name text entry) then o else missing_part_of part.Entry entry.name)
+      (value_same entry v)
+
+  attribute_same : (owner : EntryName) (x : Span) → missing_attribute D text owner x ≡ missing_attribute E text owner x
+  attribute_same owner x =
+      let name = qualified_attribute text owner x in
+      ap (λ o. if owner.is_term then None else o)
+      (part_same owner (D.defines name) (E.defines name) (defines name) part.Attribute x)
+
+  reference_same : (owner target : EntryName)
+      → missing_reference D text owner target ≡ missing_reference E text owner target
+  reference_same owner target =
+      let name = qualified_reference text owner target in
+      part_same owner (D.uses name) (E.uses name) (uses name) part.Reference target.name
+
+  one_same : (variable message : Text) → one_may_use D variable message ≡ one_may_use E variable message
+  one_same variable message =
+      ap (λ d. not d || D.uses (variable_of message variable)) (defines message)
+      ∙ ap (λ u. not (E.defines message) || u) (uses (variable_of message variable))
+
+  any_same : (variable : Text) (messages : List Text)
+      → list_any (one_may_use D variable) messages ≡ list_any (one_may_use E variable) messages
+  any_same variable [] = refl
+  any_same variable (x ∷ xs) =
+      ap (λ b. b || list_any (one_may_use D variable) xs) (one_same variable x)
+      ∙ ap (λ b. one_may_use E variable x || b) (any_same variable xs)
+
+  some_same : (variable : Text) (reachable : Option (List Text))
+      → some_may_use D variable reachable ≡ some_may_use E variable reachable
+  some_same variable None = refl
+  some_same variable (Some messages) = any_same variable messages
+
+  may_same : (owner : EntryName) (x : Span) → may_use D text owner x ≡ may_use E text owner x
+  may_same owner x =
+      let variable = name_at text x in
+      ap (λ u. u || some_may_use D variable (D.reachable (qualified_name text owner)))
+      (uses (qualified_variable text owner x))
+      ∙ ap (λ l. E.uses (qualified_variable text owner x) || some_may_use D variable l)
+      (reachable (qualified_name text owner))
+      ∙ ap (λ b. E.uses (qualified_variable text owner x) || b)
+      (some_same variable (E.reachable (qualified_name text owner)))
+
+  variable_same : (owner : EntryName) (x : Span) → missing_variable D text owner x ≡ missing_variable E text owner x
+  variable_same owner x =
+      ap (λ o. if owner.is_term then None else o)
+      (part_same owner (may_use D text owner x) (may_use E text owner x) (may_same owner x) part.Variable x)
+
+  missing_part_same : (owner : EntryName) (m : Mention Span)
+      → missing_part_at D text owner m ≡ missing_part_at E text owner m
+  missing_part_same owner (says.Message x v) = entry_same (message_name x) v
+  missing_part_same owner (says.Term x) = entry_same (term_name x) false
+  missing_part_same owner (says.Attribute x) = attribute_same owner x
+  missing_part_same owner (says.Junk x) = refl
+  missing_part_same owner (says.MessageReference x a) = reference_same owner (message_name x)
+  missing_part_same owner (says.TermReference x a) = reference_same owner (term_name x)
+  missing_part_same owner (says.Variable x) = variable_same owner x
+  missing_part_same owner (says.Function x) = refl
+
+  pub missing_parts_same : (owner : EntryName) (ms : Mentions Span) (tail : List MissingPart)
+      → missing_parts_in D text owner ms tail ≡ missing_parts_in E text owner ms tail
+  missing_parts_same owner [] tail = refl
+  missing_parts_same owner (m ∷ ms) tail =
+      ap (λ o. put o (missing_parts_in D text (owner_after owner m) ms tail)) (missing_part_same owner m)
+      ∙ ap (put (missing_part_at E text owner m)) (missing_parts_same (owner_after owner m) ms tail)
+
+-- ---- The mentions of a file
+
+module _ (D : Other) (text : Text) (old now : List MissingPart) (all : List MissingPart → List MissingPart)
+    (owner : EntryName)
+    (ms : Mentions Span) (i : ℕ) where
+  pub missing_part_next : (next : List MissingPart) (m d : Mention Span) (missing : Option MissingPart) → i < length ms
+      → m ≡ get_or ms i d
+      → missing ≡ missing_part_at D text owner m → Leaves old now (missing_parts_in D text owner (drop i ms)) all
+      → Adds now next (put missing)
+      → Leaves old next (missing_parts_in D text (owner_after owner m) (drop (i + 1) ms)) all
+  missing_part_next next m d missing within is made =
+      let others = missing_parts_in D text (owner_after owner m) (drop (i + 1) ms) in
+      leaves_rest old now next (missing_parts_in D text owner (drop i ms)) (put missing) others all
+      (λ tail. ap (λ l. missing_parts_in D text owner l tail) (drop_next ms i m d within is)
+      ∙ ap (λ o. put o (others tail)) (sym made))
+
+  pub missing_part_none : length ms ≤ i → Leaves old now (missing_parts_in D text owner (drop i ms)) all
+      → now ≡ old ++ all []
+  missing_part_none end left =
+      sym (append-nil now)
+      ∙ leaves_nothing old now (missing_parts_in D text owner (drop i ms)) all
+      (λ tail. ap (λ l. missing_parts_in D text owner l tail) (drop_all i ms end)) left []
+
+-- ---- The messages that an entry leads to
+
+abbrev no_text : Bor Text
+no_text = record { ref_ptr = (0, 0); now = [] }
+
+-- what holds of one from an index on holds of the next message or of one behind it
+pub some_next : (test : Text → Bool) (messages : List (Bor Text)) (i : ℕ) → i < length messages → (b : Bool)
+    → test (get_or messages i no_text).now ≡ b
+    → (b || list_any test (texts_at (drop (i + 1) messages))) ≡ list_any test (texts_at (drop i messages))
+some_next test messages i within b is =
+    let some = λ (l : List (Bor Text)). list_any test (texts_at l) in
+    sym (ap (λ c. c || some (drop (i + 1) messages)) is) ∙ sym (at_drop_more some messages i no_text within)

@@ -1,0 +1,119 @@
+-- What one file says and another lacks.
+use Rattle.std.specs.Prelude.{Bool, true, false, not, ◌||◌, List, [], ◌∷◌, Option, Some, None, if◌then◌else◌}
+use Rattle.std.specs.List.{list_any}
+use Rattle.std.specs.Str.{bytes_eq}
+use Rattle.fluent_syntax_tree.specs.declared.spans.Span.{Span}
+use Rattle.fluent_syntax_names.specs.declared.missing_part.MissingPart.{MissingPart}
+use Rattle.fluent_syntax_names.specs.declared.missing_part.Part.{Part}
+use Rattle.fluent_syntax_names.specs.declared.missing_part.Part.TheVariants as part
+use Rattle.fluent_syntax_names.specs.declared.mention.Mention.{Mention}
+use Rattle.fluent_syntax_names.specs.declared.mention.Mention.TheVariants as says
+use Rattle.fluent_syntax_names.specs.declared.name_index.NameIndex.{NameIndex}
+use Rattle.fluent_syntax_names.specs.declared.qualified_names.EntryName.{EntryName}
+use Rattle.fluent_syntax_names.specs.Findings.{put, owner_after, is_defined}
+use Rattle.fluent_syntax_names.specs.QualifiedNames.{Text, nameless, message_name, term_name}
+use Rattle.fluent_syntax_names.specs.Findings.{gathered}
+use Rattle.fluent_syntax_names.specs.MessageReferences.{reachable_messages, references_of}
+use Rattle.fluent_syntax_names.specs.Mentions.{Mentions}
+use Rattle.fluent_syntax_names.specs.QualifiedNames.{qualified_name, qualified_attribute, qualified_value}
+use Rattle.fluent_syntax_names.specs.QualifiedNames.{qualified_variable}
+use Rattle.fluent_syntax_names.specs.QualifiedNames.{name_at, qualified_reference, variable_of}
+
+-- ---- What entries use
+
+-- what the mention uses in the entry, as it is spelled, before others: `name>message`, `name>-term`, `name$variable`
+abbrev pub uses : Text → EntryName → Mention Span → List Text → List Text
+uses text owner (says.MessageReference x a) tail = qualified_reference text owner (message_name x) ∷ tail
+uses text owner (says.TermReference x a) tail = qualified_reference text owner (term_name x) ∷ tail
+uses text owner (says.Variable x) tail = qualified_variable text owner x ∷ tail
+uses text owner _ tail = tail
+
+abbrev pub used_in : Text → EntryName → Mentions Span → List Text → List Text
+used_in text owner ms tail = gathered (uses text) owner ms tail
+
+-- whether the file uses this, spelled so
+abbrev pub is_used : NameIndex → Text → Bool
+is_used file name = list_any (bytes_eq name) (used_in file.text.now nameless file.mentions.items [])
+
+-- ---- What the other file lacks
+
+-- what the other file defines, what it uses, and which messages an entry of it leads to
+pub record Other : Type 0 where
+  pub defines : Text → Bool
+  pub uses : Text → Bool
+  pub reachable : Text → Option (List Text)
+
+abbrev pub missing_part_of : Part → Span → Option MissingPart
+missing_part_of part name = Some (record { part = part; name = name })
+
+-- a part of an entry that the other defines
+abbrev pub missing_part : Other → Text → EntryName → (is_there : Bool) → Part → Span → Option MissingPart
+missing_part other text owner is_there part name =
+    if not (other.defines (qualified_name text owner)) then None
+    else if is_there then None
+    else missing_part_of part name
+
+abbrev pub missing_value : Other → Text → EntryName → (has_value : Bool) → Option MissingPart
+missing_value other text message false = None
+missing_value other text message true =
+    missing_part other text message (other.defines (qualified_value text message)) part.Value message.name
+
+abbrev pub missing_entry : Other → Text → EntryName → (has_value : Bool) → Option MissingPart
+missing_entry other text entry has_value =
+    if other.defines (qualified_name text entry) then missing_value other text entry has_value
+    else missing_part_of part.Entry entry.name
+
+abbrev pub missing_attribute : Other → Text → EntryName → Span → Option MissingPart
+missing_attribute other text owner attribute =
+    if owner.is_term then None
+    else missing_part other text owner (other.defines (qualified_attribute text owner attribute)) part.Attribute
+    attribute
+
+abbrev pub missing_reference : Other → Text → EntryName → EntryName → Option MissingPart
+missing_reference other text owner target =
+    missing_part other text owner (other.uses (qualified_reference text owner target)) part.Reference target.name
+
+-- a message may use the variable that does, and one that the other file doesn't define, since another file may
+abbrev pub one_may_use : Other → (variable message : Text) → Bool
+one_may_use other variable message = not (other.defines message) || other.uses (variable_of message variable)
+
+-- one of the messages that are led to may; where there are too many to be followed, some may
+abbrev pub some_may_use : Other → (variable : Text) → Option (List Text) → Bool
+some_may_use other variable None = true
+some_may_use other variable (Some messages) = list_any (one_may_use other variable) messages
+
+-- a message may be given the variable that it uses, or that one may use that it leads to
+abbrev pub may_use : Other → Text → EntryName → Span → Bool
+may_use other text owner variable =
+    other.uses (qualified_variable text owner variable)
+    || some_may_use other (name_at text variable) (other.reachable (qualified_name text owner))
+
+abbrev pub missing_variable : Other → Text → EntryName → Span → Option MissingPart
+missing_variable other text owner variable =
+    if owner.is_term then None
+    else missing_part other text owner (may_use other text owner variable) part.Variable variable
+
+abbrev pub missing_part_at : Other → Text → EntryName → Mention Span → Option MissingPart
+missing_part_at other text owner (says.Message x v) = missing_entry other text (message_name x) v
+missing_part_at other text owner (says.Term x) = missing_entry other text (term_name x) false
+missing_part_at other text owner (says.Attribute x) = missing_attribute other text owner x
+missing_part_at other text owner (says.MessageReference x a) = missing_reference other text owner (message_name x)
+missing_part_at other text owner (says.TermReference x a) = missing_reference other text owner (term_name x)
+missing_part_at other text owner (says.Variable x) = missing_variable other text owner x
+missing_part_at other text owner _ = None
+
+abbrev pub missing_parts_in : Other → Text → EntryName → Mentions Span → List MissingPart → List MissingPart
+missing_parts_in other text owner [] tail = tail
+missing_parts_in other text owner (m ∷ ms) tail =
+    put (missing_part_at other text owner m) (missing_parts_in other text (owner_after owner m) ms tail)
+
+abbrev pub other_of : NameIndex → Other
+other_of file = record {
+  defines = is_defined (file ∷ []);
+  uses = is_used file;
+  reachable = reachable_messages (references_of file);
+}
+
+-- what the one says and the other lacks, in the order of the one's text
+abbrev pub all_missing_parts : (one other : NameIndex) → List MissingPart
+all_missing_parts one other = missing_parts_in (other_of other) one.text.now nameless one.mentions.items []

@@ -1,0 +1,29 @@
+//! What one file says and another lacks.
+
+use fluent_syntax_tree::spans::Span;
+
+/// What a file says and another one lacks.
+#[derive(Clone, Copy, Debug, PartialEq, Eq)]
+pub struct MissingPart {
+    pub part: Part,
+    /// The name in the file that has it: of the message or term, of the attribute, of what is referred to, or of the
+    /// variable.
+    pub name: Span,
+}
+
+/// What is lacked.
+#[derive(Clone, Copy, Debug, PartialEq, Eq)]
+pub enum Part {
+    /// A message or a term.
+    Entry,
+    /// The value of a message that both define.
+    Value,
+    /// An attribute of a message that both define.
+    Attribute,
+    /// A reference to a message or a term, or to an attribute of it, from an entry that both define: the other's entry
+    /// doesn't refer there.
+    Reference,
+    /// A variable of a message that both define: the other's message doesn't use it, and neither does any message that
+    /// this leads to, which are at most 100 and all defined in the other file.
+    Variable,
+}

@@ -1,0 +1,132 @@
+use Rattle.std.proofs.Common.{◌<◌, ◌∷◌, ◌++◌, [], length, refl, sym, ap, arith, ◌∙◌}
+use Rattle.fluent_syntax_tree.specs.Entry.{comment, regular}
+use Rattle.fluent_syntax_tree.specs.declared.ast.Entry.TheVariants as entries
+use Rattle.fluent_syntax_grammar.specs.Tiling.{reads}
+use Rattle.fluent_syntax_parser.proofs.entry_forms.EntryForms.{hash_attaches_not}
+use Rattle.fluent_syntax_parser.proofs.entry_forms.AttachesOn.{behind_blank, attaches_not, attaches_on, no_entry}
+use Rattle.fluent_syntax_parser.proofs.entry_forms.AttachesOn.{other_entry}
+use Rattle.fluent_syntax_grammar.proofs.TotalEntries.{too_deep_left}
+use Rattle.fluent_syntax_parser.proofs.tilings.DeeperTiles.{behind_one, entry_deeper, one_led, text_deeper, tile_deeper}
+use Rattle.fluent_syntax_parser.proofs.readers.Fails.{refuses_there, too_deep_there}
+use Rattle.fluent_syntax_parser.proofs.readers.Made.{on_made}
+use Rattle.fluent_syntax_parser.proofs.entry_forms.MadeEntries.{attached_made, attached_not}
+use Rattle.fluent_syntax_parser.proofs.tilings.Rests.{at_any_depth_entry}
+use Rattle.fluent_syntax_parser.specs.declared.options.Comments.TheVariants.{Kept}
+use Rattle.fluent_syntax_parser.proofs.reader.Reader.attach_comment.Goals as goal
+use Rattle.fluent_syntax_parser.proofs.reader.Reader.attach_comment.Goals.{then-is_byte_at-via-then-is_byte_at}
+use Rattle.fluent_syntax_parser.proofs.reader.Reader.attach_comment.Goals.{
+  then-is_byte_at-via-else-is_byte_at+then-skip_blank_block-ptr,
+}
+
+pub returns-then-is_byte_at-clause-attaches : goal.returns-then-is_byte_at-clause-attaches
+returns-then-is_byte_at-clause-attaches g c = λ before comm last.
+    let edition = c.args.self.now.edition in
+    let t = c.args.self.now.source.bytes.now in (
+      entries.Comment comm,
+      last,
+      (λ content lines. (
+        comment regular content,
+        attaches_not edition t content c.args.ptr (comment regular content) refl (elim c.then-is_byte_at.branch [
+          | then-is_byte_at-via-then-is_byte_at w ↦
+              (λ block e j read. hash_attaches_not edition t content c.args.ptr j e (sym w.if-is_byte_at.ensures) read)
+          | then-is_byte_at-via-else-is_byte_at+then-skip_blank_block-ptr w ↦
+              behind_blank edition t content c.args.ptr _ w.skip_blank_block.ensures.blank
+              w.if-skip_blank_block-ptr.true
+        ]),
+        ap (comment regular) lines,
+      )),
+    )
+
+pub returns-then-attaches-clause-attaches : goal.returns-then-attaches-clause-attaches
+returns-then-attaches-clause-attaches g c = λ before comm last.
+    let t = c.args.self.now.source.bytes.now in
+    let edition = c.args.self.now.edition in
+    let f = g.M.MakeTexts.source c.args.self.now.texts.now in
+    let found = c.in-Ok.ensures in
+    let e = found.adds.0 in
+    let inside : c.args.ptr < length t = omega (arith, found.within.0, found.within.1) in
+    let block = rw c.if-skip_blank_block-ptr.false at c.skip_blank_block.ensures.blank in
+    let attached = c.in_ok-attaches-in-Ok.ensures before comm e (found.adds.1 ∙ ap (λ xs. xs ++ e ∷ []) last) in
+    let attaches = rw c.if-attaches.true at attached in (
+      attaches.0,
+      attaches.2,
+      (λ content lines. on_made found.adds.2 (λ tree read same.
+          let made = attached_made f g.M.MakeTexts.made comm e content tree lines same _ attaches.1 in (
+            made.0,
+            attaches_on edition t content c.args.ptr tree made.0 _ block inside
+                (at_any_depth_entry edition t c.args.nesting c.args.ptr read) made.1,
+            made.2,
+          ))),
+    )
+
+pub returns-else-attaches-clause-attaches : goal.returns-else-attaches-clause-attaches
+returns-else-attaches-clause-attaches g c = λ before comm last.
+    let t = c.args.self.now.source.bytes.now in
+    let edition = c.args.self.now.edition in
+    let f = g.M.MakeTexts.source c.args.self.now.texts.now in
+    let found = c.in-Ok.ensures in
+    let e = found.adds.0 in
+    let attached = c.in_ok-attaches-in-Ok.ensures before comm e (found.adds.1 ∙ ap (λ xs. xs ++ e ∷ []) last) in
+    let other = rw c.if-attaches.false at attached in (
+      entries.Comment comm,
+      other.1,
+      (λ content lines. on_made found.adds.2 (λ tree read same. (
+        comment regular content,
+        attaches_not edition t content c.args.ptr (comment regular content) refl
+            (other_entry edition t content c.args.ptr tree _
+            (at_any_depth_entry edition t c.args.nesting c.args.ptr read)
+            (attached_not f g.M.MakeTexts.made comm e content tree lines same other.0)),
+        ap (comment regular) lines,
+      ))),
+    )
+
+pub returns-in-Err-Refused-clause-attaches : goal.returns-in-Err-Refused-clause-attaches
+returns-in-Err-Refused-clause-attaches g c = λ before comm last.
+    let edition = c.args.self.now.edition in
+    let t = c.args.self.now.source.bytes.now in
+    let found = rw c.in-Err-Refused.field-0-is at c.in-Err-Refused.ensures.adds in (
+      entries.Comment comm,
+      found.1 ∙ last,
+      (λ content lines. (
+        comment regular content,
+        attaches_not edition t content c.args.ptr (comment regular content) refl
+            (no_entry edition t content c.args.ptr _
+            (λ k from to shows. at_any_depth_entry edition t c.args.nesting c.args.ptr
+            (refuses_there found.0 k from to shows))),
+        ap (comment regular) lines,
+      )),
+    )
+
+-- ---- how deeply it nests
+
+pub returns-then-attaches-clause-behind : goal.returns-then-attaches-clause-behind
+returns-then-attaches-clause-behind g c =
+    let t = c.args.self.now.source.bytes.now in
+    let read = c.in-Ok.ensures in
+    let inside : c.args.ptr < length t = omega (arith, read.within.0, read.within.1) in
+    let block = rw c.if-skip_blank_block-ptr.false at c.skip_blank_block.ensures.blank in
+    on_made read.adds.2 (λ tree there same. λ h. text_deeper c.args.self.now.edition t c.args.nesting Kept _ _ block
+    (behind_one c.args.self.now.edition t c.args.nesting Kept _ _ inside _ (reads there) h))
+
+pub returns-in-Err-TooDeep-clause-deeper : goal.returns-in-Err-TooDeep-clause-deeper
+returns-in-Err-TooDeep-clause-deeper g c =
+    let t = c.args.self.now.source.bytes.now in
+    let block = rw c.if-skip_blank_block-ptr.false at c.skip_blank_block.ensures.blank in
+    let deep = too_deep_there (rw c.in-Err-TooDeep.field-0-is at c.in-Err-TooDeep.ensures.adds).0 in
+    let left = too_deep_left c.args.self.now.edition t c.args.nesting c.args.ptr c.requires deep in
+    λ e. text_deeper c.args.self.now.edition t c.args.nesting Kept _ _ block
+    (entry_deeper c.args.self.now.edition t c.args.nesting Kept _ (λ f. cc) (omega (arith, left)) deep)
+
+pub returns-in-Err-TooDeep-clause-nests : goal.returns-in-Err-TooDeep-clause-nests
+returns-in-Err-TooDeep-clause-nests g c = λ e.
+    too_deep_left c.args.self.now.edition c.args.self.now.source.bytes.now _ _ c.requires
+    (too_deep_there (rw c.in-Err-TooDeep.field-0-is at c.in-Err-TooDeep.ensures.adds).0)
+
+pub returns-then-attaches-clause-shallow : goal.returns-then-attaches-clause-shallow
+returns-then-attaches-clause-shallow g c =
+    let t = c.args.self.now.source.bytes.now in
+    let read = c.in-Ok.ensures in
+    let inside : c.args.ptr < length t = omega (arith, read.within.0, read.within.1) in
+    let block = rw c.if-skip_blank_block-ptr.false at c.skip_blank_block.ensures.blank in
+    on_made read.adds.2 (λ tree there same. λ h. one_led c.args.self.now.edition t c.args.nesting Kept _ _ inside _
+    (reads there) (tile_deeper c.args.self.now.edition t c.args.nesting Kept _ _ block h))

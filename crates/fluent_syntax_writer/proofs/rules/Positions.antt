@@ -1,0 +1,148 @@
+-- The elements of a pattern, one by one.
+use Rattle.std.proofs.Common.{◌≡◌, ◌≤◌, List, [], ◌∷◌, length, map, Bool, true, false, ◌&&◌}
+use Rattle.std.proofs.Common.{◌||◌, ◌==◌, not, Some, None, refl, sym, ap, ◌∙◌, arith}
+use Rattle.std.proofs.lemmas.Bool.{eqb-true}
+use Rattle.std.specs.Prelude.{slice_get}
+use Rattle.std.specs.List.{list_any}
+use Rattle.fluent_syntax_tree.specs.Tree.{ElementTree, text_element, placeable, PatternTree, no_elements, elements}
+use Rattle.fluent_syntax_tree.specs.Tree.{elements_of}
+use Rattle.fluent_syntax_tree.specs.declared.edition.Edition.{Edition}
+use Rattle.fluent_syntax_grammar.specs.Readable.{begins_with_placeable, is_text, is_well_placed, ends_well}
+use Rattle.fluent_syntax_grammar.specs.Readable.{position_after}
+use Rattle.fluent_syntax_grammar.specs.Readable.{are_elements}
+use Rattle.fluent_syntax_grammar.specs.Readable.{ElementPosition, opening, is_line_start, is_pattern}
+use Rattle.fluent_syntax_grammar.specs.Canonical.{hides_mark, are_lone}
+use Rattle.fluent_syntax_grammar.specs.Written.{Text, is_multiline, spans_lines}
+use Rattle.fluent_syntax_writer.specs.SingleRule.{has_element, texts_keep}
+use Rattle.fluent_syntax_writer.specs.Places.{position_past, is_element, element_keeps, is_placeable}
+use Rattle.fluent_syntax_writer.specs.Places.{element_hides_mark}
+use Rattle.fluent_syntax_writer.specs.Places.{is_lone_at_line_start}
+use Rattle.fluent_syntax_writer.specs.declared.canonical.rules.Rule.{Rule}
+
+pub is_multiline-list : {E : Type 0} (view : E → ElementTree Text) (es : List E)
+    → is_multiline (elements_of (map view es)) ≡ list_any (λ e. spans_lines (view e)) es
+is_multiline-list view [] = refl
+is_multiline-list view (e ∷ es) = ap (λ b. spans_lines (view e) || b) (is_multiline-list view es)
+
+-- ---- Tests of the first element
+
+pub first_tested : {E : Type 0} (view : E → ElementTree Text) (test : PatternTree Text → Bool)
+    (one : ElementTree Text → Bool) → ((e : ElementTree Text) (es : PatternTree Text) → test (elements e es) ≡ one e)
+    → (es : List E) (e : E) → slice_get es 0 ≡ Some e → test (elements_of (map view es)) ≡ one (view e)
+first_tested view test one same [] e is = cc
+first_tested view test one same (x ∷ es) e is =
+    let first : x ≡ e = cc in
+    same (view x) (elements_of (map view es)) ∙ ap (λ y. one (view y)) first
+
+pub none_tested : {E : Type 0} (view : E → ElementTree Text) (test : PatternTree Text → Bool)
+    → test no_elements ≡ false → (es : List E) → slice_get es 0 ≡ None → test (elements_of (map view es)) ≡ false
+none_tested view test none [] is = none
+none_tested view test none (x ∷ es) is = cc
+
+pub begins_with_placeable-first : (e : ElementTree Text) (es : PatternTree Text)
+    → begins_with_placeable (elements e es) ≡ is_placeable e
+begins_with_placeable-first (text_element v) es = refl
+begins_with_placeable-first (placeable e) es = refl
+
+pub hides_mark-first : (e : ElementTree Text) (es : PatternTree Text)
+    → hides_mark (elements e es) ≡ element_hides_mark e
+hides_mark-first (text_element v) es = refl
+hides_mark-first (placeable e) es = refl
+
+-- ---- Each element by its place
+
+pub and_assoc : (a b c d : Bool) → (a && (b && (c && d))) ≡ ((a && (b && c)) && d)
+and_assoc true true c d = refl
+and_assoc true false c d = refl
+and_assoc false b c d = refl
+
+or_true : (b : Bool) → true ≡ (b || true)
+or_true true = refl
+or_true false = refl
+
+module _ {E : Type 0} (view : E → ElementTree Text) where
+  abbrev pub tree : List E → PatternTree Text
+  tree es = elements_of (map view es)
+
+  -- where the element after this one stands
+  abbrev pub past : ElementPosition → E → ElementPosition
+  past s e = position_past (view e)
+
+  module _ (edition : Edition) (multiline : Bool) where
+    abbrev pub obey : ElementPosition → List E → Bool
+    obey s es = are_elements edition multiline s (tree es)
+
+    abbrev pub obeys : ElementPosition → E → List E → Bool
+    obeys s e es = is_element edition multiline s (view e) (tree es)
+
+    by_form : (s : ElementPosition) (e : ElementTree Text) (es : PatternTree Text)
+        → are_elements edition multiline s (elements e es)
+        ≡ (is_element edition multiline s e es && are_elements edition multiline (position_past e) es)
+    by_form s (text_element v) es =
+        and_assoc (is_text v) (is_well_placed edition multiline s v es) (ends_well v es)
+        (are_elements edition multiline (position_after v) es)
+    by_form s (placeable e) es = refl
+
+    -- the same by one rule alone
+    module _ (rule : Rule) where
+      abbrev pub keep : ElementPosition → List E → Bool
+      keep s es = texts_keep edition rule multiline s (tree es)
+
+      abbrev pub keeps : ElementPosition → E → List E → Bool
+      keeps s e es = element_keeps edition rule multiline s (view e) (tree es)
+
+      keep_by_form : (s : ElementPosition) (e : ElementTree Text) (es : PatternTree Text)
+          → texts_keep edition rule multiline s (elements e es)
+          ≡ (element_keeps edition rule multiline s e es && texts_keep edition rule multiline (position_past e) es)
+      keep_by_form s (text_element v) es = refl
+      keep_by_form s (placeable e) es = refl
+
+      pub first_keeps : (s : ElementPosition) (e : E) (es : List E)
+          → keep s (e ∷ es) ≡ (keeps s e es && keep (past s e) es)
+      first_keeps s e es = keep_by_form s (view e) (tree es)
+
+    pub first_obeys : (s : ElementPosition) (e : E) (es : List E)
+        → obey s (e ∷ es) ≡ (obeys s e es && obey (past s e) es)
+    first_obeys s e es = by_form s (view e) (tree es)
+
+  abbrev pub lone : ElementPosition → List E → Bool
+  lone s es = are_lone s (tree es)
+
+  abbrev pub one_lone : ElementPosition → E → List E → Bool
+  one_lone s e es = is_lone_at_line_start s (view e)
+
+  lone_by_form : (s : ElementPosition) (e : ElementTree Text) (es : PatternTree Text)
+      → are_lone s (elements e es) ≡ (is_lone_at_line_start s e && are_lone (position_past e) es)
+  lone_by_form s (text_element v) es = refl
+  lone_by_form s (placeable e) es =
+      ap (λ b. b && are_lone (position_past (placeable e)) es) (or_true (not (is_line_start s)))
+
+  pub first_lone : (s : ElementPosition) (e : E) (es : List E)
+      → lone s (e ∷ es) ≡ (one_lone s e es && lone (past s e) es)
+  first_lone s e es = lone_by_form s (view e) (tree es)
+
+-- ---- Whether there are elements
+
+pub ends_well-before : {E : Type 0} (view : E → ElementTree Text) (v : Text) (es : List E) → (length es == 0) ≡ false
+    → true ≡ ends_well v (elements_of (map view es))
+ends_well-before view v [] some = cc
+ends_well-before view v (e ∷ es) some = refl
+
+pub is_pattern-some : {E : Type 0} (view : E → ElementTree Text) (edition : Edition) (es : List E) → 1 ≤ length es
+    → is_pattern edition (elements_of (map view es))
+    ≡ are_elements edition (is_multiline (elements_of (map view es))) opening (elements_of (map view es))
+is_pattern-some view edition [] some = absurd (omega arith)
+is_pattern-some view edition (e ∷ es) some = refl
+
+pub is_pattern-none : {E : Type 0} (view : E → ElementTree Text) (edition : Edition) (es : List E) → length es ≡ 0
+    → is_pattern edition (elements_of (map view es)) ≡ false
+is_pattern-none view edition [] none = refl
+is_pattern-none view edition (e ∷ es) none = absurd (omega arith)
+
+pub has_element-list : {E : Type 0} (view : E → ElementTree Text) (es : List E) (none : Bool)
+    → none ≡ (length es == 0) → not none ≡ has_element (elements_of (map view es))
+has_element-list view [] none is = ap not is
+has_element-list view (e ∷ es) true is =
+    let empty : length (e ∷ es) ≡ 0 = eqb-true _ _ (sym is) in
+    absurd (omega arith)
+has_element-list view (e ∷ es) false is = refl

@@ -1,0 +1,56 @@
+//! The word `compare`.
+
+use crate::commands::{color, paths_of};
+use crate::lint_args::{form, nesting};
+use crate::options::Options;
+use clap::{Arg, ArgAction, ArgMatches, Command};
+use std::alloc::{AllocError, Global};
+
+/// Files of a reference language, and of others to compare with it.
+#[derive(Debug, Drop)]
+pub struct Compare<'a> {
+    /// How a text is read, and how a difference is told.
+    pub options: Options,
+    /// Files, or folders for every file below: the reference, where the project names none, and the others.
+    pub paths: Vec<&'a str>,
+}
+
+/// The word, with its options.
+pub(crate) fn compare_command<'a>(alloc: Global) -> Result<Command<'a>, AllocError> {
+    Command::new(alloc, "compare")
+        .about("Tells what files lack of those of a reference language, and what is obsolete there")
+        .after_help(
+            "Examples:
+  ftl compare en de fr            each .ftl file below en with those of de and of fr
+  ftl compare en/menu.ftl de/menu.ftl
+  ftl compare de fr               where the file ftl.toml here has the line: reference = \"en\"",
+        )
+        .arg(form(alloc))?
+        .arg(color(alloc))?
+        .arg(nesting(alloc))?
+        .arg(paths(alloc))
+}
+
+fn paths<'a>(alloc: Global) -> Arg<'a> {
+    Arg::new(alloc, "paths")
+        .value_name("PATH")
+        .help(
+            "The reference, if no ftl.toml names it, and files or folders to compare with it; files in folders are \
+            matched by their paths below",
+        )
+        .action(ArgAction::Append)
+        .num_args(1..)
+        .required(true)
+}
+
+/// What the options ask for.
+pub(crate) fn compare_of<'a>(
+    alloc: Global,
+    said: Options,
+    options: &ArgMatches<'a>,
+) -> Result<Compare<'a>, AllocError> {
+    Ok(Compare {
+        options: said,
+        paths: paths_of(alloc, options)?,
+    })
+}

@@ -1,0 +1,18 @@
+//! What the words of a command line ask of `ftl`.
+#![tactic(auto)]
+
+mod commands;
+mod compare_args;
+mod lint_args;
+mod mistakes;
+mod options;
+mod request;
+mod requested;
+
+pub use commands::command_line;
+pub use compare_args::Compare;
+pub use lint_args::Lint;
+pub use mistakes::{mistake, status_of};
+pub use options::Options;
+pub use request::{Change, Request, Task, Work};
+pub use requested::request_of;

@@ -1,0 +1,106 @@
+//! The word `lint`.
+
+use crate::commands::{color, paths_of};
+use crate::options::Options;
+use clap::{Arg, ArgAction, ArgMatches, Command, value_parser};
+use fluent_syntax_names::Kind;
+use ftl_files::kind_of_name;
+use std::alloc::{AllocError, Global};
+
+/// Files to search for mistakes between names.
+#[derive(Debug, Drop)]
+pub struct Lint<'a> {
+    /// How a text is read, and how a finding is told.
+    pub options: Options,
+    /// Kinds that are not told.
+    pub ignored: Vec<Kind>,
+    /// Files and folders, which are one set.
+    pub paths: Vec<&'a str>,
+}
+
+static KIND_NAMES: [&str; 7] = [
+    "defined-twice",
+    "attribute-twice",
+    "undefined-message",
+    "undefined-term",
+    "undefined-attribute",
+    "undefined-value",
+    "cyclic-reference",
+];
+
+static FORMS: [&str; 4] = ["full", "lines", "json", "github"];
+
+/// The word, with its options.
+pub(crate) fn lint_command<'a>(alloc: Global) -> Result<Command<'a>, AllocError> {
+    Command::new(alloc, "lint")
+        .about("Tells names that are given twice, and references to what no file defines")
+        .after_help(
+            "Examples:
+  ftl lint .                                every .ftl file below this folder, as one set
+  ftl lint --ignore undefined-message menu.ftl",
+        )
+        .arg(form(alloc))?
+        .arg(color(alloc))?
+        .arg(ignore(alloc))?
+        .arg(nesting(alloc))?
+        .arg(paths(alloc))
+}
+
+fn ignore<'a>(alloc: Global) -> Arg<'a> {
+    Arg::new(alloc, "ignore")
+        .long("ignore")
+        .value_name("KIND")
+        .help("A kind of finding that is not told; may be given again")
+        .action(ArgAction::Append)
+        .value_parser(KIND_NAMES.as_slice())
+}
+
+/// The option for the form.
+pub(crate) fn form<'a>(alloc: Global) -> Arg<'a> {
+    Arg::new(alloc, "output")
+        .long("output")
+        .value_name("FORM")
+        .help("How what is found is told, by default full")
+        .action(ArgAction::Set)
+        .value_parser(FORMS.as_slice())
+}
+
+/// The option for the nesting.
+pub(crate) fn nesting<'a>(alloc: Global) -> Arg<'a> {
+    Arg::new(alloc, "nesting")
+        .long("nesting")
+        .value_name("N")
+        .help(
+            "How many placeables and argument lists may be open at once, by default 2000; a deeper text has status 6",
+        )
+        .action(ArgAction::Set)
+        .value_parser(value_parser!(u32))
+}
+
+fn paths<'a>(alloc: Global) -> Arg<'a> {
+    Arg::new(alloc, "paths")
+        .value_name("PATH")
+        .help("Files, and folders for every .ftl file below")
+        .action(ArgAction::Append)
+        .num_args(1..)
+        .required(true)
+}
+
+/// What the options ask for.
+pub(crate) fn lint_of<'a>(
+    alloc: Global,
+    said: Options,
+    options: &ArgMatches<'a>,
+) -> Result<Lint<'a>, AllocError> {
+    let mut ignored = Vec::new(alloc);
+    for name in options.get_strs("ignore").unwrap_or(&[]) {
+        if let Some(kind) = kind_of_name(*name) {
+            ignored.push(kind)?;
+        }
+    }
+    Ok(Lint {
+        options: said,
+        ignored,
+        paths: paths_of(alloc, options)?,
+    })
+}

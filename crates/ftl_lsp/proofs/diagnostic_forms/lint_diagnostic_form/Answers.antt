@@ -1,0 +1,23 @@
+use Rattle.std.proofs.Common.{◌∙◌, ap, subst, sym}
+use Rattle.std.proofs.lemmas.Result.{IfOk-weaker}
+use Rattle.ftl_lsp.specs.DiagnosticForms.{IsLintDiagnostic, alone, code_of, diagnostic_form, severity_of, with_related}
+use Rattle.ftl_lsp.proofs.diagnostic_forms.lint_diagnostic_form.Goals as goal
+
+pub returns-in_ok-positions-in-Some : goal.returns-in_ok-positions-in-Some
+returns-in_ok-positions-in-Some c =
+    IfOk-weaker c.form_with_related.result _ _
+    (λ value is. subst IsLintDiagnostic (sym is) (with_related _ _ _ _))
+    c.form_with_related.ensures
+
+pub returns-in_default : goal.returns-in_default
+returns-in_default c =
+    let diagnostic = c.args.diagnostic.now in
+    let message = c.as_str-message.result.now in
+    let with_severity =
+    ap (λ s. diagnostic_form diagnostic.range s c.code-code.result.now message) c.severity-severity.ensures in
+    let with_code = ap (λ code. diagnostic_form diagnostic.range
+    (severity_of diagnostic.kind) code message) c.code-code.ensures in
+    IfOk-weaker c.diagnostic_form.result _ _
+    (λ value is. subst IsLintDiagnostic (sym (is ∙ (with_severity ∙ with_code)))
+    (alone diagnostic.range diagnostic.kind message))
+    c.diagnostic_form.ensures

@@ -1,0 +1,184 @@
+//! The diagnostics of a document, as the protocol has them.
+ghost use Rattle.std.specs.Prelude.{◌≡◌, map, All, IfOk};
+ghost use Rattle.serde_json.specs.View.{view};
+ghost use Rattle.ftl_lsp.specs.DiagnosticForms.{IsLintDiagnostic, code_of, diagnostic_form, diagnostic_with_related};
+ghost use Rattle.ftl_lsp.specs.DiagnosticForms.{error_form};
+ghost use Rattle.ftl_lsp.specs.DiagnosticForms.{severity_number, severity_of};
+
+use crate::diagnostics::Diagnostic;
+use crate::positions::PositionRange;
+use crate::replies::range_form;
+use fluent_syntax_names::{Difference, Kind, Severity};
+use serde_json::{Value, json};
+use std::alloc::{AllocError, Global};
+
+/// What is told of a document beside its errors.
+#[derive(Drop)]
+pub struct LintDiagnostic<'u> {
+    pub range: PositionRange,
+    pub kind: LintDiagnosticKind,
+    pub message: String,
+    /// Another place that it has to do with.
+    pub related: Option<Related<'u>>,
+}
+
+/// What it is.
+#[derive(Clone, Copy)]
+pub enum LintDiagnosticKind {
+    Finding(Kind),
+    Difference(Difference),
+}
+
+impl LintDiagnosticKind {
+    fn severity(self) -> Severity
+        ensures { result ≡ severity_of self }
+    {
+        match self {
+            LintDiagnosticKind::Finding(kind) => kind.severity(),
+            LintDiagnosticKind::Difference(difference) => difference.severity(),
+        }
+    }
+
+    /// Its name, as a command line has it.
+    fn code(self) -> &'static str
+        ensures { result.now ≡ code_of self }
+    {
+        match self {
+            LintDiagnosticKind::Finding(kind) => kind.name(),
+            LintDiagnosticKind::Difference(difference) => difference.name(),
+        }
+    }
+}
+
+/// A place in a document, with what is said of it.
+#[derive(Clone, Copy)]
+pub struct Related<'u> {
+    pub uri: &'u str,
+    pub range: PositionRange,
+    pub message: &'static str,
+}
+
+/// The diagnostics of errors, in order. `AllocError` where a growth was refused.
+pub fn error_list(alloc: Global, errors: &[Diagnostic]) -> Result<Vec<Value>, AllocError>
+    ensures { IfOk result (λ list. map view list.items ≡ map error_form errors.now) }
+{
+    let mut list = Vec::new(alloc);
+    for error in errors {
+        list.push(error_form(alloc, error)?)?;
+    }
+    Ok(list)
+}
+
+/// The diagnostic of an error.
+fn error_form(alloc: Global, error: &Diagnostic) -> Result<Value, AllocError>
+    ensures { IfOk result (λ value. view value ≡ error_form error.now) }
+{
+    let range = PositionRange {
+        start: error.start,
+        end: error.end,
+    };
+    diagnostic_form(
+        alloc,
+        range,
+        Severity::Error,
+        error.code,
+        error.message.as_str(),
+    )
+}
+
+/// What is told beside the errors, in order: each with the other place, if the editor takes one. `AllocError` where a
+/// growth was refused.
+pub fn lint_diagnostic_list(
+    alloc: Global,
+    all: &[LintDiagnostic<'_>],
+    takes_related: bool,
+) -> Result<Vec<Value>, AllocError>
+    ensures { IfOk result (λ list. All IsLintDiagnostic (map view list.items)) }
+{
+    let mut list = Vec::new(alloc);
+    for diagnostic in all {
+        list.push(lint_diagnostic_form(alloc, diagnostic, takes_related)?)?;
+    }
+    Ok(list)
+}
+
+fn lint_diagnostic_form(
+    alloc: Global,
+    diagnostic: &LintDiagnostic<'_>,
+    takes_related: bool,
+) -> Result<Value, AllocError>
+    ensures { IfOk result (λ value. IsLintDiagnostic (view value)) }
+{
+    let (range, message) = (diagnostic.range, diagnostic.message.as_str());
+    match diagnostic.related {
+        Some(related) if takes_related => {
+            let positions = json!(in alloc; [(related_form(alloc, related)?)])?;
+            form_with_related(alloc, range, diagnostic.kind, message, positions)
+        }
+        _ => {
+            let (severity, code) = (diagnostic.kind.severity(), diagnostic.kind.code());
+            diagnostic_form(alloc, range, severity, code, message)
+        }
+    }
+}
+
+/// A diagnostic with other places.
+fn form_with_related(
+    alloc: Global,
+    range: PositionRange,
+    kind: LintDiagnosticKind,
+    message: &str,
+    positions: Value,
+) -> Result<Value, AllocError>
+    ensures { IfOk result (λ value. view value
+        ≡ diagnostic_with_related range (severity_of kind) (code_of kind) message.now (view positions)) }
+{
+    let range = range_form(alloc, range.start, range.end)?;
+    json!(in alloc; {
+        "range": range,
+        "severity": (severity_number(kind.severity())),
+        "source": "ftl",
+        "code": (kind.code()),
+        "message": message,
+        "relatedInformation": positions
+    })
+}
+
+/// A diagnostic by itself.
+fn diagnostic_form(
+    alloc: Global,
+    range: PositionRange,
+    severity: Severity,
+    code: &str,
+    message: &str,
+) -> Result<Value, AllocError>
+    ensures { IfOk result (λ value. view value ≡ diagnostic_form range severity code.now message.now) }
+{
+    let range = range_form(alloc, range.start, range.end)?;
+    json!(in alloc; {
+        "range": range,
+        "severity": (severity_number(severity)),
+        "source": "ftl",
+        "code": code,
+        "message": message
+    })
+}
+
+/// Another place, with what is said of it.
+fn related_form(alloc: Global, related: Related<'_>) -> Result<Value, AllocError> {
+    let range = range_form(alloc, related.range.start, related.range.end)?;
+    json!(in alloc; {
+        "location": {"uri": (related.uri), "range": range},
+        "message": (related.message)
+    })
+}
+
+/// The number of a severity in the protocol.
+fn severity_number(severity: Severity) -> u64
+    ensures { result ≡ severity_number severity }
+{
+    match severity {
+        Severity::Error => 1,
+        Severity::Warning => 2,
+    }
+}

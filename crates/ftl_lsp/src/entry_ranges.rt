@@ -1,0 +1,71 @@
+//! Where the entries of a document stand, with their comments.
+
+use fluent_syntax::ast::{Comment, Entry};
+use fluent_syntax::spans::Span;
+
+/// Where the entry begins, with the comment that is attached to it.
+fn start_of(text: &str, entry: &Entry<Span>) -> usize {
+    match entry {
+        Entry::Message(message) => start_with(text, &message.comment, message.id.name.start),
+        Entry::Term(term) => start_with(text, &term.comment, term.id.name.start.saturating_sub(1)),
+        Entry::Comment(comment) | Entry::GroupComment(comment) | Entry::ResourceComment(comment) =>
+            start_of_comment(text, comment),
+        Entry::Junk { content } => content.start,
+    }
+}
+
+/// Where what begins at the place begins with its comment, if it has one.
+fn start_with(text: &str, comment: &Option<Comment<Span>>, own: usize) -> usize {
+    match comment {
+        Some(comment) => start_of_comment(text, comment),
+        None => own,
+    }
+}
+
+/// Where the first line of the comment begins.
+fn start_of_comment(text: &str, comment: &Comment<Span>) -> usize {
+    match comment.content.first() {
+        Some(line) => start_of_line(text.as_bytes(), line.start),
+        None => 0,
+    }
+}
+
+/// Where the line begins in which the byte stands.
+fn start_of_line(text: &[u8], byte: usize) -> usize {
+    for at in (0..byte.min(text.len())).rev() {
+        if text[at] == b'\n' {
+            return at + 1;
+        }
+    }
+    0
+}
+
+/// Where what ends at the byte ends without spaces and line ends.
+fn trimmed_end(text: &[u8], end: usize) -> usize {
+    for at in (0..end.min(text.len())).rev() {
+        if !matches!(text[at], b' ' | b'\n' | b'\r') {
+            return at + 1;
+        }
+    }
+    0
+}
+
+/// Where the entry of that number stands, with its comment and without blanks behind it: nothing else stands between it
+/// and the next one.
+pub fn entry_range_of(text: &str, body: &[Entry<Span>], number: usize) -> Option<Span> {
+    let start = start_of(text, body.get(number)?);
+    let next = match number.checked_add(1).and_then(|next| body.get(next)) {
+        Some(next) => start_of(text, next),
+        None => text.len(),
+    };
+    Some(Span {
+        start,
+        end: trimmed_end(text.as_bytes(), next),
+    })
+}
+
+/// Where the entry stands that is the last to begin before the byte or there. None where none does.
+pub fn entry_range_at(text: &str, body: &[Entry<Span>], byte: usize) -> Option<Span> {
+    let behind = body.partition_point(|entry| start_of(text, entry) <= byte);
+    entry_range_of(text, body, behind.checked_sub(1)?)
+}

@@ -1,0 +1,166 @@
+//! The open documents and the closed files, with their names.
+
+use crate::closed_files::ClosedFile;
+use crate::documents::Document;
+use crate::occurrences::{Name, Occurrence, is_named, name_of, occurrences_of};
+use crate::open_documents::OpenDocument;
+use fluent_syntax::spans::Span;
+use std::alloc::{AllocError, Global};
+use std::collections::BTreeMap;
+
+/// An open document or a closed file, with the names in it.
+#[derive(Drop)]
+pub struct IndexedDocument<'d> {
+    pub uri: &'d str,
+    /// The path of its file, or its URI where it has none.
+    pub path: &'d str,
+    /// The number of an open document, if the editor gave it one.
+    pub version: Option<i64>,
+    pub text: &'d str,
+    names: Names<'d>,
+}
+
+/// The names in a text, in order.
+#[derive(Drop)]
+enum Names<'d> {
+    /// Those of an open document.
+    OpenDocument {
+        document: &'d Document,
+        occurrences: Vec<Occurrence>,
+    },
+    /// Those of a closed file.
+    ClosedFile(&'d [Occurrence]),
+}
+
+/// All open documents with their names, in the order of their URIs, and then all files of the workspace that are not
+/// open, in the order of their paths. `AllocError` where a growth was refused.
+pub fn indexed_documents<'d>(
+    alloc: Global,
+    documents: &'d BTreeMap<String, OpenDocument>,
+    files: &'d BTreeMap<String, ClosedFile>,
+) -> Result<Vec<IndexedDocument<'d>>, AllocError> {
+    let mut found: Vec<IndexedDocument<'d>> = Vec::new(alloc);
+    for (uri, open) in documents.iter() {
+        found.push(indexed_document(alloc, uri, open)?)?;
+    }
+    for (path, file) in files.iter() {
+        let path = path.as_str();
+        if !found.iter().any(|document| document.path == path) {
+            found.push(indexed_file(path, file))?;
+        }
+    }
+    Ok(found)
+}
+
+/// What is known of the document that is open under the URI.
+fn indexed_document<'d>(
+    alloc: Global,
+    uri: &'d str,
+    open: &'d OpenDocument,
+) -> Result<IndexedDocument<'d>, AllocError> {
+    let document = &open.document;
+    Ok(IndexedDocument {
+        uri,
+        path: open.path_or(uri),
+        version: open.version,
+        text: document.text(),
+        names: Names::OpenDocument {
+            document,
+            occurrences: occurrences_of(alloc, &document.name_index(alloc)?.mentions)?,
+        },
+    })
+}
+
+/// What is known of the closed file at the path.
+fn indexed_file<'d>(path: &'d str, file: &'d ClosedFile) -> IndexedDocument<'d> {
+    IndexedDocument {
+        uri: file.uri.as_str(),
+        path,
+        version: None,
+        text: file.text.as_str(),
+        names: Names::ClosedFile(file.occurrences.as_slice()),
+    }
+}
+
+/// Which places of a name are looked for.
+#[derive(Clone, Copy)]
+pub enum OccurrenceFilter {
+    Definitions,
+    References,
+    All,
+}
+
+impl OccurrenceFilter {
+    /// Whether the place is one of these.
+    fn has(&self, occurrence: &Occurrence) -> bool {
+        match self {
+            OccurrenceFilter::Definitions => occurrence.defines,
+            OccurrenceFilter::References => !occurrence.defines,
+            OccurrenceFilter::All => true,
+        }
+    }
+}
+
+impl IndexedDocument<'_> {
+    /// The names in it, in order.
+    pub fn occurrences(&self) -> &[Occurrence] {
+        match &self.names {
+            Names::OpenDocument { occurrences, .. } => occurrences.as_slice(),
+            Names::ClosedFile(occurrences) => occurrences,
+        }
+    }
+
+    /// The name at the byte, or that ends there; of two the one that begins there. None where there is none.
+    pub fn name_at(&self, byte: usize) -> Option<Name<'_>> {
+        let mut found = None;
+        for occurrence in self.occurrences() {
+            if occurrence.is_at(byte) {
+                found = Some(name_of(self.text, *occurrence));
+            }
+        }
+        found
+    }
+
+    /// Where the name stands, in order. `AllocError` where a growth was refused.
+    pub fn ranges_of(
+        &self,
+        alloc: Global,
+        name: Name<'_>,
+        filter: OccurrenceFilter,
+    ) -> Result<Vec<Span>, AllocError> {
+        let mut found = Vec::new(alloc);
+        for occurrence in self.occurrences() {
+            if filter.has(occurrence) && is_named(self.text, occurrence, name) {
+                found.push(occurrence.span())?;
+            }
+        }
+        Ok(found)
+    }
+
+    /// Whether it defines the name.
+    pub fn defines(&self, name: Name<'_>) -> bool {
+        self.occurrences()
+            .iter()
+            .any(|found| found.defines && is_named(self.text, found, name))
+    }
+
+    /// The message or term in which the byte stands, as it stands in the text, with its comment. None where none is.
+    /// `AllocError` where a growth was refused.
+    pub fn entry_at(&self, alloc: Global, byte: usize) -> Result<Option<String>, AllocError> {
+        match &self.names {
+            Names::OpenDocument { document, .. } => entry_of(alloc, document, byte),
+            Names::ClosedFile(_) => {
+                let document = Document::new(alloc, String::from_str(alloc, self.text)?)?;
+                entry_of(alloc, &document, byte)
+            }
+        }
+    }
+}
+
+/// The message or term in which the byte of a document stands.
+fn entry_of(alloc: Global, document: &Document, byte: usize) -> Result<Option<String>, AllocError> {
+    match document.entry_at(byte) {
+        Some(entry) => Ok(Some(String::from_str(alloc, entry)?)),
+        None => Ok(None),
+    }
+}

@@ -1,0 +1,112 @@
+//! What a request asks of a place in an open document.
+ghost use Rattle.std.specs.Prelude.{◌≡◌, is_some, true, IfOk};
+ghost use Rattle.serde_json.specs.View.{view};
+ghost use Rattle.ftl_lsp.specs.Asking.{names_position, renames_position};
+ghost use Rattle.ftl_lsp.specs.OpenDocuments.{texts};
+
+use crate::completion::completion;
+use crate::offsets::byte_of;
+use crate::params::{new_name, occurrence_filter, position_param, uri_of};
+use crate::renaming::renaming;
+use crate::request_context::RequestContext;
+use crate::server::Server;
+use serde_json::Value;
+use std::alloc::AllocError;
+
+impl Server {
+    /// What a request asks of. None where it names no open document, or no place.
+    fn context_of<'s>(
+        &'s self,
+        message: &'s Value,
+    ) -> Result<Option<RequestContext<'s>>, AllocError>
+        ensures { IfOk result
+            (λ found. is_some found ≡ names_position (texts self.now.documents) (view message.now)) }
+    {
+        let Some(uri) = uri_of(message) else {
+            return Ok(None);
+        };
+        let Some(open) = self.documents.get(uri) else {
+            return Ok(None);
+        };
+        let Some(position) = position_param(message) else {
+            return Ok(None);
+        };
+        let path = open.path_or(uri);
+        Ok(Some(RequestContext {
+            documents: self.workspace_documents()?,
+            uri,
+            byte: byte_of(open.document.text(), position),
+            original: self.workspace.original_of(self.alloc, path)?,
+        }))
+    }
+
+    /// Where the name at the place is defined.
+    pub(crate) fn definitions(&self, message: &Value) -> Result<Option<Value>, AllocError>
+        ensures { IfOk result
+            (λ found. is_some found ≡ names_position (texts self.now.documents) (view message.now)) }
+    {
+        match self.context_of(message)? {
+            Some(context) => Ok(Some(context.definitions(self.alloc)?)),
+            None => Ok(None),
+        }
+    }
+
+    /// Where the name at the place stands in the open documents and the closed files.
+    pub(crate) fn references(&self, message: &Value) -> Result<Option<Value>, AllocError>
+        ensures { IfOk result
+            (λ found. is_some found ≡ names_position (texts self.now.documents) (view message.now)) }
+    {
+        match self.context_of(message)? {
+            Some(context) => Ok(Some(context.locations(self.alloc, occurrence_filter(message))?)),
+            None => Ok(None),
+        }
+    }
+
+    /// Where the name at the place stands in the document.
+    pub(crate) fn document_highlights(&self, message: &Value) -> Result<Option<Value>, AllocError>
+        ensures { IfOk result
+            (λ found. is_some found ≡ names_position (texts self.now.documents) (view message.now)) }
+    {
+        match self.context_of(message)? {
+            Some(context) => Ok(Some(context.highlights(self.alloc)?)),
+            None => Ok(None),
+        }
+    }
+
+    /// The entries that define the name at the place.
+    pub(crate) fn hover(&self, message: &Value) -> Result<Option<Value>, AllocError>
+        ensures { IfOk result
+            (λ found. is_some found ≡ names_position (texts self.now.documents) (view message.now)) }
+    {
+        match self.context_of(message)? {
+            Some(context) => Ok(Some(context.hover(self.alloc)?)),
+            None => Ok(None),
+        }
+    }
+
+    /// The names that may stand at the place.
+    pub(crate) fn completions(&self, message: &Value) -> Result<Option<Value>, AllocError>
+        ensures { IfOk result
+            (λ found. is_some found ≡ names_position (texts self.now.documents) (view message.now)) }
+    {
+        match self.context_of(message)? {
+            Some(context) => Ok(Some(completion(self.alloc, &context)?)),
+            None => Ok(None),
+        }
+    }
+
+    /// The edits by which the name at the place has the new name of the request. None also where there is no new name,
+    /// or the name can't have it.
+    pub(crate) fn renaming(&self, message: &Value) -> Result<Option<Value>, AllocError>
+        ensures { IfOk result (λ found. is_some found ≡ true
+            → renames_position (texts self.now.documents) (view message.now) ≡ true) }
+    {
+        let Some(context) = self.context_of(message)? else {
+            return Ok(None);
+        };
+        match new_name(message) {
+            Some(name) => renaming(self.alloc, &context, name),
+            None => Ok(None),
+        }
+    }
+}

@@ -1,0 +1,80 @@
+//! What the program tells by itself.
+
+use clap::Error;
+use ftl::{RunFault, usage};
+use ftl_args::{mistake, status_of};
+use ftl_project::Tally;
+use std::alloc::AllocError;
+
+/// The status for wrong words.
+const WRONG_ARGS: u8 = 2;
+
+/// Writes the line to standard error, and gives the exit status back.
+pub(crate) fn refuse<R: Eprint>(rt: &R, line: &str, status: u8) -> u8 {
+    let _ = rt.eprintln(line);
+    status
+}
+
+/// Tells why a run stopped, and gives its exit status.
+pub(crate) fn refuse_run<R: Eprint>(rt: &R, fault: RunFault) -> u8 {
+    refuse(rt, fault.line(), fault.status())
+}
+
+/// Tells what a run met, on a line, and gives the exit status.
+pub(crate) fn end_run<R: Eprint>(rt: &R, tally: &Tally, summary: Result<String, AllocError>) -> u8 {
+    match summary {
+        Ok(line) => {
+            let _ = rt.eprint(line.as_str());
+            tally.status()
+        }
+        Err(AllocError) => refuse_run(rt, RunFault::Memory),
+    }
+}
+
+/// Writes the page to standard output, and gives the exit status.
+pub(crate) fn print_page<R: Print + Eprint>(rt: &R, page: &str) -> u8 {
+    match rt.print(page) {
+        Ok(_) => 0,
+        Err(_) => refuse_run(rt, RunFault::Output),
+    }
+}
+
+/// Writes the help of a word that was asked for; or tells what is wrong with the words. The exit status.
+pub(crate) fn refuse_args<R: Print + Eprint + AllocGlobal>(rt: &R, error: &Error) -> u8 {
+    let status = status_of(error);
+    if status == 0 {
+        return match error.print(rt) {
+            Ok(()) => 0,
+            Err(_) => refuse_run(rt, RunFault::Output),
+        };
+    }
+    match mistake(rt.alloc(), error) {
+        Ok(line) if status == WRONG_ARGS => {
+            if !line.is_empty() {
+                let _ = rt.eprintln(line.as_str());
+            }
+            refuse(rt, usage(), WRONG_ARGS)
+        }
+        _ => refuse_run(rt, RunFault::Memory),
+    }
+}
+
+/// Tells that there is nothing to compare with the reference.
+pub(crate) fn refuse_compare<R: Eprint>(rt: &R) -> u8 {
+    let _ = rt.eprintln("ftl: compare wants a reference, and what to compare with it");
+    refuse(rt, usage(), WRONG_ARGS)
+}
+
+/// Tells that the language server is another program.
+pub(crate) fn refuse_serving<R: Eprint>(rt: &R) -> u8 {
+    let _ = rt.eprintln(
+        "ftl: the language server is the program ftl-lsp, which a checkout installs by: ./ftl install FOLDER lsp",
+    );
+    refuse(rt, usage(), WRONG_ARGS)
+}
+
+/// Tells that standard input is no file to be written or named.
+pub(crate) fn refuse_writing<R: Eprint>(rt: &R) -> u8 {
+    let _ = rt.eprintln("ftl: --write and --check are for files and folders");
+    refuse(rt, usage(), WRONG_ARGS)
+}

@@ -1,0 +1,72 @@
+-- What comes of a pair, of the texts that were read.
+use mathlib.Core.Path.{fun_ext}
+use Rattle.std.proofs.Common.{◌≡◌, ℕ, List, [], Option, None, Result, false, refl}
+use Rattle.std.proofs.Common.{string_bytes, subst, sym, true}
+use Rattle.std.specs.Prelude.{OnOk}
+use Rattle.fluent_syntax_names.specs.declared.name_index.NameIndex.{NameIndex}
+use Rattle.ftl_files.specs.Store.{AllUnchanged}
+use Rattle.ftl_project.proofs.Counting.{appends_nothing, on_ok}
+use Rattle.ftl_project.specs.Comparing.{Compares, IsFileMissing, IsPairCompared, IsComparison, IsPairFault}
+use Rattle.ftl_project.specs.Faults.{Failing, HasStatus, IsRead}
+use Rattle.ftl_project.specs.NameIndexes.{IsNameIndex}
+use Rattle.ftl_project.specs.Tally.{counted, failed}
+use Rattle.ftl_project.specs.declared.comparing.Pair.{Pair}
+use Rattle.ftl_project.specs.declared.comparing.Share.{Share}
+use Rattle.ftl_project.specs.declared.fault.Fault.{Fault}
+use Rattle.ftl_files.specs.declared.options.Form.{Form}
+use Rattle.ftl_files.specs.declared.options.Reading.{Reading}
+use Rattle.ftl_project.specs.declared.tally.Tally.{Tally}
+
+-- Files that all stand are the same files.
+pub same_files : (at here : List ℕ → Option (List ℕ)) → AllUnchanged at here → here ≡ at
+same_files at here stand = fun_ext stand
+
+-- What was read of a file, under the names that a caller has for its path and its text.
+pub of_text : (at : List ℕ → Option (List ℕ)) (path own text said : List ℕ) → path ≡ own → text ≡ said →
+    IsRead (at path) said → IsRead (at own) text
+of_text at path own text said same_path same_text read =
+    subst (λ p. IsRead (at p) text) same_path (subst (λ t. IsRead (at path) t) (sym same_text) read)
+
+module _ (CallFails : Failing) (reading : Reading) (form : Form) (at : List ℕ → Option (List ℕ)) (pair : Pair) where
+  pub alone : (text : List ℕ) (errors : ℕ) (share : Share) (report_text : List ℕ) → pair.is_there ≡ false →
+      IsRead (at (string_bytes pair.reference)) text →
+      ((name_index : NameIndex) × IsNameIndex reading.edition text name_index
+      × IsFileMissing form pair name_index errors share report_text) →
+      IsComparison CallFails reading form at pair.is_there pair errors share report_text
+  alone text errors share report_text gone same that =
+      subst (λ is_there. IsComparison CallFails reading form at is_there pair errors share report_text) (sym gone) (
+        that.0,
+        (text, same, that.1),
+        that.2,
+      )
+
+  pub beside : (text more : List ℕ) (errors : ℕ) (share : Share) (report_text : List ℕ) → pair.is_there ≡ true →
+      IsRead (at (string_bytes pair.reference)) text →
+      IsRead (at (string_bytes pair.other)) more →
+      ((reference : NameIndex) × IsNameIndex reading.edition text reference × (other : NameIndex)
+      × IsNameIndex reading.edition more other × IsPairCompared form pair reference other errors share report_text) →
+      IsComparison CallFails reading form at pair.is_there pair errors share report_text
+  beside text more errors share report_text there same alike that =
+      subst (λ is_there. IsComparison CallFails reading form at is_there pair errors share report_text) (sym there) (
+        that.0,
+        (text, same, that.1),
+        that.2,
+        (more, alike, that.3),
+        that.4,
+      )
+
+  -- A fault of the pair that was told was counted, and nothing was written of the pair.
+  pub Compares-report_text : {E : Type 0} (result : Result (Unit {0}) E) (fault : Fault) (old new : Tally)
+      (share : Share)
+      (before after : Option (List ℕ)) → IsPairFault CallFails reading form at pair fault →
+      ((status : ℕ) × HasStatus fault status × (new ≡ counted old (failed status))) → after ≡ before →
+      OnOk result (Compares CallFails reading form at pair old new share share before after)
+  Compares-report_text result fault old new share before after why report_text same = on_ok result (
+    failed report_text.0,
+    None,
+    [],
+    ((fault, why, report_text.1), refl, refl),
+    report_text.2,
+    refl,
+    appends_nothing before after same,
+  )

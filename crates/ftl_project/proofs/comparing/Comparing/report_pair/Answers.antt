@@ -1,0 +1,36 @@
+use Rattle.std.proofs.Common.{◌==◌, ap, not, refl, string_bytes}
+use Rattle.ftl.specs.Watched.{inner_of}
+use Rattle.ftl_project.specs.Tally.{answered}
+use Rattle.std.specs.Prelude.{Some}
+use Rattle.ftl_project.proofs.Comparisons.{Compares-report_text}
+use Rattle.ftl_project.proofs.Counting.{appends_as, on_ok_then}
+use Rattle.ftl_project.proofs.comparing.Comparing.report_pair.Goals as goal
+
+pub returns-in-Ok-clause-counted : goal.returns-in-Ok-clause-counted
+returns-in-Ok-clause-counted g c =
+    let written = g.O.Write.contents in
+    let compared = c.in-Ok.compared in
+    let after = written (inner_of c.write_all.new.writer) in
+    on_ok_then c.write_all.result (λ appends. (
+      answered compared.errors (not (compared.errors == 0)),
+      Some compared.share,
+      string_bytes compared.report_text,
+      (compared.share, refl, c.in-Ok.ensures.compared, refl),
+      c.count.ensures,
+      c.add.ensures,
+      appends_as (written (inner_of c.args.streams.now.out.now)) after after c.as_bytes.result.now (string_bytes
+          compared.report_text)
+          appends c.as_bytes.ensures.value refl,
+    )) c.write_all.ensures.all
+
+pub returns-in-Err-clause-counted : goal.returns-in-Err-clause-counted
+returns-in-Err-clause-counted g c =
+    let self = c.args.self.now in
+    let at = g.S.Store.bytes_at c.args.store.now in
+    let written = g.O.Write.contents in
+    Compares-report_text g.S.Store.fails self.reading self.form at c.args.pair.now c.report_fault.result c.in-Err.fault
+    c.args.tally.now
+    c.report_fault.new.tally c.args.share.now (written (inner_of c.args.streams.now.out.now)) (written (inner_of
+    c.report_fault.new.streams.out.now))
+    c.in-Err.ensures.fault c.report_fault.ensures.counted
+    (ap (λ out. written (inner_of out.now)) c.report_fault.ensures.out)

@@ -1,0 +1,168 @@
+//! What is told of a place in a file, for people or for tools.
+ghost use Rattle.std.specs.Prelude.{◌≡◌, ◌++◌, IfOk, OnOk, string_bytes};
+ghost use Rattle.ftl_project.specs.Diagnostics.{IsName, IsDiagnostic, place_or_path, diagnostic_line, location_at};
+
+use crate::excerpt::push_excerpt;
+use crate::github::{push_data, push_property};
+use crate::json::{push_json_text, push_junk, push_payload};
+use crate::paint::{COLORED, PLAIN, Paint};
+use crate::terminal_text::push_shown_text;
+use fluent_syntax::parser::ParserError;
+use fluent_syntax::spans::{Lines, Span};
+use ftl_files::Form;
+use std::alloc::{AllocError, Global};
+use std::fmt::Write;
+
+/// What is told of a file, and of a place there if it has one.
+#[derive(Drop)]
+pub(crate) struct Diagnostic<'a> {
+    pub(crate) path: &'a str,
+    pub(crate) text: &'a str,
+    pub(crate) place: Option<SourceLocation>,
+    pub(crate) kind: &'static str,
+    pub(crate) severity: &'static str,
+    pub(crate) message: String,
+    /// The syntax error that it tells of.
+    pub(crate) error: Option<&'a ParserError>,
+}
+
+/// A place in a text: its line and its column in bytes, from 1, and its range in bytes, from 0.
+#[derive(Clone, Copy)]
+pub(crate) struct SourceLocation {
+    pub(crate) line: usize,
+    pub(crate) column: usize,
+    pub(crate) start: usize,
+    pub(crate) end: usize,
+}
+
+/// Where the name is in the text; its line and its column are those of the text's end where that comes first.
+pub(crate) fn location_of<'t>(lines: &mut Lines<'t>, text: &str, name: Span) -> SourceLocation
+    requires { lines.old ≡ text.now }
+    ensures location { result ≡ location_at text.now name }
+    ensures text { lines.new ≡ lines.old }
+{
+    let (line, column) = lines.line_column(name.start.min(text.len()));
+    SourceLocation {
+        line,
+        column,
+        start: name.start,
+        end: name.end,
+    }
+}
+
+/// The name at a range of the text; none where it is no range of it.
+pub(crate) fn name_in(text: &str, name: Span) -> &str
+    ensures { IsName text.now name result.now }
+{
+    text.get(name.start..name.end).unwrap_or("")
+}
+
+/// What is told of the diagnostic in the form.
+pub(crate) fn diagnostic_text(
+    alloc: Global,
+    diagnostic: &Diagnostic<'_>,
+    form: Form,
+) -> Result<String, AllocError>
+    ensures { IfOk result (λ report_text. IsDiagnostic form diagnostic.now.path.now diagnostic.now.place
+        diagnostic.now.kind.now
+        (string_bytes diagnostic.now.message) (string_bytes report_text)) }
+{
+    let mut out = String::new(alloc);
+    match form {
+        Form::Lines => push_line(&mut out, diagnostic)?,
+        Form::Full => push_in_full(&mut out, diagnostic, &PLAIN)?,
+        Form::Colored => push_in_full(&mut out, diagnostic, &COLORED)?,
+        Form::Json => push_json(&mut out, diagnostic)?,
+        Form::Github => push_github(&mut out, diagnostic)?,
+    }
+    Ok(out)
+}
+
+/// `PATH:LINE:COLUMN`, or `PATH` where there is no place.
+fn push_place(out: &mut String, diagnostic: &Diagnostic<'_>) -> Result<(), AllocError>
+    ensures { OnOk result
+        (string_bytes out.new ≡ string_bytes out.old ++ place_or_path diagnostic.now.path.now diagnostic.now.place) }
+{
+    push_shown_text(out, diagnostic.path)?;
+    match diagnostic.place {
+        Some(location) => write!(out, ":{}:{}", location.line, location.column),
+        None => Ok(()),
+    }
+}
+
+/// `PLACE: KIND`, and the message where there is no place.
+fn push_line(out: &mut String, diagnostic: &Diagnostic<'_>) -> Result<(), AllocError>
+    ensures { OnOk result (string_bytes out.new ≡ string_bytes out.old
+        ++ diagnostic_line diagnostic.now.path.now diagnostic.now.place diagnostic.now.kind.now
+        (string_bytes diagnostic.now.message)) }
+{
+    push_place(out, diagnostic)?;
+    write!(out, ": {}", diagnostic.kind)?;
+    if diagnostic.place.is_none() {
+        out.push_str(": ")?;
+        push_shown_text(out, diagnostic.message.as_str())?;
+    }
+    out.push('\n')
+}
+
+/// The place with the message, the line of the source, and a caret below.
+fn push_in_full(
+    out: &mut String,
+    diagnostic: &Diagnostic<'_>,
+    paint: &Paint,
+) -> Result<(), AllocError> {
+    let Paint {
+        before_place,
+        before_kind,
+        behind,
+        caret,
+    } = *paint;
+    out.push_str(before_place)?;
+    push_place(out, diagnostic)?;
+    let (severity, kind) = (diagnostic.severity, diagnostic.kind);
+    write!(out, "{behind}: {before_kind}{severity}[{kind}]{behind}: ")?;
+    push_shown_text(out, diagnostic.message.as_str())?;
+    out.push('\n')?;
+    match diagnostic.place {
+        Some(location) => push_excerpt(out, diagnostic.text, location.start, caret),
+        None => Ok(()),
+    }
+}
+
+/// An object. Its places are in bytes, counted from 0; the column too is in bytes, and counted from 1.
+fn push_json(out: &mut String, diagnostic: &Diagnostic<'_>) -> Result<(), AllocError> {
+    out.push_str("{\"path\":")?;
+    push_json_text(out, diagnostic.path)?;
+    if let Some(location) = diagnostic.place {
+        let (line, column) = (location.line, location.column);
+        write!(out, ",\"line\":{line},\"column\":{column}")?;
+        write!(
+            out,
+            ",\"start\":{},\"end\":{}",
+            location.start, location.end
+        )?;
+    }
+    if let Some(error) = diagnostic.error {
+        push_junk(out, error)?;
+    }
+    write!(out, ",\"kind\":\"{}\"", diagnostic.kind)?;
+    match diagnostic.error {
+        Some(error) => push_payload(out, &error.kind)?,
+        None => write!(out, ",\"severity\":\"{}\"", diagnostic.severity)?,
+    }
+    out.push_str(",\"message\":")?;
+    push_json_text(out, diagnostic.message.as_str())?;
+    out.push_str("}\n")
+}
+
+fn push_github(out: &mut String, diagnostic: &Diagnostic<'_>) -> Result<(), AllocError> {
+    write!(out, "::{} file=", diagnostic.severity)?;
+    push_property(out, diagnostic.path)?;
+    if let Some(location) = diagnostic.place {
+        let (line, column) = (location.line, location.column);
+        write!(out, ",line={line},col={column}")?;
+    }
+    write!(out, ",title={}::", diagnostic.kind)?;
+    push_data(out, diagnostic.message.as_str())?;
+    out.push('\n')
+}
