@@ -14,15 +14,18 @@ static COLORS: [&str; 3] = ["auto", "always", "never"];
 /// What standard input is called.
 const STDIN_NAME: &str = "<stdin>";
 
-/// The command line that `ftl` takes.
-pub fn command_line<'a>(alloc: Global) -> Result<Command<'a>, AllocError> {
-    let program = Command::new(alloc, "ftl")
-        .subcommand_required(true)
-        .disable_help_subcommand(true);
+/// The command line that `ftl` takes, where this is its first word. The words that read by edition two are in it only
+/// where they are asked for, so that none of them is proposed for another.
+pub fn command_line<'a>(alloc: Global, word: &str) -> Result<Command<'a>, AllocError> {
+    let program = Command::new(alloc, "ftl").subcommand_required(true);
     let program = with_checks(alloc, program)?;
-    let program = with_checks_by_edition_two(alloc, program)?;
     let program = with_conversions(alloc, program)?;
-    with_other_words(alloc, program)
+    let program = with_other_words(alloc, program)?;
+    if word.ends_with("-two") {
+        with_checks_by_edition_two(alloc, program)
+    } else {
+        Ok(program)
+    }
 }
 
 /// Adds the words that check and format.
@@ -38,8 +41,8 @@ fn with_checks_by_edition_two<'a>(
     program: Command<'a>,
 ) -> Result<Command<'a>, AllocError> {
     program
-        .subcommand(check(alloc, "check-two")?.hide(true))?
-        .subcommand(format(alloc, "format-two")?.hide(true))
+        .subcommand(check(alloc, "check-two")?)?
+        .subcommand(format(alloc, "format-two")?)
 }
 
 /// Adds the words that write another form.

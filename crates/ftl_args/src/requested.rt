@@ -12,7 +12,7 @@ use std::alloc::{AllocError, Global};
 
 /// What the words ask for, the program's own name first; a mistake in them, or a wish for help, as `Err`.
 pub fn request_of<'a>(alloc: Global, words: &'a [String]) -> Result<Request<'a>, Error> {
-    let matches = command_line(alloc)?.try_get_matches_from(words)?;
+    let matches = command_line(alloc, asked_word(words))?.try_get_matches_from(words)?;
     let Some((word, options)) = matches.subcommand() else {
         // the word is required
         return Err(Error::from(AllocError));
@@ -34,6 +34,15 @@ pub fn request_of<'a>(alloc: Global, words: &'a [String]) -> Result<Request<'a>,
         stdin_name: options.get_str("stdin-name").unwrap_or("<stdin>"),
         paths: paths_of(alloc, options)?,
     }))
+}
+
+/// The word that says what is to be done, or that of which the help is wanted; empty where there is none.
+pub(crate) fn asked_word(words: &[String]) -> &str {
+    match words {
+        [_, help, word, ..] if help.as_str() == "help" => word.as_str(),
+        [_, word, ..] => word.as_str(),
+        _ => "",
+    }
 }
 
 fn task_of(word: &str, options: &ArgMatches<'_>) -> Task {

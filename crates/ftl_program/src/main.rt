@@ -40,7 +40,7 @@ fn run_args(rt: &HostRuntime, words: &[String]) -> u8 {
         Ok(Request::Answer(work)) => answer(rt, work),
         Ok(Request::Lint(lint)) => lint_paths(rt, &lint),
         Ok(Request::Compare(compare)) => compare_paths(rt, &compare),
-        Err(error) => refuse_args(rt, &error),
+        Err(error) => refuse_args(rt, words, &error),
     }
 }
 
