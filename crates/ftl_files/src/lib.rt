@@ -31,7 +31,7 @@ pub use memory::Memory;
 pub use nearness::shared_folders;
 pub use options::{Color, Form, Output, Reading, color_of_name, output_of_name};
 pub use originals::original_of;
-pub use paths::is_below;
+pub use paths::{SeenPaths, absolute_path, is_below};
 pub use reading::{SourceFile, SourceFiles, read_files};
 pub use replacing::replace_file;
 pub use settings::{Settings, settings_of};

@@ -23,6 +23,16 @@ impl Listing {
     pub fn is_whole(&self) -> bool {
         self.faults.is_empty() && !self.is_cut
     }
+
+    /// Whether it is that of a file, which has the path itself.
+    pub fn is_of_file(&self, path: &str) -> bool {
+        matches!(self.files.as_slice(), [file] if file.as_str() == path)
+    }
+
+    /// Whether nothing was listed, since what has the path could not be.
+    pub fn has_failed(&self, path: &str) -> bool {
+        self.files.is_empty() && self.faults.iter().any(|(at, _)| at.as_str() == path)
+    }
 }
 
 /// How a folder is searched.

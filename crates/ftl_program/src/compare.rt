@@ -1,13 +1,15 @@
 //! Files and folders, compared with those of a reference language.
 
 use crate::colors::form_over_paths;
-use crate::lint::files_at;
-use crate::messages::{end_run, refuse_compare, refuse_run};
+use crate::listed::{Named, NamedFiles, named_at};
+use crate::messages::{WRONG_ARGS, end_run, refuse_compare, refuse_run};
 use crate::project::project_settings;
 use ftl::{RunFault, Watched};
 use ftl_args::{Compare, Options};
 use ftl_files::{Disk, Settings};
-use ftl_project::{Pair, Share, Streams, Tally, check_summary, compare_files, share_line};
+use ftl_project::{
+    Pair, Share, Streams, Tally, check_summary, compare_files, note_line, share_line,
+};
 use std::alloc::{AllocError, Global};
 use std::io;
 
@@ -40,6 +42,8 @@ fn sides<'a>(settings: &'a Settings, paths: &'a [&'a str]) -> Option<(&'a str, &
     }
 }
 
+/// Compares each of the others, once, with the reference. What can't be listed, and a file where the reference is a
+/// folder, or the other way round, is told, and the others are compared.
 fn compare_all(
     rt: &HostRuntime,
     options: Options,
@@ -47,13 +51,60 @@ fn compare_all(
     others: &[&str],
     tally: &mut Tally,
 ) -> Result<(), RunFault> {
-    let reference_files = files_at(rt, reference, tally)?;
+    let own = named_at(rt, reference, tally)?;
+    if own.has_failed {
+        return Ok(());
+    }
+    let mut named = NamedFiles::new(rt)?;
     for other in others {
-        let files = files_at(rt, *other, tally)?;
-        let Ok(pairs) = pairs_of(rt.alloc(), reference, &reference_files, *other, &files) else {
-            return Err(RunFault::Memory);
-        };
-        compare_one(rt, options, *other, &pairs, tally)?;
+        if named.is_new(rt, *other)? {
+            compare_other(rt, options, (reference, &own), *other, tally)?;
+        }
+    }
+    Ok(())
+}
+
+/// Compares what the path names with the reference, which is named so.
+fn compare_other(
+    rt: &HostRuntime,
+    options: Options,
+    (reference, own): (&str, &Named),
+    other: &str,
+    tally: &mut Tally,
+) -> Result<(), RunFault> {
+    let named = named_at(rt, other, tally)?;
+    if named.has_failed {
+        return Ok(());
+    }
+    if named.is_file != own.is_file {
+        tally.add_fault(WRONG_ARGS);
+        return tell_kinds(rt, reference, own.is_file, other);
+    }
+    let Ok(pairs) = pairs_of(rt.alloc(), reference, &own.files, other, &named.files) else {
+        return Err(RunFault::Memory);
+    };
+    compare_one(rt, options, other, &pairs, tally)
+}
+
+/// Tells that one of the two is a file and the other one a folder.
+fn tell_kinds(
+    rt: &HostRuntime,
+    reference: &str,
+    is_file: bool,
+    other: &str,
+) -> Result<(), RunFault> {
+    let (own, its) = if is_file {
+        ("file", "folder")
+    } else {
+        ("folder", "file")
+    };
+    let Ok(note) = format!(in rt.alloc(); "is a {its}, and the reference {reference} is a {own}")
+    else {
+        return Err(RunFault::Memory);
+    };
+    match note_line(rt.alloc(), other, &note) {
+        Ok(line) => drop(rt.eprint(line.as_str())),
+        Err(AllocError) => return Err(RunFault::Memory),
     }
     Ok(())
 }

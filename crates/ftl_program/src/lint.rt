@@ -1,13 +1,14 @@
 //! Files and folders, searched for mistakes between names.
 
 use crate::colors::form_over_paths;
+use crate::listed::NamedFiles;
 use crate::messages::{end_run, refuse_run};
 use crate::project::project_settings;
 use fluent_syntax_names::Kind;
 use ftl::{RunFault, Watched};
 use ftl_args::{Lint, Options};
-use ftl_files::{Disk, list};
-use ftl_project::{Fault, LintOptions, Streams, Tally, check_summary, lint_files, report_fault};
+use ftl_files::Disk;
+use ftl_project::{LintOptions, Streams, Tally, check_summary, lint_files};
 use std::io;
 
 /// Searches all files that the paths name, as one set; the exit status. Kinds that the project ignores are not told.
@@ -54,40 +55,17 @@ fn lint_all(
     )
 }
 
-/// The files that the paths name. What can't be listed is told.
+/// The files that the paths name, each once. What can't be listed is told.
 fn files_of(rt: &HostRuntime, lint: &Lint<'_>, tally: &mut Tally) -> Result<Vec<String>, RunFault> {
+    let mut named = NamedFiles::new(rt)?;
     let mut files = Vec::new(rt.alloc());
     for path in &lint.paths {
-        for file in files_at(rt, *path, tally)? {
-            if files.push(file).is_err() {
-                return Err(RunFault::Memory);
-            }
+        if files
+            .append(&mut named.files_at(rt, *path, tally)?)
+            .is_err()
+        {
+            return Err(RunFault::Memory);
         }
     }
     Ok(files)
-}
-
-/// The files that the path names. What can't be listed is told.
-pub(crate) fn files_at(
-    rt: &HostRuntime,
-    path: &str,
-    tally: &mut Tally,
-) -> Result<Vec<String>, RunFault> {
-    let Ok(listing) = list(rt, path) else {
-        return Err(RunFault::Memory);
-    };
-    for (path, error) in listing.faults {
-        let mut streams = Streams {
-            out: &mut Watched::new(io::writer(rt)),
-            err: &mut Watched::new(rt.stderr()),
-        };
-        report_fault(
-            rt.alloc(),
-            tally,
-            path.as_str(),
-            &Fault::Read(error),
-            &mut streams,
-        )?;
-    }
-    Ok(listing.files)
 }

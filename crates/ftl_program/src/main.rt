@@ -6,6 +6,7 @@ mod colors;
 mod compare;
 mod help;
 mod lint;
+mod listed;
 mod messages;
 mod paths;
 mod project;

@@ -7,7 +7,7 @@ use ftl_project::Tally;
 use std::alloc::AllocError;
 
 /// The status for wrong words.
-const WRONG_ARGS: u8 = 2;
+pub(crate) const WRONG_ARGS: u8 = 2;
 
 /// Writes the line to standard error, and gives the exit status back.
 pub(crate) fn refuse<R: Eprint>(rt: &R, line: &str, status: u8) -> u8 {

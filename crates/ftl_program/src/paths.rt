@@ -1,7 +1,7 @@
 //! Files and folders, answered each by its name.
 
 use crate::colors::form_over_paths;
-use crate::lint::files_at;
+use crate::listed::NamedFiles;
 use crate::messages::{end_run, refuse_run};
 use crate::standard_input::{all_input, tell_of_terminal};
 use ftl::{RunFault, Watched};
@@ -14,7 +14,7 @@ use ftl_project::{
 use std::alloc::AllocError;
 use std::io;
 
-/// Answers the paths in their order, or standard input where there is none; the exit status.
+/// Answers the paths in their order, each file once, or standard input where there is none; the exit status.
 pub(crate) fn answer_paths(rt: &HostRuntime, work: &Work<'_>) -> u8 {
     let mut tally = Tally::new();
     if let Err(fault) = answer_all(rt, work, &mut tally) {
@@ -34,11 +34,13 @@ fn answer_all(rt: &HostRuntime, work: &Work<'_>, tally: &mut Tally) -> Result<()
     if work.paths.is_empty() {
         return answer_named_input(rt, work, tally);
     }
+    let mut named = NamedFiles::new(rt)?;
     for path in &work.paths {
         if *path == "-" {
             answer_named_input(rt, work, tally)?;
         } else {
-            answer_path(rt, work, *path, tally)?;
+            let files = named.files_at(rt, *path, tally)?;
+            answer_files(rt, &mut Disk::new(rt), &files, work, tally)?;
         }
     }
     Ok(())
@@ -76,17 +78,6 @@ fn put_named<R: AllocGlobal>(
     memory.put(name, bytes)?;
     files.push(String::from_str(rt.alloc(), name)?)?;
     Ok(())
-}
-
-/// Answers a file, or the files of a folder. What can't be listed is told, and the others are answered.
-fn answer_path(
-    rt: &HostRuntime,
-    work: &Work<'_>,
-    path: &str,
-    tally: &mut Tally,
-) -> Result<(), RunFault> {
-    let files = files_at(rt, path, tally)?;
-    answer_files(rt, &mut Disk::new(rt), &files, work, tally)
 }
 
 fn answer_files<S: Store>(

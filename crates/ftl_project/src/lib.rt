@@ -43,6 +43,6 @@ pub use printing::print_files;
 pub use replacement::{Replacement, replacement_for};
 pub use reporting::report;
 pub use rewriting::rewrite;
-pub use streams::{Streams, report_fault};
+pub use streams::{Streams, note_line, report_fault};
 pub use tally::{Tally, check_summary, format_summary};
 pub use text_with_errors::TextWithErrors;

@@ -44,11 +44,9 @@ pub fn report_fault<O: Write, E: Write>(
 }
 
 /// `ftl: PATH: NOTE`, on a line.
-pub(crate) fn note_line<D: Display>(
-    alloc: Global,
-    path: &str,
-    note: &D,
-) -> Result<String, AllocError> {
+///
+/// `AllocError`: a growth was refused.
+pub fn note_line<D: Display>(alloc: Global, path: &str, note: &D) -> Result<String, AllocError> {
     let mut line = String::from_str(alloc, "ftl: ")?;
     push_shown_text(&mut line, path)?;
     writeln!(line, ": {note}")?;
