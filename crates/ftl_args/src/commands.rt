@@ -170,6 +170,7 @@ fn word<'a>(
         .about(about)
         .after_help(examples)
         .arg(nesting(alloc))?
+        .arg(exclude(alloc))?
         .arg(paths(
             alloc,
             "Files, folders for every .ftl file below, or `-`; none for standard input",
@@ -193,13 +194,25 @@ fn paths<'a>(alloc: Global, help: &'a str) -> Arg<'a> {
         .num_args(0..)
 }
 
-/// The paths that the words name.
-pub(crate) fn paths_of<'a>(
+/// The option for what is passed over in folders.
+pub(crate) fn exclude<'a>(alloc: Global) -> Arg<'a> {
+    Arg::new(alloc, "exclude")
+        .long("exclude")
+        .value_name("NAME")
+        .help(
+            "Passes over what has the name in a folder, or with a `/` the path; may be given again",
+        )
+        .action(ArgAction::Append)
+}
+
+/// The texts that the words give for the argument.
+pub(crate) fn texts_of<'a>(
     alloc: Global,
     options: &ArgMatches<'a>,
+    argument: &str,
 ) -> Result<Vec<&'a str>, AllocError> {
-    match options.get_strs("paths") {
-        Some(paths) => Vec::from_slice(alloc, paths),
+    match options.get_strs(argument) {
+        Some(texts) => Vec::from_slice(alloc, texts),
         None => Ok(Vec::new(alloc)),
     }
 }

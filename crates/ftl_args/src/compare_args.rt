@@ -1,6 +1,6 @@
 //! The word `compare`.
 
-use crate::commands::{color, paths_of};
+use crate::commands::{color, exclude, texts_of};
 use crate::lint_args::{form, nesting};
 use crate::options::Options;
 use clap::{Arg, ArgAction, ArgMatches, Command};
@@ -11,6 +11,8 @@ use std::alloc::{AllocError, Global};
 pub struct Compare<'a> {
     /// How a text is read, and how a difference is told.
     pub options: Options,
+    /// What is passed over in folders.
+    pub excluded: Vec<&'a str>,
     /// Files, or folders for every file below: the reference, where the project names none, and the others.
     pub paths: Vec<&'a str>,
 }
@@ -27,6 +29,7 @@ pub(crate) fn compare_command<'a>(alloc: Global) -> Result<Command<'a>, AllocErr
         )
         .arg(form(alloc))?
         .arg(color(alloc))?
+        .arg(exclude(alloc))?
         .arg(nesting(alloc))?
         .arg(paths(alloc))
 }
@@ -51,6 +54,7 @@ pub(crate) fn compare_of<'a>(
 ) -> Result<Compare<'a>, AllocError> {
     Ok(Compare {
         options: said,
-        paths: paths_of(alloc, options)?,
+        excluded: texts_of(alloc, options, "exclude")?,
+        paths: texts_of(alloc, options, "paths")?,
     })
 }

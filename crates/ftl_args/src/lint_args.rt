@@ -1,6 +1,6 @@
 //! The word `lint`.
 
-use crate::commands::{color, paths_of};
+use crate::commands::{color, exclude, texts_of};
 use crate::options::Options;
 use clap::{Arg, ArgAction, ArgMatches, Command, value_parser};
 use fluent_syntax_names::Kind;
@@ -14,6 +14,8 @@ pub struct Lint<'a> {
     pub options: Options,
     /// Kinds that are not told.
     pub ignored: Vec<Kind>,
+    /// What is passed over in folders.
+    pub excluded: Vec<&'a str>,
     /// Files and folders, which are one set.
     pub paths: Vec<&'a str>,
 }
@@ -42,6 +44,7 @@ pub(crate) fn lint_command<'a>(alloc: Global) -> Result<Command<'a>, AllocError>
         .arg(form(alloc))?
         .arg(color(alloc))?
         .arg(ignore(alloc))?
+        .arg(exclude(alloc))?
         .arg(nesting(alloc))?
         .arg(paths(alloc))
 }
@@ -101,6 +104,7 @@ pub(crate) fn lint_of<'a>(
     Ok(Lint {
         options: said,
         ignored,
-        paths: paths_of(alloc, options)?,
+        excluded: texts_of(alloc, options, "exclude")?,
+        paths: texts_of(alloc, options, "paths")?,
     })
 }

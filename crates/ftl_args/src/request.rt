@@ -30,6 +30,8 @@ pub struct Work<'a> {
     pub options: Options,
     /// What standard input is called.
     pub stdin_name: &'a str,
+    /// What is passed over in folders.
+    pub excluded: Vec<&'a str>,
     /// Files and folders, and `-` for standard input; none for standard input alone.
     pub paths: Vec<&'a str>,
 }

@@ -1,6 +1,6 @@
 //! The request that a command line makes.
 
-use crate::commands::{command_line, paths_of};
+use crate::commands::{command_line, texts_of};
 use crate::compare_args::compare_of;
 use crate::lint_args::lint_of;
 use crate::options::Options;
@@ -32,7 +32,8 @@ pub fn request_of<'a>(alloc: Global, words: &'a [String]) -> Result<Request<'a>,
         task: task_of(word, options),
         options: options_of(word, options),
         stdin_name: options.get_str("stdin-name").unwrap_or("<stdin>"),
-        paths: paths_of(alloc, options)?,
+        excluded: texts_of(alloc, options, "exclude")?,
+        paths: texts_of(alloc, options, "paths")?,
     }))
 }
 

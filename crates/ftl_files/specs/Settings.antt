@@ -16,8 +16,8 @@ use Rattle.ftl_files.specs.declared.settings.Settings.{Settings}
 -- keys that stand for something
 abbrev pub is_known : List ℕ → Bool
 is_known key =
-    bytes_eq key (codes "reference") || bytes_eq key (codes "ignore") || bytes_eq key (codes "edition")
-    || bytes_eq key (codes "output") || bytes_eq key (codes "nesting") || bytes_eq key (codes "color")
+    bytes_eq key (codes "reference") || bytes_eq key (codes "ignore") || bytes_eq key (codes "exclude")
+    || bytes_eq key (codes "edition") || bytes_eq key (codes "output") || bytes_eq key (codes "nesting") || bytes_eq key (codes "color")
 
 abbrev pub are_known : Members → Bool
 are_known no_members = true
@@ -31,6 +31,11 @@ IsReference value reference = value ≡ option_map (λ path. string (string_byte
 abbrev pub IsIgnored : Option Data → List Kind → Type 0
 IsIgnored value kinds =
     ((value ≡ None) × (kinds ≡ [])) ⊎ (value ≡ Some (array (items_of (map (λ kind. string (name_of kind)) kinds))))
+
+-- the texts are those of the list of its key, one by one; or there is no such key
+abbrev pub IsExcluded : Option Data → List (String Global) → Type 0
+IsExcluded value texts =
+    ((value ≡ None) × (texts ≡ [])) ⊎ (value ≡ Some (array (items_of (map (λ text. string (string_bytes text)) texts))))
 
 -- the edition is that of the number of its key, or there is neither
 abbrev pub IsEdition : Option Data → Option Edition → Type 0
@@ -52,6 +57,7 @@ pub record Says (document : Members) (settings : Settings) : Type 0 where
   pub known : are_known document ≡ true
   pub reference : IsReference (get_member (codes "reference") document) settings.reference
   pub ignored : IsIgnored (get_member (codes "ignore") document) settings.ignored.items
+  pub excluded : IsExcluded (get_member (codes "exclude") document) settings.excluded.items
   pub edition : IsEdition (get_member (codes "edition") document) settings.edition
   pub output : IsOutput (get_member (codes "output") document) settings.output
   pub nesting : IsNesting (get_member (codes "nesting") document) settings.nesting

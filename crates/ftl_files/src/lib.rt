@@ -4,6 +4,7 @@
 
 mod attributes;
 mod disk;
+mod excluded;
 mod file_system;
 mod folders;
 mod kinds;
@@ -22,6 +23,7 @@ mod store;
 mod uris;
 
 pub use disk::Disk;
+pub use excluded::Excluded;
 pub use file_system::FileSystem;
 pub use folders::Folders;
 pub use kinds::kind_of_name;

@@ -1,6 +1,6 @@
 //! The settings, as their text says them.
 ghost use Rattle.std.specs.Prelude.{◌≡◌, ◌≢◌, ◌++◌, ◌∷◌, ℕ, [], List, Option, Some, String, IfErr, IfOk, OnOk, false};
-ghost use Rattle.std.specs.Prelude.{option_map, true};
+ghost use Rattle.std.specs.Prelude.{option_map, string_bytes, true};
 ghost use Rattle.std.specs.declared.alloc.Global.{Global};
 ghost use Rattle.fluent_syntax_names.specs.declared.finding.Kind.{Kind};
 ghost use Rattle.ftl_files.specs.declared.settings_fault.SettingsFault.TheVariants as SettingsFault;
@@ -9,7 +9,7 @@ ghost use Rattle.toml.specs.Data.{Members, no_members, string};
 ghost use Rattle.toml.specs.Parse.{parse_document};
 ghost use Rattle.toml.specs.View.{table_view, view};
 ghost use Rattle.fluent_syntax_tree.specs.declared.edition.Edition.{Edition};
-ghost use Rattle.ftl_files.specs.Settings.{IsColor, IsEdition, IsIgnored, IsNesting, IsOutput, IsReference, Says};
+ghost use Rattle.ftl_files.specs.Settings.{IsColor, IsEdition, IsExcluded, IsIgnored, IsNesting, IsOutput, IsReference, Says};
 ghost use Rattle.ftl_files.specs.Settings.{are_known, is_known};
 ghost use Rattle.ftl_files.specs.declared.options.Color.{Color};
 ghost use Rattle.ftl_files.specs.declared.options.Output.{Output};
@@ -33,6 +33,8 @@ pub struct Settings {
     pub reference: Option<String>,
     /// `ignore`: the kinds of findings that are not told, in the order of the text.
     pub ignored: Vec<Kind>,
+    /// `exclude`: what is passed over where a folder is listed, in the order of the text.
+    pub excluded: Vec<String>,
     /// `edition`: that of the grammar.
     pub edition: Option<Edition>,
     /// `output`: how what is found is told.
@@ -51,6 +53,7 @@ impl Settings {
         Settings {
             reference: None,
             ignored: Vec::new(alloc),
+            excluded: Vec::new(alloc),
             edition: None,
             output: None,
             nesting: None,
@@ -62,7 +65,7 @@ impl Settings {
 /// What the text of an `ftl.toml` says.
 ///
 /// `Memory`: a growth was refused. `Toml`: the text is no TOML document. `Key`: it has a key that stands for nothing.
-/// `Reference`, `Ignore`, `Edition`, `Output`, `Nesting`, `Color`: the value of that key is of another kind, or is none
+/// `Reference`, `Ignore`, `Exclude`, `Edition`, `Output`, `Nesting`, `Color`: the value of that key is of another kind, or is none
 /// of those that the key may have.
 pub fn settings_of(alloc: Global, text: &str) -> Result<Settings, SettingsFault>
     ensures says { IfOk result (λ settings. (document : Members)
@@ -78,6 +81,7 @@ pub fn settings_of(alloc: Global, text: &str) -> Result<Settings, SettingsFault>
     check_keys(alloc, &table)?;
     let reference = reference_of(alloc, table.get("reference"))?;
     let ignored = ignored_of(alloc, table.get("ignore"))?;
+    let excluded = excluded_of(alloc, table.get("exclude"))?;
     let edition = edition_of(table.get("edition"))?;
     let output = output_of(table.get("output"))?;
     let nesting = nesting_of(table.get("nesting"))?;
@@ -85,6 +89,7 @@ pub fn settings_of(alloc: Global, text: &str) -> Result<Settings, SettingsFault>
     Ok(Settings {
         reference,
         ignored,
+        excluded,
         edition,
         output,
         nesting,
@@ -119,7 +124,7 @@ fn is_known(key: &str) -> bool
 {
     matches!(
         key,
-        "reference" | "ignore" | "edition" | "output" | "nesting" | "color"
+        "reference" | "ignore" | "exclude" | "edition" | "output" | "nesting" | "color"
     )
 }
 
@@ -171,6 +176,43 @@ fn kind_of(value: &Value) -> Result<Kind, SettingsFault>
         return Err(SettingsFault::Ignore);
     };
     kind_of_name(name.as_str()).ok_or(SettingsFault::Ignore)
+}
+
+fn excluded_of(alloc: Global, value: Option<&Value>) -> Result<Vec<String>, SettingsFault>
+    ensures says { IfOk result (λ texts. IsExcluded (option_map (λ v. view v.now) value.entry) texts.items) }
+    ensures refused { IfErr result (λ fault. fault ≢ SettingsFault.Memory → (texts : List (String Global)) →
+        IsExcluded (option_map (λ v. view v.now) value.entry) texts → ⊥) }
+{
+    let mut texts = Vec::new(alloc);
+    let Some(value) = value else {
+        return Ok(texts);
+    };
+    let Value::Array(values) = value else {
+        return Err(SettingsFault::Exclude);
+    };
+    for text in values {
+        add_text(&mut texts, text_of(alloc, text)?)?;
+    }
+    Ok(texts)
+}
+
+fn add_text(texts: &mut Vec<String>, text: String) -> Result<(), AllocError>
+    ensures { OnOk result (texts.new.items ≡ texts.old.items ++ text ∷ []) }
+{
+    texts.push(text)?;
+    Ok(())
+}
+
+/// The text that the value is.
+fn text_of(alloc: Global, value: &Value) -> Result<String, SettingsFault>
+    ensures says { IfOk result (λ text. view value.now ≡ string (string_bytes text)) }
+    ensures refused { IfErr result (λ fault. fault ≢ SettingsFault.Memory →
+        (text : String Global) → view value.now ≢ string (string_bytes text)) }
+{
+    match value {
+        Value::String(text) => Ok(String::from_str(alloc, text.as_str())?),
+        _ => Err(SettingsFault::Exclude),
+    }
 }
 
 fn edition_of(value: Option<&Value>) -> Result<Option<Edition>, SettingsFault>

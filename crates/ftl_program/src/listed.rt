@@ -1,25 +1,26 @@
 //! Which files the paths of the words name.
 
+use crate::project::Project;
 use ftl::{RunFault, Watched};
 use ftl_files::{SeenPaths, list};
 use ftl_project::{Fault, Streams, Tally, report_fault};
 use std::alloc::AllocError;
-use std::{env, io};
+use std::io;
 
-/// The files that paths name, each once, however often it is named.
+/// The files that paths name in a project, each once, however often it is named.
 #[derive(Drop)]
-pub(crate) struct NamedFiles {
-    current: String,
+pub(crate) struct NamedFiles<'p> {
+    project: &'p Project,
     seen: SeenPaths,
 }
 
-impl NamedFiles {
+impl<'p> NamedFiles<'p> {
     /// None so far.
-    pub(crate) fn new(rt: &HostRuntime) -> Result<Self, RunFault> {
-        Ok(NamedFiles {
-            current: current_folder(rt)?,
+    pub(crate) fn new(rt: &HostRuntime, project: &'p Project) -> Self {
+        NamedFiles {
+            project,
             seen: SeenPaths::new(rt.alloc()),
-        })
+        }
     }
 
     /// The files that the path names, without those that an earlier one named. What can't be listed is told.
@@ -30,7 +31,7 @@ impl NamedFiles {
         tally: &mut Tally,
     ) -> Result<Vec<String>, RunFault> {
         let mut files = Vec::new(rt.alloc());
-        for file in named_at(rt, path, tally)?.files {
+        for file in named_at(rt, self.project, path, tally)?.files {
             if self.is_new(rt, file.as_str())? && files.push(file).is_err() {
                 return Err(RunFault::Memory);
             }
@@ -40,19 +41,13 @@ impl NamedFiles {
 
     /// Notes the path; whether no earlier one is the same.
     pub(crate) fn is_new(&mut self, rt: &HostRuntime, path: &str) -> Result<bool, RunFault> {
-        match self.seen.add(rt.alloc(), self.current.as_str(), path) {
+        match self
+            .seen
+            .add(rt.alloc(), self.project.current.as_str(), path)
+        {
             Ok(is_new) => Ok(is_new),
             Err(AllocError) => Err(RunFault::Memory),
         }
-    }
-}
-
-/// The folder that the program runs in; the root, where the system doesn't say.
-fn current_folder(rt: &HostRuntime) -> Result<String, RunFault> {
-    match env::current_dir(rt) {
-        Ok(path) => Ok(path.into_string()),
-        Err(error) if error.kind() == io::ErrorKind::OutOfMemory => Err(RunFault::Memory),
-        Err(_) => Ok(String::new(rt.alloc())),
     }
 }
 
@@ -68,8 +63,13 @@ pub(crate) struct Named {
 }
 
 /// What the path names. What can't be listed is told.
-pub(crate) fn named_at(rt: &HostRuntime, path: &str, tally: &mut Tally) -> Result<Named, RunFault> {
-    let Ok(listing) = list(rt, path) else {
+pub(crate) fn named_at(
+    rt: &HostRuntime,
+    project: &Project,
+    path: &str,
+    tally: &mut Tally,
+) -> Result<Named, RunFault> {
+    let Ok(listing) = list(rt, project.current.as_str(), path, &project.excluded) else {
         return Err(RunFault::Memory);
     };
     let is_file = listing.is_of_file(path);

@@ -3,6 +3,7 @@
 use crate::colors::form_over_paths;
 use crate::listed::NamedFiles;
 use crate::messages::{end_run, refuse_run};
+use crate::project::Project;
 use crate::standard_input::{all_input, tell_of_terminal};
 use ftl::{RunFault, Watched};
 use ftl_args::{Change, Task, Work};
@@ -14,14 +15,13 @@ use ftl_project::{
 use std::alloc::AllocError;
 use std::io;
 
-/// Answers the paths in their order, each file once, or standard input where there is none; the exit status.
-pub(crate) fn answer_paths(rt: &HostRuntime, work: &Work<'_>) -> u8 {
+/// Answers the paths in their order, each file once; the exit status.
+pub(crate) fn answer_paths(rt: &HostRuntime, work: &Work<'_>, project: &Project) -> u8 {
     let mut tally = Tally::new();
-    if let Err(fault) = answer_all(rt, work, &mut tally) {
+    if let Err(fault) = answer_all(rt, work, project, &mut tally) {
         return refuse_run(rt, fault);
     }
     match work.task {
-        _ if work.paths.is_empty() => tally.status(),
         Task::Check => end_run(rt, &tally, check_summary(rt.alloc(), &tally)),
         Task::Format(Change::Write | Change::Name) => {
             end_run(rt, &tally, format_summary(rt.alloc(), &tally))
@@ -30,11 +30,22 @@ pub(crate) fn answer_paths(rt: &HostRuntime, work: &Work<'_>) -> u8 {
     }
 }
 
-fn answer_all(rt: &HostRuntime, work: &Work<'_>, tally: &mut Tally) -> Result<(), RunFault> {
-    if work.paths.is_empty() {
-        return answer_named_input(rt, work, tally);
+/// Answers standard input as a file of its name; the exit status.
+pub(crate) fn answer_named(rt: &HostRuntime, work: &Work<'_>) -> u8 {
+    let mut tally = Tally::new();
+    match answer_named_input(rt, work, &mut tally) {
+        Ok(()) => tally.status(),
+        Err(fault) => refuse_run(rt, fault),
     }
-    let mut named = NamedFiles::new(rt)?;
+}
+
+fn answer_all(
+    rt: &HostRuntime,
+    work: &Work<'_>,
+    project: &Project,
+    tally: &mut Tally,
+) -> Result<(), RunFault> {
+    let mut named = NamedFiles::new(rt, project);
     for path in &work.paths {
         if *path == "-" {
             answer_named_input(rt, work, tally)?;
