@@ -27,15 +27,17 @@ are_known (member key value members) = is_known key && are_known members
 abbrev pub IsReference : Option Data → Option (String Global) → Type 0
 IsReference value reference = value ≡ option_map (λ path. string (string_bytes path)) reference
 
--- the kinds are those that the list of its key names, one by one; or there is no such key
-abbrev pub IsIgnored : Option Data → List Kind → Type 0
-IsIgnored value kinds =
-    ((value ≡ None) × (kinds ≡ [])) ⊎ (value ≡ Some (array (items_of (map (λ kind. string (name_of kind)) kinds))))
+-- the things are those that the list of its key names, one by one; or there is no such key
+abbrev pub IsListed : {A : Type 0} (named : A → Data) → Option Data → List A → Type 0
+IsListed named value things =
+    ((value ≡ None) × (things ≡ [])) ⊎ (value ≡ Some (array (items_of (map named things))))
 
--- the texts are those of the list of its key, one by one; or there is no such key
+abbrev pub IsIgnored : Option Data → List Kind → Type 0
+IsIgnored value kinds = IsListed (λ kind. string (name_of kind)) value kinds
+
+-- what is excluded is named as it is spelled
 abbrev pub IsExcluded : Option Data → List (String Global) → Type 0
-IsExcluded value texts =
-    ((value ≡ None) × (texts ≡ [])) ⊎ (value ≡ Some (array (items_of (map (λ text. string (string_bytes text)) texts))))
+IsExcluded value texts = IsListed (λ text. string (string_bytes text)) value texts
 
 -- the edition is that of the number of its key, or there is neither
 abbrev pub IsEdition : Option Data → Option Edition → Type 0

@@ -1,20 +1,18 @@
 -- How a comparison meets each pair.
 use Rattle.std.specs.Io.KnownBytes.{Appends}
 use Rattle.std.specs.Prelude.{◌≡◌, ◌⊎◌, ◌==◌, ◌+◌, ◌-◌, ◌^◌, ◌++◌, ℕ, Bool, true, false, not, List, [], ◌∷◌, Option}
-use Rattle.std.specs.Prelude.{None, Some, codes, count_by, is_some, min, string_bytes}
-use Rattle.std.specs.Fmt.{decimal}
+use Rattle.std.specs.Prelude.{None, Some, codes, count_by, min, string_bytes}
 use Rattle.fluent_syntax_names.specs.MissingParts.{all_missing_parts}
 use Rattle.fluent_syntax_names.specs.declared.missing_part.MissingPart.{MissingPart}
 use Rattle.fluent_syntax_names.specs.declared.missing_part.Part.{Part}
 use Rattle.fluent_syntax_names.specs.declared.missing_part.Part.TheVariants as part
 use Rattle.fluent_syntax_names.specs.declared.name_index.NameIndex.{NameIndex}
 use Rattle.fluent_syntax_names.specs.Differences.{difference_name, side_difference}
-use Rattle.fluent_syntax_names.specs.Sentences.{difference_sentence}
 use Rattle.ftl_project.specs.Differences.{counts_as_error}
 use Rattle.ftl_project.specs.Faults.{Failing, Fails, IsFault, IsRead, IsTooDeep, IsUnparsed}
 use Rattle.ftl_project.specs.NameIndexes.{IsNameIndex, entry_count}
 use Rattle.ftl_project.specs.Junk.{missing_part_junk}
-use Rattle.ftl_project.specs.Diagnostics.{IsName, IsDiagnostic, ReportsEach, location_at}
+use Rattle.ftl_project.specs.Diagnostics.{IsDiagnostic, ReportsEach, location_at}
 use Rattle.ftl_project.specs.Tally.{Processed, answered, counted, failed}
 use Rattle.ftl_project.specs.declared.comparing.Pair.{Pair}
 use Rattle.ftl_project.specs.declared.comparing.Share.{Share}
@@ -29,40 +27,12 @@ use Rattle.ftl_project.specs.declared.tally.Tally.{Tally}
 
 -- ---- what is said of a part that one file has and the other one lacks
 
--- where the reference has what the other file lacks
-abbrev pub missing_at : (path : List ℕ) → SourceLocation → List ℕ
-missing_at path location = path ++ codes ":" ++ decimal location.line ++ codes ":" ++ decimal location.column
-
--- behind the place in the reference of an entry that the other file has as junk
-abbrev pub behind_missing : (is_junk : Bool) → List ℕ
-behind_missing false = codes ""
-behind_missing true = codes " is junk here"
-
--- of the part that has the name in the reference's text
-abbrev pub missing_message : (path text : List ℕ) → MissingPart → Difference → (is_junk : Bool) → (name : List ℕ)
-    → List ℕ
-missing_message path text missing difference is_junk name =
-    difference_sentence difference name ++ codes " of " ++ missing_at path (location_at text missing.name)
-    ++ behind_missing is_junk
-
--- This is told of a difference in the file, with a message that says so; of no difference nothing is told.
+-- This is told of a difference in the file; of no difference nothing is told. What the message says is for people.
 abbrev pub IsDifferenceReport : Form → (path : List ℕ) → Option SourceLocation → Option Difference →
-    (Says : Difference → List ℕ → Type 0) → (report_text : List ℕ) → Type 0
-IsDifferenceReport form path place None Says report_text = report_text ≡ []
-IsDifferenceReport form path place (Some difference) Says report_text =
-    (message : List ℕ) × Says difference message
-    × IsDiagnostic form path place (difference_name difference) message report_text
-
--- The message is that of the difference, by the name of the part in the text.
-abbrev pub SaysMissing : (path text : List ℕ) → MissingPart → (is_junk : Bool) → Difference → (message : List ℕ)
-    → Type 0
-SaysMissing path text missing is_junk difference message =
-    (name : List ℕ) × IsName text missing.name name
-    × (message ≡ missing_message path text missing difference is_junk name)
-
-abbrev pub SaysExtra : (text : List ℕ) → MissingPart → Difference → (message : List ℕ) → Type 0
-SaysExtra text missing difference message =
-    (name : List ℕ) × IsName text missing.name name × (message ≡ difference_sentence difference name)
+    (report_text : List ℕ) → Type 0
+IsDifferenceReport form path place None report_text = report_text ≡ []
+IsDifferenceReport form path place (Some difference) report_text =
+    (message : List ℕ) × IsDiagnostic form path place (difference_name difference) message report_text
 
 -- This is told of what the reference's text has and the other file lacks: where that has the entry as junk, at the
 -- first such junk.
@@ -70,15 +40,13 @@ abbrev pub IsMissingReport : Form → Pair → (text : List ℕ) → (other : Na
     → Type 0
 IsMissingReport form pair text other missing report_text =
     IsDifferenceReport form (string_bytes pair.other) (missing_part_junk text other missing)
-    (side_difference Reference missing.part)
-    (SaysMissing (string_bytes pair.reference) text missing
-    (is_some (missing_part_junk text other missing))) report_text
+    (side_difference Reference missing.part) report_text
 
 -- This is told of what the other file's text has and the reference lacks.
 abbrev pub IsExtraReport : Form → Pair → (text : List ℕ) → MissingPart → (report_text : List ℕ) → Type 0
 IsExtraReport form pair text missing report_text =
     IsDifferenceReport form (string_bytes pair.other) (Some (location_at text missing.name))
-    (side_difference Other missing.part) (SaysExtra text missing) report_text
+    (side_difference Other missing.part) report_text
 
 -- This is told of what the text of a side has and the other one lacks. `other` is the file that is not the reference.
 abbrev pub IsMissingPartReport : Side → Form → Pair → (text : List ℕ) → (other : NameIndex) → MissingPart

@@ -14,6 +14,7 @@ ghost use Rattle.ftl_project.specs.Summaries.{share_line_of};
 use crate::comparison_report::PairReporter;
 use crate::diagnostics::{Diagnostic, diagnostic_text};
 use crate::differences::counts_as_error;
+use crate::entry_names::EntryNames;
 use crate::fault::Fault;
 use crate::name_indexes::{entry_count, name_index};
 use crate::rewriting::read_text;
@@ -186,6 +187,7 @@ impl Comparing {
             severity: "error",
             message,
             error: None,
+            subject: None,
         };
         diagnostic_text(self.alloc, &diagnostic, self.form)
     }
@@ -231,9 +233,16 @@ impl Comparing {
             form: self.form,
         };
         let missing = missing_parts(self.alloc, reference, other)?;
-        let mut report_text = pair_reporter.report_of(Side::Reference, reference.text, &missing)?;
+        let names = EntryNames::new(self.alloc, reference)?;
+        let mut report_text = pair_reporter.report_of(
+            Side::Reference,
+            reference.text,
+            &names,
+            &missing,
+        )?;
         let more = missing_parts(self.alloc, other, reference)?;
-        let behind = pair_reporter.report_of(Side::Other, other.text, &more)?;
+        let own_names = EntryNames::new(self.alloc, other)?;
+        let behind = pair_reporter.report_of(Side::Other, other.text, &own_names, &more)?;
         report_text.push_str(behind.as_str())?;
         let missed = errors_of(Side::Reference, &missing);
         let unknown = errors_of(Side::Other, &more);

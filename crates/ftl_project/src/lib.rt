@@ -8,6 +8,7 @@ mod comparison_report;
 mod converting;
 mod diagnostics;
 mod differences;
+mod entry_names;
 mod excerpt;
 mod fault;
 mod findings;

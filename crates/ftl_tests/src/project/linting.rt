@@ -145,10 +145,10 @@ const ROWS: [Row; 5] = [
     (
         "each kind",
         OTHER,
-        "de/a.ftl: missing-reference: the reference to `brand` of en/a.ftl:1:28\n\
-        de/a.ftl: missing-attribute: `title` of en/a.ftl:2:6\n\
-        de/a.ftl: missing-value: the value of `name` of en/a.ftl:3:1\n\
-        de/a.ftl: missing: `about` of en/a.ftl:5:1\n\
+        "de/a.ftl: missing-reference: `hello` does not refer to `-brand` (en/a.ftl:1:28)\n\
+        de/a.ftl: missing-attribute: the attribute `title` of `hello` is missing (en/a.ftl:2:6)\n\
+        de/a.ftl: missing-value: the value of `name` is missing (en/a.ftl:3:1)\n\
+        de/a.ftl: missing: `about` is missing (en/a.ftl:5:1)\n\
         de/a.ftl:1:18: unknown-variable\nde/a.ftl:4:6: obsolete-attribute\nde/a.ftl:5:1: obsolete\n",
         4,
         "3 of 4 messages and terms are there\n",
@@ -163,8 +163,10 @@ const ROWS: [Row; 5] = [
     (
         "nothing",
         "\n",
-        "de/a.ftl: missing: `hello` of en/a.ftl:1:1\nde/a.ftl: missing: `name` of en/a.ftl:3:1\n\
-        de/a.ftl: missing: `about` of en/a.ftl:5:1\nde/a.ftl: missing: `brand` of en/a.ftl:6:2\n",
+        "de/a.ftl: missing: `hello` is missing (en/a.ftl:1:1)\n\
+        de/a.ftl: missing: `name` is missing (en/a.ftl:3:1)\n\
+        de/a.ftl: missing: `about` is missing (en/a.ftl:5:1)\n\
+        de/a.ftl: missing: `-brand` is missing (en/a.ftl:6:2)\n",
         4,
         "0 of 4 messages and terms are there\n",
     ),
