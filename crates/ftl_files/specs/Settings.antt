@@ -3,12 +3,12 @@ use Rattle.std.specs.Prelude.{◌≡◌, ◌⊎◌, ◌<◌, ◌^◌, ℕ, List,
 use Rattle.std.specs.Prelude.{IfSome, String, codes, option_map, pos, string_bytes}
 use Rattle.std.specs.declared.alloc.Global.{Global}
 use Rattle.std.specs.Str.{bytes_eq}
-use Rattle.fluent_syntax_names.specs.Severities.{name_of}
-use Rattle.fluent_syntax_names.specs.declared.finding.Kind.{Kind}
 use Rattle.toml.specs.Data.{Data, Members, array, get_member, integer, member, no_members, string}
 use Rattle.toml.specs.View.{items_of}
 use Rattle.fluent_syntax_tree.specs.declared.edition.Edition.{Edition}
+use Rattle.ftl_files.specs.Kinds.{reported_name}
 use Rattle.ftl_files.specs.Options.{color_name, edition_number, output_name}
+use Rattle.ftl_files.specs.declared.kinds.ReportedKind.{ReportedKind}
 use Rattle.ftl_files.specs.declared.options.Color.{Color}
 use Rattle.ftl_files.specs.declared.options.Output.{Output}
 use Rattle.ftl_files.specs.declared.settings.Settings.{Settings}
@@ -32,8 +32,9 @@ abbrev pub IsListed : {A : Type 0} (named : A → Data) → Option Data → List
 IsListed named value things =
     ((value ≡ None) × (things ≡ [])) ⊎ (value ≡ Some (array (items_of (map named things))))
 
-abbrev pub IsIgnored : Option Data → List Kind → Type 0
-IsIgnored value kinds = IsListed (λ kind. string (name_of kind)) value kinds
+-- the kinds are those that have these names
+abbrev pub IsIgnored : Option Data → List ReportedKind → Type 0
+IsIgnored value kinds = IsListed (λ kind. string (reported_name kind)) value kinds
 
 -- what is excluded is named as it is spelled
 abbrev pub IsExcluded : Option Data → List (String Global) → Type 0

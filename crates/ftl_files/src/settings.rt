@@ -2,7 +2,6 @@
 ghost use Rattle.std.specs.Prelude.{◌≡◌, ◌≢◌, ◌++◌, ◌∷◌, ℕ, [], List, Option, Some, String, IfErr, IfOk, OnOk, false};
 ghost use Rattle.std.specs.Prelude.{option_map, string_bytes, true};
 ghost use Rattle.std.specs.declared.alloc.Global.{Global};
-ghost use Rattle.fluent_syntax_names.specs.declared.finding.Kind.{Kind};
 ghost use Rattle.ftl_files.specs.declared.settings_fault.SettingsFault.TheVariants as SettingsFault;
 ghost use Rattle.ftl_files.specs.declared.settings.Settings.{Settings};
 ghost use Rattle.toml.specs.Data.{Members, no_members, string};
@@ -13,12 +12,12 @@ ghost use Rattle.ftl_files.specs.Settings.{IsColor, IsEdition, IsExcluded, IsIgn
 ghost use Rattle.ftl_files.specs.Settings.{are_known, is_known};
 ghost use Rattle.ftl_files.specs.declared.options.Color.{Color};
 ghost use Rattle.ftl_files.specs.declared.options.Output.{Output};
-ghost use Rattle.fluent_syntax_names.specs.Severities.{name_of};
+ghost use Rattle.ftl_files.specs.Kinds.{reported_name};
+ghost use Rattle.ftl_files.specs.declared.kinds.ReportedKind.{ReportedKind};
 
-use crate::kinds::kind_of_name;
+use crate::kinds::{ReportedKind, reported_kind_of_name};
 use crate::options::{Color, Output, color_of_name, output_of_name};
 use crate::settings_fault::SettingsFault;
-use fluent_syntax_names::Kind;
 use fluent_syntax_tree::edition::Edition;
 use std::alloc::{AllocError, Global};
 use toml::{Table, Value};
@@ -31,8 +30,8 @@ const GREATEST_NESTING: i64 = 4_294_967_295;
 pub struct Settings {
     /// `reference`: the file or the folder of the reference language.
     pub reference: Option<String>,
-    /// `ignore`: the kinds of findings that are not told, in the order of the text.
-    pub ignored: Vec<Kind>,
+    /// `ignore`: the kinds that are not told, in the order of the text.
+    pub ignored: Vec<ReportedKind>,
     /// `exclude`: what is passed over where a folder is listed, in the order of the text.
     pub excluded: Vec<String>,
     /// `edition`: that of the grammar.
@@ -142,9 +141,9 @@ fn reference_of(alloc: Global, value: Option<&Value>) -> Result<Option<String>, 
     }
 }
 
-fn ignored_of(alloc: Global, value: Option<&Value>) -> Result<Vec<Kind>, SettingsFault>
+fn ignored_of(alloc: Global, value: Option<&Value>) -> Result<Vec<ReportedKind>, SettingsFault>
     ensures says { IfOk result (λ kinds. IsIgnored (option_map (λ v. view v.now) value.entry) kinds.items) }
-    ensures refused { IfErr result (λ fault. fault ≢ SettingsFault.Memory → (kinds : List Kind) →
+    ensures refused { IfErr result (λ fault. fault ≢ SettingsFault.Memory → (kinds : List ReportedKind) →
         IsIgnored (option_map (λ v. view v.now) value.entry) kinds → ⊥) }
 {
     let mut kinds = Vec::new(alloc);
@@ -160,7 +159,7 @@ fn ignored_of(alloc: Global, value: Option<&Value>) -> Result<Vec<Kind>, Setting
     Ok(kinds)
 }
 
-fn add_kind(kinds: &mut Vec<Kind>, kind: Kind) -> Result<(), AllocError>
+fn add_kind(kinds: &mut Vec<ReportedKind>, kind: ReportedKind) -> Result<(), AllocError>
     ensures { OnOk result (kinds.new.items ≡ kinds.old.items ++ kind ∷ []) }
 {
     kinds.push(kind)?;
@@ -168,14 +167,14 @@ fn add_kind(kinds: &mut Vec<Kind>, kind: Kind) -> Result<(), AllocError>
 }
 
 /// The kind that the value names.
-fn kind_of(value: &Value) -> Result<Kind, SettingsFault>
-    ensures says { IfOk result (λ kind. view value.now ≡ string (name_of kind)) }
-    ensures refused { IfErr result (λ fault. (kind : Kind) → view value.now ≢ string (name_of kind)) }
+fn kind_of(value: &Value) -> Result<ReportedKind, SettingsFault>
+    ensures says { IfOk result (λ kind. view value.now ≡ string (reported_name kind)) }
+    ensures refused { IfErr result (λ fault. (kind : ReportedKind) → view value.now ≢ string (reported_name kind)) }
 {
     let Value::String(name) = value else {
         return Err(SettingsFault::Ignore);
     };
-    kind_of_name(name.as_str()).ok_or(SettingsFault::Ignore)
+    reported_kind_of_name(name.as_str()).ok_or(SettingsFault::Ignore)
 }
 
 fn excluded_of(alloc: Global, value: Option<&Value>) -> Result<Vec<String>, SettingsFault>

@@ -45,7 +45,11 @@ impl fmt::Display for SettingsFault {
             SettingsFault::Toml(message) => write!(f, "{message}"),
             SettingsFault::Key(key) => write!(f, "no setting is called `{key}`"),
             SettingsFault::Reference => f.write_str("`reference` wants a path in quotes"),
-            SettingsFault::Ignore => f.write_str("`ignore` wants a list of names of kinds"),
+            SettingsFault::Ignore => {
+                f.write_str(
+                    "`ignore` wants a list of kinds, as `ftl help lint` and `ftl help compare` have them",
+                )
+            }
             SettingsFault::Exclude => {
                 f.write_str("`exclude` wants a list of names and paths in quotes")
             }

@@ -5,9 +5,10 @@ use crate::closed_files::ClosedFile;
 use crate::open_documents::OpenDocument;
 use crate::originals::Reference;
 use crate::settings::settings_in;
-use fluent_syntax_names::{DefinedNames, Kind};
+use fluent_syntax_names::DefinedNames;
 use ftl_files::{
-    Excluded, Folders, Settings, SourceFile, SourceFiles, is_below, path_of_uri, read_files,
+    Excluded, Folders, ReportedKind, Settings, SourceFile, SourceFiles, is_below, path_of_uri,
+    read_files,
 };
 use serde_json::Value;
 use std::alloc::{AllocError, Global};
@@ -18,8 +19,8 @@ use std::collections::BTreeMap;
 struct Folder {
     /// Its path, which doesn't end in a `/`.
     path: String,
-    /// The kinds of findings that are not told of its files.
-    ignored: Vec<Kind>,
+    /// The kinds that are not told of its files.
+    ignored: Vec<ReportedKind>,
     /// What is passed over below it.
     excluded: Excluded,
     /// Where the reference language has its files, if that is said.
@@ -166,9 +167,9 @@ impl Workspace {
         self.folders.iter().any(|folder| folder.covers(path))
     }
 
-    /// The kinds of findings that are not told of a file at the path: those that a folder leaves out below which it
+    /// The kinds that are not told of a file at the path: those that a folder leaves out below which it
     /// stands. `AllocError` where a growth was refused.
-    pub fn ignored_at(&self, alloc: Global, path: &str) -> Result<Vec<Kind>, AllocError> {
+    pub fn ignored_at(&self, alloc: Global, path: &str) -> Result<Vec<ReportedKind>, AllocError> {
         let mut ignored = Vec::new(alloc);
         for folder in &self.folders {
             if is_below(folder.path.as_str(), path) {

@@ -6,9 +6,10 @@ use crate::messages::{WRONG_ARGS, end_run, refuse_compare, refuse_run};
 use crate::project::{Project, project_of};
 use ftl::{RunFault, Watched};
 use ftl_args::{Compare, Options};
-use ftl_files::{Disk, Settings};
+use ftl_files::{Disk, ReportedKind, Settings};
 use ftl_project::{
-    Pair, Share, Streams, Tally, check_summary, compare_files, note_line, share_line,
+    CompareOptions, Pair, Share, Streams, Tally, check_summary, compare_files, note_line,
+    share_line,
 };
 use std::alloc::{AllocError, Global};
 use std::io;
@@ -22,10 +23,14 @@ pub(crate) fn compare_paths(rt: &HostRuntime, compare: &Compare<'_>) -> u8 {
     let Some((reference, others)) = sides(&project.settings, &compare.paths) else {
         return refuse_compare(rt);
     };
+    let Ok(ignored) = ignored_of(rt, compare, &project) else {
+        return refuse_run(rt, RunFault::Memory);
+    };
     let comparison = Comparison {
         rt,
         project: &project,
         options: compare.options.or(&project.settings),
+        ignored: &ignored,
     };
     let mut tally = Tally::new();
     match comparison.compare_all(reference, others, &mut tally) {
@@ -46,12 +51,25 @@ fn sides<'a>(settings: &'a Settings, paths: &'a [&'a str]) -> Option<(&'a str, &
     }
 }
 
+/// The kinds that are not told.
+fn ignored_of(
+    rt: &HostRuntime,
+    compare: &Compare<'_>,
+    project: &Project,
+) -> Result<Vec<ReportedKind>, AllocError> {
+    let mut ignored = project.settings.ignored.to_vec(rt.alloc())?;
+    ignored.extend_from_slice(&compare.ignored)?;
+    Ok(ignored)
+}
+
 /// How what paths name is compared.
 #[derive(Clone, Copy)]
 struct Comparison<'p> {
     rt: &'p HostRuntime,
     project: &'p Project,
     options: Options,
+    /// Kinds that are not told.
+    ignored: &'p [ReportedKind],
 }
 
 impl Comparison<'_> {
@@ -120,7 +138,10 @@ impl Comparison<'_> {
             &mut Disk::new(rt),
             pairs,
             self.options.reading(),
-            form_over_paths(rt, self.options),
+            CompareOptions {
+                form: form_over_paths(rt, self.options),
+                ignored: self.ignored,
+            },
             tally,
             &mut share,
             &mut streams,

@@ -7,7 +7,7 @@ use crate::project::{Project, project_of};
 use fluent_syntax_names::Kind;
 use ftl::{RunFault, Watched};
 use ftl_args::Lint;
-use ftl_files::Disk;
+use ftl_files::{Disk, ReportedKind};
 use ftl_project::{LintOptions, Streams, Tally, check_summary, lint_files};
 use std::alloc::AllocError;
 use std::io;
@@ -55,14 +55,18 @@ fn lint_all(
     )
 }
 
-/// The kinds that are not told.
+/// The kinds of findings that are not told.
 fn ignored_of(
     rt: &HostRuntime,
     lint: &Lint<'_>,
     project: &Project,
 ) -> Result<Vec<Kind>, AllocError> {
-    let mut ignored = project.settings.ignored.to_vec(rt.alloc())?;
-    ignored.extend_from_slice(&lint.ignored)?;
+    let mut ignored = Vec::new(rt.alloc());
+    for kind in project.settings.ignored.iter().chain(&lint.ignored) {
+        if let ReportedKind::Finding(kind) = kind {
+            ignored.push(*kind)?;
+        }
+    }
     Ok(ignored)
 }
 

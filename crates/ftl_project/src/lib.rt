@@ -32,7 +32,7 @@ mod text_with_errors;
 mod translation;
 
 pub use checking::check_files;
-pub use comparing::{Pair, Share, compare_files, share_line};
+pub use comparing::{CompareOptions, Pair, Share, compare_files, share_line};
 pub use converting::convert_files;
 pub use excerpt::push_excerpt;
 pub use fault::Fault;

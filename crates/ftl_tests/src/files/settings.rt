@@ -8,7 +8,7 @@ use std::fmt::Write;
 use std::test::Fail;
 
 /// The text, and what it says.
-const SAID: [(&str, &str); 13] = [
+const SAID: [(&str, &str); 14] = [
     ("", "none;"),
     ("# nothing\n", "none;"),
     ("reference = \"en\"\n", "en;"),
@@ -20,6 +20,10 @@ const SAID: [(&str, &str); 13] = [
     (
         "ignore = ['cyclic-reference']\nreference = ''\n",
         "; cyclic-reference",
+    ),
+    (
+        "ignore = ['obsolete', 'missing-file', 'missing-reference', 'defined-twice']",
+        "none; obsolete missing-file missing-reference defined-twice",
     ),
     ("exclude = []\n", "none;"),
     (
@@ -38,7 +42,8 @@ const SAID: [(&str, &str); 13] = [
 
 const REFERENCE: &str = "`reference` wants a path in quotes";
 
-const IGNORE: &str = "`ignore` wants a list of names of kinds";
+const IGNORE: &str =
+    "`ignore` wants a list of kinds, as `ftl help lint` and `ftl help compare` have them";
 
 const EXCLUDE: &str = "`exclude` wants a list of names and paths in quotes";
 

@@ -549,7 +549,22 @@ fn documents_beside_their_original(rt: HostRuntime) -> Result<(), Fail> {
         let told = last_diagnostics(alloc, &files, &[INITIALIZE, INITIALIZED, opened.as_str()])?;
         assert_told(alloc, shows, told.as_str(), differences)?;
     }
-    Ok(())
+    files.put(
+        "/w/ftl.toml",
+        b"reference = \"l10n/en\"\nignore = [\"missing-attribute\", \"missing-file\"]\n",
+    )?;
+    let opened = opening(
+        alloc,
+        "file:///w/l10n/de/menu.ftl",
+        "hello = Hallo { $usr }",
+    )?;
+    let told = last_diagnostics(alloc, &files, &[INITIALIZE, INITIALIZED, opened.as_str()])?;
+    assert_told(
+        alloc,
+        "a kind that is left out",
+        told.as_str(),
+        &[("unknown-variable", 17)],
+    )
 }
 
 #[test]

@@ -4,10 +4,10 @@ use fluent_syntax::parser::Edition;
 use fluent_syntax_names::Kind;
 use fluent_syntax_tests::alike::{assert_holds, assert_same, assert_same_text};
 use ftl::{Command, Watched};
-use ftl_files::Memory;
+use ftl_files::{Memory, ReportedKind};
 use ftl_project::{
-    Form, LintOptions, Pair, Reading, Share, Streams, Tally, check_files, compare_files,
-    convert_files, lint_files, name_files, print_files, write_files,
+    CompareOptions, Form, LintOptions, Pair, Reading, Share, Streams, Tally, check_files,
+    compare_files, convert_files, lint_files, name_files, print_files, write_files,
 };
 use std::alloc::Global;
 use std::test::Fail;
@@ -25,7 +25,7 @@ pub(crate) enum Task {
     Convert,
     Lint(Form, &'static [Kind]),
     /// The first is compared with the second, which may not be there.
-    Compare(Form),
+    Compare(Form, &'static [ReportedKind]),
 }
 
 /// Files, and what a run over them has written and counted.
@@ -91,8 +91,9 @@ impl Bench {
                 let lint_options = LintOptions { form, ignored };
                 lint_files(alloc, memory, files, one, lint_options, tally, to)
             }
-            Task::Compare(form) => {
-                compare_files(alloc, memory, &pairs, one, form, tally, share, to)
+            Task::Compare(form, ignored) => {
+                let options = CompareOptions { form, ignored };
+                compare_files(alloc, memory, &pairs, one, options, tally, share, to)
             }
         };
         self.out = out;

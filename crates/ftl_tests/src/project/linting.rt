@@ -1,8 +1,9 @@
 //! What is told of mistakes between names, and of what a translation lacks.
 
 use crate::project::bench::{Bench, File, Task};
-use fluent_syntax_names::Kind;
+use fluent_syntax_names::{Difference, Kind};
 use fluent_syntax_tests::alike::{assert_same, assert_same_text};
+use ftl_files::ReportedKind;
 use ftl_project::{Form, Tally, share_line};
 use std::test::Fail;
 
@@ -195,7 +196,7 @@ fn compares(rt: HostRuntime) -> Result<(), Fail> {
             ("de/a.ftl", other.as_bytes()),
         ];
         let mut bench = Bench::new(alloc, &files)?;
-        bench.run(alloc, Task::Compare(Form::Lines))?;
+        bench.run(alloc, Task::Compare(Form::Lines, &[]))?;
         assert_same(alloc, *shows, &bench.tally.errors, errors)?;
         assert_same_text(
             alloc,
@@ -204,6 +205,80 @@ fn compares(rt: HostRuntime) -> Result<(), Fail> {
             *there,
         )?;
         bench.assert_told(alloc, *shows, *told, "")?;
+    }
+    Ok(())
+}
+
+/// What is left out, the other file, what is told, errors, and how much is there.
+type IgnoredRow = (
+    &'static [ReportedKind],
+    &'static str,
+    &'static str,
+    usize,
+    &'static str,
+);
+
+const IGNORED: [IgnoredRow; 4] = [
+    (
+        &[
+            ReportedKind::Difference(Difference::MissingReference),
+            ReportedKind::Difference(Difference::MissingAttribute),
+            ReportedKind::Difference(Difference::Missing),
+            ReportedKind::Difference(Difference::Obsolete),
+        ],
+        OTHER,
+        "de/a.ftl: missing-value: the value of `name` is missing (en/a.ftl:3:1)\n\
+        de/a.ftl:1:18: unknown-variable\nde/a.ftl:4:6: obsolete-attribute\n",
+        2,
+        "3 of 4 messages and terms are there\n",
+    ),
+    (
+        &[
+            ReportedKind::Difference(Difference::MissingValue),
+            ReportedKind::Difference(Difference::UnknownVariable),
+            ReportedKind::Difference(Difference::ObsoleteAttribute),
+            ReportedKind::MissingFile,
+        ],
+        OTHER,
+        "de/a.ftl: missing-reference: `hello` does not refer to `-brand` (en/a.ftl:1:28)\n\
+        de/a.ftl: missing-attribute: the attribute `title` of `hello` is missing (en/a.ftl:2:6)\n\
+        de/a.ftl: missing: `about` is missing (en/a.ftl:5:1)\nde/a.ftl:5:1: obsolete\n",
+        2,
+        "3 of 4 messages and terms are there\n",
+    ),
+    (
+        &[ReportedKind::MissingFile],
+        "",
+        "",
+        0,
+        "0 of 4 messages and terms are there\n",
+    ),
+    (
+        &[
+            ReportedKind::Difference(Difference::Missing),
+            ReportedKind::Finding(Kind::UndefinedTerm),
+        ],
+        "",
+        "de/a.ftl: missing-file: there is no such file; the reference has en/a.ftl\n",
+        1,
+        "0 of 4 messages and terms are there\n",
+    ),
+];
+
+#[test]
+fn compares_without_kinds(rt: HostRuntime) -> Result<(), Fail> {
+    let alloc = rt.alloc();
+    for (ignored, other, told, errors, there) in &IGNORED {
+        let files = [
+            ("en/a.ftl", REFERENCE.as_bytes()),
+            ("de/a.ftl", other.as_bytes()),
+        ];
+        let mut bench = Bench::new(alloc, &files)?;
+        bench.run(alloc, Task::Compare(Form::Lines, *ignored))?;
+        assert_same(alloc, *told, &bench.tally.errors, errors)?;
+        let share = share_line(alloc, &bench.share)?;
+        assert_same_text(alloc, *told, share.as_str(), *there)?;
+        bench.assert_told(alloc, *told, *told, "")?;
     }
     Ok(())
 }
@@ -239,7 +314,7 @@ fn tells_what_has_no_place(rt: HostRuntime) -> Result<(), Fail> {
             ("de/a.ftl", b"".as_slice()),
         ];
         let mut bench = Bench::new(alloc, &files)?;
-        bench.run(alloc, Task::Compare(*form))?;
+        bench.run(alloc, Task::Compare(*form, &[]))?;
         bench.assert_told(alloc, *told, *told, "")?;
     }
     Ok(())

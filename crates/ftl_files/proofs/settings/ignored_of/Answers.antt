@@ -3,14 +3,14 @@ use Rattle.std.proofs.lemmas.List.{append-nil, drop_all, drop_more}
 use Rattle.std.proofs.lemmas.Result.{err_from_is_err_and}
 use Rattle.toml.specs.View.{items_of, view}
 use Rattle.toml.proofs.Views.{view-Array}
-use Rattle.fluent_syntax_names.specs.Severities.{name_of}
-use Rattle.fluent_syntax_names.specs.declared.finding.Kind.{Kind}
+use Rattle.ftl_files.specs.Kinds.{reported_name}
+use Rattle.ftl_files.specs.declared.kinds.ReportedKind.{ReportedKind}
 use Rattle.toml.specs.Data.{Data, array, string}
 use Rattle.ftl_files.proofs.ListedNames.{is_listed, not_listed}
 use Rattle.ftl_files.proofs.settings.ignored_of.Goals as goal
 
-abbrev named : Kind → Data
-named kind = string (name_of kind)
+abbrev named : ReportedKind → Data
+named kind = string (reported_name kind)
 
 pub returns-in_err-kind_of-clause-refused : goal.returns-in_err-kind_of-clause-refused
 returns-in_err-kind_of-clause-refused c =

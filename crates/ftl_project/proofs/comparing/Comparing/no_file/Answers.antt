@@ -5,7 +5,7 @@ use Rattle.ftl_project.proofs.comparing.Comparing.no_file.Goals as goal
 pub returns : goal.returns
 returns c =
     let words = codes "there is no such file; the reference has " ++ string_bytes c.args.pair.now.reference in
-    report_as c.diagnostic_text.result c.args.self.now.form c.as_str.result.now
+    report_as c.diagnostic_text.result c.args.self.now.options.form c.as_str.result.now
     (string_bytes c.args.pair.now.other) None
     (codes "missing-file") (codes "missing-file") (string_bytes c.in_ok-message.message) words c.as_str.ensures.value
     refl
