@@ -133,7 +133,9 @@ fn format<'a>(alloc: Global, name: &'a str) -> Result<Command<'a>, AllocError> {
   ftl format < menu.ftl      the normal form; entries with errors are left out",
     )?
     .arg(write(alloc)?)?
-    .arg(names_only(alloc))
+    .arg(names_only(alloc))?
+    .arg(quiet(alloc))?
+    .arg(stdin_name(alloc))
 }
 
 fn write<'a>(alloc: Global) -> Result<Arg<'a>, AllocError> {
@@ -149,6 +151,14 @@ fn names_only<'a>(alloc: Global) -> Arg<'a> {
     Arg::new(alloc, "check")
         .long("check")
         .help("Names the files that --write would change, with status 1")
+        .action(ArgAction::SetTrue)
+}
+
+fn quiet<'a>(alloc: Global) -> Arg<'a> {
+    Arg::new(alloc, "quiet")
+        .short('q')
+        .long("quiet")
+        .help("Leaves out the last line, of how many files there are; errors are told all the same")
         .action(ArgAction::SetTrue)
 }
 

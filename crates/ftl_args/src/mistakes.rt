@@ -54,13 +54,21 @@ fn push_reason(line: &mut String, told: &str) -> Result<(), AllocError> {
     Ok(())
 }
 
-/// Adds the text, where a subcommand is called a word.
+/// Adds the text, where a subcommand is called a word and control characters are escaped.
 fn push_as_word(line: &mut String, text: &str) -> Result<(), AllocError> {
     for (index, part) in text.split("subcommand").enumerate() {
         if index != 0 {
             line.push_str("word")?;
         }
-        line.push_str(part)?;
+        for c in part.chars() {
+            if c < ' ' || c == '\u{7F}' {
+                for escaped in c.escape_default() {
+                    line.push(escaped)?;
+                }
+            } else {
+                line.push(c)?;
+            }
+        }
     }
     Ok(())
 }
@@ -78,9 +86,10 @@ fn push_abbreviated(line: &mut String, alloc: Global, short: &str) -> Result<(),
 /// Whether it has two or more of the word's letters, in their order, and the first one first.
 fn abbreviates(short: &str, word: &str) -> bool {
     let mut rest = word.chars();
-    short.len() > 1
-        && short.chars().next() == word.chars().next()
-        && short
-            .chars()
-            .all(|letter| rest.any(|other| other == letter))
+    for letter in short.chars() {
+        if !rest.any(|other| other == letter) {
+            return false;
+        }
+    }
+    short.len() > 1 && short.chars().next() == word.chars().next()
 }

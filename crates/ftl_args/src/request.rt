@@ -28,6 +28,8 @@ pub struct Work<'a> {
     pub task: Task,
     /// How a text is read, and how its errors are told.
     pub options: Options,
+    /// Whether no line says what became of all files.
+    pub is_quiet: bool,
     /// What standard input is called.
     pub stdin_name: &'a str,
     /// What is passed over in folders.

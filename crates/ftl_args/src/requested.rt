@@ -31,6 +31,7 @@ pub fn request_of<'a>(alloc: Global, words: &'a [String]) -> Result<Request<'a>,
     Ok(Request::Answer(Work {
         task: task_of(word, options),
         options: options_of(word, options),
+        is_quiet: options.get_flag("quiet"),
         stdin_name: options.get_str("stdin-name").unwrap_or("<stdin>"),
         excluded: texts_of(alloc, options, "exclude")?,
         paths: texts_of(alloc, options, "paths")?,

@@ -17,8 +17,9 @@ impl EntryNames {
     pub(crate) fn new(alloc: Global, name_index: &NameIndex<'_>) -> Result<Self, AllocError> {
         let mut names = Vec::new(alloc);
         for mention in &name_index.mentions {
-            if let Mention::Message { name, .. } | Mention::Term { name } = mention {
-                names.push(*name)?;
+            match mention {
+                Mention::Message { name, .. } | Mention::Term { name } => names.push(*name)?,
+                _ => (),
             }
         }
         Ok(EntryNames { names })

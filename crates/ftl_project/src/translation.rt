@@ -64,14 +64,30 @@ fn first_locations<'t>(
     let mut locations = BTreeMap::new(alloc);
     let mut lines = Lines::new(text);
     for mention in &name_index.mentions {
-        if let Mention::Message { name, .. } | Mention::Term { name } = mention {
-            let shown = name_with_hyphen(text, *name);
-            if !locations.contains_key(shown) {
-                drop(locations.insert(shown, location_of(&mut lines, text, *name))?);
-            }
-        }
+        note_definition(&mut locations, text, &mut lines, mention)?;
     }
     Ok(locations)
+}
+
+/// Notes the mention with its place, if it defines a message or a term that was not noted before.
+fn note_definition<'l, 't>(
+    locations: &mut BTreeMap<&'t str, SourceLocation>,
+    text: &'t str,
+    lines: &mut Lines<'l>,
+    mention: &Mention<Span>,
+) -> Result<(), AllocError>
+    requires { lines.old ≡ text.now }
+    ensures lines { lines.new ≡ lines.old }
+{
+    let name = match mention {
+        Mention::Message { name, .. } | Mention::Term { name } => *name,
+        _ => return Ok(()),
+    };
+    let shown = name_with_hyphen(text, name);
+    if !locations.contains_key(shown) {
+        drop(locations.insert(shown, location_of(lines, text, name))?);
+    }
+    Ok(())
 }
 
 /// The names with which junk begins, each with the place of the first.

@@ -5,7 +5,7 @@ use fluent_syntax::parser::Edition;
 use fluent_syntax_tests::alike::{assert_holds, assert_same};
 use ftl::Watched;
 use ftl_files::{Disk, Excluded, list};
-use ftl_project::{Reading, Streams, Tally, write_files};
+use ftl_project::{Reading, RewriteCounts, Streams, Tally, write_files};
 use std::alloc::Global;
 use std::test::Fail;
 
@@ -50,6 +50,7 @@ fn format(alloc: Global, state: &State) -> Result<Tally, Fail> {
         files,
         reading,
         &mut tally,
+        &mut RewriteCounts::new(),
         &mut streams,
     ) {
         Ok(()) => Ok(tally),
