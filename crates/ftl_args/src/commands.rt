@@ -134,6 +134,7 @@ fn format<'a>(alloc: Global, name: &'a str) -> Result<Command<'a>, AllocError> {
     )?
     .arg(write(alloc)?)?
     .arg(names_only(alloc))?
+    .arg(diff(alloc)?)?
     .arg(quiet(alloc))?
     .arg(stdin_name(alloc))
 }
@@ -152,6 +153,15 @@ fn names_only<'a>(alloc: Global) -> Arg<'a> {
         .long("check")
         .help("Names the files that --write would change, with status 1")
         .action(ArgAction::SetTrue)
+}
+
+fn diff<'a>(alloc: Global) -> Result<Arg<'a>, AllocError> {
+    Arg::new(alloc, "diff")
+        .long("diff")
+        .help("Shows what --write would change, with status 1")
+        .action(ArgAction::SetTrue)
+        .conflicts_with("write")?
+        .conflicts_with("check")
 }
 
 fn quiet<'a>(alloc: Global) -> Arg<'a> {

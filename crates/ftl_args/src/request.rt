@@ -62,6 +62,8 @@ pub enum Change {
     Write,
     /// The file is named where it would change.
     Name,
+    /// What would change is shown.
+    Show,
 }
 
 impl Task {

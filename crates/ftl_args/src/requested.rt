@@ -62,6 +62,8 @@ fn change_of(options: &ArgMatches<'_>) -> Change {
         Change::Write
     } else if options.get_flag("check") {
         Change::Name
+    } else if options.get_flag("diff") {
+        Change::Show
     } else {
         Change::Print
     }

@@ -49,7 +49,8 @@ fn run_args(rt: &HostRuntime, words: &[String]) -> u8 {
 fn answer(rt: &HostRuntime, mut work: Work<'_>) -> u8 {
     let on_input = work.paths.is_empty();
     match work.task {
-        Task::Format(Change::Write | Change::Name) if on_input => return refuse_writing(rt),
+        Task::Format(Change::Write | Change::Name | Change::Show) if on_input =>
+            return refuse_writing(rt),
         Task::Format(Change::Write) if work.paths.contains(&"-") => return refuse_writing(rt),
         _ if on_input => return answer_alone(rt, &work),
         _ => (),

@@ -84,7 +84,7 @@ pub(crate) fn refuse_serving<R: Eprint + AllocGlobal>(rt: &R) -> u8 {
 pub(crate) fn refuse_writing<R: Eprint + AllocGlobal>(rt: &R) -> u8 {
     refuse_words(
         rt,
-        "ftl: --write and --check are for files and folders",
+        "ftl: --write, --check and --diff are for files and folders",
         "format",
     )
 }

@@ -9,8 +9,8 @@ use ftl::{RunFault, Watched};
 use ftl_args::{Change, Task, Work};
 use ftl_files::{Disk, Memory, Store};
 use ftl_project::{
-    RewriteCounts, Streams, Tally, check_files, check_summary, convert_files, format_summary,
-    name_files, print_files, write_files, write_summary,
+    RewriteCounts, Streams, Tally, check_files, check_summary, convert_files, diff_files,
+    format_summary, name_files, print_files, write_files, write_summary,
 };
 use std::alloc::AllocError;
 use std::io;
@@ -38,7 +38,11 @@ impl Met {
             _ if work.is_quiet => tally.status(),
             Task::Check => end_run(rt, tally, check_summary(alloc, tally)),
             Task::Format(Change::Write) => end_run(rt, tally, write_summary(alloc, tally, counts)),
-            Task::Format(Change::Name) => end_run(rt, tally, format_summary(alloc, tally)),
+            Task::Format(Change::Name | Change::Show) => end_run(
+                rt,
+                tally,
+                format_summary(alloc, tally),
+            ),
             _ => tally.status(),
         }
     }
@@ -134,6 +138,9 @@ fn answer_files<S: Store>(
         }
         (Task::Format(Change::Name), _) => {
             name_files(alloc, store, files, reading, tally, &mut streams)
+        }
+        (Task::Format(Change::Show), _) => {
+            diff_files(alloc, store, files, reading, tally, &mut streams)
         }
         (_, Some(command)) => {
             let nesting = reading.nesting;

@@ -136,7 +136,7 @@ impl Answering for Naming {
 }
 
 /// How many errors are counted of the text.
-fn errors_in(replacement: &Replacement) -> usize
+pub(crate) fn errors_in(replacement: &Replacement) -> usize
     ensures { result ≡ errors_in replacement.now }
 {
     match replacement {
@@ -153,14 +153,18 @@ fn is_left(replacement: &Replacement) -> bool
 }
 
 /// Whether the text is not in its normal form.
-fn is_other(replacement: &Replacement) -> bool
+pub(crate) fn is_other(replacement: &Replacement) -> bool
     ensures { result ≡ is_other replacement.now }
 {
     !matches!(replacement, Replacement::Same)
 }
 
 /// What is told of a file that is left as it is: its errors, or by which entry its normal form would not read back.
-fn left_note(alloc: Global, path: &str, replacement: &Replacement) -> Result<String, AllocError> {
+pub(crate) fn left_note(
+    alloc: Global,
+    path: &str,
+    replacement: &Replacement,
+) -> Result<String, AllocError> {
     match replacement {
         Replacement::Errors(refused) => report(alloc, path, refused, Form::Full),
         Replacement::Lossy(entry) => lossy_entry_line(alloc, path, *entry, "left as it is"),
