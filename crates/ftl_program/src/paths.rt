@@ -16,6 +16,7 @@ use std::alloc::AllocError;
 use std::io;
 
 /// What a run met.
+#[derive(Drop)]
 struct Met {
     tally: Tally,
     counts: RewriteCounts,

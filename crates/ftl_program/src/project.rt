@@ -1,9 +1,9 @@
 //! What the project says, in whose folder the program runs, or in one below.
 
-use crate::messages::{refuse, refuse_run};
+use crate::messages::refuse_run;
 use ftl::RunFault;
 use ftl_files::{Disk, Excluded, Settings, SettingsFault, Store, absolute_path, settings_of};
-use ftl_project::Fault;
+use ftl_project::{Fault, note_line};
 use std::alloc::AllocError;
 use std::env;
 use std::fmt::Display;
@@ -140,8 +140,11 @@ fn refuse_file(rt: &HostRuntime, path: &str, fault: &Fault) -> Refusal {
 }
 
 fn refuse_settings<D: Display>(rt: &HostRuntime, path: &str, fault: &D, status: u8) -> Refusal {
-    match format!(in rt.alloc(); "ftl: {path}: {fault}") {
-        Ok(line) => Refusal::Told(refuse(rt, line.as_str(), status)),
+    match note_line(rt.alloc(), path, fault) {
+        Ok(line) => {
+            let _ = rt.eprint(line.as_str());
+            Refusal::Told(status)
+        }
         Err(AllocError) => Refusal::Memory,
     }
 }

@@ -166,8 +166,9 @@ impl Comparing<'_> {
         let reference = name_index(self.alloc, reference, self.reading)?;
         let wanted = entry_count(&reference);
         let is_told = is_told(self.options.ignored, "missing-file");
+        let report_text = self.no_file(pair, is_told)?;
         Ok(PairComparison {
-            report_text: self.no_file(pair, is_told)?,
+            report_text,
             errors: usize::from(is_told),
             share: Share {
                 wanted,

@@ -76,7 +76,9 @@ const FOUND: [Found; 5] = [
         &KINDS,
         &DEEP,
         "{\"path\":\"/d/a.ftl\",\"line\":2,\"column\":1,\"start\":46,\"end\":51,\"kind\":\"defined-twice\",\
-        \"severity\":\"error\",\"message\":\"`hello` is defined twice, first on line 1\"}\n",
+        \"severity\":\"error\",\"name\":\"hello\",\
+        \"other\":{\"path\":\"/d/a.ftl\",\"line\":1,\"column\":1,\"start\":0,\"end\":5},\
+        \"message\":\"`hello` is defined twice, first on line 1\"}\n",
         LEFT,
         6,
     ),

@@ -4,7 +4,7 @@ use Rattle.toml.specs.View.{view}
 use Rattle.std.specs.Prelude.{string_bytes}
 use Rattle.ftl_files.proofs.settings.excluded_of.Given as goal
 
--- the values are the names of the kinds so far, and those that are left
+-- the values are the texts so far, and those that are left
 abbrev pub invariant-loop-text : goal.invariant-loop-text
 invariant-loop-text l = record {
   named :
