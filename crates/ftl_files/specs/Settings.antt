@@ -17,7 +17,8 @@ use Rattle.ftl_files.specs.declared.settings.Settings.{Settings}
 abbrev pub is_known : List ℕ → Bool
 is_known key =
     bytes_eq key (codes "reference") || bytes_eq key (codes "ignore") || bytes_eq key (codes "exclude")
-    || bytes_eq key (codes "edition") || bytes_eq key (codes "output") || bytes_eq key (codes "nesting") || bytes_eq key (codes "color")
+    || bytes_eq key (codes "edition") || bytes_eq key (codes "output") || bytes_eq key (codes "nesting")
+    || bytes_eq key (codes "color")
 
 abbrev pub are_known : Members → Bool
 are_known no_members = true

@@ -8,8 +8,8 @@ ghost use Rattle.toml.specs.Data.{Members, no_members, string};
 ghost use Rattle.toml.specs.Parse.{parse_document};
 ghost use Rattle.toml.specs.View.{table_view, view};
 ghost use Rattle.fluent_syntax_tree.specs.declared.edition.Edition.{Edition};
-ghost use Rattle.ftl_files.specs.Settings.{IsColor, IsEdition, IsExcluded, IsIgnored, IsNesting, IsOutput, IsReference, Says};
-ghost use Rattle.ftl_files.specs.Settings.{are_known, is_known};
+ghost use Rattle.ftl_files.specs.Settings.{IsColor, IsEdition, IsExcluded, IsIgnored, IsNesting, IsOutput};
+ghost use Rattle.ftl_files.specs.Settings.{IsReference, Says, are_known, is_known};
 ghost use Rattle.ftl_files.specs.declared.options.Color.{Color};
 ghost use Rattle.ftl_files.specs.declared.options.Output.{Output};
 ghost use Rattle.ftl_files.specs.Kinds.{reported_name};
@@ -64,8 +64,8 @@ impl Settings {
 /// What the text of an `ftl.toml` says.
 ///
 /// `Memory`: a growth was refused. `Toml`: the text is no TOML document. `Key`: it has a key that stands for nothing.
-/// `Reference`, `Ignore`, `Exclude`, `Edition`, `Output`, `Nesting`, `Color`: the value of that key is of another kind, or is none
-/// of those that the key may have.
+/// `Reference`, `Ignore`, `Exclude`, `Edition`, `Output`, `Nesting`, `Color`: the value of that key is of another kind,
+/// or is none of those that the key may have.
 pub fn settings_of(alloc: Global, text: &str) -> Result<Settings, SettingsFault>
     ensures says { IfOk result (λ settings. (document : Members)
         × (parse_document text.now ≡ Some document) × Says document settings) }

@@ -26,8 +26,8 @@ pub(crate) struct Project {
 }
 
 /// The settings of the file `ftl.toml` of this folder, or of the nearest one above, where there is one; else no
-/// settings. `excluded` is what the words exclude. Where the file can't be gone by, that is told, and the exit status is
-/// given.
+/// settings. `excluded` is what the words exclude. Where the file can't be gone by, that is told, and the exit status
+/// is given.
 pub(crate) fn project_of(rt: &HostRuntime, excluded: &[&str]) -> Result<Project, u8> {
     match project_of_file(rt, excluded) {
         Ok(project) => Ok(project),

@@ -27,7 +27,8 @@ pub of_text : (at : List ℕ → Option (List ℕ)) (path own text said : List �
 of_text at path own text said same_path same_text read =
     subst (λ p. IsRead (at p) text) same_path (subst (λ t. IsRead (at path) t) (sym same_text) read)
 
-module _ (CallFails : Failing) (reading : Reading) (options : CompareOptions) (at : List ℕ → Option (List ℕ)) (pair : Pair) where
+module _ (CallFails : Failing) (reading : Reading) (options : CompareOptions) (at : List ℕ → Option (List ℕ))
+    (pair : Pair) where
   pub alone : (text : List ℕ) (errors : ℕ) (share : Share) (report_text : List ℕ) → pair.is_there ≡ false →
       IsRead (at (string_bytes pair.reference)) text →
       ((name_index : NameIndex) × IsNameIndex reading.edition text name_index

@@ -86,8 +86,8 @@ pub fn compare_files<S: Store, O: Write, E: Write>(
     streams: &mut Streams<'_, O, E>,
 ) -> Result<(), RunFault>
     ensures stand { AllUnchanged (S.bytes_at store.old) (S.bytes_at store.new) }
-    ensures each { OnOk result (ComparesEach S.fails reading options.entry (S.bytes_at store.old) pairs.now tally.old tally.new
-        share.old share.new (O.contents (inner_of streams.old.out.now)) (O.contents (inner_of streams.new.out.now))) }
+    ensures each { OnOk result (ComparesEach S.fails reading options.entry (S.bytes_at store.old) pairs.now tally.old
+        tally.new share.old share.new (O.contents (inner_of streams.old.out.now)) (O.contents (inner_of streams.new.out.now))) }
     ensures input { result ≢ Err RunFault.Input }
     ensures output { result ≡ Err RunFault.Output → (has_failed streams.new.out.now ≡ true)
         ⊎ (has_failed streams.new.err.now ≡ true) }
@@ -122,8 +122,8 @@ impl Comparing<'_> {
         streams: &mut Streams<'_, O, E>,
     ) -> Result<(), RunFault>
         ensures stand { AllUnchanged (S.bytes_at store.old) (S.bytes_at store.new) }
-        ensures counted { OnOk result (Compares S.fails self.now.reading self.now.options (S.bytes_at store.old) pair.now
-            tally.old tally.new share.old share.new (O.contents (inner_of streams.old.out.now))
+        ensures counted { OnOk result (Compares S.fails self.now.reading self.now.options (S.bytes_at store.old)
+            pair.now tally.old tally.new share.old share.new (O.contents (inner_of streams.old.out.now))
             (O.contents (inner_of streams.new.out.now))) }
         ensures input { result ≢ Err RunFault.Input }
         ensures output { result ≡ Err RunFault.Output → (has_failed streams.new.out.now ≡ true)
@@ -212,8 +212,8 @@ impl Comparing<'_> {
         ensures compared { IfOk result (λ compared. (reference_name_index : NameIndex)
             × IsNameIndex self.now.reading.edition reference.now reference_name_index × (other_name_index : NameIndex)
             × IsNameIndex self.now.reading.edition other.now other_name_index
-            × IsPairCompared self.now.options pair.now reference_name_index other_name_index compared.errors compared.share
-            (string_bytes compared.report_text)) }
+            × IsPairCompared self.now.options pair.now reference_name_index other_name_index compared.errors
+            compared.share (string_bytes compared.report_text)) }
         ensures fault { IfErr result (λ fault. IsUnparsed (IsTooDeep self.now.reading reference.now) fault
             ⊎ IsUnparsed (IsTooDeep self.now.reading other.now) fault) }
     {
