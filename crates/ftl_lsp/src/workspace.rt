@@ -5,8 +5,11 @@ use crate::closed_files::ClosedFile;
 use crate::open_documents::OpenDocument;
 use crate::originals::Reference;
 use crate::settings::settings_in;
-use fluent_syntax_names::{DefinedNames, Kind};
-use ftl_files::{Folders, Settings, SourceFile, SourceFiles, is_below, path_of_uri, read_files};
+use fluent_syntax_names::DefinedNames;
+use ftl_files::{
+    Excluded, Folders, ReportedKind, Settings, SourceFile, SourceFiles, is_below, path_of_uri,
+    read_files,
+};
 use serde_json::Value;
 use std::alloc::{AllocError, Global};
 use std::collections::BTreeMap;
@@ -16,8 +19,10 @@ use std::collections::BTreeMap;
 struct Folder {
     /// Its path, which doesn't end in a `/`.
     path: String,
-    /// The kinds of findings that are not told of its files.
-    ignored: Vec<Kind>,
+    /// The kinds that are not told of its files.
+    ignored: Vec<ReportedKind>,
+    /// What is passed over below it.
+    excluded: Excluded,
     /// Where the reference language has its files, if that is said.
     reference: Option<Reference>,
 }
@@ -28,8 +33,14 @@ impl Folder {
         Ok(Folder {
             path: String::from_str(alloc, path)?,
             ignored: Vec::new(alloc),
+            excluded: Excluded::new(alloc),
             reference: None,
         })
+    }
+
+    /// Whether files are looked for where the path stands.
+    fn covers(&self, path: &str) -> bool {
+        is_below(self.path.as_str(), path) && !self.excluded.hides(self.path.as_str(), path)
     }
 
     /// Reads anew what it says of itself.
@@ -41,9 +52,11 @@ impl Folder {
                 Settings {
                     reference,
                     ignored,
+                    excluded,
                     ..
                 },
             ) => {
+                self.excluded = excluded_in(alloc, self.path.as_str(), &excluded)?;
                 self.reference = match reference {
                     Some(name) => Reference::in_folder(alloc, self.path.as_str(), name.as_str())?,
                     None => None,
@@ -52,6 +65,7 @@ impl Folder {
             }
             None => {
                 self.reference = None;
+                self.excluded = Excluded::new(alloc);
                 self.ignored = Vec::new(alloc);
             }
         }
@@ -125,7 +139,7 @@ impl Workspace {
             let SourceFiles {
                 files: sources,
                 is_whole,
-            } = read_files(alloc, files, folder.path.as_str())?;
+            } = read_files(alloc, files, folder.path.as_str(), &folder.excluded)?;
             all = all && is_whole;
             for file in sources {
                 let SourceFile { path, text } = file;
@@ -150,14 +164,12 @@ impl Workspace {
 
     /// Whether files are looked for where the path stands, below one of the folders.
     pub fn covers(&self, path: &str) -> bool {
-        self.folders
-            .iter()
-            .any(|folder| is_covered(folder.path.as_str(), path))
+        self.folders.iter().any(|folder| folder.covers(path))
     }
 
-    /// The kinds of findings that are not told of a file at the path: those that a folder leaves out below which it
+    /// The kinds that are not told of a file at the path: those that a folder leaves out below which it
     /// stands. `AllocError` where a growth was refused.
-    pub fn ignored_at(&self, alloc: Global, path: &str) -> Result<Vec<Kind>, AllocError> {
+    pub fn ignored_at(&self, alloc: Global, path: &str) -> Result<Vec<ReportedKind>, AllocError> {
         let mut ignored = Vec::new(alloc);
         for folder in &self.folders {
             if is_below(folder.path.as_str(), path) {
@@ -224,12 +236,13 @@ impl Workspace {
     }
 }
 
-/// Whether files are looked for where the path stands, if they are looked for below the folder.
-fn is_covered(folder: &str, path: &str) -> bool {
-    match path.strip_prefix(folder) {
-        Some(behind) => is_below(folder, path) && !behind.contains("/."),
-        None => false,
+/// What the folder says is passed over.
+fn excluded_in(alloc: Global, folder: &str, texts: &[String]) -> Result<Excluded, AllocError> {
+    let mut excluded = Excluded::new(alloc);
+    for text in texts {
+        excluded.add(alloc, folder, text.as_str())?;
     }
+    Ok(excluded)
 }
 
 /// Whether one of the documents is that of the path.
