@@ -1,5 +1,5 @@
 //! What the program may be asked to do.
-ghost use Rattle.std.specs.Prelude.{◌≡◌, ◌≢◌, IfSome, IfNone};
+ghost use Rattle.std.specs.Prelude.{◌≡◌, ◌≢◌, IfSome, IfNone, codes};
 ghost use Rattle.ftl.specs.Command.{word_of};
 
 /// What to write for a text.
@@ -35,4 +35,11 @@ impl Command {
             _ => None,
         }
     }
+}
+
+/// How the program is called.
+pub fn usage() -> &'static str
+    ensures { result.now ≡ codes "usage: ftl check|format|runtime|json|check-two|format-two" }
+{
+    "usage: ftl check|format|runtime|json|check-two|format-two"
 }

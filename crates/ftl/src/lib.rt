@@ -14,7 +14,7 @@ mod watched;
 mod writers;
 
 pub use answers::{Formatted, answer, answer_within, formatted_within};
-pub use command::Command;
+pub use command::{Command, usage};
 pub use errors::errors_within;
 pub use from_json::{JsonFault, text_of_json, tree_of_json};
 pub use lossless::first_lossy_entry;
