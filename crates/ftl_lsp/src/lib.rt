@@ -41,6 +41,7 @@ mod semantic_tokens;
 mod server;
 mod sessions;
 mod settings;
+mod symbol_forms;
 mod symbols;
 mod token;
 mod token_patterns;
