@@ -1,5 +1,5 @@
 -- What a session does with its messages: what it knows then, and what it sends.
-use Rattle.std.specs.Prelude.{◌≡◌, ◌≢◌, ◌&&◌, ℕ, List, Bool, true, false, Option, Some, None}
+use Rattle.std.specs.Prelude.{◌≡◌, ◌≢◌, ◌&&◌, ℕ, List, ⊤, Bool, true, false, Option, Some, None}
 use Rattle.std.specs.Prelude.{IfSome, IfNone, is_some, option_and_then}
 use Rattle.std.specs.Str.{IsUtf8}
 use Rattle.serde_json.specs.Data.{Data, Items, null}
@@ -20,6 +20,7 @@ use Rattle.ftl_lsp.specs.declared.methods.Method.TheVariants.{DidOpen, DidChange
 use Rattle.ftl_lsp.specs.declared.methods.Method.TheVariants.{Initialized}
 use Rattle.ftl_lsp.specs.declared.phases.ErrorCode.{ErrorCode}
 use Rattle.ftl_lsp.specs.declared.phases.ErrorCode.TheVariants.{ParseError, InvalidRequest, InvalidParams}
+use Rattle.ftl_lsp.specs.declared.phases.ErrorCode.TheVariants as errors
 use Rattle.ftl_lsp.specs.declared.phases.Phase.{Phase}
 use Rattle.ftl_lsp.specs.declared.phases.Phase.TheVariants.{Running}
 use Rattle.ftl_lsp.specs.declared.server.Server.{Server}
@@ -51,27 +52,34 @@ fits texts d (Some Completion) = names_position texts d
 fits texts d (Some Rename) = renames_position texts d
 fits texts d _ = true
 
--- A result is found where the parameters fit; a renaming may have none then too, by what stands at the place.
+-- A result is found where the parameters fit. Of a renaming, which is answered elsewhere, nothing is said.
 abbrev pub HasResponse : Option Method → (fitting found : Bool) → Type 0
-HasResponse (Some Rename) fitting found = found ≡ true → fitting ≡ true
+HasResponse (Some Rename) fitting found = ⊤
 HasResponse _ fitting found = found ≡ fitting
 
+-- Why a request that its phase allows is refused: its parameters don't fit; or, of a renaming whose parameters do, what
+-- stands at the place can't have the new name.
+abbrev pub RefusesFor : Option Method → (fitting : Bool) → ErrorCode → Type 0
+RefusesFor method false code = code ≡ InvalidParams
+RefusesFor (Some Rename) true (errors.Rename fault) = ⊤
+RefusesFor method true code = ⊥
+
 -- What is found for a request of the method, where its phase has none against it.
-pub record Finds (old : Session) (d : Data) (method : Option Method) (result : Option Data) :
+pub record Finds (old : Session) (d : Data) (method : Option Method) (result : Data) :
     Type 0 where
   pub allowed : refusal_of old.phase method ≡ None
-  pub fitting : HasResponse method (fits old.texts d method) (is_some result)
+  pub fitting : fits old.texts d method ≡ true
   pub is_result : IsResult old.texts d method result
 
--- What a request of the method, with that identifier, does: it is refused, by its phase or for its parameters, and
--- nothing changes; or it is answered by what is found.
+-- What a request of the method, with that identifier, does: it is refused, by its phase, for its parameters or for what
+-- it would rename, and nothing changes; or it is answered by what is found.
 pub data TakesRequest (old : Session) (id d : Data) (method : Option Method) :
     Reply → (new : Session) → Type 0 where
   is_out_of_phase : (code : ErrorCode) (new : Session) → refusal_of old.phase method ≡ Some code → new ≡ old →
       TakesRequest old id d method (refused id code) new
-  finds_none : (new : Session) → Finds old d method None → new ≡ old →
-      TakesRequest old id d method (refused id InvalidParams) new
-  finds : (result : Data) (new : Session) → Finds old d method (Some result) →
+  finds_none : (code : ErrorCode) (new : Session) → refusal_of old.phase method ≡ None →
+      RefusesFor method (fits old.texts d method) code → new ≡ old → TakesRequest old id d method (refused id code) new
+  finds : (result : Data) (new : Session) → Finds old d method result →
       new ≡ record { phase = after_request old.phase method; texts = old.texts } →
       TakesRequest old id d method (answered id result) new
 

@@ -59,7 +59,7 @@ pub use limits::{BODY_LIMIT, HEADER_LIMIT, NESTING_LIMIT};
 pub use methods::Method;
 pub use occurrences::{Name, NameKind, Occurrence};
 pub use offsets::byte_of;
-pub use phases::{ErrorCode, Phase};
+pub use phases::{ErrorCode, Phase, RenameFault};
 pub use positions::{Position, Positions};
 pub use semantic_tokens::{SemanticToken, encoded_tokens, semantic_tokens_of};
 pub use server::Server;

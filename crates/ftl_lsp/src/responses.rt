@@ -1,10 +1,10 @@
 //! What a request asks for.
-ghost use Rattle.std.specs.Prelude.{◌≡◌, is_some, option_and_then, option_map, IfOk, OnOk};
+ghost use Rattle.std.specs.Prelude.{◌≡◌, is_some, option_and_then, option_map, true, IfErr, IfOk, IfSome, OnOk};
 ghost use Rattle.serde_json.specs.View.{view};
 ghost use Rattle.ftl_lsp.specs.Asking.{IsFormattingOf, IsResult, names_open};
 ghost use Rattle.ftl_lsp.specs.OpenDocuments.{open_text, texts};
 ghost use Rattle.ftl_lsp.specs.Params.{uri_in};
-ghost use Rattle.ftl_lsp.specs.Sessions.{HasResponse, fits, session_of};
+ghost use Rattle.ftl_lsp.specs.Sessions.{HasResponse, RefusesFor, fits, session_of};
 
 use crate::formatting::formatting_of;
 use crate::index::{IndexedDocument, indexed_documents};
@@ -12,6 +12,7 @@ use crate::methods::Method;
 use crate::occurrences::bytes_of;
 use crate::open_documents::OpenDocument;
 use crate::params::{takes_related, uri_of};
+use crate::phases::ErrorCode;
 use crate::positions::Positions;
 use crate::replies::{capabilities, token_list};
 use crate::semantic_tokens::{encoded_tokens, semantic_tokens_of};
@@ -24,9 +25,29 @@ use serde_json::Value;
 use std::alloc::AllocError;
 
 impl Server {
-    /// What a request of the method asks for. None where its parameters name no open document, or not what the method
-    /// wants beside it.
+    /// What a request of the method asks for, or why it is refused.
     pub(crate) fn response(
+        &mut self,
+        method: Option<Method>,
+        message: &Value,
+    ) -> Result<Result<Value, ErrorCode>, AllocError>
+        ensures same { OnOk result (session_of self.new ≡ session_of self.old) }
+        ensures fitting { let fitting = fits (texts self.old.documents) (view message.now) method in
+            IfOk result (λ response. IfOk response (λ value. fitting ≡ true)) }
+        ensures result { IfOk result (λ response. IfOk response (λ value.
+            IsResult (texts self.old.documents) (view message.now) method (view value))) }
+        ensures refused { let fitting = fits (texts self.old.documents) (view message.now) method in
+            IfOk result (λ response. IfErr response (RefusesFor method fitting)) }
+    {
+        if let Some(Method::Rename) = method {
+            return self.renaming(message);
+        }
+        Ok(self.found(method, message)?.ok_or(ErrorCode::InvalidParams))
+    }
+
+    /// What a request of the method, which is no renaming, asks for. None where its parameters name no open document,
+    /// or not what the method wants beside it.
+    fn found(
         &mut self,
         method: Option<Method>,
         message: &Value,
@@ -34,8 +55,8 @@ impl Server {
         ensures same { OnOk result (session_of self.new ≡ session_of self.old) }
         ensures response { IfOk result (λ response.
             HasResponse method (fits (texts self.old.documents) (view message.now) method) (is_some response)) }
-        ensures result { IfOk result (λ response.
-            IsResult (texts self.old.documents) (view message.now) method (option_map view response)) }
+        ensures result { IfOk result (λ response. IfSome response (λ value.
+            IsResult (texts self.old.documents) (view message.now) method (view value))) }
     {
         match method {
             Some(Method::Initialize) => {
@@ -53,7 +74,6 @@ impl Server {
             Some(Method::DocumentHighlight) => self.document_highlights(message),
             Some(Method::Hover) => self.hover(message),
             Some(Method::Completion) => self.completions(message),
-            Some(Method::Rename) => self.renaming(message),
             _ => Ok(Some(Value::Null)),
         }
     }
@@ -106,7 +126,7 @@ impl Server {
         ensures response { IfOk result
             (λ response. is_some response ≡ names_open (texts self.now.documents) (view message.now)) }
         ensures formats { let here = option_and_then (texts self.now.documents) (uri_in (view message.now)) in
-            IfOk result (λ response. IsFormattingOf here (option_map view response)) }
+            IfOk result (λ response. IfSome response (λ value. IsFormattingOf here (view value))) }
     {
         let Some(open) = self.document_of(message) else {
             return Ok(None);

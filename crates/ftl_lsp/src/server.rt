@@ -131,8 +131,9 @@ impl Server {
         if let Some(code) = self.phase.refusal(method) {
             return self.refuse(id, code);
         }
-        let Some(response) = self.response(method, message)? else {
-            return self.refuse(id, ErrorCode::InvalidParams);
+        let response = match self.response(method, message)? {
+            Ok(response) => response,
+            Err(code) => return self.refuse(id, code),
         };
         let reply = answer(self.alloc, id, response)?;
         self.phase = self.phase.after_request(method);

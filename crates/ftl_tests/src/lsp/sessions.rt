@@ -6,7 +6,7 @@ use ftl::Watched;
 use ftl_files::Memory;
 use ftl_lsp::{
     BODY_LIMIT, Diagnostic, Document, Ending, ErrorCode, FrameFault, Framing, Method, Phase,
-    Position, Positions, first_frame, formatted_text, serve,
+    Position, Positions, RenameFault, first_frame, formatted_text, serve,
 };
 use std::alloc::Global;
 use std::io::Read;
@@ -294,12 +294,13 @@ fn methods(rt: HostRuntime) -> Result<(), Fail> {
 /// Each code, and its number.
 type CodeRow = (ErrorCode, i64);
 
-const CODES: [CodeRow; 5] = [
+const CODES: [CodeRow; 6] = [
     (ErrorCode::ParseError, -32700),
     (ErrorCode::InvalidRequest, -32600),
     (ErrorCode::MethodNotFound, -32601),
     (ErrorCode::InvalidParams, -32602),
     (ErrorCode::NotInitialized, -32002),
+    (ErrorCode::Rename(RenameFault::Taken), -32602),
 ];
 
 fn assert_numbered(alloc: Global, row: &CodeRow) -> Result<(), Fail> {
