@@ -2,6 +2,7 @@
 use Rattle.std.specs.Prelude.{◌≡◌, ◌≢◌, ◌&&◌, ℕ, List, ⊤, Bool, true, false, Option, Some, None}
 use Rattle.std.specs.Prelude.{IfSome, IfNone, is_some, option_and_then}
 use Rattle.std.specs.Str.{IsUtf8}
+use Rattle.fluent_syntax_names.specs.declared.finding.Severity.{Severity}
 use Rattle.serde_json.specs.Data.{Data, Items, null}
 use Rattle.serde_json.specs.Read.{read}
 use Rattle.ftl_lsp.specs.Asking.{IsResult, names_open, names_position, renames_position}
@@ -11,7 +12,7 @@ use Rattle.ftl_lsp.specs.Methods.{name_of}
 use Rattle.ftl_lsp.specs.OpenDocuments.{MakesOpen, OpenText, Sets, texts}
 use Rattle.ftl_lsp.specs.Params.{changes_in, opened_text_in, uri_in, version_in}
 use Rattle.ftl_lsp.specs.Phases.{after_notification, after_request, refusal_of}
-use Rattle.ftl_lsp.specs.Replies.{IsSent, Reply, silence, answered, refused, diagnosed, withdrawn, watch}
+use Rattle.ftl_lsp.specs.Replies.{IsSent, Reply, silence, answered, refused, diagnosed, withdrawn, watch, notice_form}
 use Rattle.ftl_lsp.specs.declared.methods.Method.{Method}
 use Rattle.ftl_lsp.specs.declared.methods.Method.TheVariants.{DocumentSymbol, Formatting, FoldingRange}
 use Rattle.ftl_lsp.specs.declared.methods.Method.TheVariants.{Definition, References, DocumentHighlight}
@@ -144,6 +145,19 @@ pub record Republishes (session : Session) (value : Data) : Type 0 where
   pub found : OpenText
   pub is_open : session.texts uri ≡ Some found
   pub diagnostics : IsSent (diagnosed uri found.text) (Some value)
+
+-- The session runs, and the value shows the user a sentence, as that a document can't be formatted or that settings are
+-- wrong.
+pub record Shows (session : Session) (value : Data) : Type 0 where
+  pub runs : session.phase ≡ Running
+  pub severity : Severity
+  pub text : List ℕ
+  pub notice : value ≡ notice_form severity text
+
+-- What is sent between two messages: one of these.
+pub data Unasked (session : Session) (value : Data) : Type 0 where
+  republishes : Republishes session value → Unasked session value
+  shows : Shows session value → Unasked session value
 
 -- The same, where that value is sent for it, if any is.
 abbrev pub AnswersRequest : (old : Session) → (id d : Data) → Option Method → Option Data →

@@ -20,6 +20,7 @@ mod limits;
 mod lint_diagnostics;
 mod messages;
 mod methods;
+mod notices;
 mod notifications;
 mod occurrences;
 mod offsets;

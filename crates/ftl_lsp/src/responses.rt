@@ -6,15 +6,16 @@ ghost use Rattle.ftl_lsp.specs.OpenDocuments.{open_text, texts};
 ghost use Rattle.ftl_lsp.specs.Params.{uri_in};
 ghost use Rattle.ftl_lsp.specs.Sessions.{HasResponse, RefusesFor, fits, session_of};
 
-use crate::formatting::formatting_of;
+use crate::formatting::{formatted_text, formatting_edit};
 use crate::index::{IndexedDocument, indexed_documents};
 use crate::methods::Method;
+use crate::notices::Notice;
 use crate::occurrences::bytes_of;
 use crate::open_documents::OpenDocument;
 use crate::params::{takes_related, uri_of};
 use crate::phases::ErrorCode;
 use crate::positions::Positions;
-use crate::replies::{capabilities, token_list};
+use crate::replies::{capabilities, null, token_list};
 use crate::semantic_tokens::{encoded_tokens, semantic_tokens_of};
 use crate::server::Server;
 use crate::symbol_forms::{folding_range_list, symbol_list, workspace_symbol};
@@ -121,17 +122,25 @@ impl Server {
         Ok(Some(token_list(self.alloc, &numbers)?))
     }
 
-    /// The edit that formats the document; null where it stays as it is.
-    fn formatting(&self, message: &Value) -> Result<Option<Value>, AllocError>
+    /// The edit that formats the document; null where it stays as it is. Why it is left is to be shown.
+    fn formatting(&mut self, message: &Value) -> Result<Option<Value>, AllocError>
+        ensures same { OnOk result (session_of self.new ≡ session_of self.old) }
         ensures response { IfOk result
-            (λ response. is_some response ≡ names_open (texts self.now.documents) (view message.now)) }
-        ensures formats { let here = option_and_then (texts self.now.documents) (uri_in (view message.now)) in
+            (λ response. is_some response ≡ names_open (texts self.old.documents) (view message.now)) }
+        ensures formats { let here = option_and_then (texts self.old.documents) (uri_in (view message.now)) in
             IfOk result (λ response. IfSome response (λ value. IsFormattingOf here (view value))) }
     {
         let Some(open) = self.document_of(message) else {
             return Ok(None);
         };
-        Ok(Some(formatting_of(self.alloc, open.document.text())?))
+        let text = open.document.text();
+        let Some(formatted) = formatted_text(self.alloc, text)? else {
+            let name = uri_of(message).unwrap_or("");
+            let notice = Notice::of_unformatted(self.alloc, name, open, &self.workspace)?;
+            self.notices.push(notice)?;
+            return Ok(Some(null()));
+        };
+        Ok(Some(formatting_edit(self.alloc, text, formatted.as_str())?))
     }
 
     /// The open documents and the closed files.

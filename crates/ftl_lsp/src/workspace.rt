@@ -2,10 +2,11 @@
 ghost use Rattle.std.specs.Prelude.{◌≡◌};
 
 use crate::closed_files::ClosedFile;
+use crate::notices::Notice;
 use crate::open_documents::OpenDocument;
 use crate::originals::Reference;
 use crate::settings::settings_in;
-use fluent_syntax_names::{DefinedNames, Kind};
+use fluent_syntax_names::{DefinedNames, Kind, Severity};
 use ftl_files::{Folders, Settings, SourceFile, SourceFiles, is_below, path_of_uri, read_files};
 use serde_json::Value;
 use std::alloc::{AllocError, Global};
@@ -20,6 +21,8 @@ struct Folder {
     ignored: Vec<Kind>,
     /// Where the reference language has its files, if that is said.
     reference: Option<Reference>,
+    /// Why what it says of itself can't be gone by, if it can't.
+    fault: Option<String>,
 }
 
 impl Folder {
@@ -29,32 +32,53 @@ impl Folder {
             path: String::from_str(alloc, path)?,
             ignored: Vec::new(alloc),
             reference: None,
+            fault: None,
         })
     }
 
-    /// Reads anew what it says of itself.
+    /// Reads anew what it says of itself. The sentence says why that can't be gone by, where it didn't say so before.
     ///
     /// `AllocError` where a growth was refused.
-    fn read_settings<F: Folders>(&mut self, alloc: Global, files: &F) -> Result<(), AllocError> {
-        match settings_in(alloc, files, self.path.as_str())? {
-            Some(
-                Settings {
-                    reference,
-                    ignored,
-                    ..
-                },
-            ) => {
-                self.reference = match reference {
-                    Some(name) => Reference::in_folder(alloc, self.path.as_str(), name.as_str())?,
-                    None => None,
-                };
-                self.ignored = ignored;
-            }
-            None => {
-                self.reference = None;
-                self.ignored = Vec::new(alloc);
-            }
+    fn read_settings<F: Folders>(
+        &mut self,
+        alloc: Global,
+        files: &F,
+    ) -> Result<Option<String>, AllocError> {
+        let (settings, fault) = match settings_in(alloc, files, self.path.as_str())? {
+            Ok(settings) => (settings, None),
+            Err(fault) => (None, Some(fault)),
+        };
+        self.take_settings(alloc, settings)?;
+        let told = match &fault {
+            Some(sentence) if self.fault != fault => Some(sentence.clone()?),
+            _ => None,
+        };
+        self.fault = fault;
+        Ok(told)
+    }
+
+    /// Notes what it says of itself.
+    fn take_settings(
+        &mut self,
+        alloc: Global,
+        settings: Option<Settings>,
+    ) -> Result<(), AllocError> {
+        self.reference = None;
+        self.ignored = Vec::new(alloc);
+        let Some(
+            Settings {
+                reference,
+                ignored,
+                ..
+            },
+        ) = settings
+        else {
+            return Ok(());
+        };
+        if let Some(name) = reference {
+            self.reference = Reference::in_folder(alloc, self.path.as_str(), name.as_str())?;
         }
+        self.ignored = ignored;
         Ok(())
     }
 }
@@ -114,14 +138,25 @@ impl Workspace {
         self.can_watch && !self.folders.is_empty()
     }
 
-    /// Reads the files anew. What is said of one whose text is the same is kept.
+    /// Reads the files anew. What is said of one whose text is the same is kept. The notices tell which settings are
+    /// wrong by now.
     ///
     /// `AllocError` where a growth was refused.
-    pub fn read<F: Folders>(&mut self, alloc: Global, files: &F) -> Result<(), AllocError> {
+    pub fn read<F: Folders>(
+        &mut self,
+        alloc: Global,
+        files: &F,
+    ) -> Result<Vec<Notice>, AllocError> {
         let mut found = BTreeMap::new(alloc);
+        let mut notices = Vec::new(alloc);
         let mut all = true;
         for folder in self.folders.iter_mut() {
-            folder.read_settings(alloc, files)?;
+            if let Some(text) = folder.read_settings(alloc, files)? {
+                notices.push(Notice {
+                    severity: Severity::Error,
+                    text,
+                })?;
+            }
             let SourceFiles {
                 files: sources,
                 is_whole,
@@ -139,7 +174,7 @@ impl Workspace {
         self.files = found;
         self.is_whole = all;
         self.defined = None;
-        Ok(())
+        Ok(notices)
     }
 
     /// Whether all files are known that may define what a file at the path refers to: it stands below one of the
