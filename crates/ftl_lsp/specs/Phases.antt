@@ -30,7 +30,7 @@ number_of NotInitialized = negsuc 32001
 number_of (Rename fault) = negsuc 32601
 
 abbrev pub text_of_rename : RenameFault → List ℕ
-text_of_rename NoName = codes "no name stands at this place"
+text_of_rename NoName = codes "there is no name at this place"
 text_of_rename VariableOrFunction = codes "a variable or a function can't be renamed"
 text_of_rename NoIdentifier = codes "the new name is no identifier: a letter, and then letters, digits, - and _"
 text_of_rename Taken = codes "the new name is taken: a document or a file defines it"

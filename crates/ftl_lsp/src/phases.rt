@@ -56,7 +56,7 @@ impl RenameFault {
         ensures { result.now ≡ text_of_rename self.now }
     {
         match self {
-            RenameFault::NoName => "no name stands at this place",
+            RenameFault::NoName => "there is no name at this place",
             RenameFault::VariableOrFunction => "a variable or a function can't be renamed",
             RenameFault::NoIdentifier => {
                 "the new name is no identifier: a letter, and then letters, digits, - and _"
