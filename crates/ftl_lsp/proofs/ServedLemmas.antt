@@ -87,7 +87,8 @@ takes_behind (Err e) old mid now left after written sent_on same step = step
 pub unasked_behind : {X Y : Type 0} (r : Result X Y) (old mid : Session) (left written sent_on : Option (List ℕ))
     (value : Data) → mid ≡ old → Unasked old value → OnOk r (Sends written sent_on (Some value)) →
     OnOk r (GoesOn old mid left left written sent_on)
-unasked_behind (Ok x) old mid left written sent_on value same unasked sends = sends_unasked value unasked same refl sends
+unasked_behind (Ok x) old mid left written sent_on value same unasked sends =
+    sends_unasked value unasked same refl sends
 unasked_behind (Err e) old mid left written sent_on value same unasked sends = sends
 
 -- why a session stops behind what changes nothing of it
