@@ -33,6 +33,18 @@
     ("{[ \t\n]*\\([A-Z][A-Z0-9_-]*\\)[ \t]*(" 1 font-lock-builtin-face))
   "What stands out in a Fluent file.")
 
+(defun fluent--project (folder)
+  "The project of FOLDER, if it has an ftl.toml.
+That is the nearest folder above with an ftl.toml or a .git; a .git alone is
+left to Emacs."
+  (let ((root (locate-dominating-file
+               folder
+               (lambda (above)
+                 (or (file-exists-p (expand-file-name "ftl.toml" above))
+                     (file-exists-p (expand-file-name ".git" above)))))))
+    (when (and root (file-exists-p (expand-file-name "ftl.toml" root)))
+      (cons 'transient (expand-file-name root)))))
+
 ;;;###autoload
 (define-derived-mode fluent-mode prog-mode "Fluent"
   "A mode for the files of Project Fluent."
@@ -40,6 +52,7 @@
   (setq-local comment-end "")
   (setq-local indent-tabs-mode nil)
   (setq-local tab-width 4)
+  (add-hook 'project-find-functions #'fluent--project nil t)
   (setq-local font-lock-defaults '(fluent--keywords t)))
 
 ;;;###autoload

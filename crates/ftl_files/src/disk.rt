@@ -144,6 +144,10 @@ impl<R: Files + AllocGlobal + Clone + Drop> Folders for Disk<'_, R> {
             _ => Ok(None),
         }
     }
+
+    fn has(&self, path: &str) -> bool {
+        fs::symlink_metadata(self.rt, path).is_ok()
+    }
 }
 
 /// The bytes of a file of at most so many bytes.

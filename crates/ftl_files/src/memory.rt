@@ -216,4 +216,8 @@ impl Folders for Memory {
             _ => Ok(None),
         }
     }
+
+    fn has(&self, path: &str) -> bool {
+        latest(self.changes.as_slice(), path).is_some()
+    }
 }

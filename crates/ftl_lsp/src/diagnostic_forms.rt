@@ -183,7 +183,7 @@ fn related_form(alloc: Global, related: Related<'_>) -> Result<Value, AllocError
 }
 
 /// The number of a severity in the protocol.
-fn severity_number(severity: Severity) -> u64
+pub(crate) fn severity_number(severity: Severity) -> u64
     ensures { result ≡ severity_number severity }
 {
     match severity {

@@ -2,10 +2,11 @@
 ghost use Rattle.std.specs.Prelude.{◌≡◌};
 
 use crate::closed_files::ClosedFile;
+use crate::notices::Notice;
 use crate::open_documents::OpenDocument;
 use crate::originals::Reference;
 use crate::settings::settings_in;
-use fluent_syntax_names::DefinedNames;
+use fluent_syntax_names::{DefinedNames, Severity};
 use ftl_files::{
     Excluded, Folders, ReportedKind, Settings, SourceFile, SourceFiles, is_below, path_of_uri,
     read_files,
@@ -25,6 +26,8 @@ struct Folder {
     excluded: Excluded,
     /// Where the reference language has its files, if that is said.
     reference: Option<Reference>,
+    /// Why what it says of itself can't be gone by, if it can't.
+    fault: Option<String>,
 }
 
 impl Folder {
@@ -35,6 +38,7 @@ impl Folder {
             ignored: Vec::new(alloc),
             excluded: Excluded::new(alloc),
             reference: None,
+            fault: None,
         })
     }
 
@@ -43,32 +47,52 @@ impl Folder {
         is_below(self.path.as_str(), path) && !self.excluded.hides(self.path.as_str(), path)
     }
 
-    /// Reads anew what it says of itself.
+    /// Reads anew what it says of itself. The sentence says why that can't be gone by, where it didn't say so before.
     ///
     /// `AllocError` where a growth was refused.
-    fn read_settings<F: Folders>(&mut self, alloc: Global, files: &F) -> Result<(), AllocError> {
-        match settings_in(alloc, files, self.path.as_str())? {
-            Some(
-                Settings {
-                    reference,
-                    ignored,
-                    excluded,
-                    ..
-                },
-            ) => {
-                self.excluded = excluded_in(alloc, self.path.as_str(), &excluded)?;
-                self.reference = match reference {
-                    Some(name) => Reference::in_folder(alloc, self.path.as_str(), name.as_str())?,
-                    None => None,
-                };
-                self.ignored = ignored;
-            }
-            None => {
-                self.reference = None;
-                self.excluded = Excluded::new(alloc);
-                self.ignored = Vec::new(alloc);
-            }
+    fn read_settings<F: Folders>(
+        &mut self,
+        alloc: Global,
+        files: &F,
+    ) -> Result<Option<String>, AllocError> {
+        let (settings, fault) = match settings_in(alloc, files, self.path.as_str())? {
+            Ok(settings) => (settings, None),
+            Err(fault) => (None, Some(fault)),
+        };
+        self.take_settings(alloc, settings)?;
+        let told = match &fault {
+            Some(sentence) if self.fault != fault => Some(sentence.clone()?),
+            _ => None,
+        };
+        self.fault = fault;
+        Ok(told)
+    }
+
+    /// Notes what it says of itself.
+    fn take_settings(
+        &mut self,
+        alloc: Global,
+        settings: Option<Settings>,
+    ) -> Result<(), AllocError> {
+        self.reference = None;
+        self.ignored = Vec::new(alloc);
+        self.excluded = Excluded::new(alloc);
+        let Some(
+            Settings {
+                reference,
+                ignored,
+                excluded,
+                ..
+            },
+        ) = settings
+        else {
+            return Ok(());
+        };
+        self.excluded = excluded_in(alloc, self.path.as_str(), &excluded)?;
+        if let Some(name) = reference {
+            self.reference = Reference::in_folder(alloc, self.path.as_str(), name.as_str())?;
         }
+        self.ignored = ignored;
         Ok(())
     }
 }
@@ -128,14 +152,25 @@ impl Workspace {
         self.can_watch && !self.folders.is_empty()
     }
 
-    /// Reads the files anew. What is said of one whose text is the same is kept.
+    /// Reads the files anew. What is said of one whose text is the same is kept. The notices tell which settings are
+    /// wrong by now.
     ///
     /// `AllocError` where a growth was refused.
-    pub fn read<F: Folders>(&mut self, alloc: Global, files: &F) -> Result<(), AllocError> {
+    pub fn read<F: Folders>(
+        &mut self,
+        alloc: Global,
+        files: &F,
+    ) -> Result<Vec<Notice>, AllocError> {
         let mut found = BTreeMap::new(alloc);
+        let mut notices = Vec::new(alloc);
         let mut all = true;
         for folder in self.folders.iter_mut() {
-            folder.read_settings(alloc, files)?;
+            if let Some(text) = folder.read_settings(alloc, files)? {
+                notices.push(Notice {
+                    severity: Severity::Error,
+                    text,
+                })?;
+            }
             let SourceFiles {
                 files: sources,
                 is_whole,
@@ -153,7 +188,7 @@ impl Workspace {
         self.files = found;
         self.is_whole = all;
         self.defined = None;
-        Ok(())
+        Ok(notices)
     }
 
     /// Whether all files are known that may define what a file at the path refers to: it stands below one of the

@@ -8,16 +8,35 @@ local program = vim.g.fluent_program or "ftl-lsp"
 if vim.fn.executable(program) == 0 then
   return
 end
+
+-- The project of a file: the nearest folder above it that has an ftl.toml or a .git, else its own folder.
+local function project_of(file)
+  local own = vim.fn.fnamemodify(file, ":p:h")
+  local folder, above = own, nil
+  while folder ~= above do
+    for _, mark in ipairs({ "ftl.toml", ".git" }) do
+      if vim.loop.fs_stat(folder .. "/" .. mark) then
+        return folder
+      end
+    end
+    folder, above = vim.fn.fnamemodify(folder, ":h"), folder
+  end
+  return own
+end
+
 local buffer = vim.api.nvim_get_current_buf()
+local root = project_of(vim.api.nvim_buf_get_name(buffer))
 local server = {
   name = "ftl",
   cmd = { program },
-  root_dir = vim.fn.fnamemodify(vim.api.nvim_buf_get_name(buffer), ":p:h"),
+  root_dir = root,
 }
 if vim.lsp.start then
   vim.lsp.start(server)
 else
-  -- neovim 0.7: one server for all buffers
-  vim.g.fluent_client = vim.g.fluent_client or vim.lsp.start_client(server)
-  vim.lsp.buf_attach_client(buffer, vim.g.fluent_client)
+  -- neovim 0.7: one server for the buffers of a project
+  local clients = vim.g.fluent_clients or vim.empty_dict()
+  clients[root] = clients[root] or vim.lsp.start_client(server)
+  vim.g.fluent_clients = clients
+  vim.lsp.buf_attach_client(buffer, clients[root])
 end

@@ -176,10 +176,11 @@ fn names_of_a_closed_file(rt: HostRuntime) -> Result<(), Fail> {
     }
 }
 
-const INITIALIZE: &str = "{\"jsonrpc\":\"2.0\",\"id\":1,\"method\":\"initialize\",\
+pub(crate) const INITIALIZE: &str = "{\"jsonrpc\":\"2.0\",\"id\":1,\"method\":\"initialize\",\
     \"params\":{\"rootUri\":\"file:///w\",\"capabilities\":{}}}";
 
-const INITIALIZED: &str = "{\"jsonrpc\":\"2.0\",\"method\":\"initialized\",\"params\":{}}";
+pub(crate) const INITIALIZED: &str =
+    "{\"jsonrpc\":\"2.0\",\"method\":\"initialized\",\"params\":{}}";
 
 const OPENED: &str =
     "{\"jsonrpc\":\"2.0\",\"method\":\"textDocument/didOpen\",\"params\":{\"textDocument\":\
@@ -211,7 +212,7 @@ const RENAMED: [&str; 4] = [
 ];
 
 /// What a session over the files answers to the messages.
-fn answers(alloc: Global, files: &Memory, bodies: &[&str]) -> Result<String, Fail> {
+pub(crate) fn answers(alloc: Global, files: &Memory, bodies: &[&str]) -> Result<String, Fail> {
     let mut input = String::new(alloc);
     for body in bodies {
         let header = format!(in alloc; "Content-Length: {}\r\n\r\n", body.len())?;
@@ -242,7 +243,7 @@ fn a_session_over_closed_files(rt: HostRuntime) -> Result<(), Fail> {
 }
 
 /// The message that opens a document.
-fn opening(alloc: Global, uri: &str, text: &str) -> Result<String, Fail> {
+pub(crate) fn opening(alloc: Global, uri: &str, text: &str) -> Result<String, Fail> {
     let body = format!(in alloc;
         "{{\"jsonrpc\":\"2.0\",\"method\":\"textDocument/didOpen\",\"params\":\
         {{\"textDocument\":{{\"uri\":\"{uri}\",\"version\":1,\"text\":\"{text}\"}}}}}}"
