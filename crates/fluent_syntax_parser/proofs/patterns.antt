@@ -4,7 +4,9 @@ pub mod Layouts
 pub mod LineEndings
 pub mod OneLine
 pub mod Pieces
+pub mod Rest
 pub mod Runs
+pub mod Settled
 pub mod Shapes
 pub mod Spelled
 pub mod Waiting

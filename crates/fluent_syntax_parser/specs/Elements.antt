@@ -107,6 +107,12 @@ module _ {E : Type 0} where
   abbrev pub rest_items : OpeningEnd → List (ItemOf E)
   rest_items rest = with_ending (run_of rest.run) (ending_view rest.ending)
 
+-- where the text ends that the run of a line is, whose ending joins it where it is LF
+abbrev pub rest_end : (to : ℕ) → Ending → ℕ
+rest_end to (lf_at p) = p + 1
+rest_end to (crlf_at p) = to
+rest_end to text_end = to
+
 -- An LF ends the line where its run ends, and behind CR stands an LF.
 abbrev pub EndsAt : List ℕ → (to : ℕ) → Ending → Type 0
 EndsAt t to (lf_at p) = p ≡ to

@@ -1,9 +1,7 @@
 //! Inline expressions, placeables and selects.
-ghost use Rattle.std.specs.Prelude.{◌≡◌, ◌-◌, ◌<◌, ◌≤◌, ◌++◌, ◌∷◌, [], length, IfOk, OnOk};
-ghost use Rattle.fluent_syntax_tree.specs.Tree.{expression_map, inline, inline_placeable};
-ghost use Rattle.fluent_syntax_tree.specs.View.{expression_view};
-ghost use Rattle.fluent_syntax_tree.specs.declared.ast.Expression.{Expression};
-ghost use Rattle.fluent_syntax_tree.specs.declared.ast.PatternElement.{Placeable};
+ghost use Rattle.std.specs.Prelude.{◌≡◌, ◌-◌, ◌<◌, ◌≤◌, List, length, IfOk, OnOk};
+ghost use Rattle.fluent_syntax_tree.specs.Tree.{ExpressionTree, expression_map, inline, inline_placeable};
+ghost use Rattle.fluent_syntax_tree.specs.declared.ast.PatternElement.{PatternElement};
 ghost use Rattle.fluent_syntax_grammar.specs.Construct.{at_each};
 ghost use Rattle.fluent_syntax_grammar.specs.Family.{placeable};
 ghost use Rattle.fluent_syntax_grammar.specs.Grammar.{within};
@@ -76,7 +74,7 @@ impl<'s, 't, M: MakeTexts> Reader<'s, 't, M> {
         requires within { ptr ≤ length self.now.source.bytes.now }
         requires starts { term ≡ start self.now.source.bytes.now ptr }
         ensures parses { let t = self.now.source.bytes.now in
-            Pushes (expression_view M.made) t (mapped_inline (M.source self.now.texts.now))
+            Pushes M.made t (mapped_inline (M.source self.now.texts.now))
             (inline_expression t (within self.now.edition t nesting)) elements.old.items elements.new.items ptr
             result }
         ensures within { IfOk result (λ end. (ptr < end) × (end ≤ length self.now.source.bytes.now)) }
@@ -101,7 +99,7 @@ impl<'s, 't, M: MakeTexts> Reader<'s, 't, M> {
         requires within { ptr ≤ length self.now.source.bytes.now }
         requires starts { letter ≡ start self.now.source.bytes.now ptr }
         ensures parses { let t = self.now.source.bytes.now in
-            Pushes (expression_view M.made) t (mapped_inline (M.source self.now.texts.now))
+            Pushes M.made t (mapped_inline (M.source self.now.texts.now))
             (inline_expression t (within self.now.edition t nesting)) elements.old.items elements.new.items ptr
             result }
         ensures within { IfOk result (λ end. (ptr < end) × (end ≤ length self.now.source.bytes.now)) }
@@ -115,12 +113,12 @@ impl<'s, 't, M: MakeTexts> Reader<'s, 't, M> {
     /// Puts the expression that was added last into a placeable of its own.
     #[inline(never)]
     fn wrap_last(&self, elements: &mut Vec<PatternElement<M::Text>>) -> Result<(), AllocError>
-        requires { EndsPlaced elements.old.items }
-        ensures { OnOk result ((before : _) (e : Expression _) → elements.old.items ≡ before ++ Placeable e ∷ [] →
-            AddsPlaced (expression_view M.made) before elements.new.items
-            (inline (inline_placeable (expression_view M.made e)))) }
+        requires { EndsPlaced M.made elements.old.items }
+        ensures { OnOk result ((old : List (PatternElement M.Text)) (tree : ExpressionTree _) →
+            AddsPlaced M.made old elements.old.items tree →
+            AddsPlaced M.made old elements.new.items (inline (inline_placeable tree))) }
     {
-        let expression = Box::new(self.alloc, take_expression(elements))?;
+        let expression = Box::new(self.alloc, take_expression::<M>(elements))?;
         add_inline(InlineExpression::Placeable { expression }, elements)
     }
 
@@ -136,7 +134,7 @@ impl<'s, 't, M: MakeTexts> Reader<'s, 't, M> {
         requires within { ptr ≤ length self.now.source.bytes.now }
         requires starts { brace ≡ start self.now.source.bytes.now ptr }
         ensures parses { let t = self.now.source.bytes.now in
-            Pushes (expression_view M.made) t (mapped_inline (M.source self.now.texts.now))
+            Pushes M.made t (mapped_inline (M.source self.now.texts.now))
             (inline_expression t (within self.now.edition t nesting)) elements.old.items elements.new.items ptr
             result }
         ensures within { IfOk result (λ end. (ptr < end) × (end ≤ length self.now.source.bytes.now)) }
@@ -157,7 +155,7 @@ impl<'s, 't, M: MakeTexts> Reader<'s, 't, M> {
     ) -> Result<usize, ReadFault>
         requires { ptr ≤ length self.now.source.bytes.now }
         ensures parses { let t = self.now.source.bytes.now in
-            Pushes (expression_view M.made) t (mapped_inline (M.source self.now.texts.now))
+            Pushes M.made t (mapped_inline (M.source self.now.texts.now))
             (inline_expression t (within self.now.edition t nesting)) elements.old.items elements.new.items ptr
             result }
         ensures within { IfOk result (λ end. (ptr < end) × (end ≤ length self.now.source.bytes.now)) }
@@ -187,7 +185,7 @@ impl<'s, 't, M: MakeTexts> Reader<'s, 't, M> {
     ) -> Result<usize, ReadFault>
         requires { ptr ≤ length self.now.source.bytes.now }
         ensures parses { let t = self.now.source.bytes.now in
-            Pushes (expression_view M.made) t (expression_map (M.source self.now.texts.now))
+            Pushes M.made t (expression_map (M.source self.now.texts.now))
             (expression self.now.edition t (within self.now.edition t nesting)) elements.old.items elements.new.items
             ptr result }
         ensures within { IfOk result (λ end. (ptr < end) × (end ≤ length self.now.source.bytes.now)) }
@@ -217,7 +215,7 @@ impl<'s, 't, M: MakeTexts> Reader<'s, 't, M> {
     ) -> Result<usize, ReadFault>
         requires { ptr ≤ length self.now.source.bytes.now }
         ensures parses { let t = self.now.source.bytes.now in
-            Pushes (expression_view M.made) t (expression_map (M.source self.now.texts.now))
+            Pushes M.made t (expression_map (M.source self.now.texts.now))
             (placeable t (within self.now.edition t nesting)) elements.old.items elements.new.items ptr result }
         ensures within { IfOk result (λ end. (ptr < end) × (end ≤ length self.now.source.bytes.now)) }
     {

@@ -1,12 +1,11 @@
 //! Argument lists.
-ghost use Rattle.std.specs.Prelude.{◌≡◌, ◌-◌, ◌<◌, ◌≤◌, ◌++◌, ◌∷◌, [], length, IfOk, OnOk};
+ghost use Rattle.std.specs.Prelude.{◌≡◌, ◌-◌, ◌<◌, ◌≤◌, ◌++◌, ◌∷◌, [], List, length, IfOk, OnOk};
 ghost use Rattle.fluent_syntax_tree.specs.Spans.{bytes_at};
-ghost use Rattle.fluent_syntax_tree.specs.Tree.{arguments_map, inline, maybe_map};
-ghost use Rattle.fluent_syntax_tree.specs.View.{arguments_view, expression_view, inline_view};
-ghost use Rattle.fluent_syntax_tree.specs.declared.ast.Expression.{Expression};
+ghost use Rattle.fluent_syntax_tree.specs.Tree.{InlineTree, arguments_map, inline, maybe_map};
+ghost use Rattle.fluent_syntax_tree.specs.View.{arguments_view, inline_view};
 ghost use Rattle.fluent_syntax_tree.specs.declared.ast.InlineExpression.{InlineExpression};
 ghost use Rattle.fluent_syntax_tree.specs.declared.ast.NamedArgument.{NamedArgument};
-ghost use Rattle.fluent_syntax_tree.specs.declared.ast.PatternElement.{Placeable};
+ghost use Rattle.fluent_syntax_tree.specs.declared.ast.PatternElement.{PatternElement};
 ghost use Rattle.fluent_syntax_grammar.specs.Arguments.{argument_value, is_used, more_arguments, separator};
 ghost use Rattle.fluent_syntax_grammar.specs.Construct.{Read, at_each};
 ghost use Rattle.fluent_syntax_grammar.specs.Family.{call_arguments};
@@ -14,7 +13,7 @@ ghost use Rattle.fluent_syntax_grammar.specs.Grammar.{within};
 ghost use Rattle.fluent_syntax_grammar.specs.Starts.{start};
 ghost use Rattle.fluent_syntax_parser.specs.Boxed.{mapped_inline};
 ghost use Rattle.fluent_syntax_parser.specs.Gathered.{maybe_view, names_in_order};
-ghost use Rattle.fluent_syntax_parser.specs.Last.{EndsInline, Pushes};
+ghost use Rattle.fluent_syntax_parser.specs.Last.{AddsPlaced, EndsInline, Pushes};
 ghost use Rattle.fluent_syntax_parser.specs.Made.{Parses};
 
 use crate::expression::argument_names::SeenNames;
@@ -64,10 +63,10 @@ impl<'s, 't, M: MakeTexts> Reader<'s, 't, M> {
         positional: &mut Vec<InlineExpression<M::Text>>,
     ) -> Result<(), AllocError>
         requires { EndsInline M.made elements.old.items }
-        ensures { OnOk result ((before : _) (x : Expression _) → elements.old.items ≡ before ++ Placeable x ∷ [] →
-            (elements.new.items ≡ before) × (argument : InlineExpression M.Text)
+        ensures { OnOk result ((argument : InlineExpression M.Text)
             × (positional.new.items ≡ positional.old.items ++ argument ∷ [])
-            × (expression_view M.made x ≡ inline (inline_view M.made argument))) }
+            × ((old : List (PatternElement M.Text)) (tree : InlineTree _) →
+            AddsPlaced M.made old elements.old.items (inline tree) → inline_view M.made argument ≡ tree)) }
     {
         add(positional, take_inline::<M>(elements))
     }
@@ -81,11 +80,10 @@ impl<'s, 't, M: MakeTexts> Reader<'s, 't, M> {
         named: &mut Vec<NamedArgument<M::Text>>,
     ) -> Result<(), AllocError>
         requires { EndsInline M.made elements.old.items }
-        ensures { let f = M.source self.now.texts.now in OnOk result ((before : _) (x : Expression _) →
-            elements.old.items ≡ before ++ Placeable x ∷ [] →
-            (elements.new.items ≡ before) × (argument : NamedArgument M.Text)
+        ensures { let f = M.source self.now.texts.now in OnOk result ((argument : NamedArgument M.Text)
             × (named.new.items ≡ named.old.items ++ argument ∷ []) × (M.made argument.name.name ≡ f name)
-            × (expression_view M.made x ≡ inline (inline_view M.made argument.value))) }
+            × ((old : List (PatternElement M.Text)) (tree : InlineTree _) →
+            AddsPlaced M.made old elements.old.items (inline tree) → inline_view M.made argument.value ≡ tree)) }
     {
         let name = self.identifier(name)?;
         let value = take_inline::<M>(elements);
@@ -103,7 +101,7 @@ impl<'s, 't, M: MakeTexts> Reader<'s, 't, M> {
     ) -> Result<usize, ReadFault>
         requires { ptr ≤ length self.now.source.bytes.now }
         ensures parses { let t = self.now.source.bytes.now in
-            Pushes (expression_view M.made) t (mapped_inline (M.source self.now.texts.now))
+            Pushes M.made t (mapped_inline (M.source self.now.texts.now))
             (at_each (start t) (argument_value t (within self.now.edition t nesting))) elements.old.items
             elements.new.items ptr result }
         ensures within { IfOk result (λ end. (ptr < end) × (end ≤ length self.now.source.bytes.now)) }

@@ -1,12 +1,12 @@
 //! The placeable that was added last to the elements of a pattern.
 //!
 //! An expression is added where it is read, so that no reader that nests holds one. What is to hold it takes it off.
-ghost use Rattle.std.specs.Prelude.{◌≡◌, ◌∷◌, ◌++◌, [], OnOk};
-ghost use Rattle.fluent_syntax_tree.specs.Tree.{inline};
+ghost use Rattle.std.specs.Prelude.{◌≡◌, ◌∷◌, ◌++◌, [], List, OnOk};
+ghost use Rattle.fluent_syntax_tree.specs.Tree.{ExpressionTree, InlineTree, inline};
 ghost use Rattle.fluent_syntax_tree.specs.View.{expression_view, inline_view};
-ghost use Rattle.fluent_syntax_tree.specs.declared.ast.Expression.{Expression, Inline};
-ghost use Rattle.fluent_syntax_tree.specs.declared.ast.PatternElement.{Placeable};
-ghost use Rattle.fluent_syntax_parser.specs.Last.{EndsInline, EndsPlaced};
+ghost use Rattle.fluent_syntax_tree.specs.declared.ast.Expression.{Inline};
+ghost use Rattle.fluent_syntax_tree.specs.declared.ast.PatternElement.{PatternElement, Placeable};
+ghost use Rattle.fluent_syntax_parser.specs.Last.{AddsPlaced, EndsInline, EndsPlaced};
 
 use crate::lists::add;
 use crate::texts::MakeTexts;
@@ -30,8 +30,8 @@ pub(crate) fn last_inline<M: MakeTexts>(
     elements: &[PatternElement<M::Text>],
 ) -> &InlineExpression<M::Text>
     requires { EndsInline M.made elements.now }
-    ensures { (before : _) (e : Expression _) → elements.now ≡ before ++ Placeable e ∷ [] →
-        expression_view M.made e ≡ inline (inline_view M.made result.now) }
+    ensures { (old : List (PatternElement M.Text)) (tree : InlineTree _) →
+        AddsPlaced M.made old elements.now (inline tree) → inline_view M.made result.now ≡ tree }
 {
     match elements.last() {
         Some(PatternElement::Placeable { expression }) => match expression {
@@ -43,10 +43,13 @@ pub(crate) fn last_inline<M: MakeTexts>(
 }
 
 /// Takes off the placeable that was added last, and gives its expression.
-pub(crate) fn take_expression<T: Drop>(elements: &mut Vec<PatternElement<T>>) -> Expression<T>
-    requires { EndsPlaced elements.old.items }
-    ensures { (before : _) (e : Expression T) → elements.old.items ≡ before ++ Placeable e ∷ [] →
-        (elements.new.items ≡ before) × (result ≡ e) }
+pub(crate) fn take_expression<M: MakeTexts>(
+    elements: &mut Vec<PatternElement<M::Text>>,
+) -> Expression<M::Text>
+    requires { EndsPlaced M.made elements.old.items }
+    ensures { (old : List (PatternElement M.Text)) (tree : ExpressionTree _) →
+        AddsPlaced M.made old elements.old.items tree →
+        (elements.new.items ≡ old) × (expression_view M.made result ≡ tree) }
 {
     match elements.pop() {
         Some(PatternElement::Placeable { expression }) => expression,
@@ -59,10 +62,11 @@ pub(crate) fn take_inline<M: MakeTexts>(
     elements: &mut Vec<PatternElement<M::Text>>,
 ) -> InlineExpression<M::Text>
     requires { EndsInline M.made elements.old.items }
-    ensures { (before : _) (e : Expression _) → elements.old.items ≡ before ++ Placeable e ∷ [] →
-        (elements.new.items ≡ before) × (expression_view M.made e ≡ inline (inline_view M.made result)) }
+    ensures { (old : List (PatternElement M.Text)) (tree : InlineTree _) →
+        AddsPlaced M.made old elements.old.items (inline tree) →
+        (elements.new.items ≡ old) × (inline_view M.made result ≡ tree) }
 {
-    match take_expression(elements) {
+    match take_expression::<M>(elements) {
         Expression::Inline(inline) => inline,
         Expression::Select { .. } => unreachable!(),
     }

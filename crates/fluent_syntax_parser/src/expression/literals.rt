@@ -2,7 +2,6 @@
 //!
 //! They have functions of their own so that those which nest take little of the stack.
 ghost use Rattle.std.specs.Prelude.{◌≡◌, ◌⊎◌, ◌<◌, ◌≤◌, ℕ, length, IfOk};
-ghost use Rattle.fluent_syntax_tree.specs.View.{expression_view};
 ghost use Rattle.fluent_syntax_grammar.specs.Grammar.{within};
 ghost use Rattle.fluent_syntax_grammar.specs.Inline.{inline_expression};
 ghost use Rattle.fluent_syntax_grammar.specs.Starts.{digit, dollar, minus, quote, start};
@@ -27,7 +26,7 @@ impl<'s, 't, M: MakeTexts> Reader<'s, 't, M> {
         requires within { ptr ≤ length self.now.source.bytes.now }
         requires starts { quote ≡ start self.now.source.bytes.now ptr }
         ensures parses { let t = self.now.source.bytes.now in (n : ℕ) →
-            Pushes (expression_view M.made) t (mapped_inline (M.source self.now.texts.now))
+            Pushes M.made t (mapped_inline (M.source self.now.texts.now))
             (inline_expression t (within self.now.edition t n)) elements.old.items elements.new.items ptr result }
         ensures within { IfOk result (λ end. (ptr < end) × (end ≤ length self.now.source.bytes.now)) }
     {
@@ -47,7 +46,7 @@ impl<'s, 't, M: MakeTexts> Reader<'s, 't, M> {
         requires within { ptr ≤ length self.now.source.bytes.now }
         requires starts { let t = self.now.source.bytes.now in (digit ≡ start t ptr) ⊎ (minus ≡ start t ptr) }
         ensures parses { let t = self.now.source.bytes.now in (n : ℕ) →
-            Pushes (expression_view M.made) t (mapped_inline (M.source self.now.texts.now))
+            Pushes M.made t (mapped_inline (M.source self.now.texts.now))
             (inline_expression t (within self.now.edition t n)) elements.old.items elements.new.items ptr result }
         ensures within { IfOk result (λ end. (ptr < end) × (end ≤ length self.now.source.bytes.now)) }
     {
@@ -67,7 +66,7 @@ impl<'s, 't, M: MakeTexts> Reader<'s, 't, M> {
         requires within { ptr ≤ length self.now.source.bytes.now }
         requires starts { dollar ≡ start self.now.source.bytes.now ptr }
         ensures parses { let t = self.now.source.bytes.now in (n : ℕ) →
-            Pushes (expression_view M.made) t (mapped_inline (M.source self.now.texts.now))
+            Pushes M.made t (mapped_inline (M.source self.now.texts.now))
             (inline_expression t (within self.now.edition t n)) elements.old.items elements.new.items ptr result }
         ensures within { IfOk result (λ end. (ptr < end) × (end ≤ length self.now.source.bytes.now)) }
     {

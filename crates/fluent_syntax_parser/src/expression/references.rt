@@ -3,7 +3,7 @@ ghost use Rattle.std.specs.Prelude.{◌≡◌, ◌≤◌, length, option_map, If
 ghost use Rattle.std.specs.List.{list_all};
 ghost use Rattle.fluent_syntax_tree.specs.Spans.{bytes_at};
 ghost use Rattle.fluent_syntax_tree.specs.Tree.{MaybeArguments, inline, maybe_map, option_texts, term_reference};
-ghost use Rattle.fluent_syntax_tree.specs.View.{expression_view, identifier_view};
+ghost use Rattle.fluent_syntax_tree.specs.View.{identifier_view};
 ghost use Rattle.fluent_syntax_tree.specs.declared.spans.Span.{Span};
 ghost use Rattle.fluent_syntax_grammar.specs.Arguments.{accessor};
 ghost use Rattle.fluent_syntax_grammar.specs.Inline.{is_callee_byte, named_reference};
@@ -67,7 +67,7 @@ impl<'s, 't, M: MakeTexts> Reader<'s, 't, M> {
         requires { ptr ≤ length self.now.source.bytes.now }
         ensures parses { let t = self.now.source.bytes.now in let f = M.source self.now.texts.now in
             (given : MaybeArguments Span) → maybe_view M.made arguments ≡ maybe_map f given →
-            Pushes (expression_view M.made) t (mapped_inline f) (named_reference t name given) elements.old.items
+            Pushes M.made t (mapped_inline f) (named_reference t name given) elements.old.items
             elements.new.items ptr result }
         ensures within { IfOk result (λ end. (ptr ≤ end) × (end ≤ length self.now.source.bytes.now)) }
     {
@@ -105,8 +105,8 @@ impl<'s, 't, M: MakeTexts> Reader<'s, 't, M> {
         arguments: Option<CallArguments<M::Text>>,
         elements: &mut Vec<PatternElement<M::Text>>,
     ) -> Result<(), AllocError>
-        ensures { let f = M.source self.now.texts.now in OnOk result (AddsPlaced (expression_view M.made)
-            elements.old.items elements.new.items
+        ensures { let f = M.source self.now.texts.now in OnOk result (AddsPlaced M.made elements.old.items
+            elements.new.items
             (inline (term_reference (f name) (option_texts f (option_map (identifier_view (λ s. s)) attribute))
             (maybe_view M.made arguments)))) }
     {

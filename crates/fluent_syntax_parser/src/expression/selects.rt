@@ -1,9 +1,8 @@
 //! Selects, from the arrow on.
-ghost use Rattle.std.specs.Prelude.{◌≡◌, ◌<◌, ◌≤◌, ◌++◌, ◌∷◌, [], length, true, IfOk, OnOk};
-ghost use Rattle.fluent_syntax_tree.specs.Tree.{InlineTree, expression_map, inline, select, variants_map};
-ghost use Rattle.fluent_syntax_tree.specs.View.{expression_view, inline_view};
-ghost use Rattle.fluent_syntax_tree.specs.declared.ast.Expression.{Expression};
-ghost use Rattle.fluent_syntax_tree.specs.declared.ast.PatternElement.{Placeable};
+ghost use Rattle.std.specs.Prelude.{◌≡◌, ◌<◌, ◌≤◌, List, length, true, IfOk, OnOk};
+ghost use Rattle.fluent_syntax_tree.specs.Tree.{InlineTree, expression_map, inline, select};
+ghost use Rattle.fluent_syntax_tree.specs.View.{inline_view};
+ghost use Rattle.fluent_syntax_tree.specs.declared.ast.PatternElement.{PatternElement};
 ghost use Rattle.fluent_syntax_tree.specs.declared.spans.Span.{Span};
 ghost use Rattle.fluent_syntax_grammar.specs.Grammar.{within};
 ghost use Rattle.fluent_syntax_grammar.specs.Placeables.{has_arrow, select_with, selector_fault};
@@ -57,10 +56,9 @@ impl<'s, 't, M: MakeTexts> Reader<'s, 't, M> {
         elements: &mut Vec<PatternElement<M::Text>>,
     ) -> Result<(), AllocError>
         requires { EndsInline M.made elements.old.items }
-        ensures { OnOk result ((before : _) (x : Expression _) (e : InlineTree _) →
-            elements.old.items ≡ before ++ Placeable x ∷ [] → expression_view M.made x ≡ inline e →
-            AddsPlaced (expression_view M.made) before elements.new.items
-            (select e (variants_view M.made variants.items))) }
+        ensures { OnOk result ((old : List (PatternElement M.Text)) (tree : InlineTree _) →
+            AddsPlaced M.made old elements.old.items (inline tree) →
+            AddsPlaced M.made old elements.new.items (select tree (variants_view M.made variants.items))) }
     {
         let selector = take_inline::<M>(elements);
         let expression = Expression::Select { selector, variants };
@@ -80,10 +78,10 @@ impl<'s, 't, M: MakeTexts> Reader<'s, 't, M> {
         requires arrow { has_arrow self.now.source.bytes.now ptr ≡ true }
         requires selector { EndsInline M.made elements.old.items }
         ensures parses { let t = self.now.source.bytes.now in let f = M.source self.now.texts.now in
-            (before : _) (x : Expression _) (e : InlineTree Span) → elements.old.items ≡ before ++ Placeable x ∷ [] →
-            expression_view M.made x ≡ mapped_inline f e →
-            Pushes (expression_view M.made) t (expression_map f)
-            (select_with self.now.edition t (within self.now.edition t nesting) e (selector_fault e)) before
+            (old : List (PatternElement M.Text)) (e : InlineTree Span) →
+            AddsPlaced M.made old elements.old.items (mapped_inline f e) →
+            Pushes M.made t (expression_map f)
+            (select_with self.now.edition t (within self.now.edition t nesting) e (selector_fault e)) old
             elements.new.items ptr result }
         ensures within { IfOk result (λ end. (ptr < end) × (end ≤ length self.now.source.bytes.now)) }
     {

@@ -1,21 +1,22 @@
 //! The lines of a pattern.
 ghost use Rattle.std.specs.Prelude.{◌≡◌, ◌+◌, ◌-◌, ◌<◌, ◌≤◌, length, map, slice_get, IfOk, None, Some, false};
-ghost use Rattle.std.specs.Prelude.{Box, ◌==◌, ◌++◌, ◌∷◌, ◌^◌, [], true, if◌then◌else◌, IfErr, OnOk};
-ghost use Rattle.fluent_syntax_tree.specs.declared.ast.Expression.{Expression};
-ghost use Rattle.fluent_syntax_tree.specs.declared.ast.PatternElement.{Placeable};
+ghost use Rattle.std.specs.Prelude.{List, ◌==◌, ◌++◌, ◌∷◌, ◌^◌, [], true, if◌then◌else◌, IfErr, OnOk};
+ghost use Rattle.fluent_syntax_tree.specs.Tree.{ExpressionTree};
+ghost use Rattle.fluent_syntax_tree.specs.declared.ast.PatternElement.{PatternElement};
 ghost use Rattle.fluent_syntax_grammar.specs.Construct.{Read};
 ghost use Rattle.fluent_syntax_grammar.specs.Grammar.{within};
-ghost use Rattle.fluent_syntax_grammar.specs.Layout.{crlf_at, lf_at};
+ghost use Rattle.fluent_syntax_grammar.specs.Layout.{crlf_at, lf_at, placed};
 ghost use Rattle.fluent_syntax_grammar.specs.Lines.{belongs, ending, is_run_place, line, more_lines, more_pieces};
 ghost use Rattle.fluent_syntax_grammar.specs.Places.{BlankBlock, has_eol, InlineBlank, Stretch, Word};
-ghost use Rattle.fluent_syntax_parser.specs.Last.{EndsPlaced};
+ghost use Rattle.fluent_syntax_parser.specs.Last.{AddsPlaced, EndsPlaced};
 ghost use Rattle.fluent_syntax_parser.specs.Made.{AddsParsed, Fills};
 ghost use Rattle.fluent_syntax_parser.specs.Endings.{EndsWithin};
 ghost use Rattle.fluent_syntax_grammar.specs.Lanes.{is_passed};
 ghost use Rattle.fluent_syntax_parser.specs.Layouts.{line_of, piece_of};
 ghost use Rattle.fluent_syntax_parser.specs.Lines.{ending_view, line_view, piece_view};
 ghost use Rattle.fluent_syntax_parser.specs.declared.pattern.line.Line.{Line};
-ghost use Rattle.fluent_syntax_parser.specs.declared.pattern.line.Piece.TheVariants.{Placed, Run};
+ghost use Rattle.fluent_syntax_parser.specs.declared.pattern.line.Piece.{Piece};
+ghost use Rattle.fluent_syntax_parser.specs.declared.pattern.line.Piece.TheVariants.{Run};
 
 use crate::expression::last::take_expression;
 use crate::fault::{Fault, ReadFault, Refusal};
@@ -122,17 +123,17 @@ fn add_run<T: Drop>(from: usize, to: usize, pieces: &mut Vec<Piece<T>>) -> Resul
 
 /// Takes off the placeable that was read last, and adds it to the pieces of a line.
 #[inline(never)]
-fn add_placed<T: Drop>(
+fn add_placed<M: MakeTexts>(
     alloc: Global,
-    elements: &mut Vec<PatternElement<T>>,
-    pieces: &mut Vec<Piece<T>>,
+    elements: &mut Vec<PatternElement<M::Text>>,
+    pieces: &mut Vec<Piece<M::Text>>,
 ) -> Result<(), AllocError>
-    requires { EndsPlaced elements.old.items }
-    ensures { OnOk result ((boxed : Box _ _)
-        × (pieces.new.items ≡ pieces.old.items ++ Placed boxed ∷ [])
-        × ((before : _) (e : Expression _) → elements.old.items ≡ before ++ Placeable e ∷ [] → boxed.value ≡ e)) }
+    requires { EndsPlaced M.made elements.old.items }
+    ensures { OnOk result ((piece : Piece M.Text) × (pieces.new.items ≡ pieces.old.items ++ piece ∷ [])
+        × ((old : List (PatternElement M.Text)) (tree : ExpressionTree _) →
+        AddsPlaced M.made old elements.old.items tree → piece_view M.made piece ≡ placed tree)) }
 {
-    let expression = Box::new(alloc, take_expression(elements))?;
+    let expression = Box::new(alloc, take_expression::<M>(elements))?;
     add(pieces, Piece::Placed { expression })
 }
 
@@ -173,7 +174,7 @@ impl<'s, 't, M: MakeTexts> Reader<'s, 't, M> {
                     }
                     if byte == b'{' {
                         place = self.add_placeable(nesting, place, &mut elements)?;
-                        add_placed(self.alloc, &mut elements, pieces)?;
+                        add_placed::<M>(self.alloc, &mut elements, pieces)?;
                     } else {
                         let to = self.source.run_end(place);
                         add_run(place, to, pieces)?;

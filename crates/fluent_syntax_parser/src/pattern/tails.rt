@@ -10,7 +10,7 @@ ghost use Rattle.fluent_syntax_parser.specs.Opened.{IsRest};
 use crate::lists::add;
 use crate::pattern::elements::{add_lines, add_opening_end};
 use crate::pattern::indents::common_indent;
-use crate::pattern::line::{Ending, Line, OpeningEnd, Piece};
+use crate::pattern::line::{Line, OpeningEnd, Piece};
 use crate::reader::Reader;
 use crate::source::Source;
 use crate::texts::MakeTexts;
@@ -177,12 +177,8 @@ impl<'s, 't, M: MakeTexts> Reader<'s, 't, M> {
         if !lines.is_empty() {
             return self.add_tail(opening, lines, elements);
         }
-        let OpeningEnd { run, ending } = opening;
-        let end = match ending {
-            Ending::Lf(place) => place + 1,
-            _ => run.end,
-        };
-        let start = run.start;
+        let start = opening.run.start;
+        let end = opening.text_end();
         if self.source.is_nonblank(Span { start, end }) {
             let end = self.source.trimmed_end(start, end);
             self.add_text(Span { start, end }, elements)?;

@@ -1,14 +1,16 @@
-use Rattle.std.proofs.Common.{◌∙◌, ap, refl}
+use Rattle.std.proofs.Common.{◌∷◌, ◌++◌, [], ◌∙◌, ap}
+use Rattle.std.proofs.lemmas.Result.{IfOk-weaker}
 use Rattle.fluent_syntax_tree.specs.Tree.{select}
-use Rattle.fluent_syntax_tree.specs.View.{expression_view}
 use Rattle.fluent_syntax_tree.proofs.Views.{view-Select}
 use Rattle.fluent_syntax_parser.specs.Gathered.{variants_view}
-use Rattle.fluent_syntax_parser.proofs.expressions.Inlines.{inline_seen}
-use Rattle.fluent_syntax_parser.proofs.reader.Reader.boxed_select.Goals as goal
+use Rattle.fluent_syntax_parser.proofs.expressions.LastPlaced.{placed_added}
+use Rattle.fluent_syntax_parser.proofs.reader.Reader.add_variants.Goals as goal
 
 pub returns : goal.returns
-returns g c = λ e same.
+returns g c =
     let v = g.M.MakeTexts.made in
-    ap (expression_view v) c.in_ok-boxed.ensures.ok ∙ view-Select v c.inline_of-selector.result c.args.variants
-    ∙ ap (λ x. select x (variants_view v c.args.variants.items))
-    (inline_seen v _ refl c.inline_of-selector.ensures same)
+    IfOk-weaker c.add.result _ _ (λ done pushed old tree added.
+    let taken = c.take_inline-selector.ensures old tree added in
+    placed_added v _ (pushed ∙ ap (λ xs. xs ++ _ ∷ []) taken.0)
+    (view-Select v c.take_inline-selector.result c.args.variants
+    ∙ ap (λ x. select x (variants_view v c.args.variants.items)) taken.1)) c.add.ensures.added

@@ -1,11 +1,17 @@
-use Rattle.std.proofs.Common.{◌∙◌, ap}
-use Rattle.fluent_syntax_tree.specs.Tree.{inline}
+use Rattle.std.proofs.Common.{◌∷◌, ◌++◌, [], ◌∙◌, ap}
+use Rattle.std.proofs.lemmas.Result.{IfOk-weaker}
+use Rattle.fluent_syntax_tree.specs.Tree.{inline_placeable}
 use Rattle.fluent_syntax_tree.specs.View.{expression_view}
-use Rattle.fluent_syntax_tree.proofs.Views.{view-Inline, view-InlinePlaceable}
-use Rattle.fluent_syntax_parser.proofs.reader.Reader.boxed_placeable.Goals as goal
+use Rattle.fluent_syntax_tree.proofs.Views.{view-InlinePlaceable}
+use Rattle.fluent_syntax_parser.proofs.expressions.LastPlaced.{inline_added}
+use Rattle.fluent_syntax_parser.proofs.reader.Reader.wrap_last.Goals as goal
 
 pub returns : goal.returns
 returns g c =
     let v = g.M.MakeTexts.made in
-    ap (expression_view v) c.in_ok-boxed.ensures.ok ∙ view-Inline v _
-    ∙ ap inline (view-InlinePlaceable v c.args.expression)
+    let expression = c.in_ok-expression.expression in
+    IfOk-weaker c.add_inline.result _ _ (λ done pushed old tree added.
+    let taken = c.take_expression.ensures old tree added in
+    inline_added v _ (pushed ∙ ap (λ xs. xs ++ _ ∷ []) taken.0)
+    (view-InlinePlaceable v expression
+    ∙ ap inline_placeable (ap (expression_view v) c.in_ok-expression.ensures.ok ∙ taken.1))) c.add_inline.ensures

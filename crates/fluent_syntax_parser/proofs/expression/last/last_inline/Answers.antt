@@ -1,0 +1,14 @@
+use Rattle.std.proofs.Common.{◌∙◌, ap, refl, sym}
+use Rattle.fluent_syntax_tree.specs.View.{expression_view}
+use Rattle.fluent_syntax_tree.proofs.Views.{view-Inline}
+use Rattle.fluent_syntax_parser.proofs.expressions.Inlines.{inline_seen}
+use Rattle.fluent_syntax_parser.proofs.expressions.LastPlaced.{last_is, placed_is}
+use Rattle.fluent_syntax_parser.proofs.expression.last.last_inline.Goals as goal
+
+pub returns : goal.returns
+returns g c = λ old tree (e, pushed, seen).
+    let v = g.M.MakeTexts.made in
+    let found = c.in-Some-Placeable in
+    let is = last_is c.args.elements.now old e found.field-0.now pushed found.ensures.value in
+    inline_seen v c.in-Inline.inline refl (ap (expression_view v) c.in-Inline.is ∙ view-Inline v c.in-Inline.inline)
+    (placed_is v found.expression (sym found.field-0-is ∙ is) seen)
