@@ -3,6 +3,7 @@ pub mod Cut
 pub mod Layouts
 pub mod LineEndings
 pub mod OneLine
+pub mod Opening
 pub mod Pieces
 pub mod Rest
 pub mod Runs

@@ -3,8 +3,7 @@ use Rattle.std.specs.Prelude.{◌≡◌, ℕ, List, [], ◌∷◌, ◌++◌, Res
 use Rattle.fluent_syntax_tree.specs.Tree.{ExpressionTree, InlineTree, inline, placeable}
 use Rattle.fluent_syntax_tree.specs.View.{element_view}
 use Rattle.fluent_syntax_tree.specs.declared.ast.PatternElement.{PatternElement}
-use Rattle.fluent_syntax_grammar.specs.Construct.{Construct}
-use Rattle.fluent_syntax_parser.specs.Made.{IsMade}
+use Rattle.fluent_syntax_grammar.specs.Construct.{Construct, Read}
 use Rattle.fluent_syntax_parser.specs.Outcomes.{Fails}
 use Rattle.fluent_syntax_parser.specs.declared.fault.ReadFault.{ReadFault}
 
@@ -25,6 +24,5 @@ module _ {S X : Type 0} (v : S → X) where
   -- list.
   abbrev pub Pushes : {A : Type 0} → List ℕ → (A → ExpressionTree X) → Construct A →
       (old new : List (PatternElement S)) → ℕ → Result ℕ ReadFault → Type 0
-  Pushes t f c old new i (Ok j) =
-      (tree : ExpressionTree X) × AddsPlaced old new tree × IsMade f c i tree j
+  Pushes {A = A} t f c old new i (Ok j) = (a : A) × c i (Read a j) × AddsPlaced old new (f a)
   Pushes t f c old new i (Err x) = Fails t c i x

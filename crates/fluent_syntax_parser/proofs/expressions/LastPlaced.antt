@@ -13,7 +13,6 @@ use Rattle.fluent_syntax_tree.specs.declared.spans.Span.{Span}
 use Rattle.fluent_syntax_grammar.specs.Construct.{Construct, Read}
 use Rattle.fluent_syntax_parser.specs.Boxed.{mapped_inline}
 use Rattle.fluent_syntax_parser.specs.Last.{AddsPlaced, Pushes}
-use Rattle.fluent_syntax_parser.specs.Made.{made}
 
 at_end : {A : Type 0} (xs : List A) (x : A) → slice_get (xs ++ x ∷ []) (length xs) ≡ Some x
 at_end [] x = refl
@@ -48,6 +47,15 @@ module _ {S X : Type 0} (v : S → X) where
       new ≡ old ++ Placeable x ∷ [] → expression_view v x ≡ tree → AddsPlaced v old new tree
   placed_added x pushed same = (_, pushed, view-Placeable v x ∙ ap placeable same)
 
+  pub placed_as : {old new : List (PatternElement S)} {tree other : ExpressionTree X} → AddsPlaced v old new tree →
+      tree ≡ other → AddsPlaced v old new other
+  placed_as (e, pushed, seen) same = (e, pushed, seen ∙ ap placeable same)
+
+  -- in a list that is the same
+  pub placed_in : {old new all : List (PatternElement S)} {tree : ExpressionTree X} → all ≡ new →
+      AddsPlaced v old new tree → AddsPlaced v old all tree
+  placed_in same (e, pushed, seen) = (e, same ∙ pushed, seen)
+
   -- the placeable that was added stands for that expression
   pub placed_is : (x : Expression S) {e : PatternElement S} {tree : ExpressionTree X} → Placeable x ≡ e →
       element_view v e ≡ placeable tree → expression_view v x ≡ tree
@@ -63,4 +71,4 @@ module _ {S X : Type 0} (v : S → X) where
   pub inline_pushed : {t : List ℕ} {f : Span → X} {c : Construct (InlineTree Span)} {e : InlineTree Span} {i j : ℕ}
       (x : InlineExpression S) {old new : List (PatternElement S)} → new ≡ old ++ Placeable (Inline x) ∷ [] →
       c i (Read e j) → inline_view v x ≡ inline_map f e → Pushes v t (mapped_inline f) c old new i (Ok j)
-  inline_pushed x pushed read same = (_, inline_added x pushed same, made read refl)
+  inline_pushed x pushed read same = (_, read, inline_added x pushed same)

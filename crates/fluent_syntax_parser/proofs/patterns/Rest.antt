@@ -19,9 +19,12 @@ module _ {E F : Type 0} (h : E → F) where
   one_run true from to = refl
   one_run false from to = refl
 
+  pub run_mapped : (s : Span) → map (piece_map h) (run_of s) ≡ run_of s
+  run_mapped s = one_run (nat_lt s.start s.end) s.start s.end
+
   pub rest_mapped : (s : Span) (end : Ending) → map (item_map h) (with_ending (run_of s) end) ≡ with_ending (run_of s) end
   rest_mapped s end =
-      sym (ending_mapped h (run_of s) end) ∙ ap (λ ps. with_ending ps end) (one_run (nat_lt s.start s.end) s.start s.end)
+      sym (ending_mapped h (run_of s) end) ∙ ap (λ ps. with_ending ps end) (run_mapped s)
 
 -- Where no other line follows, it is one text, or nothing.
 module _ {E : Type 0} (t : List ℕ) (start to : ℕ) where

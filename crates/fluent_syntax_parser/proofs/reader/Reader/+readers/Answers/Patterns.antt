@@ -11,7 +11,6 @@ use Rattle.fluent_syntax_grammar.proofs.FunctionalRules.{functional_pieces}
 use Rattle.fluent_syntax_grammar.proofs.FunctionalWords.{functional_blank_block, functional_inline_blank}
 use Rattle.fluent_syntax_grammar.proofs.Nesting.{functional_within}
 use Rattle.fluent_syntax_grammar.specs.Elements.{with_ending}
-use Rattle.fluent_syntax_grammar.specs.Layout.{placed}
 use Rattle.fluent_syntax_parser.specs.Lines.{line_view, piece_view}
 use Rattle.fluent_syntax_parser.specs.Made.{made}
 use Rattle.fluent_syntax_parser.specs.Outcomes.{no_memory, refused}
@@ -25,12 +24,16 @@ use Rattle.fluent_syntax_parser.proofs.patterns.Pieces.{own_line_fails, further,
 use Rattle.fluent_syntax_parser.proofs.patterns.Pieces.{run_there}
 use Rattle.fluent_syntax_parser.proofs.reader.Reader.+readers.Goals as goal
 
-pub gather_opening-returns-in-Some-clause-opens : goal.gather_opening-returns-in-Some-clause-opens
-gather_opening-returns-in-Some-clause-opens g m c =
+pub add_opening-returns-in-Some-clause-opens : goal.add_opening-returns-in-Some-clause-opens
+add_opening-returns-in-Some-clause-opens g m c =
     let t = c.args.self.now.source.bytes.now in
-    let blank = c.skip_blank_block.ensures.blank in record {
+    let blank = c.skip_blank_block-line.ensures.blank in
+    record {
       opening = None;
-      same = rw c.requires.empty refl;
+      pieces = [];
+      settled = none;
+      made = rw c.requires.empty refl;
+      same = sym (nothing_left c.args.ptr);
       read = λ ls end h. by_eol t _ _ _ _ c.in-Some.ensures.eol
           (goes_on (passed (record { there = refl })) (goes_on (passed blank) (goes_on h given)));
       fails = λ e h.
@@ -39,75 +42,56 @@ gather_opening-returns-in-Some-clause-opens g m c =
           (fails_next (functional_blank_block t) (passed blank) (fails_first h)));
     }
 
-pub gather_opening-returns-in_err-end-in-None-clause-opens : goal.gather_opening-returns-in_err-end-in-None-clause-opens
-gather_opening-returns-in_err-end-in-None-clause-opens g m c =
+pub get_long_pattern-returns-in_err-opening-clause-parses : goal.get_long_pattern-returns-in_err-opening-clause-parses
+get_long_pattern-returns-in_err-opening-clause-parses g m c =
     let t = c.args.self.now.source.bytes.now in
     let p = err_from_is_err_and c.from_residual.result c.from_residual.ensures.1 in
     rw (p.1, p.2)
-    (fails_seen (layout_at t _) _ c.in-None.ensures.eol
-    (fails_next functional_here at_place (fails_first c.in_err-end-in-None.ensures.parses)))
-
-pub gather_opening-returns-in_ok-next-in-None-clause-opens : goal.gather_opening-returns-in_ok-next-in-None-clause-opens
-gather_opening-returns-in_ok-next-in-None-clause-opens g m c =
-    let t = c.args.self.now.source.bytes.now in
-    let R = within c.args.self.now.edition t c.args.nesting in
-    let (end, opening, ends) = c.in_ok-next-in-None.ensures.ends in
-    on_made c.in_ok-end-in-None.ensures.parses (λ ps there same. record {
-      opening = Some (record { start = c.args.ptr; spaces = 0; pieces = ps; ending = end });
-      same = opening ∙ ap (λ xs. with_ending xs end) same;
-      read = λ ls last h. by_eol t _ _ _ _ c.in-None.ensures.eol
-          (goes_on at_place (goes_on there (goes_on ends (goes_on h given))));
-      fails = λ e h.
-          fails_seen (layout_at t _) _ c.in-None.ensures.eol
-          (fails_next functional_here at_place
-          (fails_next (functional_pieces t R (functional_within c.args.self.now.edition t _)) there
-          (fails_next (functional_ending t) ends (fails_first h))));
-    })
-
-pub gather_opening-returns-in_err-next-in-None-clause-opens :
-    goal.gather_opening-returns-in_err-next-in-None-clause-opens
-gather_opening-returns-in_err-next-in-None-clause-opens g m c =
-    rw (out_of_memory c.from_residual-in_err-next-in-None.result
-    c.from_residual-in_err-next-in-None.ensures.1) no_memory
-
-pub gather_layout-returns-in_err-next-clause-parses : goal.gather_layout-returns-in_err-next-clause-parses
-gather_layout-returns-in_err-next-clause-parses g m c =
-    let p = err_from_is_err_and c.from_residual.result c.from_residual.ensures.1 in
-    rw (p.1, p.2) c.in_err-next.ensures.opens
-
-pub gather_layout-returns-in_err-end-clause-parses : goal.gather_layout-returns-in_err-end-clause-parses
-gather_layout-returns-in_err-end-clause-parses g m c =
-    let p = err_from_is_err_and c.from_residual-in_err-end.result c.from_residual-in_err-end.ensures.1 in
-    rw (p.1, p.2) (c.in_ok-next.ensures.opens.fails _ c.in_err-end.ensures.parses)
-
-pub gather_layout-returns-clause-parses : goal.gather_layout-returns-clause-parses
-gather_layout-returns-clause-parses g m c =
-    let opened = c.in_ok-next.ensures.opens in
-    on_made c.in_ok-end.ensures.parses (λ ls there same. record {
-      layout = record { opening = opened.opening; lines = ls };
-      read = opened.read ls _ there;
-      same_opening = opened.same;
-      same_lines = same;
-    })
+    (fails_first (fails_next (functional_inline_blank t) (passed c.requires.blank) c.in_err-opening.ensures.opens))
 
 pub get_long_pattern-returns-in_err-end-clause-parses : goal.get_long_pattern-returns-in_err-end-clause-parses
 get_long_pattern-returns-in_err-end-clause-parses g m c =
     let t = c.args.self.now.source.bytes.now in
-    let p = err_from_is_err_and c.from_residual.result c.from_residual.ensures.1 in
+    let p = err_from_is_err_and c.from_residual-in_err-end.result c.from_residual-in_err-end.ensures.1 in
     rw (p.1, p.2)
-    (fails_first (fails_next (functional_inline_blank t) (passed c.requires.blank) c.in_err-end.ensures.parses))
+    (fails_first (fails_next (functional_inline_blank t) (passed c.requires.blank)
+    (c.in_ok-opening.ensures.opens.fails _ c.in_err-end.ensures.parses)))
+
+pub get_long_pattern-returns-in_err-end_elements-clause-parses :
+    goal.get_long_pattern-returns-in_err-end_elements-clause-parses
+get_long_pattern-returns-in_err-end_elements-clause-parses g m c =
+    rw (out_of_memory c.from_residual-in_err-end_elements.result
+    c.from_residual-in_err-end_elements.ensures.1) no_memory
+
+pub get_long_pattern-returns-then-is_empty-clause-parses : goal.get_long_pattern-returns-then-is_empty-clause-parses
+get_long_pattern-returns-then-is_empty-clause-parses g m c =
+    let t = c.args.self.now.source.bytes.now in
+    let f = g.M.MakeTexts.source c.args.self.now.texts.now in
+    let opened = c.in_ok-opening.ensures.opens in
+    let elements = c.end_elements.new.elements in
+    let size : length elements.items ≡ vec_len elements = omega (arith, elements.ok.0) in
+    let none = no_items elements.items _ size c.if-is_empty.ensures in
+    on_made c.in_ok-end.ensures.parses (λ ls there same.
+    let made_of = c.in_ok-end_elements.ensures ∙ ap (λ es. es ++ _) opened.made
+    ∙ layout_spelled f t c.args.self.now.edition (record { opening = opened.opening; lines = ls }) opened.settled _
+    opened.same _ same in
+    made (goes_on (goes_on (passed c.requires.blank) (opened.read ls _ there)) given)
+    (none_spelled f g.M.MakeTexts.made _ elements.items made_of none))
 
 pub get_long_pattern-returns-clause-parses : goal.get_long_pattern-returns-clause-parses
 get_long_pattern-returns-clause-parses g m c =
-    let laid = c.in_ok-end.ensures.parses in
-    made (goes_on (goes_on (passed c.requires.blank) laid.read) given)
-    (c.in_ok-pattern.ensures laid.layout laid.same_opening laid.same_lines)
-
-pub get_long_pattern-returns-in_err-pattern-clause-parses :
-    goal.get_long_pattern-returns-in_err-pattern-clause-parses
-get_long_pattern-returns-in_err-pattern-clause-parses g m c =
-    rw (out_of_memory c.from_residual-in_err-pattern.result
-    c.from_residual-in_err-pattern.ensures.1) no_memory
+    let t = c.args.self.now.source.bytes.now in
+    let f = g.M.MakeTexts.source c.args.self.now.texts.now in
+    let opened = c.in_ok-opening.ensures.opens in
+    let elements = c.end_elements.new.elements in
+    let size : length elements.items ≡ vec_len elements = omega (arith, elements.ok.0) in
+    on_made c.in_ok-end.ensures.parses (λ ls there same.
+    let made_of = c.in_ok-end_elements.ensures ∙ ap (λ es. es ++ _) opened.made
+    ∙ layout_spelled f t c.args.self.now.edition (record { opening = opened.opening; lines = ls }) opened.settled _
+    opened.same _ same in
+    made (goes_on (goes_on (passed c.requires.blank) (opened.read ls _ there)) given)
+    (some_spelled f g.M.MakeTexts.made _ (record { elements = elements }) made_of
+    (some_items elements.items _ size c.if-is_empty.ensures)))
 
 pub get_pattern-returns-in_ok-pattern-in-Some-clause-parses :
     goal.get_pattern-returns-in_ok-pattern-in-Some-clause-parses
@@ -144,33 +128,37 @@ gather_pieces-returns-then-byte-eq125-clause-parses g m c =
     (sym c.in-Some.ensures) (sym c.if-is_eol_at.ensures)
     c.if-byte-eq125.true)))
 
-pub gather_pieces-returns-in_err-expression-in-Some-clause-parses :
-    goal.gather_pieces-returns-in_err-expression-in-Some-clause-parses
-gather_pieces-returns-in_err-expression-in-Some-clause-parses g m c =
+pub gather_pieces-returns-in_err-place-in-Some-clause-parses : goal.gather_pieces-returns-in_err-place-in-Some-clause-parses
+gather_pieces-returns-in_err-place-in-Some-clause-parses g m c =
     let p = err_from_is_err_and c.from_residual.result c.from_residual.ensures.1 in
     rw (p.1, p.2)
     (item_fails c.loop-byte.invariant.gathered.behind
     (placed_fails c.args.self.now.source.bytes.now (within c.args.self.now.edition c.args.self.now.source.bytes.now
     c.args.nesting) _ _
     (sym c.in-Some.ensures) (sym c.if-is_eol_at.ensures)
-    c.if-byte-eq123.true (fails_first c.in_err-expression-in-Some.ensures.parses)))
+    c.if-byte-eq123.true (fails_first c.in_err-place-in-Some.ensures.parses)))
 
 pub gather_pieces-loop-byte-preserved-then-byte-eq123 : goal.gather_pieces-loop-byte-preserved-then-byte-eq123
 gather_pieces-loop-byte-preserved-then-byte-eq123 g m c =
     let t = c.args.self.now.source.bytes.now in
-    let read = c.in_ok-expression-in-Some.ensures in
-    on_made read.parses (λ e there same. record {
+    let read = c.in_ok-place-in-Some.ensures in
+    let (e, there, added) = read.parses in
+    let piece = c.in_ok-add_placed-in-Some.ensures in
+    record {
       forward = omega (arith, c.loop-byte.invariant.forward, read.within.0);
       within = read.within.1;
       gathered =
-          item_made (piece_view g.M.MakeTexts.made) _ _ _ c.in_ok-add_placed-in-Some.ensures
-          c.loop-byte.invariant.gathered
+          item_made (piece_view g.M.MakeTexts.made) _ _ _ piece.1 c.loop-byte.invariant.gathered
           (functional_next_piece t (within c.args.self.now.edition t c.args.nesting)
           (functional_within c.args.self.now.edition t _)) _
           (placed_piece t (within c.args.self.now.edition t c.args.nesting) _ _ (sym c.in-Some.ensures)
           (sym c.if-is_eol_at.ensures) c.if-byte-eq123.true _
-          (goes_on there given)) (ap placed same);
-    })
+          (goes_on there given)) (piece.2 _ _ added);
+    }
+
+pub gather_pieces-add_placed-requires : goal.gather_pieces-add_placed-requires
+gather_pieces-add_placed-requires g m c =
+    let (e, there, added) = c.in_ok-place-in-Some.ensures.parses in (_, _, added)
 
 pub gather_pieces-loop-byte-preserved : goal.gather_pieces-loop-byte-preserved
 gather_pieces-loop-byte-preserved g m c =

@@ -1,0 +1,148 @@
+-- The line on which a pattern opens, up to where its reader is.
+use Rattle.std.proofs.Common.{◌≡◌, ℕ, ◌+◌, ◌<◌, ◌≤◌, List, [], ◌∷◌, ◌++◌, append_assoc, map, Option, Some, None, Bool}
+use Rattle.std.proofs.Common.{true, false, refl, sym, ap, ◌∙◌, subst, arith}
+use Rattle.std.specs.Prelude.{◌==◌, if◌then◌else◌, nat_lt, slice_get}
+use Rattle.std.proofs.lemmas.Bool.Decides.{nat_tests}
+use Rattle.std.proofs.lemmas.List.{append-nil, map-append}
+use Rattle.fluent_syntax_tree.specs.Tree.{ElementTree, expression_map, placeable}
+use Rattle.fluent_syntax_tree.specs.View.{element_view}
+use Rattle.fluent_syntax_tree.specs.declared.ast.PatternElement.{PatternElement}
+use Rattle.fluent_syntax_tree.specs.declared.spans.Span.{Span}
+use Rattle.fluent_syntax_grammar.specs.Bytes.{lf, cr, left_brace, right_brace}
+use Rattle.fluent_syntax_grammar.specs.Construct.{Read, at_place, chosen, given, goes_on, item, list_of, no_item, passed}
+use Rattle.fluent_syntax_grammar.specs.Elements.{with_ending}
+use Rattle.fluent_syntax_grammar.specs.Family.{Family}
+use Rattle.fluent_syntax_grammar.specs.Laws.{IsFunctional}
+use Rattle.fluent_syntax_grammar.specs.Layout.{Ending, Piece, crlf_at, lf_at, placed, run}
+use Rattle.fluent_syntax_grammar.specs.Lines.{ending, ending_of, is_run_place, next_piece}
+use Rattle.fluent_syntax_grammar.specs.Places.{Stretch, after_eol, has_byte, has_eol}
+use Rattle.fluent_syntax_parser.specs.Elements.{EndsAt, element_of, run_of}
+use Rattle.fluent_syntax_parser.specs.Layouts.{piece_of}
+use Rattle.fluent_syntax_parser.specs.Opened.{Settled, as_item, none, piece_element}
+use Rattle.fluent_syntax_parser.specs.Outcomes.{Fails}
+use Rattle.fluent_syntax_parser.specs.declared.fault.ReadFault.{ReadFault}
+use Rattle.fluent_syntax_parser.proofs.patterns.BlankLines.{crlf_byte, lf_blank}
+use Rattle.fluent_syntax_parser.proofs.patterns.OneLine.{run_item}
+use Rattle.fluent_syntax_parser.proofs.patterns.Pieces.{end_pieces, no_pieces}
+use Rattle.fluent_syntax_parser.proofs.patterns.Rest.{run_mapped}
+use Rattle.fluent_syntax_parser.proofs.patterns.Settled.{placed_behind, run_behind, settled_ending, settled_mapped}
+use Rattle.fluent_syntax_parser.proofs.readers.Behind.{Behind, item_fails, list_read, one_behind}
+
+-- The elements are those of pieces up to a placeable, and what stands at the place stands behind them.
+pub record MadeOpening {S X : Type 0} (t : List ℕ) (R : Family) (f : Span → X) (v : S → X) (i : ℕ)
+    (elements : List (PatternElement S)) (j : ℕ) : Type 0 where
+  pub pieces : List Piece
+  pub settled : Settled pieces
+  pub same : map (element_view v) elements ≡ map (piece_element f) pieces
+  pub behind : Behind t (λ u. next_piece t R) (λ a rest. a ∷ rest) [] tt i (λ more. pieces ++ more) tt j
+
+module _ {S X : Type 0} (t : List ℕ) (R : Family) (f : Span → X) (v : S → X) (i : ℕ) where
+  pub no_opening : MadeOpening t R f v i [] i
+  no_opening =
+      record { pieces = []; settled = none; same = refl; behind = record { read = λ b end h. h; fails = λ e h. h } }
+
+  module _ (h : IsFunctional (next_piece t R)) (place to : ℕ) (w : Stretch (is_run_place t) place to) where
+    abbrev span : Span
+    span = record { start = place; end = to }
+
+    -- with the run that stands there, if it holds a byte
+    module _ (pieces : List Piece)
+        (g : Behind t (λ u. next_piece t R) (λ a rest. a ∷ rest) [] tt i (λ more. pieces ++ more) tt place) where
+      behind_run : Behind t (λ u. next_piece t R) (λ a rest. a ∷ rest) [] tt i (λ more. (pieces ++ run_of span) ++ more) tt
+          to
+      behind_run = by (nat_lt place to) refl
+        where
+          by : (b : Bool) → nat_lt place to ≡ b →
+              Behind t (λ u. next_piece t R) (λ a rest. a ∷ rest) [] tt i
+              (λ more. (pieces ++ (if b then run place to ∷ [] else [])) ++ more) tt to
+          by true e =
+              one_behind (λ more. (pieces ++ run place to ∷ []) ++ more) (run place to) tt to g h
+              (λ more. append_assoc pieces (run place to ∷ []) more)
+              (run_item t R place to w (grind (arith, nat_tests)))
+          by false e =
+              let here : place ≡ to = let l = w.forward in grind (arith, nat_tests) in
+              subst (λ k. Behind t (λ u. next_piece t R) (λ a rest. a ∷ rest) [] tt i (λ more. (pieces ++ []) ++ more) tt k)
+              here
+              (subst (λ ps. Behind t (λ u. next_piece t R) (λ a rest. a ∷ rest) [] tt i (λ more. ps ++ more) tt place)
+              (sym (append-nil pieces)) g)
+
+      pub opening_fails : {fault : ReadFault} → Fails t (next_piece t R) to fault →
+          Fails t (list_of (next_piece t R)) i fault
+      opening_fails x = item_fails behind_run x
+
+      pub opening_read : next_piece t R to (Read no_item to) →
+          list_of (next_piece t R) i (Read (pieces ++ run_of span) to)
+      opening_read x = list_read (pieces ++ run_of span) to behind_run (append-nil (pieces ++ run_of span)) x
+
+      -- one more placeable
+      placed_settled : {e : _} → (b : Bool) → Settled pieces →
+          Settled ((pieces ++ (if b then run place to ∷ [] else [])) ++ placed e ∷ [])
+      placed_settled {e = e} true s =
+          subst Settled (sym (append_assoc pieces (run place to ∷ []) (placed e ∷ []))) (run_behind place to e s)
+      placed_settled {e = e} false s = subst (λ ps. Settled (ps ++ placed e ∷ [])) (sym (append-nil pieces)) (placed_behind e s)
+
+      pub opening_placed : Settled pieces → (xs ys : List (PatternElement S)) (x : PatternElement S)
+          (zs : List (PatternElement S)) → map (element_view v) xs ≡ map (piece_element f) pieces →
+          map (element_view v) ys ≡ map (element_view v) xs ++ map (piece_element f) (run_of span) → zs ≡ ys ++ x ∷ [] →
+          (e : _) → element_view v x ≡ placeable (expression_map f e) → (next : ℕ) →
+          next_piece t R to (Read (item (placed e) tt) next) → MadeOpening t R f v i zs next
+      opening_placed settled xs ys x zs same added pushed e seen next read = record {
+        pieces = (pieces ++ run_of span) ++ placed e ∷ [];
+        settled = placed_settled (nat_lt place to) settled;
+        same =
+            ap (map (element_view v)) pushed ∙ map-append (element_view v) ys (x ∷ [])
+            ∙ ap (λ es. es ++ element_view v x ∷ [])
+            (added ∙ ap (λ es. es ++ map (piece_element f) (run_of span)) same
+            ∙ sym (map-append (piece_element f) pieces (run_of span)))
+            ∙ ap (λ z. map (piece_element f) (pieces ++ run_of span) ++ z ∷ []) seen
+            ∙ sym (map-append (piece_element f) (pieces ++ run_of span) (placed e ∷ []));
+        behind =
+            one_behind (λ more. ((pieces ++ run_of span) ++ placed e ∷ []) ++ more) (placed e) tt next behind_run h
+            (λ more. append_assoc (pieces ++ run_of span) (placed e ∷ []) more) read;
+      }
+
+-- ---- where the line ends
+
+-- what neither continues a run nor is a brace
+pub line_ends : (t : List ℕ) (R : Family) (place to : ℕ) → Stretch (is_run_place t) place to →
+    (slice_get t to ≡ Some left_brace → ⊥) → (slice_get t to ≡ Some right_brace → ⊥) →
+    next_piece t R to (Read no_item to)
+line_ends t R place to w opening close = by (slice_get t to) refl (has_eol t to) refl
+  where
+    by : (o : Option ℕ) → slice_get t to ≡ o → (eol : Bool) → has_eol t to ≡ eol → next_piece t R to (Read no_item to)
+    by None e eol f = end_pieces t R to e
+    by (Some b) e true f = no_pieces t R to (Some b) e (λ g. cc) f
+    by (Some b) e false f =
+        let stop = w.longest in
+        absurd (grind (arith, nat_tests))
+
+pub ends_at : (t : List ℕ) (to : ℕ) (e : Ending) (next : ℕ) → ending t to (Read e next) → EndsAt t to e
+ends_at t to e next (goes_on at_place (chosen h)) = by (after_eol t to) refl e h
+  where
+    test : (k : ℕ) → after_eol t to ≡ Some k → (b : Bool) → (k == to + 1) ≡ b →
+        EndsAt t to (if b then lf_at to else crlf_at to)
+    test k eol true same = refl
+    test k eol false other =
+        lf_blank t (to + 1) (to + 2) (omega arith)
+        (crlf_byte (has_byte t lf to) (has_byte t cr to) _ to k eol (grind (arith, nat_tests)))
+
+    by : (o : Option ℕ) → after_eol t to ≡ o → (e : Ending) → ending_of t to o to (Read e next) → EndsAt t to e
+    by None eol e given = tt
+    by (Some k) eol e (goes_on (passed w) given) = test k eol (k == to + 1) refl
+
+-- ---- with f of each text in its place
+
+module _ {X : Type 0} (f : Span → X) where
+  pub as_elements : (ps : List Piece) → map (piece_element f) ps ≡ map (element_of f) (map as_item (map (piece_of f) ps))
+  as_elements [] = refl
+  as_elements (p ∷ ps) = ap (λ es. piece_element f p ∷ es) (as_elements ps)
+
+  pub opening_settled : {ps : List Piece} → Settled ps → Settled (map (piece_of f) ps)
+  opening_settled s = settled_mapped (expression_map f) s
+
+  pub opening_ending : {ps : List Piece} → Settled ps → (s : Span) (end : Ending) →
+      with_ending (map (piece_of f) (ps ++ run_of s)) end ≡ map as_item (map (piece_of f) ps) ++ with_ending (run_of s) end
+  opening_ending {ps = ps} settled s end =
+      ap (λ qs. with_ending qs end)
+      (map-append (piece_of f) ps (run_of s) ∙ ap (λ qs. map (piece_of f) ps ++ qs) (run_mapped (expression_map f) s))
+      ∙ settled_ending (opening_settled settled) (run_of s) end
