@@ -1,5 +1,5 @@
 -- The placeable that was added last.
-use Rattle.std.proofs.Common.{◌≡◌, ℕ, List, [], ◌∷◌, ◌++◌, ◌-◌, length, Some, Option, refl, sym, ap, ◌∙◌, arith}
+use Rattle.std.proofs.Common.{◌≡◌, ℕ, List, [], ◌∷◌, ◌++◌, ◌-◌, length, None, Some, Option, refl, sym, ap, ◌∙◌, arith}
 use Rattle.std.specs.Prelude.{slice_get, Ok}
 use Rattle.std.proofs.lemmas.List.{length_push, same_from_push}
 use Rattle.fluent_syntax_tree.specs.Tree.{ElementTree, ExpressionTree, InlineTree, inline, inline_map, placeable}
@@ -29,6 +29,14 @@ last_is all xs x y pushed there =
     let before : length all - 1 ≡ length xs = omega (arith, length_push xs x, ap length pushed) in
     ap (some_or y) (there ∙ ap (slice_get all) before ∙ ap (λ ys. slice_get ys (length xs)) pushed ∙ at_end xs x)
 
+-- so something stands there
+pub last_there : {A : Type 0} (all xs : List A) (x : A) → all ≡ xs ++ x ∷ [] → None ≡ slice_get all (length all - 1) → ⊥
+last_there all xs x pushed none =
+    let before : length all - 1 ≡ length xs = omega (arith, length_push xs x, ap length pushed) in
+    let some : None ≡ Some x =
+    none ∙ ap (slice_get all) before ∙ ap (λ ys. slice_get ys (length xs)) pushed ∙ at_end xs x in
+    cc
+
 abbrev placed_or : {X : Type 0} → ExpressionTree X → ElementTree X → ExpressionTree X
 placed_or e (placeable d) = d
 placed_or e (text_element s) = e
@@ -38,23 +46,23 @@ no_text h = cc
 
 module _ {S X : Type 0} (v : S → X) where
   -- a placeable was added
-  pub inline_added : (x : InlineExpression S) {old new : List (PatternElement S)} {tree : InlineTree X} →
+  pub inline_added : (x : InlineExpression S) (old new : List (PatternElement S)) {tree : InlineTree X} →
       new ≡ old ++ Placeable (Inline x) ∷ [] → inline_view v x ≡ tree → AddsPlaced v old new (inline tree)
-  inline_added x pushed same =
+  inline_added x old new pushed same =
       (_, pushed, view-Placeable v (Inline x) ∙ ap placeable (view-Inline v x ∙ ap inline same))
 
-  pub placed_added : (x : Expression S) {old new : List (PatternElement S)} {tree : ExpressionTree X} →
+  pub placed_added : (x : Expression S) (old new : List (PatternElement S)) {tree : ExpressionTree X} →
       new ≡ old ++ Placeable x ∷ [] → expression_view v x ≡ tree → AddsPlaced v old new tree
-  placed_added x pushed same = (_, pushed, view-Placeable v x ∙ ap placeable same)
+  placed_added x old new pushed same = (_, pushed, view-Placeable v x ∙ ap placeable same)
 
-  pub placed_as : {old new : List (PatternElement S)} {tree other : ExpressionTree X} → AddsPlaced v old new tree →
-      tree ≡ other → AddsPlaced v old new other
-  placed_as (e, pushed, seen) same = (e, pushed, seen ∙ ap placeable same)
+  pub placed_as : (old new : List (PatternElement S)) (tree : ExpressionTree X) {other : ExpressionTree X} →
+      AddsPlaced v old new tree → tree ≡ other → AddsPlaced v old new other
+  placed_as old new tree (e, pushed, seen) same = (e, pushed, seen ∙ ap placeable same)
 
   -- in a list that is the same
-  pub placed_in : {old new all : List (PatternElement S)} {tree : ExpressionTree X} → all ≡ new →
-      AddsPlaced v old new tree → AddsPlaced v old all tree
-  placed_in same (e, pushed, seen) = (e, same ∙ pushed, seen)
+  pub placed_in : (old : List (PatternElement S)) {new all : List (PatternElement S)} (tree : ExpressionTree X) →
+      all ≡ new → AddsPlaced v old new tree → AddsPlaced v old all tree
+  placed_in old tree same (e, pushed, seen) = (e, same ∙ pushed, seen)
 
   -- the placeable that was added stands for that expression
   pub placed_is : (x : Expression S) {e : PatternElement S} {tree : ExpressionTree X} → Placeable x ≡ e →
@@ -68,7 +76,7 @@ module _ {S X : Type 0} (v : S → X) where
   text_not_placed s is seen = no_text (sym (view-TextElement v s) ∙ ap (element_view v) is ∙ seen)
 
   -- it was read
-  pub inline_pushed : {t : List ℕ} {f : Span → X} {c : Construct (InlineTree Span)} {e : InlineTree Span} {i j : ℕ}
-      (x : InlineExpression S) {old new : List (PatternElement S)} → new ≡ old ++ Placeable (Inline x) ∷ [] →
+  pub inline_pushed : (t : List ℕ) (f : Span → X) (c : Construct (InlineTree Span)) (e : InlineTree Span) (i j : ℕ)
+      (x : InlineExpression S) (old new : List (PatternElement S)) → new ≡ old ++ Placeable (Inline x) ∷ [] →
       c i (Read e j) → inline_view v x ≡ inline_map f e → Pushes v t (mapped_inline f) c old new i (Ok j)
-  inline_pushed x pushed read same = (_, read, inline_added x pushed same)
+  inline_pushed t f c e i j x old new pushed read same = (e, read, inline_added x old new pushed same)

@@ -26,6 +26,15 @@ module _ {E F : Type 0} (h : E → F) where
   rest_mapped s end =
       sym (ending_mapped h (run_of s) end) ∙ ap (λ ps. with_ending ps end) (run_mapped s)
 
+-- nothing is left where nothing stands
+pub nothing_left : {E : Type 0} (place : ℕ) →
+    with_ending {E = E} (run_of (record { start = place; end = place })) text_end ≡ []
+nothing_left {E = E} place = by (nat_lt place place) refl
+  where
+    by : (b : Bool) → nat_lt place place ≡ b → with_ending {E = E} (if b then run place place ∷ [] else []) text_end ≡ []
+    by true e = absurd (grind (arith, nat_tests))
+    by false e = refl
+
 -- Where no other line follows, it is one text, or nothing.
 module _ {E : Type 0} (t : List ℕ) (start to : ℕ) where
   abbrev one_text : ℕ → List (ItemOf E)

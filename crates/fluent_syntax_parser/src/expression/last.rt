@@ -38,7 +38,8 @@ pub(crate) fn last_inline<M: MakeTexts>(
             Expression::Inline(inline) => inline,
             Expression::Select { .. } => unreachable!(),
         },
-        _ => unreachable!(),
+        Some(PatternElement::TextElement { .. }) => unreachable!(),
+        None => unreachable!(),
     }
 }
 
@@ -53,7 +54,8 @@ pub(crate) fn take_expression<M: MakeTexts>(
 {
     match elements.pop() {
         Some(PatternElement::Placeable { expression }) => expression,
-        _ => unreachable!(),
+        Some(PatternElement::TextElement { .. }) => unreachable!(),
+        None => unreachable!(),
     }
 }
 

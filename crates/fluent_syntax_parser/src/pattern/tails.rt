@@ -179,10 +179,10 @@ impl<'s, 't, M: MakeTexts> Reader<'s, 't, M> {
         }
         let start = opening.run.start;
         let end = opening.text_end();
-        if self.source.is_nonblank(Span { start, end }) {
-            let end = self.source.trimmed_end(start, end);
-            self.add_text(Span { start, end }, elements)?;
+        if !self.source.is_nonblank(Span { start, end }) {
+            return Ok(());
         }
-        Ok(())
+        let end = self.source.trimmed_end(start, end);
+        self.add_text(Span { start, end }, elements)
     }
 }

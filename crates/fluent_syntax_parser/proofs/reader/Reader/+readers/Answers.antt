@@ -258,6 +258,28 @@ get_arguments-loop-noted-init = arguments.get_arguments-loop-noted-init
 pub add_opening-returns-in-Some-clause-opens : goal.add_opening-returns-in-Some-clause-opens
 add_opening-returns-in-Some-clause-opens = patterns.add_opening-returns-in-Some-clause-opens
 
+pub add_opening-loop-place-init : goal.add_opening-loop-place-init
+add_opening-loop-place-init = patterns.add_opening-loop-place-init
+
+pub add_opening-returns-in-Some-eq125-clause-opens : goal.add_opening-returns-in-Some-eq125-clause-opens
+add_opening-returns-in-Some-eq125-clause-opens = patterns.add_opening-returns-in-Some-eq125-clause-opens
+
+pub add_opening-returns-in_err-place-in-Some-eq123-clause-opens :
+    goal.add_opening-returns-in_err-place-in-Some-eq123-clause-opens
+add_opening-returns-in_err-place-in-Some-eq123-clause-opens =
+    patterns.add_opening-returns-in_err-place-in-Some-eq123-clause-opens
+
+pub add_opening-returns-in_err-add_text-in-Some-eq123-clause-opens :
+    goal.add_opening-returns-in_err-add_text-in-Some-eq123-clause-opens
+add_opening-returns-in_err-add_text-in-Some-eq123-clause-opens =
+    patterns.add_opening-returns-in_err-add_text-in-Some-eq123-clause-opens
+
+pub add_opening-returns-in_default-clause-opens : goal.add_opening-returns-in_default-clause-opens
+add_opening-returns-in_default-clause-opens = patterns.add_opening-returns-in_default-clause-opens
+
+pub add_opening-returns-in_default-clause-rest : goal.add_opening-returns-in_default-clause-rest
+add_opening-returns-in_default-clause-rest = patterns.add_opening-returns-in_default-clause-rest
+
 pub get_long_pattern-returns-in_err-opening-clause-parses : goal.get_long_pattern-returns-in_err-opening-clause-parses
 get_long_pattern-returns-in_err-opening-clause-parses = patterns.get_long_pattern-returns-in_err-opening-clause-parses
 

@@ -31,7 +31,7 @@ returns-in_err-add_inline-in-Some-clause-parses g c = λ a same.
 pub returns-in_ok-add_inline-in-Some-clause-parses : goal.returns-in_ok-add_inline-in-Some-clause-parses
 returns-in_ok-add_inline-in-Some-clause-parses g c = λ a same.
     let found = some_given _ a (ap (maybe_view g.M.MakeTexts.made) (sym c.in-Some.is) ∙ same) in
-    rw found.1 (inline_pushed g.M.MakeTexts.made _ c.in_ok-add_inline-in-Some.ensures
+    rw found.1 (inline_pushed g.M.MakeTexts.made _ _ _ _ _ _ _ _ _ c.in_ok-add_inline-in-Some.ensures
     (first (sym c.if-not-is_callee.ensures) given)
     (view-FunctionReference g.M.MakeTexts.made c.in_ok-id-in-Some.id c.in-Some.arguments
     ∙ ap (λ x. function_reference x (arguments_view g.M.MakeTexts.made c.in-Some.arguments)) c.in_ok-id-in-Some.ensures
@@ -61,7 +61,7 @@ returns-in_err-add_inline-in-None-clause-parses g c = λ a same.
 pub returns-in_ok-add_inline-in-None-clause-parses : goal.returns-in_ok-add_inline-in-None-clause-parses
 returns-in_ok-add_inline-in-None-clause-parses g c = λ a same.
     let none = none_given _ a (ap (maybe_view g.M.MakeTexts.made) (sym c.in-None.is) ∙ same) in
-    rw none (inline_pushed g.M.MakeTexts.made _ c.in_ok-add_inline-in-None.ensures
+    rw none (inline_pushed g.M.MakeTexts.made _ _ _ _ _ _ _ _ _ c.in_ok-add_inline-in-None.ensures
     (goes_on c.in_ok-attribute-in-None.ensures.parses given)
     (view-MessageReference g.M.MakeTexts.made c.in_ok-id-in-None.id c.in_ok-attribute-in-None-2.attribute
     ∙ rw (c.in_ok-id-in-None.ensures, c.in_ok-attribute-in-None-2.ensures) refl))

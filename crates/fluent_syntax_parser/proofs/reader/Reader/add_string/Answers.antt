@@ -28,7 +28,7 @@ returns-in_err-add_inline-clause-parses g c = λ n.
 pub returns-clause-parses : goal.returns-clause-parses
 returns-clause-parses g c = λ n.
     let v = g.M.MakeTexts.made in
-    inline_pushed v _ c.in_ok-add_inline.ensures
+    inline_pushed v _ _ _ _ _ _ _ _ _ c.in_ok-add_inline.ensures
     (by_start c.args.self.now.source.bytes.now _ _ starts.quote _ c.requires.starts
     (goes_on c.in_ok-value.ensures.parses
     given))

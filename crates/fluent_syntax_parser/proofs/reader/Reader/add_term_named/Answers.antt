@@ -8,6 +8,6 @@ pub returns : goal.returns
 returns g c =
     let v = g.M.MakeTexts.made in
     IfOk-weaker c.add_inline.result _ _ (λ done pushed.
-    inline_added v _ pushed
+    inline_added v _ _ _ pushed
     (view-TermReference v c.in_ok-id.id c.in_ok-attribute.attribute c.args.arguments
     ∙ rw (c.in_ok-id.ensures, c.in_ok-attribute.ensures) refl)) c.add_inline.ensures

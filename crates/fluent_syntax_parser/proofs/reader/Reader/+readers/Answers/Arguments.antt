@@ -102,7 +102,7 @@ add_argument_value-returns-in_default g m c = record {
 pub get_arguments-last_inline-requires : goal.get_arguments-last_inline-requires
 get_arguments-last_inline-requires g m c =
     let (e, read, added) = c.in_ok-next.ensures.parses in
-    (_, _, placed_in g.M.MakeTexts.made c.deref.ensures.value added)
+    (_, _, placed_in g.M.MakeTexts.made _ _ c.deref.ensures.value added)
 
 pub get_arguments-add_named-requires : goal.get_arguments-add_named-requires
 get_arguments-add_named-requires g m c =
@@ -134,7 +134,7 @@ get_arguments-returns-then-not-is_new-clause-parses g m c =
     let used = used_in_order t (bytes_at t c.in-Some.name) names ∙ c.in_ok-is_new-in-Some.ensures.new
     ∙ ap not c.if-not-is_new.true in
     let (e, read, added) = c.in_ok-next.ensures.parses in
-    let there = c.last_inline.ensures _ _ (placed_in g.M.MakeTexts.made c.deref.ensures.value added) in
+    let there = c.last_inline.ensures _ _ (placed_in g.M.MakeTexts.made _ _ c.deref.ensures.value added) in
     let is = sym (c.in-Some.ensures c.args.nesting _ e read there) in
     let text = sym (argument_text t _ _ e _ read c.in-Some.name is) in
     let next = c.in_ok-next.next in
@@ -158,7 +158,7 @@ get_arguments-returns-in_err-end-in-Some-clause-parses g m c =
     ∙ ap not c.if-not-is_new.false in
     let mark = sym c.if-is_byte_at.ensures in
     let (e, read, added) = c.in_ok-next.ensures.parses in
-    let there = c.last_inline.ensures _ _ (placed_in g.M.MakeTexts.made c.deref.ensures.value added) in
+    let there = c.last_inline.ensures _ _ (placed_in g.M.MakeTexts.made _ _ c.deref.ensures.value added) in
     let p = err_from_is_err_and c.from_residual-in_err-end-in-Some.result
     c.from_residual-in_err-end-in-Some.ensures.1 in
     rw (p.1, p.2)
@@ -191,7 +191,7 @@ get_arguments-loop-noted-preserved-then-is_byte_at g m c =
     let noted = c.in_ok-is_new-in-Some.ensures.noted c.if-not-is_new.false in
     let named = c.in_ok-add_named-in-Some.ensures in
     let (e, read, added) = c.in_ok-next.ensures.parses in
-    let there = c.last_inline.ensures _ _ (placed_in g.M.MakeTexts.made c.deref.ensures.value added) in
+    let there = c.last_inline.ensures _ _ (placed_in g.M.MakeTexts.made _ _ c.deref.ensures.value added) in
     let (value, read_value, added_value) = c.in_ok-end-in-Some.ensures.parses in
     record {
       forward =
@@ -222,7 +222,7 @@ get_arguments-returns-then-not-is_empty-clause-parses g m c =
     let old = c.loop-noted in
     let some = some_named old.noted.names.items c.if-not-is_empty.ensures in
     let (e, read, added) = c.in_ok-next.ensures.parses in
-    let there = c.last_inline.ensures _ _ (placed_in g.M.MakeTexts.made c.deref.ensures.value added) in
+    let there = c.last_inline.ensures _ _ (placed_in g.M.MakeTexts.made _ _ c.deref.ensures.value added) in
     let is : (argument_name e ≡ None) ⊎ (has_byte t colon c.in_ok-next.next ≡ false) =
     elim c.in_default.branch [
       | get_arguments-in_default-via-in-Some+else-is_byte_at w ↦ inr (sym w.if-is_byte_at.ensures)
@@ -242,7 +242,7 @@ get_arguments-loop-noted-preserved g m c =
     let none = none_named old.noted.names.items c.if-not-is_empty.ensures in
     let argument = c.in_ok-add_positional-in_default.ensures in
     let (e, read, added) = c.in_ok-next.ensures.parses in
-    let there = c.last_inline.ensures _ _ (placed_in g.M.MakeTexts.made c.deref.ensures.value added) in
+    let there = c.last_inline.ensures _ _ (placed_in g.M.MakeTexts.made _ _ c.deref.ensures.value added) in
     let is : (argument_name e ≡ None) ⊎ (has_byte t colon c.in_ok-next.next ≡ false) =
     elim c.in_default.branch [
       | get_arguments-in_default-via-in-Some+else-is_byte_at w ↦ inr (sym w.if-is_byte_at.ensures)

@@ -67,7 +67,7 @@ add_term_reference-returns-clause-parses g m c =
           (goes_on c.in_ok-attribute.ensures.parses
           (goes_on read
           given)))),
-      placed_as g.M.MakeTexts.made c.in_ok-add_term_named.ensures (rw same refl),
+      placed_as g.M.MakeTexts.made _ _ _ c.in_ok-add_term_named.ensures (rw same refl),
     ))
 
 pub add_term_reference-returns-in_err-add_term_named-clause-parses :
@@ -121,9 +121,11 @@ add_inner_placeable-returns-in_err-wrap_last-clause-parses g m c =
 
 pub add_inner_placeable-returns-clause-parses : goal.add_inner_placeable-returns-clause-parses
 add_inner_placeable-returns-clause-parses g m c =
-    let (a, read, added) = c.in_ok-end.ensures.parses in
-    (_, by_start c.args.self.now.source.bytes.now _ _ starts.brace _ c.requires.starts (goes_on read given),
-    c.in_ok-wrap_last.ensures _ _ added)
+    let (a, read, added) = c.in_ok-end.ensures.parses in (
+      _,
+      by_start c.args.self.now.source.bytes.now _ _ starts.brace _ c.requires.starts (goes_on read given),
+      c.in_ok-wrap_last.ensures _ _ added,
+    )
 
 pub add_inline_expression-add_number-requires-clause-starts :
     goal.add_inline_expression-add_number-requires-clause-starts

@@ -1,5 +1,6 @@
 -- The answers of the readers of patterns: their pieces, lines and layout.
-use Rattle.std.proofs.Common.{◌∙◌, refl, sym, ap, arith, None, Some}
+use Rattle.std.proofs.Common.{◌≡◌, ◌∙◌, [], ◌++◌, length, map, refl, sym, ap, arith, None, Some}
+use Rattle.std.specs.Prelude.{vec_len}
 use Rattle.std.proofs.lemmas.Result.{err_from_is_err_and}
 use Rattle.fluent_syntax_parser.proofs.patterns.LineEndings.{by_eol}
 use Rattle.fluent_syntax_grammar.specs.Construct.{goes_on, given, passed, at_place}
@@ -10,15 +11,22 @@ use Rattle.fluent_syntax_grammar.proofs.FunctionalRules.{functional_ending, func
 use Rattle.fluent_syntax_grammar.proofs.FunctionalRules.{functional_pieces}
 use Rattle.fluent_syntax_grammar.proofs.FunctionalWords.{functional_blank_block, functional_inline_blank}
 use Rattle.fluent_syntax_grammar.proofs.Nesting.{functional_within}
-use Rattle.fluent_syntax_grammar.specs.Elements.{with_ending}
-use Rattle.fluent_syntax_parser.specs.Lines.{line_view, piece_view}
+use Rattle.fluent_syntax_parser.specs.Elements.{run_of}
+use Rattle.fluent_syntax_parser.specs.Layouts.{piece_of}
+use Rattle.fluent_syntax_parser.specs.Lines.{ending_view, line_view, piece_view}
 use Rattle.fluent_syntax_parser.specs.Made.{made}
+use Rattle.fluent_syntax_parser.specs.Opened.{none}
 use Rattle.fluent_syntax_parser.specs.Outcomes.{no_memory, refused}
+use Rattle.fluent_syntax_parser.proofs.entry_forms.FieldForms.{no_items, some_items}
 use Rattle.fluent_syntax_parser.proofs.readers.Behind.{all_made, item_fails, item_made, no_items}
 use Rattle.fluent_syntax_parser.proofs.readers.Fails.{fails_first, fails_next, fails_seen, functional_here}
 use Rattle.fluent_syntax_parser.proofs.readers.Fails.{functional_reaches, out_of_memory}
 use Rattle.fluent_syntax_parser.proofs.readers.Made.{on_made}
 use Rattle.fluent_syntax_parser.proofs.patterns.BlankLines.{none_at_end, none_before_other}
+use Rattle.fluent_syntax_parser.proofs.patterns.Opening.{as_elements, ends_at, line_ends, no_opening, opening_ending}
+use Rattle.fluent_syntax_parser.proofs.patterns.Opening.{opening_fails, opening_placed, opening_read, opening_settled}
+use Rattle.fluent_syntax_parser.proofs.patterns.Rest.{nothing_left}
+use Rattle.fluent_syntax_parser.proofs.patterns.Spelled.{layout_spelled, none_spelled, some_spelled}
 use Rattle.fluent_syntax_parser.proofs.patterns.Pieces.{bare_brace, end_pieces, line_read, no_pieces, line_onward}
 use Rattle.fluent_syntax_parser.proofs.patterns.Pieces.{own_line_fails, further, placed_fails, placed_piece, run_piece}
 use Rattle.fluent_syntax_parser.proofs.patterns.Pieces.{run_there}
@@ -41,6 +49,90 @@ add_opening-returns-in-Some-clause-opens g m c =
           (fails_next functional_reaches (passed (record { there = refl }))
           (fails_next (functional_blank_block t) (passed blank) (fails_first h)));
     }
+
+pub add_opening-loop-place-init : goal.add_opening-loop-place-init
+add_opening-loop-place-init g m c = record {
+  forward = omega arith;
+  within = c.requires.within;
+  open = sym c.in-None.ensures.eol;
+  gathered =
+      rw c.requires.empty
+      (no_opening c.args.self.now.source.bytes.now _ _ g.M.MakeTexts.made c.args.ptr);
+}
+
+pub add_opening-returns-in-Some-eq125-clause-opens : goal.add_opening-returns-in-Some-eq125-clause-opens
+add_opening-returns-in-Some-eq125-clause-opens g m c =
+    let t = c.args.self.now.source.bytes.now in
+    let R = within c.args.self.now.edition t c.args.nesting in
+    let f = g.M.MakeTexts.source c.args.self.now.texts.now in
+    let old = c.loop-place.invariant in
+    let found = sym (rw c.in-Some-eq125.field-0-test at c.in-Some-eq125.ensures) in
+    fails_seen (layout_at t R) _ (sym old.open)
+    (fails_next functional_here at_place
+    (fails_first (opening_fails t R f g.M.MakeTexts.made _
+    (functional_next_piece t R (functional_within c.args.self.now.edition t _)) _ _ c.run_end-to.ensures.run _
+    old.gathered.behind (refused (λ k from to (a, b, d). rw (a, b, d)
+    (bare_brace t R _ _ found (rw found refl) refl))))))
+
+pub add_opening-returns-in_err-place-in-Some-eq123-clause-opens :
+    goal.add_opening-returns-in_err-place-in-Some-eq123-clause-opens
+add_opening-returns-in_err-place-in-Some-eq123-clause-opens g m c =
+    let t = c.args.self.now.source.bytes.now in
+    let R = within c.args.self.now.edition t c.args.nesting in
+    let f = g.M.MakeTexts.source c.args.self.now.texts.now in
+    let old = c.loop-place.invariant in
+    let found = sym (rw c.in-Some-eq123.field-0-test at c.in-Some-eq123.ensures) in
+    let p = err_from_is_err_and c.from_residual-in_err-place-in-Some-eq123.result
+    c.from_residual-in_err-place-in-Some-eq123.ensures.1 in
+    rw (p.1, p.2)
+    (fails_seen (layout_at t R) _ (sym old.open)
+    (fails_next functional_here at_place
+    (fails_first (opening_fails t R f g.M.MakeTexts.made _
+    (functional_next_piece t R (functional_within c.args.self.now.edition t _)) _ _ c.run_end-to.ensures.run _
+    old.gathered.behind
+    (placed_fails t R _ _ found (rw found refl) refl (fails_first c.in_err-place-in-Some-eq123.ensures.parses))))))
+
+pub add_opening-returns-in_err-add_text-in-Some-eq123-clause-opens :
+    goal.add_opening-returns-in_err-add_text-in-Some-eq123-clause-opens
+add_opening-returns-in_err-add_text-in-Some-eq123-clause-opens g m c =
+    rw (out_of_memory c.from_residual.result c.from_residual.ensures.1) no_memory
+
+pub add_opening-returns-in_default-clause-opens : goal.add_opening-returns-in_default-clause-opens
+add_opening-returns-in_default-clause-opens g m c =
+    let t = c.args.self.now.source.bytes.now in
+    let R = within c.args.self.now.edition t c.args.nesting in
+    let f = g.M.MakeTexts.source c.args.self.now.texts.now in
+    let old = c.loop-place.invariant in
+    let functional = functional_within c.args.self.now.edition t c.args.nesting in
+    let run = c.run_end-to.ensures.run in
+    let ends = c.get_ending-ending.ensures.parses in
+    let there = opening_read t R f g.M.MakeTexts.made _ (functional_next_piece t R functional) _ _ run _
+    old.gathered.behind (line_ends t R _ _ run (λ e. cc) (λ e. cc)) in
+    record {
+      opening =
+          Some (record {
+            start = c.args.ptr;
+            spaces = 0;
+            pieces = old.gathered.pieces ++ run_of (record { start = c.loop-place.place; end = c.run_end-to.result });
+            ending = ending_view c.get_ending-ending.result.0;
+          });
+      pieces = map (piece_of f) old.gathered.pieces;
+      settled = opening_settled f old.gathered.settled;
+      made = old.gathered.same ∙ as_elements f old.gathered.pieces;
+      same = opening_ending f old.gathered.settled _ _;
+      read = λ ls last h. by_eol t _ _ _ _ (sym old.open)
+          (goes_on at_place (goes_on there (goes_on ends (goes_on h given))));
+      fails = λ e h.
+          fails_seen (layout_at t R) _ (sym old.open)
+          (fails_next functional_here at_place
+          (fails_next (functional_pieces t R functional) there
+          (fails_next (functional_ending t) ends (fails_first h))));
+    }
+
+pub add_opening-returns-in_default-clause-rest : goal.add_opening-returns-in_default-clause-rest
+add_opening-returns-in_default-clause-rest g m c =
+    (c.run_end-to.ensures.run.forward,
+    ends_at c.args.self.now.source.bytes.now _ _ _ c.get_ending-ending.ensures.parses)
 
 pub get_long_pattern-returns-in_err-opening-clause-parses : goal.get_long_pattern-returns-in_err-opening-clause-parses
 get_long_pattern-returns-in_err-opening-clause-parses g m c =

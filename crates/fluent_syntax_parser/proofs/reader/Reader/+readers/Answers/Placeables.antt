@@ -45,8 +45,7 @@ add_placeable-returns-in_err-end-clause-parses g m c =
 
 pub add_placeable-returns-clause-parses : goal.add_placeable-returns-clause-parses
 add_placeable-returns-clause-parses g m c =
-    let (a, read, added) = c.in_ok-ptr.ensures.parses in
-    (
+    let (a, read, added) = c.in_ok-ptr.ensures.parses in (
       a,
       goes_on c.in_ok-start.ensures.parses
           (goes_on (passed c.skip_blank-start.ensures.blank)
@@ -75,7 +74,7 @@ pub add_expression-returns-then-is_term_attribute-clause-parses :
 add_expression-returns-then-is_term_attribute-clause-parses g m c =
     let v = g.M.MakeTexts.made in
     let (e, read, added) = c.in_ok-ptr.ensures.parses in
-    let there = c.last_inline.ensures _ _ (placed_in v c.deref.ensures.value added) in
+    let there = c.last_inline.ensures _ _ (placed_in v _ _ c.deref.ensures.value added) in
     refused (λ k from to (a, b, d). rw (a, b, d)
     (goes_on read
     (goes_on (passed c.skip_blank-ptr.ensures.blank)
@@ -88,8 +87,7 @@ pub add_expression-returns-clause-parses : goal.add_expression-returns-clause-pa
 add_expression-returns-clause-parses g m c =
     let v = g.M.MakeTexts.made in
     let (e, read, added) = c.in_ok-ptr.ensures.parses in
-    let there = c.last_inline.ensures _ _ (placed_in v c.deref.ensures.value added) in
-    (
+    let there = c.last_inline.ensures _ _ (placed_in v _ _ c.deref.ensures.value added) in (
       _,
       goes_on read
           (goes_on (passed c.skip_blank-ptr.ensures.blank)
@@ -104,7 +102,7 @@ add_expression-returns-clause-parses g m c =
 pub add_expression-last_inline-requires : goal.add_expression-last_inline-requires
 add_expression-last_inline-requires g m c =
     let (e, read, added) = c.in_ok-ptr.ensures.parses in
-    (_, _, placed_in g.M.MakeTexts.made c.deref.ensures.value added)
+    (_, _, placed_in g.M.MakeTexts.made _ _ c.deref.ensures.value added)
 
 pub add_expression-end_select-requires : goal.add_expression-end_select-requires
 add_expression-end_select-requires g m c = λ κs le.

@@ -25,12 +25,12 @@ use Rattle.fluent_syntax_parser.proofs.reader.Reader.+readers.Goals as goal
 pub end_select-last_inline-requires : goal.end_select-last_inline-requires
 end_select-last_inline-requires g m c =
     let (old, tree, added) = c.requires.selector in
-    (old, tree, placed_in g.M.MakeTexts.made c.deref.ensures.value added)
+    (old, tree, placed_in g.M.MakeTexts.made _ _ c.deref.ensures.value added)
 
 pub end_select-returns-in_err-start-clause-parses : goal.end_select-returns-in_err-start-clause-parses
 end_select-returns-in_err-start-clause-parses g m c = λ old e added.
     let t = c.args.self.now.source.bytes.now in
-    let there = c.last_inline.ensures old _ (placed_in g.M.MakeTexts.made c.deref.ensures.value added) in
+    let there = c.last_inline.ensures old _ (placed_in g.M.MakeTexts.made _ _ c.deref.ensures.value added) in
     let p = err_from_is_err_and c.from_residual.result c.from_residual.ensures.1 in
     rw (p.1, p.2)
     (select_fails c.args.self.now.edition t _ e _ (same_fault _ _ e there)
@@ -39,7 +39,7 @@ end_select-returns-in_err-start-clause-parses g m c = λ old e added.
 pub end_select-returns-in_err-end-clause-parses : goal.end_select-returns-in_err-end-clause-parses
 end_select-returns-in_err-end-clause-parses g m c = λ old e added.
     let t = c.args.self.now.source.bytes.now in
-    let there = c.last_inline.ensures old _ (placed_in g.M.MakeTexts.made c.deref.ensures.value added) in
+    let there = c.last_inline.ensures old _ (placed_in g.M.MakeTexts.made _ _ c.deref.ensures.value added) in
     let p = err_from_is_err_and c.from_residual-in_err-end.result c.from_residual-in_err-end.ensures.1 in
     rw (p.1, p.2)
     (select_fails c.args.self.now.edition t _ e _ (same_fault _ _ e there)
@@ -54,12 +54,12 @@ pub end_select-returns-clause-parses : goal.end_select-returns-clause-parses
 end_select-returns-clause-parses g m c = λ old e added.
     let t = c.args.self.now.source.bytes.now in
     let v = g.M.MakeTexts.made in
-    let there = c.last_inline.ensures old _ (placed_in v c.deref.ensures.value added) in
+    let there = c.last_inline.ensures old _ (placed_in v _ _ c.deref.ensures.value added) in
     on_made c.in_ok-end.ensures.parses (λ vs read same. (
       _,
       select_read c.args.self.now.edition t _ e _ (same_fault _ _ e there)
           (goes_on c.in_ok-start.ensures.parses read),
-      placed_as v (c.in_ok-add_variants.ensures old _ added) (rw same refl),
+      placed_as v _ _ _ (c.in_ok-add_variants.ensures old _ added) (rw same refl),
     ))
 
 pub gather_variants-returns-then-star-clause-parses : goal.gather_variants-returns-then-star-clause-parses
