@@ -1,18 +1,15 @@
 -- The placeable that was added last.
-use Rattle.std.proofs.Common.{◌≡◌, ℕ, List, [], ◌∷◌, ◌++◌, ◌-◌, length, None, Some, Option, refl, sym, ap, ◌∙◌, arith}
-use Rattle.std.specs.Prelude.{slice_get, Ok}
+use Rattle.std.proofs.Common.{◌≡◌, List, [], ◌∷◌, ◌++◌, ◌-◌, length, None, Some, Option, refl, sym, ap, ◌∙◌, arith}
+use Rattle.std.specs.Prelude.{slice_get}
 use Rattle.std.proofs.lemmas.List.{length_push, same_from_push}
-use Rattle.fluent_syntax_tree.specs.Tree.{ElementTree, ExpressionTree, InlineTree, inline, inline_map, placeable}
+use Rattle.fluent_syntax_tree.specs.Tree.{ElementTree, ExpressionTree, InlineTree, inline, placeable}
 use Rattle.fluent_syntax_tree.specs.Tree.{text_element}
 use Rattle.fluent_syntax_tree.specs.View.{element_view, expression_view, inline_view}
 use Rattle.fluent_syntax_tree.proofs.Views.{view-Inline, view-Placeable, view-TextElement}
 use Rattle.fluent_syntax_tree.specs.declared.ast.Expression.{Expression, Inline}
 use Rattle.fluent_syntax_tree.specs.declared.ast.InlineExpression.{InlineExpression}
 use Rattle.fluent_syntax_tree.specs.declared.ast.PatternElement.{PatternElement, Placeable, TextElement}
-use Rattle.fluent_syntax_tree.specs.declared.spans.Span.{Span}
-use Rattle.fluent_syntax_grammar.specs.Construct.{Construct, Read}
-use Rattle.fluent_syntax_parser.specs.Boxed.{mapped_inline}
-use Rattle.fluent_syntax_parser.specs.Last.{AddsPlaced, Pushes}
+use Rattle.fluent_syntax_parser.specs.Last.{AddsPlaced}
 
 at_end : {A : Type 0} (xs : List A) (x : A) → slice_get (xs ++ x ∷ []) (length xs) ≡ Some x
 at_end [] x = refl
@@ -28,14 +25,6 @@ pub last_is : {A : Type 0} (all xs : List A) (x y : A) → all ≡ xs ++ x ∷ [
 last_is all xs x y pushed there =
     let before : length all - 1 ≡ length xs = omega (arith, length_push xs x, ap length pushed) in
     ap (some_or y) (there ∙ ap (slice_get all) before ∙ ap (λ ys. slice_get ys (length xs)) pushed ∙ at_end xs x)
-
--- so something stands there
-pub last_there : {A : Type 0} (all xs : List A) (x : A) → all ≡ xs ++ x ∷ [] → None ≡ slice_get all (length all - 1) → ⊥
-last_there all xs x pushed none =
-    let before : length all - 1 ≡ length xs = omega (arith, length_push xs x, ap length pushed) in
-    let some : None ≡ Some x =
-    none ∙ ap (slice_get all) before ∙ ap (λ ys. slice_get ys (length xs)) pushed ∙ at_end xs x in
-    cc
 
 abbrev placed_or : {X : Type 0} → ExpressionTree X → ElementTree X → ExpressionTree X
 placed_or e (placeable d) = d
@@ -74,9 +63,3 @@ module _ {S X : Type 0} (v : S → X) where
   pub text_not_placed : (s : S) {e : PatternElement S} {tree : ExpressionTree X} → TextElement s ≡ e →
       element_view v e ≡ placeable tree → ⊥
   text_not_placed s is seen = no_text (sym (view-TextElement v s) ∙ ap (element_view v) is ∙ seen)
-
-  -- it was read
-  pub inline_pushed : (t : List ℕ) (f : Span → X) (c : Construct (InlineTree Span)) (e : InlineTree Span) (i j : ℕ)
-      (x : InlineExpression S) (old new : List (PatternElement S)) → new ≡ old ++ Placeable (Inline x) ∷ [] →
-      c i (Read e j) → inline_view v x ≡ inline_map f e → Pushes v t (mapped_inline f) c old new i (Ok j)
-  inline_pushed t f c e i j x old new pushed read same = (e, read, inline_added x old new pushed same)

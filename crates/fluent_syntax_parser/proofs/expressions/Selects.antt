@@ -96,13 +96,13 @@ module _ (edition : Edition) (t : List ℕ) (R : Family) (e : InlineTree Span) (
 
 -- The rest of an expression behind which an arrow stands, by its select.
 pub behind_blank : {S X : Type 0} (v : S → X) (edition : Edition) (t : List ℕ) (R : Family)
-    (f : ExpressionTree Span → ExpressionTree X) {old new : List (PatternElement S)} {i j k : ℕ} {e : InlineTree Span}
+    (f : ExpressionTree Span → ExpressionTree X) (old new : List (PatternElement S)) {i j k : ℕ} {e : InlineTree Span}
     (r : Result ℕ ReadFault) → inline_expression t R i (Read e j) → Blank t j k → has_arrow t k ≡ true →
     IsFunctionalFamily R → Pushes v t f (select_with edition t R e (selector_fault e)) old new k r →
     Pushes v t f (expression edition t R) old new i r
-behind_blank v edition t R f (Ok x) read blank arrow g (b, there, added) =
+behind_blank v edition t R f old new (Ok x) read blank arrow g (b, there, added) =
     (b, goes_on read (goes_on (passed blank) (goes_on (chosen given) (first arrow there))), added)
-behind_blank v edition t R f (Err _) read blank arrow g h =
+behind_blank v edition t R f old new (Err _) read blank arrow g h =
     fails_next (functional_inline t R g) read
     (fails_next (functional_blank t) (passed blank)
     (fails_next (functional_look (has_arrow t)) (chosen given)

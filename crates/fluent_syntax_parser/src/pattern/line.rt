@@ -1,8 +1,6 @@
 //! A line of a pattern.
-ghost use Rattle.std.specs.Prelude.{◌≡◌, ◌+◌, ◌<◌, ◌^◌};
-ghost use Rattle.fluent_syntax_parser.specs.Elements.{rest_end};
+ghost use Rattle.std.specs.Prelude.{◌+◌, ◌<◌, ◌^◌};
 ghost use Rattle.fluent_syntax_parser.specs.Endings.{EndsWithin};
-ghost use Rattle.fluent_syntax_parser.specs.Lines.{ending_view};
 
 use fluent_syntax_tree::ast::Expression;
 use fluent_syntax_tree::spans::Span;
@@ -29,18 +27,6 @@ pub(crate) struct OpeningEnd {
     pub(crate) run: Span,
     pub(crate) ending: Ending,
     ghost ends: { EndsWithin ending },
-}
-
-impl OpeningEnd {
-    /// Where the text ends that is left: an LF that ends the line belongs to it.
-    pub(crate) fn text_end(&self) -> usize
-        ensures { result ≡ rest_end self.now.run.end (ending_view self.now.ending) }
-    {
-        match self.ending {
-            Ending::Lf(place) => place + 1,
-            _ => self.run.end,
-        }
-    }
 }
 
 /// A line of a pattern: its leading spaces, what follows them, and its ending.

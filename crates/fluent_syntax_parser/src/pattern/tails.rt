@@ -4,13 +4,14 @@ ghost use Rattle.fluent_syntax_tree.specs.Spans.{bytes_at};
 ghost use Rattle.fluent_syntax_tree.specs.Tree.{text_element};
 ghost use Rattle.fluent_syntax_tree.specs.View.{element_view};
 ghost use Rattle.fluent_syntax_grammar.specs.Elements.{is_nonblank, trimmed_end, stays};
-ghost use Rattle.fluent_syntax_parser.specs.Elements.{AddsRest, CutsTo, element_of, item_view, last_of};
+ghost use Rattle.fluent_syntax_parser.specs.Elements.{AddsRest, CutsTo, element_of, item_view, last_of, rest_end};
+ghost use Rattle.fluent_syntax_parser.specs.Lines.{ending_view};
 ghost use Rattle.fluent_syntax_parser.specs.Opened.{IsRest};
 
 use crate::lists::add;
 use crate::pattern::elements::{add_lines, add_opening_end};
 use crate::pattern::indents::common_indent;
-use crate::pattern::line::{Line, OpeningEnd, Piece};
+use crate::pattern::line::{Ending, Line, OpeningEnd, Piece};
 use crate::reader::Reader;
 use crate::source::Source;
 use crate::texts::MakeTexts;
@@ -36,6 +37,18 @@ impl<'s> Source<'s> {
             start: from,
             end: to,
         }))
+    }
+}
+
+impl OpeningEnd {
+    /// Where the text ends that is left: an LF that ends the line belongs to it.
+    pub(crate) fn text_end(&self) -> usize
+        ensures { result ≡ rest_end self.now.run.end (ending_view self.now.ending) }
+    {
+        match self.ending {
+            Ending::Lf(place) => place + 1,
+            _ => self.run.end,
+        }
     }
 }
 

@@ -1,5 +1,5 @@
-use Rattle.std.proofs.Common.{◌∙◌, ap, arith, length, sym}
-use Rattle.std.proofs.lemmas.List.{length_push, same_from_push}
+use Rattle.std.proofs.Common.{◌∙◌, sym}
+use Rattle.std.proofs.lemmas.List.{same_from_push}
 use Rattle.fluent_syntax_parser.proofs.expressions.LastPlaced.{placed_is, text_not_placed}
 use Rattle.fluent_syntax_parser.proofs.expression.last.take_expression.Goals as goal
 
@@ -9,13 +9,6 @@ unreachable-requires g c =
     let found = c.in-Some-TextElement in
     let same = same_from_push _ old _ e (sym found.ensures.items ∙ pushed) in
     text_not_placed g.M.MakeTexts.made found.value (sym found.field-0-is ∙ same.1) seen
-
-pub unreachable-in-None-requires : goal.unreachable-in-None-requires
-unreachable-in-None-requires g c =
-    let (old, tree, e, pushed, seen) = c.requires in
-    let some = c.in-None.ensures.variant.1
-    (omega (arith, c.args.elements.now.ok.0, ap length pushed, length_push old e)) in
-    cc
 
 pub returns : goal.returns
 returns g c = λ old tree (e, pushed, seen).

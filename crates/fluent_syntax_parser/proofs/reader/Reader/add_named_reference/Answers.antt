@@ -1,13 +1,13 @@
 use Rattle.std.proofs.Common.{◌∙◌, ap, refl, sym}
 use Rattle.std.proofs.lemmas.Result.{err_from_is_err_and}
-use Rattle.fluent_syntax_tree.specs.Tree.{function_reference}
+use Rattle.fluent_syntax_tree.specs.Tree.{function_reference, message_reference}
 use Rattle.fluent_syntax_tree.specs.View.{arguments_view}
 use Rattle.fluent_syntax_tree.proofs.Views.{view-FunctionReference, view-MessageReference}
 use Rattle.fluent_syntax_grammar.specs.Construct.{stops, goes_on, given, failed, first, second}
 use Rattle.fluent_syntax_parser.specs.Gathered.{maybe_view}
 use Rattle.fluent_syntax_parser.specs.Outcomes.{no_memory, refused}
 use Rattle.fluent_syntax_parser.specs.declared.fault.Fault.TheVariants as fault
-use Rattle.fluent_syntax_parser.proofs.expressions.LastPlaced.{inline_pushed}
+use Rattle.fluent_syntax_parser.proofs.expressions.LastPlaced.{inline_added}
 use Rattle.fluent_syntax_parser.proofs.readers.Fails.{out_of_memory}
 use Rattle.fluent_syntax_parser.proofs.expressions.Given.{none_given, some_given}
 use Rattle.fluent_syntax_parser.proofs.reader.Reader.add_named_reference.Goals as goal
@@ -31,11 +31,15 @@ returns-in_err-add_inline-in-Some-clause-parses g c = λ a same.
 pub returns-in_ok-add_inline-in-Some-clause-parses : goal.returns-in_ok-add_inline-in-Some-clause-parses
 returns-in_ok-add_inline-in-Some-clause-parses g c = λ a same.
     let found = some_given _ a (ap (maybe_view g.M.MakeTexts.made) (sym c.in-Some.is) ∙ same) in
-    rw found.1 (inline_pushed g.M.MakeTexts.made _ _ _ _ _ _ _ _ _ c.in_ok-add_inline-in-Some.ensures
-    (first (sym c.if-not-is_callee.ensures) given)
-    (view-FunctionReference g.M.MakeTexts.made c.in_ok-id-in-Some.id c.in-Some.arguments
-    ∙ ap (λ x. function_reference x (arguments_view g.M.MakeTexts.made c.in-Some.arguments)) c.in_ok-id-in-Some.ensures
-    ∙ ap (function_reference (g.M.MakeTexts.source c.args.self.now.texts.now c.args.name)) found.2))
+    rw found.1 (
+      _,
+      first (sym c.if-not-is_callee.ensures) given,
+      inline_added g.M.MakeTexts.made _ _ _ c.in_ok-add_inline-in-Some.ensures
+          (view-FunctionReference g.M.MakeTexts.made c.in_ok-id-in-Some.id c.in-Some.arguments
+          ∙ ap (λ x. function_reference x (arguments_view g.M.MakeTexts.made c.in-Some.arguments))
+          c.in_ok-id-in-Some.ensures
+          ∙ ap (function_reference (g.M.MakeTexts.source c.args.self.now.texts.now c.args.name)) found.2),
+    )
 
 pub returns-in_err-attribute-in-None-clause-parses : goal.returns-in_err-attribute-in-None-clause-parses
 returns-in_err-attribute-in-None-clause-parses g c = λ a same.
@@ -61,7 +65,11 @@ returns-in_err-add_inline-in-None-clause-parses g c = λ a same.
 pub returns-in_ok-add_inline-in-None-clause-parses : goal.returns-in_ok-add_inline-in-None-clause-parses
 returns-in_ok-add_inline-in-None-clause-parses g c = λ a same.
     let none = none_given _ a (ap (maybe_view g.M.MakeTexts.made) (sym c.in-None.is) ∙ same) in
-    rw none (inline_pushed g.M.MakeTexts.made _ _ _ _ _ _ _ _ _ c.in_ok-add_inline-in-None.ensures
-    (goes_on c.in_ok-attribute-in-None.ensures.parses given)
-    (view-MessageReference g.M.MakeTexts.made c.in_ok-id-in-None.id c.in_ok-attribute-in-None-2.attribute
-    ∙ rw (c.in_ok-id-in-None.ensures, c.in_ok-attribute-in-None-2.ensures) refl))
+    rw none (
+      _,
+      goes_on c.in_ok-attribute-in-None.ensures.parses given,
+      inline_added g.M.MakeTexts.made _ _ _ c.in_ok-add_inline-in-None.ensures
+          (view-MessageReference g.M.MakeTexts.made c.in_ok-id-in-None.id c.in_ok-attribute-in-None-2.attribute
+          ∙ ap (λ x. message_reference x _) c.in_ok-id-in-None.ensures
+          ∙ ap (message_reference _) c.in_ok-attribute-in-None-2.ensures),
+    )

@@ -5,7 +5,7 @@ use Rattle.fluent_syntax_tree.proofs.Views.{view-NumberLiteral}
 use Rattle.fluent_syntax_grammar.specs.Construct.{stops, goes_on, given}
 use Rattle.fluent_syntax_parser.specs.Outcomes.{no_memory, refused}
 use Rattle.fluent_syntax_parser.proofs.expressions.InlineStarts.{by_number}
-use Rattle.fluent_syntax_parser.proofs.expressions.LastPlaced.{inline_pushed}
+use Rattle.fluent_syntax_parser.proofs.expressions.LastPlaced.{inline_added}
 use Rattle.fluent_syntax_parser.proofs.readers.Fails.{out_of_memory}
 use Rattle.fluent_syntax_parser.proofs.reader.Reader.add_number.Goals as goal
 
@@ -26,9 +26,11 @@ returns-in_err-add_inline-clause-parses g c = λ n.
 
 pub returns-clause-parses : goal.returns-clause-parses
 returns-clause-parses g c = λ n.
-    let v = g.M.MakeTexts.made in
-    inline_pushed v _ _ _ _ _ _ _ _ _ c.in_ok-add_inline.ensures
-    (by_number c.args.self.now.source.bytes.now _ _ _ c.requires.starts
-    (goes_on c.in_ok-end.ensures.parses
-    given))
-    (view-NumberLiteral v c.in_ok-value.value ∙ ap number_literal c.in_ok-value.ensures)
+    let v = g.M.MakeTexts.made in (
+      _,
+      by_number c.args.self.now.source.bytes.now _ _ _ c.requires.starts
+          (goes_on c.in_ok-end.ensures.parses
+          given),
+      inline_added v _ _ _ c.in_ok-add_inline.ensures
+          (view-NumberLiteral v c.in_ok-value.value ∙ ap number_literal c.in_ok-value.ensures),
+    )

@@ -6,7 +6,7 @@ use Rattle.fluent_syntax_grammar.specs.Construct.{stops, goes_on, given}
 use Rattle.fluent_syntax_grammar.specs.Starts as starts
 use Rattle.fluent_syntax_parser.specs.Outcomes.{no_memory, refused}
 use Rattle.fluent_syntax_parser.proofs.expressions.InlineStarts.{by_start}
-use Rattle.fluent_syntax_parser.proofs.expressions.LastPlaced.{inline_pushed}
+use Rattle.fluent_syntax_parser.proofs.expressions.LastPlaced.{inline_added}
 use Rattle.fluent_syntax_parser.proofs.readers.Fails.{out_of_memory}
 use Rattle.fluent_syntax_parser.proofs.reader.Reader.add_string.Goals as goal
 
@@ -27,9 +27,11 @@ returns-in_err-add_inline-clause-parses g c = λ n.
 
 pub returns-clause-parses : goal.returns-clause-parses
 returns-clause-parses g c = λ n.
-    let v = g.M.MakeTexts.made in
-    inline_pushed v _ _ _ _ _ _ _ _ _ c.in_ok-add_inline.ensures
-    (by_start c.args.self.now.source.bytes.now _ _ starts.quote _ c.requires.starts
-    (goes_on c.in_ok-value.ensures.parses
-    given))
-    (view-StringLiteral v c.in_ok-value-2.value ∙ ap string_literal c.in_ok-value-2.ensures)
+    let v = g.M.MakeTexts.made in (
+      _,
+      by_start c.args.self.now.source.bytes.now _ _ starts.quote _ c.requires.starts
+          (goes_on c.in_ok-value.ensures.parses
+          given),
+      inline_added v _ _ _ c.in_ok-add_inline.ensures
+          (view-StringLiteral v c.in_ok-value-2.value ∙ ap string_literal c.in_ok-value-2.ensures),
+    )

@@ -1,4 +1,4 @@
-use Rattle.std.proofs.Common.{◌∷◌, ◌++◌, [], ◌∙◌, ap}
+use Rattle.std.proofs.Common.{◌∙◌, ap}
 use Rattle.std.proofs.lemmas.Result.{IfOk-weaker}
 use Rattle.fluent_syntax_tree.specs.Tree.{inline_placeable}
 use Rattle.fluent_syntax_tree.specs.View.{expression_view}
@@ -12,6 +12,6 @@ returns g c =
     let expression = c.in_ok-expression.expression in
     IfOk-weaker c.add_inline.result _ _ (λ done pushed old tree added.
     let taken = c.take_expression.ensures old tree added in
-    inline_added v _ _ _ (pushed ∙ ap (λ xs. xs ++ _ ∷ []) taken.0)
+    inline_added v _ _ _ (rw taken.0 at pushed)
     (view-InlinePlaceable v expression
     ∙ ap inline_placeable (ap (expression_view v) c.in_ok-expression.ensures.ok ∙ taken.1))) c.add_inline.ensures

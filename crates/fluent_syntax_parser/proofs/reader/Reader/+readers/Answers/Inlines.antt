@@ -99,7 +99,7 @@ pub add_reference-returns-clause-parses : goal.add_reference-returns-clause-pars
 add_reference-returns-clause-parses g m c =
     let t = c.args.self.now.source.bytes.now in
     on_made c.in_ok-arguments.ensures.parses (λ a read same.
-    referred g.M.MakeTexts.made t _ _ _ _ (c.add_named_reference.ensures.parses a same) c.requires.starts
+    referred g.M.MakeTexts.made t _ _ _ _ _ _ (c.add_named_reference.ensures.parses a same) c.requires.starts
     c.in_ok-end.ensures.parses read (functional_within c.args.self.now.edition t _))
 
 pub add_inner_placeable-wrap_last-requires : goal.add_inner_placeable-wrap_last-requires

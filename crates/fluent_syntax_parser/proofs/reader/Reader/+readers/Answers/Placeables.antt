@@ -65,7 +65,7 @@ pub add_expression-returns-then-is_arrow-clause-parses : goal.add_expression-ret
 add_expression-returns-then-is_arrow-clause-parses g m c =
     let t = c.args.self.now.source.bytes.now in
     let (e, read, added) = c.in_ok-ptr.ensures.parses in
-    behind_blank g.M.MakeTexts.made c.args.self.now.edition t _ _ _ read c.skip_blank-ptr.ensures.blank
+    behind_blank g.M.MakeTexts.made c.args.self.now.edition t _ _ _ _ _ read c.skip_blank-ptr.ensures.blank
     (sym c.if-is_arrow.ensures) (functional_within c.args.self.now.edition t _)
     (c.end_select.ensures.parses _ e added)
 
