@@ -1,6 +1,7 @@
 -- The answers of the readers of inline expressions.
-use Rattle.std.proofs.Common.{refl}
+use Rattle.std.proofs.Common.{ap, refl}
 use Rattle.std.proofs.lemmas.Result.{err_from_is_err_and}
+use Rattle.fluent_syntax_tree.specs.Tree.{inline, term_reference}
 use Rattle.fluent_syntax_grammar.specs.Starts as starts
 use Rattle.fluent_syntax_grammar.specs.Bytes.{hyphen}
 use Rattle.fluent_syntax_grammar.specs.Construct.{stops, goes_on, given, failed}
@@ -67,7 +68,8 @@ add_term_reference-returns-clause-parses g m c =
           (goes_on c.in_ok-attribute.ensures.parses
           (goes_on read
           given)))),
-      placed_as g.M.MakeTexts.made _ _ _ c.in_ok-add_term_named.ensures (rw same refl),
+      placed_as g.M.MakeTexts.made _ _ _ c.in_ok-add_term_named.ensures
+          (ap (λ x. inline (term_reference _ _ x)) same),
     ))
 
 pub add_term_reference-returns-in_err-add_term_named-clause-parses :
