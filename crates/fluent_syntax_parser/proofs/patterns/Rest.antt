@@ -35,13 +35,13 @@ nothing_left {E = E} place = by (nat_lt place place) refl
     by true e = absurd (grind (arith, nat_tests))
     by false e = refl
 
+nothing : (t : List ℕ) {start to : ℕ} → start ≡ to → slice_range t start to ≡ []
+nothing t {start = start} same = ap (slice_range t start) (sym same) ∙ range_none t start
+
 -- Where no other line follows, it is one text, or nothing.
 module _ {E : Type 0} (t : List ℕ) (start to : ℕ) where
   abbrev one_text : ℕ → List (ItemOf E)
   one_text end = if is_nonblank (slice_range t start end) then text start end ∷ [] else []
-
-  nothing : start ≡ to → slice_range t start to ≡ []
-  nothing same = ap (slice_range t start) (sym same) ∙ range_none t start
 
   alone : (b : Bool) → nat_lt start to ≡ b → start ≤ to → (end : Ending) → EndsAt t to end →
       cut t (with_ending (if b then run start to ∷ [] else []) end) ≡ one_text (rest_end to end)
@@ -51,9 +51,9 @@ module _ {E : Type 0} (t : List ℕ) (start to : ℕ) where
   alone false l in_order (lf_at p) there =
       let same : start ≡ p = grind (arith, nat_tests) in rw same refl
   alone false l in_order (crlf_at p) there =
-      let same : start ≡ to = grind (arith, nat_tests) in rw (there, nothing same) refl
+      let same : start ≡ to = grind (arith, nat_tests) in rw (there, nothing t same) refl
   alone false l in_order text_end there =
-      let same : start ≡ to = grind (arith, nat_tests) in rw (nothing same) refl
+      let same : start ≡ to = grind (arith, nat_tests) in rw (nothing t same) refl
 
 module _ {X : Type 0} (f : Span → X) (t : List ℕ) where
   -- the text that the rest of a line is, where nothing follows
@@ -68,7 +68,7 @@ module _ {X : Type 0} (f : Span → X) (t : List ℕ) where
       ∙ by b stays
     where
       by : (b : Bool) → is_nonblank (slice_range t s.start (rest_end s.end end)) ≡ b →
-          spelled f t {X = X}
+          spelled f t
           (if is_nonblank (slice_range t s.start (rest_end s.end end)) then text s.start (rest_end s.end end) ∷ [] else [])
           ≡ (if b then text_element (f (record { start = s.start; end = trimmed_end t s.start (rest_end s.end end) })) ∷ []
           else [])

@@ -8,7 +8,8 @@ use Rattle.fluent_syntax_parser.proofs.expression.last.last_inline.Goals as goal
 pub unreachable-requires : goal.unreachable-requires
 unreachable-requires g c =
     let v = g.M.MakeTexts.made in
-    let (old, tree, e, pushed, seen) = c.requires in
+    let (old, tree, added) = c.requires in
+    let (e, pushed, seen) = added in
     let found = c.in-Some-Placeable in
     let is = last_is c.args.elements.now old e found.field-0.now pushed found.ensures.value in
     select_not_inline v c.in-Select.selector c.in-Select.variants c.in-Select.is
@@ -16,7 +17,8 @@ unreachable-requires g c =
 
 pub unreachable-requires-in-Some-TextElement : goal.unreachable-requires-in-Some-TextElement
 unreachable-requires-in-Some-TextElement g c =
-    let (old, tree, e, pushed, seen) = c.requires in
+    let (old, tree, added) = c.requires in
+    let (e, pushed, seen) = added in
     let found = c.in-Some-TextElement in
     let is = last_is c.args.elements.now old e found.field-0.now pushed found.ensures.value in
     text_not_placed g.M.MakeTexts.made found.value (sym found.field-0-is ∙ is) seen

@@ -5,7 +5,8 @@ use Rattle.fluent_syntax_parser.proofs.expression.last.take_expression.Goals as 
 
 pub unreachable-requires : goal.unreachable-requires
 unreachable-requires g c =
-    let (old, tree, e, pushed, seen) = c.requires in
+    let (old, tree, added) = c.requires in
+    let (e, pushed, seen) = added in
     let found = c.in-Some-TextElement in
     let same = same_from_push _ old _ e (sym found.ensures.items ∙ pushed) in
     text_not_placed g.M.MakeTexts.made found.value (sym found.field-0-is ∙ same.1) seen

@@ -1,3 +1,4 @@
+use Rattle.std.proofs.Common.{sym}
 use Rattle.fluent_syntax_parser.proofs.reader.Reader.add_last_element.Goals as goal
 
 pub returns-in-Run : goal.returns-in-Run

@@ -1,7 +1,7 @@
-use Rattle.std.proofs.Common.{◌∙◌, ap, refl, sym}
+use Rattle.std.proofs.Common.{◌∙◌, ap, option_map, refl, sym}
 use Rattle.std.proofs.lemmas.Result.{err_from_is_err_and}
 use Rattle.fluent_syntax_tree.specs.Tree.{function_reference, message_reference}
-use Rattle.fluent_syntax_tree.specs.View.{arguments_view}
+use Rattle.fluent_syntax_tree.specs.View.{arguments_view, identifier_view}
 use Rattle.fluent_syntax_tree.proofs.Views.{view-FunctionReference, view-MessageReference}
 use Rattle.fluent_syntax_grammar.specs.Construct.{stops, goes_on, given, failed, first, second}
 use Rattle.fluent_syntax_parser.specs.Gathered.{maybe_view}
@@ -64,12 +64,15 @@ returns-in_err-add_inline-in-None-clause-parses g c = λ a same.
 
 pub returns-in_ok-add_inline-in-None-clause-parses : goal.returns-in_ok-add_inline-in-None-clause-parses
 returns-in_ok-add_inline-in-None-clause-parses g c = λ a same.
-    let none = none_given _ a (ap (maybe_view g.M.MakeTexts.made) (sym c.in-None.is) ∙ same) in
+    let v = g.M.MakeTexts.made in
+    let f = g.M.MakeTexts.source c.args.self.now.texts.now in
+    let attribute = c.in_ok-attribute-in-None-2.attribute in
+    let none = none_given _ a (ap (maybe_view v) (sym c.in-None.is) ∙ same) in
     rw none (
-      _,
+      message_reference c.args.name (option_map (identifier_view (λ s. s)) c.in_ok-attribute-in-None.attribute),
       goes_on c.in_ok-attribute-in-None.ensures.parses given,
-      inline_added g.M.MakeTexts.made _ _ _ c.in_ok-add_inline-in-None.ensures
-          (view-MessageReference g.M.MakeTexts.made c.in_ok-id-in-None.id c.in_ok-attribute-in-None-2.attribute
-          ∙ ap (λ x. message_reference x _) c.in_ok-id-in-None.ensures
-          ∙ ap (message_reference _) c.in_ok-attribute-in-None-2.ensures),
+      inline_added v _ _ _ c.in_ok-add_inline-in-None.ensures
+          (view-MessageReference v c.in_ok-id-in-None.id attribute
+          ∙ ap (λ x. message_reference x (option_map (identifier_view v) attribute)) c.in_ok-id-in-None.ensures
+          ∙ ap (message_reference (f c.args.name)) c.in_ok-attribute-in-None-2.ensures),
     )

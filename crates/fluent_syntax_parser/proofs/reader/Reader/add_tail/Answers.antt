@@ -25,12 +25,12 @@ returns-in-None g c =
     ∙ ap (λ xs. least (flat_map (counted edition) (map (line_view v) xs))) c.deref.ensures.value in
     let viewed = items_viewed v edition c.common_indent-common.result opened all lines c.in_ok-add_lines.ensures
     ∙ ap (λ xs. xs ++ flat_map (line_items edition c.common_indent-common.result) (map (line_view v) lines))
-    (rest_viewed v rest opened c.in_ok-add_opening_end.ensures)
+    (rest_viewed v rest opened (rw c.new-items.ensures.items at c.in_ok-add_opening_end.ensures))
     ∙ ap (λ common. rest_items rest ++ flat_map (line_items edition common) (map (line_view v) lines)) indent in
     none_added f t _ (map (element_view v) c.args.elements.now.items) (rw viewed at c.in-None.ensures)
 
-pub returns-in-Some : goal.returns-in-Some
-returns-in-Some g c =
+pub returns-in_ok-add_elements-in-Some : goal.returns-in_ok-add_elements-in-Some
+returns-in_ok-add_elements-in-Some g c =
     let f = g.M.MakeTexts.source c.args.self.now.texts.now in
     let v = g.M.MakeTexts.made in
     let t = c.args.self.now.source.bytes.now in
@@ -44,7 +44,7 @@ returns-in-Some g c =
     ∙ ap (λ xs. least (flat_map (counted edition) (map (line_view v) xs))) c.deref.ensures.value in
     let viewed = items_viewed v edition c.common_indent-common.result opened all lines c.in_ok-add_lines.ensures
     ∙ ap (λ xs. xs ++ flat_map (line_items edition c.common_indent-common.result) (map (line_view v) lines))
-    (rest_viewed v rest opened c.in_ok-add_opening_end.ensures)
+    (rest_viewed v rest opened (rw c.new-items.ensures.items at c.in_ok-add_opening_end.ensures))
     ∙ ap (λ common. rest_items rest ++ flat_map (line_items edition common) (map (line_view v) lines)) indent in
     IfOk-weaker c.add_last_element.result _ _ (λ done added.
     added ∙ ap (λ xs. xs ++ last_of f t (item_view v c.in-Some.last) ∷ []) c.in_ok-add_elements-in-Some.ensures
