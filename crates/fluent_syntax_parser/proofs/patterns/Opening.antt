@@ -4,17 +4,17 @@ use Rattle.std.proofs.Common.{true, false, refl, sym, ap, ◌∙◌, subst, arit
 use Rattle.std.specs.Prelude.{◌==◌, if◌then◌else◌, nat_lt, slice_get}
 use Rattle.std.proofs.lemmas.Bool.Decides.{nat_tests}
 use Rattle.std.proofs.lemmas.List.{append-nil, map-append}
-use Rattle.fluent_syntax_tree.specs.Tree.{ElementTree, expression_map, placeable}
+use Rattle.fluent_syntax_tree.specs.Tree.{ExpressionTree, expression_map, placeable}
 use Rattle.fluent_syntax_tree.specs.View.{element_view}
 use Rattle.fluent_syntax_tree.specs.declared.ast.PatternElement.{PatternElement}
 use Rattle.fluent_syntax_tree.specs.declared.spans.Span.{Span}
 use Rattle.fluent_syntax_grammar.specs.Bytes.{lf, cr, left_brace, right_brace}
-use Rattle.fluent_syntax_grammar.specs.Construct.{Read, at_place, chosen, given, goes_on, item, list_of, no_item, passed}
+use Rattle.fluent_syntax_grammar.specs.Construct.{Outcome, Read, Refused, item, list_of, no_item}
 use Rattle.fluent_syntax_grammar.specs.Elements.{with_ending}
 use Rattle.fluent_syntax_grammar.specs.Family.{Family}
 use Rattle.fluent_syntax_grammar.specs.Laws.{IsFunctional}
-use Rattle.fluent_syntax_grammar.specs.Layout.{Ending, Piece, crlf_at, lf_at, placed, run}
-use Rattle.fluent_syntax_grammar.specs.Lines.{ending, ending_of, is_run_place, next_piece}
+use Rattle.fluent_syntax_grammar.specs.Layout.{Ending, Piece, crlf_at, lf_at, placed, run, text_end}
+use Rattle.fluent_syntax_grammar.specs.Lines.{ending, is_run_place, next_piece}
 use Rattle.fluent_syntax_grammar.specs.Places.{Stretch, after_eol, has_byte, has_eol}
 use Rattle.fluent_syntax_parser.specs.Elements.{EndsAt, element_of, run_of}
 use Rattle.fluent_syntax_parser.specs.Layouts.{piece_of}
@@ -22,6 +22,8 @@ use Rattle.fluent_syntax_parser.specs.Opened.{Settled, as_item, none, piece_elem
 use Rattle.fluent_syntax_parser.specs.Outcomes.{Fails}
 use Rattle.fluent_syntax_parser.specs.declared.fault.ReadFault.{ReadFault}
 use Rattle.fluent_syntax_parser.proofs.patterns.BlankLines.{crlf_byte, lf_blank}
+use Rattle.fluent_syntax_grammar.proofs.FunctionalRules.{functional_ending}
+use Rattle.fluent_syntax_parser.proofs.patterns.LineEndings.{ends_line, ends_text}
 use Rattle.fluent_syntax_parser.proofs.patterns.OneLine.{run_item}
 use Rattle.fluent_syntax_parser.proofs.patterns.Pieces.{end_pieces, no_pieces}
 use Rattle.fluent_syntax_parser.proofs.patterns.Rest.{run_mapped}
@@ -75,20 +77,20 @@ module _ {S X : Type 0} (t : List ℕ) (R : Family) (f : Span → X) (v : S → 
       opening_read x = list_read (pieces ++ run_of span) to behind_run (append-nil (pieces ++ run_of span)) x
 
       -- one more placeable
-      placed_settled : {e : _} → (b : Bool) → Settled pieces →
+      placed_settled : (e : ExpressionTree Span) (b : Bool) → Settled pieces →
           Settled ((pieces ++ (if b then run place to ∷ [] else [])) ++ placed e ∷ [])
-      placed_settled {e = e} true s =
+      placed_settled e true s =
           subst Settled (sym (append_assoc pieces (run place to ∷ []) (placed e ∷ []))) (run_behind place to e s)
-      placed_settled {e = e} false s = subst (λ ps. Settled (ps ++ placed e ∷ [])) (sym (append-nil pieces)) (placed_behind e s)
+      placed_settled e false s = subst (λ ps. Settled (ps ++ placed e ∷ [])) (sym (append-nil pieces)) (placed_behind e s)
 
       pub opening_placed : Settled pieces → (xs ys : List (PatternElement S)) (x : PatternElement S)
           (zs : List (PatternElement S)) → map (element_view v) xs ≡ map (piece_element f) pieces →
           map (element_view v) ys ≡ map (element_view v) xs ++ map (piece_element f) (run_of span) → zs ≡ ys ++ x ∷ [] →
-          (e : _) → element_view v x ≡ placeable (expression_map f e) → (next : ℕ) →
+          (e : ExpressionTree Span) → element_view v x ≡ placeable (expression_map f e) → (next : ℕ) →
           next_piece t R to (Read (item (placed e) tt) next) → MadeOpening t R f v i zs next
       opening_placed settled xs ys x zs same added pushed e seen next read = record {
         pieces = (pieces ++ run_of span) ++ placed e ∷ [];
-        settled = placed_settled (nat_lt place to) settled;
+        settled = placed_settled e (nat_lt place to) settled;
         same =
             ap (map (element_view v)) pushed ∙ map-append (element_view v) ys (x ∷ [])
             ∙ ap (λ es. es ++ element_view v x ∷ [])
@@ -116,8 +118,12 @@ line_ends t R place to w opening close = by (slice_get t to) refl (has_eol t to)
         let stop = w.longest in
         absurd (grind (arith, nat_tests))
 
+abbrev ending_or : Ending → Outcome Ending → Ending
+ending_or e (Read d j) = d
+ending_or e (Refused k from to) = e
+
 pub ends_at : (t : List ℕ) (to : ℕ) (e : Ending) (next : ℕ) → ending t to (Read e next) → EndsAt t to e
-ends_at t to e next (goes_on at_place (chosen h)) = by (after_eol t to) refl e h
+ends_at t to e next read = by (after_eol t to) refl
   where
     test : (k : ℕ) → after_eol t to ≡ Some k → (b : Bool) → (k == to + 1) ≡ b →
         EndsAt t to (if b then lf_at to else crlf_at to)
@@ -126,9 +132,14 @@ ends_at t to e next (goes_on at_place (chosen h)) = by (after_eol t to) refl e h
         lf_blank t (to + 1) (to + 2) (omega arith)
         (crlf_byte (has_byte t lf to) (has_byte t cr to) _ to k eol (grind (arith, nat_tests)))
 
-    by : (o : Option ℕ) → after_eol t to ≡ o → (e : Ending) → ending_of t to o to (Read e next) → EndsAt t to e
-    by None eol e given = tt
-    by (Some k) eol e (goes_on (passed w) given) = test k eol (k == to + 1) refl
+    same : (d : Ending) (j : ℕ) → ending t to (Read d j) → d ≡ e
+    same d j other = ap (ending_or d) ((functional_ending t).same to (Read d j) (Read e next) other read)
+
+    by : (o : Option ℕ) → after_eol t to ≡ o → EndsAt t to e
+    by None eol = subst (λ x. EndsAt t to x) (same text_end to (ends_text t to eol)) tt
+    by (Some k) eol =
+        subst (λ x. EndsAt t to x) (same (if k == to + 1 then lf_at to else crlf_at to) k (ends_line t to k eol))
+        (test k eol (k == to + 1) refl)
 
 -- ---- with f of each text in its place
 

@@ -21,7 +21,7 @@ unreachable-requires-in-Some-TextElement g c =
     let (e, pushed, seen) = added in
     let found = c.in-Some-TextElement in
     let is = last_is c.args.elements.now old e found.field-0.now pushed found.ensures.value in
-    text_not_placed g.M.MakeTexts.made found.value (sym found.field-0-is ∙ is) seen
+    text_not_placed g.M.MakeTexts.made found.field-0-0 (sym found.field-0-is ∙ is) seen
 
 pub returns : goal.returns
 returns g c = λ old tree (e, pushed, seen).

@@ -9,7 +9,7 @@ unreachable-requires g c =
     let (e, pushed, seen) = added in
     let found = c.in-Some-TextElement in
     let same = same_from_push _ old _ e (sym found.ensures.items ∙ pushed) in
-    text_not_placed g.M.MakeTexts.made found.value (sym found.field-0-is ∙ same.1) seen
+    text_not_placed g.M.MakeTexts.made found.field-0-0 (sym found.field-0-is ∙ same.1) seen
 
 pub returns : goal.returns
 returns g c = λ old tree (e, pushed, seen).

@@ -118,7 +118,7 @@ invariant-add_opening-loop-place g l =
     record {
       forward : l.ptr ≤ l.place;
       within : l.place ≤ length t;
-      open : after_eol t l.ptr ≡ None;
+      unended : after_eol t l.ptr ≡ None;
       gathered :
           MadeOpening t (grammar.within l.self.edition t l.nesting) (g.M.MakeTexts.source l.self.texts.now)
           g.M.MakeTexts.made l.ptr l.elements.items l.place;

@@ -27,7 +27,8 @@ returns-in-None g c =
     ∙ ap (λ xs. xs ++ flat_map (line_items edition c.common_indent-common.result) (map (line_view v) lines))
     (rest_viewed v rest opened (rw c.new-items.ensures.items at c.in_ok-add_opening_end.ensures))
     ∙ ap (λ common. rest_items rest ++ flat_map (line_items edition common) (map (line_view v) lines)) indent in
-    none_added f t _ (map (element_view v) c.args.elements.now.items) (rw viewed at c.in-None.ensures)
+    none_added f t (rest_items rest ++ flat_map (line_items edition (least (flat_map (counted edition) (map (line_view v)
+    lines)))) (map (line_view v) lines)) (map (element_view v) c.args.elements.now.items) (rw viewed at c.in-None.ensures)
 
 pub returns-in_ok-add_elements-in-Some : goal.returns-in_ok-add_elements-in-Some
 returns-in_ok-add_elements-in-Some g c =
@@ -48,5 +49,6 @@ returns-in_ok-add_elements-in-Some g c =
     ∙ ap (λ common. rest_items rest ++ flat_map (line_items edition common) (map (line_view v) lines)) indent in
     IfOk-weaker c.add_last_element.result _ _ (λ done added.
     added ∙ ap (λ xs. xs ++ last_of f t (item_view v c.in-Some.last) ∷ []) c.in_ok-add_elements-in-Some.ensures
-    ∙ some_added f t _ (map (element_view v) c.args.elements.now.items) _ (item_view v c.in-Some.last)
+    ∙ some_added f t (rest_items rest ++ flat_map (line_items edition (least (flat_map (counted edition)
+    (map (line_view v) lines)))) (map (line_view v) lines)) (map (element_view v) c.args.elements.now.items) _ (item_view v c.in-Some.last)
     (rw viewed at c.in-Some.ensures)) c.add_last_element.ensures

@@ -54,7 +54,7 @@ pub add_opening-loop-place-init : goal.add_opening-loop-place-init
 add_opening-loop-place-init g m c = record {
   forward = omega arith;
   within = c.requires.within;
-  open = sym c.in-None.ensures.eol;
+  unended = sym c.in-None.ensures.eol;
   gathered =
       rw c.requires.empty
       (no_opening c.args.self.now.source.bytes.now _ _ g.M.MakeTexts.made c.args.ptr);
@@ -67,7 +67,7 @@ add_opening-returns-in-Some-eq125-clause-opens g m c =
     let f = g.M.MakeTexts.source c.args.self.now.texts.now in
     let old = c.loop-place.invariant in
     let found = sym (rw c.in-Some-eq125.field-0-test at c.in-Some-eq125.ensures) in
-    fails_seen (layout_at t R) _ (sym old.open)
+    fails_seen (layout_at t R) _ (sym old.unended)
     (fails_next functional_here at_place
     (fails_first (opening_fails t R f g.M.MakeTexts.made _
     (functional_next_piece t R (functional_within c.args.self.now.edition t _)) _ _ c.run_end-to.ensures.run _
@@ -85,7 +85,7 @@ add_opening-returns-in_err-place-in-Some-eq123-clause-opens g m c =
     let p = err_from_is_err_and c.from_residual-in_err-place-in-Some-eq123.result
     c.from_residual-in_err-place-in-Some-eq123.ensures.1 in
     rw (p.1, p.2)
-    (fails_seen (layout_at t R) _ (sym old.open)
+    (fails_seen (layout_at t R) _ (sym old.unended)
     (fails_next functional_here at_place
     (fails_first (opening_fails t R f g.M.MakeTexts.made _
     (functional_next_piece t R (functional_within c.args.self.now.edition t _)) _ _ c.run_end-to.ensures.run _
@@ -120,19 +120,20 @@ add_opening-returns-in_default-clause-opens g m c =
       settled = opening_settled f old.gathered.settled;
       made = old.gathered.same ∙ as_elements f old.gathered.pieces;
       same = opening_ending f old.gathered.settled _ _;
-      read = λ ls last h. by_eol t _ _ _ _ (sym old.open)
+      read = λ ls last h. by_eol t _ _ _ _ (sym old.unended)
           (goes_on at_place (goes_on there (goes_on ends (goes_on h given))));
       fails = λ e h.
-          fails_seen (layout_at t R) _ (sym old.open)
+          fails_seen (layout_at t R) _ (sym old.unended)
           (fails_next functional_here at_place
           (fails_next (functional_pieces t R functional) there
           (fails_next (functional_ending t) ends (fails_first h))));
     }
 
 pub add_opening-returns-in_default-clause-rest : goal.add_opening-returns-in_default-clause-rest
-add_opening-returns-in_default-clause-rest g m c =
-    (c.run_end-to.ensures.run.forward,
-    ends_at c.args.self.now.source.bytes.now _ _ _ c.get_ending-ending.ensures.parses)
+add_opening-returns-in_default-clause-rest g m c = (
+  c.run_end-to.ensures.run.forward,
+  ends_at c.args.self.now.source.bytes.now _ _ _ c.get_ending-ending.ensures.parses,
+)
 
 pub get_long_pattern-returns-in_err-opening-clause-parses : goal.get_long_pattern-returns-in_err-opening-clause-parses
 get_long_pattern-returns-in_err-opening-clause-parses g m c =
