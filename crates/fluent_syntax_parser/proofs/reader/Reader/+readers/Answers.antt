@@ -258,8 +258,8 @@ get_arguments-loop-noted-init = arguments.get_arguments-loop-noted-init
 pub add_opening-returns-in-Some-clause-opens : goal.add_opening-returns-in-Some-clause-opens
 add_opening-returns-in-Some-clause-opens = patterns.add_opening-returns-in-Some-clause-opens
 
-pub add_opening-loop-place-init : goal.add_opening-loop-place-init
-add_opening-loop-place-init = patterns.add_opening-loop-place-init
+pub add_opening-loop-elements-init : goal.add_opening-loop-elements-init
+add_opening-loop-elements-init = patterns.add_opening-loop-elements-init
 
 pub add_opening-returns-in-Some-eq125-clause-opens : goal.add_opening-returns-in-Some-eq125-clause-opens
 add_opening-returns-in-Some-eq125-clause-opens = patterns.add_opening-returns-in-Some-eq125-clause-opens
@@ -324,14 +324,14 @@ pub gather_pieces-returns-in_err-place-in-Some-clause-parses :
 gather_pieces-returns-in_err-place-in-Some-clause-parses =
     patterns.gather_pieces-returns-in_err-place-in-Some-clause-parses
 
-pub gather_pieces-loop-byte-preserved-then-byte-eq123 : goal.gather_pieces-loop-byte-preserved-then-byte-eq123
-gather_pieces-loop-byte-preserved-then-byte-eq123 = patterns.gather_pieces-loop-byte-preserved-then-byte-eq123
+pub gather_pieces-loop-elements-preserved-then-byte-eq123 : goal.gather_pieces-loop-elements-preserved-then-byte-eq123
+gather_pieces-loop-elements-preserved-then-byte-eq123 = patterns.gather_pieces-loop-elements-preserved-then-byte-eq123
 
 pub gather_pieces-add_placed-requires : goal.gather_pieces-add_placed-requires
 gather_pieces-add_placed-requires = patterns.gather_pieces-add_placed-requires
 
-pub gather_pieces-loop-byte-preserved : goal.gather_pieces-loop-byte-preserved
-gather_pieces-loop-byte-preserved = patterns.gather_pieces-loop-byte-preserved
+pub gather_pieces-loop-elements-preserved : goal.gather_pieces-loop-elements-preserved
+gather_pieces-loop-elements-preserved = patterns.gather_pieces-loop-elements-preserved
 
 pub gather_pieces-returns-in_err-add_placed-in-Some-clause-parses :
     goal.gather_pieces-returns-in_err-add_placed-in-Some-clause-parses
@@ -343,11 +343,11 @@ pub gather_pieces-returns-in_err-add_run-in-Some-clause-parses :
 gather_pieces-returns-in_err-add_run-in-Some-clause-parses =
     patterns.gather_pieces-returns-in_err-add_run-in-Some-clause-parses
 
-pub gather_pieces-loop-byte-init : goal.gather_pieces-loop-byte-init
-gather_pieces-loop-byte-init = patterns.gather_pieces-loop-byte-init
+pub gather_pieces-loop-elements-init : goal.gather_pieces-loop-elements-init
+gather_pieces-loop-elements-init = patterns.gather_pieces-loop-elements-init
 
-pub gather_pieces-loop-byte-smaller : goal.gather_pieces-loop-byte-smaller
-gather_pieces-loop-byte-smaller = patterns.gather_pieces-loop-byte-smaller
+pub gather_pieces-loop-elements-smaller : goal.gather_pieces-loop-elements-smaller
+gather_pieces-loop-elements-smaller = patterns.gather_pieces-loop-elements-smaller
 
 pub gather_line-returns-in_err-end-clause-adds : goal.gather_line-returns-in_err-end-clause-adds
 gather_line-returns-in_err-end-clause-adds = patterns.gather_line-returns-in_err-end-clause-adds

@@ -97,8 +97,8 @@ invariant-gather_variants-loop-starred g l =
 abbrev pub decreases-gather_variants-loop-starred : goal.decreases-gather_variants-loop-starred
 decreases-gather_variants-loop-starred g l = length l.self.source.bytes.now - l.place
 
-abbrev pub invariant-gather_pieces-loop-byte : goal.invariant-gather_pieces-loop-byte
-invariant-gather_pieces-loop-byte g l =
+abbrev pub invariant-gather_pieces-loop-elements : goal.invariant-gather_pieces-loop-elements
+invariant-gather_pieces-loop-elements g l =
     let t = l.self.source.bytes.now in
     record {
       forward : l.ptr ≤ l.place;
@@ -109,11 +109,11 @@ invariant-gather_pieces-loop-byte g l =
           l.place;
     }
 
-abbrev pub decreases-gather_pieces-loop-byte : goal.decreases-gather_pieces-loop-byte
-decreases-gather_pieces-loop-byte g l = length l.self.source.bytes.now - l.place
+abbrev pub decreases-gather_pieces-loop-elements : goal.decreases-gather_pieces-loop-elements
+decreases-gather_pieces-loop-elements g l = length l.self.source.bytes.now - l.place
 
-abbrev pub invariant-add_opening-loop-place : goal.invariant-add_opening-loop-place
-invariant-add_opening-loop-place g l =
+abbrev pub invariant-add_opening-loop-elements : goal.invariant-add_opening-loop-elements
+invariant-add_opening-loop-elements g l =
     let t = l.self.source.bytes.now in
     record {
       forward : l.ptr ≤ l.place;
@@ -124,8 +124,8 @@ invariant-add_opening-loop-place g l =
           g.M.MakeTexts.made l.ptr l.elements.items l.place;
     }
 
-abbrev pub decreases-add_opening-loop-place : goal.decreases-add_opening-loop-place
-decreases-add_opening-loop-place g l = length l.self.source.bytes.now - l.place
+abbrev pub decreases-add_opening-loop-elements : goal.decreases-add_opening-loop-elements
+decreases-add_opening-loop-elements g l = length l.self.source.bytes.now - l.place
 
 abbrev pub invariant-gather_lines-loop-byte : goal.invariant-gather_lines-loop-byte
 invariant-gather_lines-loop-byte g l =

@@ -50,8 +50,8 @@ add_opening-returns-in-Some-clause-opens g m c =
           (fails_next (functional_blank_block t) (passed blank) (fails_first h)));
     }
 
-pub add_opening-loop-place-init : goal.add_opening-loop-place-init
-add_opening-loop-place-init g m c = record {
+pub add_opening-loop-elements-init : goal.add_opening-loop-elements-init
+add_opening-loop-elements-init g m c = record {
   forward = omega arith;
   within = c.requires.within;
   unended = sym c.in-None.ensures.eol;
@@ -65,7 +65,7 @@ add_opening-returns-in-Some-eq125-clause-opens g m c =
     let t = c.args.self.now.source.bytes.now in
     let R = within c.args.self.now.edition t c.args.nesting in
     let f = g.M.MakeTexts.source c.args.self.now.texts.now in
-    let old = c.loop-place.invariant in
+    let old = c.loop-elements.invariant in
     let found = sym (rw c.in-Some-eq125.field-0-test at c.in-Some-eq125.ensures) in
     fails_seen (layout_at t R) _ (sym old.unended)
     (fails_next functional_here at_place
@@ -80,7 +80,7 @@ add_opening-returns-in_err-place-in-Some-eq123-clause-opens g m c =
     let t = c.args.self.now.source.bytes.now in
     let R = within c.args.self.now.edition t c.args.nesting in
     let f = g.M.MakeTexts.source c.args.self.now.texts.now in
-    let old = c.loop-place.invariant in
+    let old = c.loop-elements.invariant in
     let found = sym (rw c.in-Some-eq123.field-0-test at c.in-Some-eq123.ensures) in
     let p = err_from_is_err_and c.from_residual-in_err-place-in-Some-eq123.result
     c.from_residual-in_err-place-in-Some-eq123.ensures.1 in
@@ -102,7 +102,7 @@ add_opening-returns-in_default-clause-opens g m c =
     let t = c.args.self.now.source.bytes.now in
     let R = within c.args.self.now.edition t c.args.nesting in
     let f = g.M.MakeTexts.source c.args.self.now.texts.now in
-    let old = c.loop-place.invariant in
+    let old = c.loop-elements.invariant in
     let functional = functional_within c.args.self.now.edition t c.args.nesting in
     let run = c.run_end-to.ensures.run in
     let ends = c.get_ending-ending.ensures.parses in
@@ -113,7 +113,7 @@ add_opening-returns-in_default-clause-opens g m c =
           Some (record {
             start = c.args.ptr;
             spaces = 0;
-            pieces = old.gathered.pieces ++ run_of (record { start = c.loop-place.place; end = c.run_end-to.result });
+            pieces = old.gathered.pieces ++ run_of (record { start = c.loop-elements.place; end = c.run_end-to.result });
             ending = ending_view c.get_ending-ending.result.0;
           });
       pieces = map (piece_of f) old.gathered.pieces;
@@ -202,20 +202,20 @@ get_pattern-returns-in_err-pattern-in-Some-clause-parses g m c =
 
 pub gather_pieces-returns-in-None-clause-parses : goal.gather_pieces-returns-in-None-clause-parses
 gather_pieces-returns-in-None-clause-parses g m c =
-    all_made (piece_view g.M.MakeTexts.made) _ c.loop-byte.invariant.gathered (end_pieces
+    all_made (piece_view g.M.MakeTexts.made) _ c.loop-elements.invariant.gathered (end_pieces
     c.args.self.now.source.bytes.now
     (within c.args.self.now.edition c.args.self.now.source.bytes.now c.args.nesting) _ (sym c.in-None.ensures))
 
 pub gather_pieces-returns-then-is_eol_at-clause-parses : goal.gather_pieces-returns-then-is_eol_at-clause-parses
 gather_pieces-returns-then-is_eol_at-clause-parses g m c =
-    all_made (piece_view g.M.MakeTexts.made) _ c.loop-byte.invariant.gathered
+    all_made (piece_view g.M.MakeTexts.made) _ c.loop-elements.invariant.gathered
     (no_pieces c.args.self.now.source.bytes.now (within c.args.self.now.edition c.args.self.now.source.bytes.now
     c.args.nesting) _ _
     (sym c.in-Some.ensures) (λ e. cc) (sym c.if-is_eol_at.ensures))
 
 pub gather_pieces-returns-then-byte-eq125-clause-parses : goal.gather_pieces-returns-then-byte-eq125-clause-parses
 gather_pieces-returns-then-byte-eq125-clause-parses g m c =
-    item_fails c.loop-byte.invariant.gathered.behind (refused (λ k from to (a, b, d). rw (a, b, d)
+    item_fails c.loop-elements.invariant.gathered.behind (refused (λ k from to (a, b, d). rw (a, b, d)
     (bare_brace c.args.self.now.source.bytes.now (within c.args.self.now.edition c.args.self.now.source.bytes.now
     c.args.nesting) _ _
     (sym c.in-Some.ensures) (sym c.if-is_eol_at.ensures)
@@ -225,23 +225,23 @@ pub gather_pieces-returns-in_err-place-in-Some-clause-parses : goal.gather_piece
 gather_pieces-returns-in_err-place-in-Some-clause-parses g m c =
     let p = err_from_is_err_and c.from_residual.result c.from_residual.ensures.1 in
     rw (p.1, p.2)
-    (item_fails c.loop-byte.invariant.gathered.behind
+    (item_fails c.loop-elements.invariant.gathered.behind
     (placed_fails c.args.self.now.source.bytes.now (within c.args.self.now.edition c.args.self.now.source.bytes.now
     c.args.nesting) _ _
     (sym c.in-Some.ensures) (sym c.if-is_eol_at.ensures)
     c.if-byte-eq123.true (fails_first c.in_err-place-in-Some.ensures.parses)))
 
-pub gather_pieces-loop-byte-preserved-then-byte-eq123 : goal.gather_pieces-loop-byte-preserved-then-byte-eq123
-gather_pieces-loop-byte-preserved-then-byte-eq123 g m c =
+pub gather_pieces-loop-elements-preserved-then-byte-eq123 : goal.gather_pieces-loop-elements-preserved-then-byte-eq123
+gather_pieces-loop-elements-preserved-then-byte-eq123 g m c =
     let t = c.args.self.now.source.bytes.now in
     let read = c.in_ok-place-in-Some.ensures in
     let (e, there, added) = read.parses in
     let piece = c.in_ok-add_placed-in-Some.ensures in
     record {
-      forward = omega (arith, c.loop-byte.invariant.forward, read.within.0);
+      forward = omega (arith, c.loop-elements.invariant.forward, read.within.0);
       within = read.within.1;
       gathered =
-          item_made (piece_view g.M.MakeTexts.made) _ _ _ piece.1 c.loop-byte.invariant.gathered
+          item_made (piece_view g.M.MakeTexts.made) _ _ _ piece.1 c.loop-elements.invariant.gathered
           (functional_next_piece t (within c.args.self.now.edition t c.args.nesting)
           (functional_within c.args.self.now.edition t _)) _
           (placed_piece t (within c.args.self.now.edition t c.args.nesting) _ _ (sym c.in-Some.ensures)
@@ -253,16 +253,16 @@ pub gather_pieces-add_placed-requires : goal.gather_pieces-add_placed-requires
 gather_pieces-add_placed-requires g m c =
     let (e, there, added) = c.in_ok-place-in-Some.ensures.parses in (_, _, added)
 
-pub gather_pieces-loop-byte-preserved : goal.gather_pieces-loop-byte-preserved
-gather_pieces-loop-byte-preserved g m c =
+pub gather_pieces-loop-elements-preserved : goal.gather_pieces-loop-elements-preserved
+gather_pieces-loop-elements-preserved g m c =
     let t = c.args.self.now.source.bytes.now in
     let run = c.run_end-to.ensures.run in
     record {
-      forward = omega (arith, c.loop-byte.invariant.forward, run.forward);
+      forward = omega (arith, c.loop-elements.invariant.forward, run.forward);
       within = c.run_end-to.ensures.within;
       gathered =
           item_made (piece_view g.M.MakeTexts.made) _ _ _ c.in_ok-add_run-in-Some.ensures
-          c.loop-byte.invariant.gathered
+          c.loop-elements.invariant.gathered
           (functional_next_piece t (within c.args.self.now.edition t c.args.nesting)
           (functional_within c.args.self.now.edition t _)) _
           (run_piece t (within c.args.self.now.edition t c.args.nesting) _ _ (sym c.in-Some.ensures)
@@ -282,20 +282,20 @@ gather_pieces-returns-in_err-add_run-in-Some-clause-parses g m c =
     rw (out_of_memory c.from_residual-in_err-add_run-in-Some.result
     c.from_residual-in_err-add_run-in-Some.ensures.1) no_memory
 
-pub gather_pieces-loop-byte-init : goal.gather_pieces-loop-byte-init
-gather_pieces-loop-byte-init g m c = record {
+pub gather_pieces-loop-elements-init : goal.gather_pieces-loop-elements-init
+gather_pieces-loop-elements-init g m c = record {
   forward = omega arith;
   within = c.requires.within;
   gathered = rw c.requires.empty (no_items (piece_view g.M.MakeTexts.made));
 }
 
-pub gather_pieces-loop-byte-smaller : goal.gather_pieces-loop-byte-smaller
-gather_pieces-loop-byte-smaller g m c =
+pub gather_pieces-loop-elements-smaller : goal.gather_pieces-loop-elements-smaller
+gather_pieces-loop-elements-smaller g m c =
     let t = c.args.self.now.source.bytes.now in
     let run = c.run_end-to.ensures.run in
     let there = run_there t (within c.args.self.now.edition t c.args.nesting) _ _ (sym c.in-Some.ensures)
     (sym c.if-is_eol_at.ensures) c.if-byte-eq125.false c.if-byte-eq123.false in
-    let longer = further (is_run_place t) c.loop-byte.place c.run_end-to.result run there in
+    let longer = further (is_run_place t) c.loop-elements.place c.run_end-to.result run there in
     omega (arith, longer, c.run_end-to.ensures.within)
 
 pub gather_line-returns-in_err-end-clause-adds : goal.gather_line-returns-in_err-end-clause-adds
