@@ -17,7 +17,7 @@ use Rattle.fluent_syntax_parser.specs.Lines.{ending_view, line_view, piece_view}
 use Rattle.fluent_syntax_parser.specs.Made.{made}
 use Rattle.fluent_syntax_parser.specs.Opened.{none}
 use Rattle.fluent_syntax_parser.specs.Outcomes.{no_memory, refused}
-use Rattle.fluent_syntax_parser.proofs.entry_forms.FieldForms.{no_items, some_items}
+use Rattle.fluent_syntax_parser.proofs.entry_forms.FieldForms.{no_items as no_elements, some_items}
 use Rattle.fluent_syntax_parser.proofs.readers.Behind.{all_made, item_fails, item_made, no_items}
 use Rattle.fluent_syntax_parser.proofs.readers.Fails.{fails_first, fails_next, fails_seen, functional_here}
 use Rattle.fluent_syntax_parser.proofs.readers.Fails.{functional_reaches, out_of_memory}
@@ -163,7 +163,7 @@ get_long_pattern-returns-then-is_empty-clause-parses g m c =
     let opened = c.in_ok-opening.ensures.opens in
     let elements = c.end_elements.new.elements in
     let size : length elements.items ≡ vec_len elements = omega (arith, elements.ok.0) in
-    let none = no_items elements.items _ size c.if-is_empty.ensures in
+    let none = no_elements elements.items _ size c.if-is_empty.ensures in
     on_made c.in_ok-end.ensures.parses (λ ls there same.
     let made_of = c.in_ok-end_elements.ensures ∙ ap (λ es. es ++ _) opened.made
     ∙ layout_spelled f t c.args.self.now.edition (record { opening = opened.opening; lines = ls }) opened.settled _

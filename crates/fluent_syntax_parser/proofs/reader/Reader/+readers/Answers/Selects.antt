@@ -1,7 +1,7 @@
 -- The answers of the readers of selects and their variants.
 use Rattle.std.proofs.Common.{◌∙◌, refl, sym, ap, arith}
 use Rattle.std.proofs.lemmas.Result.{err_from_is_err_and}
-use Rattle.fluent_syntax_tree.specs.Tree.{pattern_map, select, variant}
+use Rattle.fluent_syntax_tree.specs.Tree.{inline_map, pattern_map, select, variant}
 use Rattle.fluent_syntax_tree.specs.View.{key_view}
 use Rattle.fluent_syntax_grammar.proofs.Tests.{both}
 use Rattle.fluent_syntax_parser.proofs.expressions.Stars.{one_false}
@@ -59,7 +59,7 @@ end_select-returns-clause-parses g m c = λ old e added.
       _,
       select_read c.args.self.now.edition t _ e _ (same_fault _ _ e there)
           (goes_on c.in_ok-start.ensures.parses read),
-      placed_as v _ _ _ (c.in_ok-add_variants.ensures old _ added) (ap (select _) same),
+      placed_as v _ _ _ (c.in_ok-add_variants.ensures old _ added) (ap (select (inline_map (g.M.MakeTexts.source c.args.self.now.texts.now) e)) same),
     ))
 
 pub gather_variants-returns-then-star-clause-parses : goal.gather_variants-returns-then-star-clause-parses
