@@ -149,9 +149,7 @@ impl<'s, 't, M: MakeTexts> Reader<'s, 't, M> {
             };
             match self.source.byte_at(to) {
                 Some(b'{') => {
-                    if place < to {
-                        self.add_text(run, elements)?;
-                    }
+                    self.add_text_run(run, elements)?;
                     place = self.add_placeable(nesting, to, elements)?;
                 }
                 Some(b'}') => {

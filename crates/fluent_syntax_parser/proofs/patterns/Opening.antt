@@ -1,10 +1,10 @@
 -- The line on which a pattern opens, up to where its reader is.
 use Rattle.std.proofs.Common.{◌≡◌, ℕ, ◌+◌, ◌<◌, ◌≤◌, List, [], ◌∷◌, ◌++◌, append_assoc, map, Option, Some, None, Bool}
-use Rattle.std.proofs.Common.{true, false, refl, sym, ap, ◌∙◌, subst, arith}
+use Rattle.std.proofs.Common.{true, false, true≢false, refl, sym, ap, ◌∙◌, subst, arith}
 use Rattle.std.specs.Prelude.{◌==◌, if◌then◌else◌, nat_lt, slice_get}
 use Rattle.std.proofs.lemmas.Bool.Decides.{nat_tests}
 use Rattle.std.proofs.lemmas.List.{append-nil, map-append}
-use Rattle.fluent_syntax_tree.specs.Tree.{ExpressionTree, expression_map, placeable}
+use Rattle.fluent_syntax_tree.specs.Tree.{ExpressionTree, expression_map, placeable, text_element}
 use Rattle.fluent_syntax_tree.specs.View.{element_view}
 use Rattle.fluent_syntax_tree.specs.declared.ast.PatternElement.{PatternElement}
 use Rattle.fluent_syntax_tree.specs.declared.spans.Span.{Span}
@@ -25,7 +25,7 @@ use Rattle.fluent_syntax_parser.proofs.patterns.BlankLines.{crlf_byte, lf_blank}
 use Rattle.fluent_syntax_grammar.proofs.FunctionalRules.{functional_ending}
 use Rattle.fluent_syntax_parser.proofs.patterns.LineEndings.{ends_line, ends_text}
 use Rattle.fluent_syntax_parser.proofs.patterns.OneLine.{run_item}
-use Rattle.fluent_syntax_parser.proofs.patterns.Pieces.{end_pieces, no_pieces}
+use Rattle.fluent_syntax_parser.proofs.patterns.Pieces.{end_pieces, no_pieces, run_there}
 use Rattle.fluent_syntax_parser.proofs.patterns.Rest.{run_mapped}
 use Rattle.fluent_syntax_parser.proofs.patterns.Settled.{placed_behind, run_behind, settled_ending, settled_mapped}
 use Rattle.fluent_syntax_parser.proofs.readers.Behind.{Behind, item_fails, list_read, one_behind}
@@ -103,7 +103,43 @@ module _ {S X : Type 0} (t : List ℕ) (R : Family) (f : Span → X) (v : S → 
             (λ more. append_assoc (pieces ++ run_of span) (placed e ∷ []) more) read;
       }
 
+-- ---- the run before a placeable
+
+module _ {S X : Type 0} (f : Span → X) (v : S → X) (place to : ℕ) (xs ys : List (PatternElement S)) where
+  abbrev AddsRun : Bool → Type 0
+  AddsRun b =
+      map (element_view v) ys
+      ≡ map (element_view v) xs ++ map (piece_element f) (if b then run place to ∷ [] else [])
+
+  -- it was added
+  pub run_added : place < to →
+      map (element_view v) ys ≡ map (element_view v) xs ++ text_element (f (record { start = place; end = to })) ∷ [] →
+      AddsRun (nat_lt place to)
+  run_added before added = by (nat_lt place to) refl
+    where
+      by : (b : Bool) → nat_lt place to ≡ b → AddsRun b
+      by true e = added
+      by false e = absurd (grind (arith, nat_tests))
+
+  -- there is none
+  pub no_run_added : to ≤ place → ys ≡ xs → AddsRun (nat_lt place to)
+  no_run_added behind same = by (nat_lt place to) refl
+    where
+      by : (b : Bool) → nat_lt place to ≡ b → AddsRun b
+      by true e = absurd (grind (arith, nat_tests))
+      by false e = ap (map (element_view v)) same ∙ sym (append-nil (map (element_view v) xs))
+
 -- ---- where the line ends
+
+abbrev byte_or : Option ℕ → ℕ
+byte_or None = 0
+byte_or (Some b) = b
+
+pub other_byte : {o : Option ℕ} (b n : ℕ) → o ≡ Some b → (b ≡ n → ⊥) → o ≡ Some n → ⊥
+other_byte b n is other e = other (ap byte_or (sym is ∙ e))
+
+pub no_byte_there : {o : Option ℕ} {n : ℕ} → o ≡ None → o ≡ Some n → ⊥
+no_byte_there is e = let f = sym is ∙ e in cc
 
 -- what neither continues a run nor is a brace
 pub line_ends : (t : List ℕ) (R : Family) (place to : ℕ) → Stretch (is_run_place t) place to →
@@ -115,8 +151,8 @@ line_ends t R place to w opening close = by (slice_get t to) refl (has_eol t to)
     by None e eol f = end_pieces t R to e
     by (Some b) e true f = no_pieces t R to (Some b) e (λ g. cc) f
     by (Some b) e false f =
-        let stop = w.longest in
-        absurd (grind (arith, nat_tests))
+        let there = run_there t R to b e f (λ is. close (e ∙ ap Some is)) (λ is. opening (e ∙ ap Some is)) in
+        absurd (true≢false (sym there ∙ w.longest))
 
 abbrev ending_or : Ending → Outcome Ending → Ending
 ending_or e (Read d j) = d

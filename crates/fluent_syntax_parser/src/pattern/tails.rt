@@ -5,8 +5,9 @@ ghost use Rattle.fluent_syntax_tree.specs.Tree.{text_element};
 ghost use Rattle.fluent_syntax_tree.specs.View.{element_view};
 ghost use Rattle.fluent_syntax_grammar.specs.Elements.{is_nonblank, trimmed_end, stays};
 ghost use Rattle.fluent_syntax_parser.specs.Elements.{AddsRest, CutsTo, element_of, item_view, last_of, rest_end};
+ghost use Rattle.fluent_syntax_parser.specs.Elements.{run_of};
 ghost use Rattle.fluent_syntax_parser.specs.Lines.{ending_view};
-ghost use Rattle.fluent_syntax_parser.specs.Opened.{IsRest};
+ghost use Rattle.fluent_syntax_parser.specs.Opened.{IsRest, piece_element};
 
 use crate::lists::add;
 use crate::pattern::elements::{add_lines, add_opening_end};
@@ -90,6 +91,25 @@ impl<'s, 't, M: MakeTexts> Reader<'s, 't, M> {
     {
         let value = self.text(text)?;
         add(elements, PatternElement::TextElement { value })
+    }
+
+    /// Adds the text of a run, if it holds a byte.
+    #[inline(always)]
+    pub(crate) fn add_text_run(
+        &self,
+        run: Span,
+        elements: &mut Vec<PatternElement<M::Text>>,
+    ) -> Result<(), AllocError>
+        ensures { OnOk result (map (element_view M.made) elements.new.items ≡ map (element_view M.made)
+            elements.old.items ++ map (piece_element (M.source self.now.texts.now)) (run_of run)) }
+    {
+        let start = run.start;
+        let end = run.end;
+        if start < end {
+            self.add_text(run, elements)
+        } else {
+            Ok(())
+        }
     }
 
     /// Adds the element that an item is which others follow.

@@ -261,6 +261,9 @@ add_opening-returns-in-Some-clause-opens = patterns.add_opening-returns-in-Some-
 pub add_opening-loop-elements-init : goal.add_opening-loop-elements-init
 add_opening-loop-elements-init = patterns.add_opening-loop-elements-init
 
+pub add_opening-loop-elements-preserved : goal.add_opening-loop-elements-preserved
+add_opening-loop-elements-preserved = patterns.add_opening-loop-elements-preserved
+
 pub add_opening-returns-in-Some-eq125-clause-opens : goal.add_opening-returns-in-Some-eq125-clause-opens
 add_opening-returns-in-Some-eq125-clause-opens = patterns.add_opening-returns-in-Some-eq125-clause-opens
 
@@ -269,16 +272,16 @@ pub add_opening-returns-in_err-place-in-Some-eq123-clause-opens :
 add_opening-returns-in_err-place-in-Some-eq123-clause-opens =
     patterns.add_opening-returns-in_err-place-in-Some-eq123-clause-opens
 
-pub add_opening-returns-in_err-add_text-in-Some-eq123-clause-opens :
-    goal.add_opening-returns-in_err-add_text-in-Some-eq123-clause-opens
-add_opening-returns-in_err-add_text-in-Some-eq123-clause-opens =
-    patterns.add_opening-returns-in_err-add_text-in-Some-eq123-clause-opens
+pub add_opening-returns-in_err-add_text_run-in-Some-eq123-clause-opens :
+    goal.add_opening-returns-in_err-add_text_run-in-Some-eq123-clause-opens
+add_opening-returns-in_err-add_text_run-in-Some-eq123-clause-opens =
+    patterns.add_opening-returns-in_err-add_text_run-in-Some-eq123-clause-opens
 
-pub add_opening-returns-in_default-clause-opens : goal.add_opening-returns-in_default-clause-opens
-add_opening-returns-in_default-clause-opens = patterns.add_opening-returns-in_default-clause-opens
+pub add_opening-returns-in_default-byte_at-clause-opens : goal.add_opening-returns-in_default-byte_at-clause-opens
+add_opening-returns-in_default-byte_at-clause-opens = patterns.add_opening-returns-in_default-byte_at-clause-opens
 
-pub add_opening-returns-in_default-clause-rest : goal.add_opening-returns-in_default-clause-rest
-add_opening-returns-in_default-clause-rest = patterns.add_opening-returns-in_default-clause-rest
+pub add_opening-returns-in_default-byte_at-clause-rest : goal.add_opening-returns-in_default-byte_at-clause-rest
+add_opening-returns-in_default-byte_at-clause-rest = patterns.add_opening-returns-in_default-byte_at-clause-rest
 
 pub get_long_pattern-returns-in_err-opening-clause-parses : goal.get_long_pattern-returns-in_err-opening-clause-parses
 get_long_pattern-returns-in_err-opening-clause-parses = patterns.get_long_pattern-returns-in_err-opening-clause-parses
@@ -294,8 +297,8 @@ get_long_pattern-returns-in_err-end_elements-clause-parses =
 pub get_long_pattern-returns-then-is_empty-clause-parses : goal.get_long_pattern-returns-then-is_empty-clause-parses
 get_long_pattern-returns-then-is_empty-clause-parses = patterns.get_long_pattern-returns-then-is_empty-clause-parses
 
-pub get_long_pattern-returns-clause-parses : goal.get_long_pattern-returns-clause-parses
-get_long_pattern-returns-clause-parses = patterns.get_long_pattern-returns-clause-parses
+pub get_long_pattern-returns-else-is_empty-clause-parses : goal.get_long_pattern-returns-else-is_empty-clause-parses
+get_long_pattern-returns-else-is_empty-clause-parses = patterns.get_long_pattern-returns-else-is_empty-clause-parses
 
 pub get_pattern-returns-in_ok-pattern-in-Some-clause-parses :
     goal.get_pattern-returns-in_ok-pattern-in-Some-clause-parses
@@ -324,8 +327,10 @@ pub gather_pieces-returns-in_err-place-in-Some-clause-parses :
 gather_pieces-returns-in_err-place-in-Some-clause-parses =
     patterns.gather_pieces-returns-in_err-place-in-Some-clause-parses
 
-pub gather_pieces-loop-elements-preserved-then-byte-eq123 : goal.gather_pieces-loop-elements-preserved-then-byte-eq123
-gather_pieces-loop-elements-preserved-then-byte-eq123 = patterns.gather_pieces-loop-elements-preserved-then-byte-eq123
+pub gather_pieces-loop-elements-preserved-in-Continue-branch-2 :
+    goal.gather_pieces-loop-elements-preserved-in-Continue-branch-2
+gather_pieces-loop-elements-preserved-in-Continue-branch-2 =
+    patterns.gather_pieces-loop-elements-preserved-in-Continue-branch-2
 
 pub gather_pieces-add_placed-requires : goal.gather_pieces-add_placed-requires
 gather_pieces-add_placed-requires = patterns.gather_pieces-add_placed-requires

@@ -1,7 +1,7 @@
 -- The answers of the readers of inline expressions.
-use Rattle.std.proofs.Common.{ap, refl}
+use Rattle.std.proofs.Common.{◌≡◌, Option, ap, refl}
 use Rattle.std.proofs.lemmas.Result.{err_from_is_err_and}
-use Rattle.fluent_syntax_tree.specs.Tree.{inline, term_reference}
+use Rattle.fluent_syntax_tree.specs.Tree.{MaybeArguments, inline, term_reference}
 use Rattle.fluent_syntax_grammar.specs.Starts as starts
 use Rattle.fluent_syntax_grammar.specs.Bytes.{hyphen}
 use Rattle.fluent_syntax_grammar.specs.Construct.{stops, goes_on, given, failed}
@@ -15,6 +15,11 @@ use Rattle.fluent_syntax_parser.proofs.expressions.InlineStarts.{by_start, numbe
 use Rattle.fluent_syntax_parser.proofs.expressions.LastPlaced.{placed_as}
 use Rattle.fluent_syntax_parser.proofs.readers.Made.{on_made}
 use Rattle.fluent_syntax_parser.proofs.reader.Reader.+readers.Goals as goal
+
+-- a reference to a term whose arguments are the same
+same_reference : {X : Type 0} (name : X) (attribute : Option X) {a b : MaybeArguments X} → a ≡ b →
+    inline (term_reference name attribute a) ≡ inline (term_reference name attribute b)
+same_reference name attribute same = ap (λ x. inline (term_reference name attribute x)) same
 
 pub add_term_reference-returns-in_err-start-clause-parses :
     goal.add_term_reference-returns-in_err-start-clause-parses
@@ -69,7 +74,7 @@ add_term_reference-returns-clause-parses g m c =
           (goes_on read
           given)))),
       placed_as g.M.MakeTexts.made _ _ _ c.in_ok-add_term_named.ensures
-          (ap (λ x. inline (term_reference _ _ x)) same),
+          (same_reference _ _ same),
     ))
 
 pub add_term_reference-returns-in_err-add_term_named-clause-parses :

@@ -1,8 +1,9 @@
 -- The answers of the readers of patterns: their pieces, lines and layout.
-use Rattle.std.proofs.Common.{◌≡◌, ◌∙◌, [], ◌++◌, length, map, refl, sym, ap, arith, None, Some}
-use Rattle.std.specs.Prelude.{vec_len}
+use Rattle.std.proofs.Common.{◌≡◌, ◌∙◌, List, [], ◌++◌, length, map, refl, sym, ap, arith, None, Some}
+use Rattle.std.specs.Prelude.{slice_get, vec_len}
 use Rattle.std.proofs.lemmas.Result.{err_from_is_err_and}
 use Rattle.fluent_syntax_parser.proofs.patterns.LineEndings.{by_eol}
+use Rattle.fluent_syntax_grammar.specs.Bytes.{left_brace, right_brace}
 use Rattle.fluent_syntax_grammar.specs.Construct.{goes_on, given, passed, at_place}
 use Rattle.fluent_syntax_grammar.specs.Grammar.{within}
 use Rattle.fluent_syntax_grammar.specs.Lines.{is_run_place, no_byte, other_line, own_line}
@@ -24,6 +25,7 @@ use Rattle.fluent_syntax_parser.proofs.readers.Fails.{functional_reaches, out_of
 use Rattle.fluent_syntax_parser.proofs.readers.Made.{on_made}
 use Rattle.fluent_syntax_parser.proofs.patterns.BlankLines.{none_at_end, none_before_other}
 use Rattle.fluent_syntax_parser.proofs.patterns.Opening.{as_elements, ends_at, line_ends, no_opening, opening_ending}
+use Rattle.fluent_syntax_parser.proofs.patterns.Opening.{no_byte_there, other_byte}
 use Rattle.fluent_syntax_parser.proofs.patterns.Opening.{opening_fails, opening_placed, opening_read, opening_settled}
 use Rattle.fluent_syntax_parser.proofs.patterns.Rest.{nothing_left}
 use Rattle.fluent_syntax_parser.proofs.patterns.Spelled.{layout_spelled, none_spelled, some_spelled}
@@ -31,6 +33,13 @@ use Rattle.fluent_syntax_parser.proofs.patterns.Pieces.{bare_brace, end_pieces, 
 use Rattle.fluent_syntax_parser.proofs.patterns.Pieces.{own_line_fails, further, placed_fails, placed_piece, run_piece}
 use Rattle.fluent_syntax_parser.proofs.patterns.Pieces.{run_there}
 use Rattle.fluent_syntax_parser.proofs.reader.Reader.+readers.Goals as goal
+use Rattle.fluent_syntax_parser.proofs.reader.Reader.+readers.Goals.{add_opening-in_default-byte_at-via-in-Some+in_default}
+use Rattle.fluent_syntax_parser.proofs.reader.Reader.+readers.Goals.{add_opening-in_default-byte_at-via-in_default}
+
+-- what is added to a list that is known
+added_as : {A : Type 0} {new old seen all : List A} (rest : List A) → new ≡ old ++ rest → old ≡ seen →
+    seen ++ rest ≡ all → new ≡ all
+added_as rest added same is = added ∙ ap (λ xs. xs ++ rest) same ∙ is
 
 pub add_opening-returns-in-Some-clause-opens : goal.add_opening-returns-in-Some-clause-opens
 add_opening-returns-in-Some-clause-opens g m c =
@@ -54,11 +63,32 @@ pub add_opening-loop-elements-init : goal.add_opening-loop-elements-init
 add_opening-loop-elements-init g m c = record {
   forward = omega arith;
   within = c.requires.within;
-  unended = sym c.in-None.ensures.eol;
+  unended = sym c.eol_end.ensures.eol ∙ c.in_default.is;
   gathered =
       rw c.requires.empty
       (no_opening c.args.self.now.source.bytes.now _ _ g.M.MakeTexts.made c.args.ptr);
 }
+
+pub add_opening-loop-elements-preserved : goal.add_opening-loop-elements-preserved
+add_opening-loop-elements-preserved g m c =
+    let t = c.args.self.now.source.bytes.now in
+    let R = within c.args.self.now.edition t c.args.nesting in
+    let f = g.M.MakeTexts.source c.args.self.now.texts.now in
+    let old = c.loop-elements.invariant in
+    let found = sym (rw c.in-Some-eq123.field-0-test at c.in-Some-eq123.ensures) in
+    let run = c.run_end-to.ensures.run in
+    let read = c.in_ok-place-in-Some-eq123.ensures in
+    let (e, there, x, pushed, seen) = read.parses in
+    record {
+      forward = omega (arith, old.forward, run.forward, read.within.0);
+      within = read.within.1;
+      unended = old.unended;
+      gathered =
+          opening_placed t R f g.M.MakeTexts.made _
+          (functional_next_piece t R (functional_within c.args.self.now.edition t _)) _ _ run _ old.gathered.behind
+          old.gathered.settled _ _ x _ old.gathered.same c.in_ok-add_text_run-in-Some-eq123.ensures pushed e seen _
+          (placed_piece t R _ _ found (rw found refl) refl _ (goes_on there given));
+    }
 
 pub add_opening-returns-in-Some-eq125-clause-opens : goal.add_opening-returns-in-Some-eq125-clause-opens
 add_opening-returns-in-Some-eq125-clause-opens g m c =
@@ -92,13 +122,13 @@ add_opening-returns-in_err-place-in-Some-eq123-clause-opens g m c =
     old.gathered.behind
     (placed_fails t R _ _ found (rw found refl) refl (fails_first c.in_err-place-in-Some-eq123.ensures.parses))))))
 
-pub add_opening-returns-in_err-add_text-in-Some-eq123-clause-opens :
-    goal.add_opening-returns-in_err-add_text-in-Some-eq123-clause-opens
-add_opening-returns-in_err-add_text-in-Some-eq123-clause-opens g m c =
+pub add_opening-returns-in_err-add_text_run-in-Some-eq123-clause-opens :
+    goal.add_opening-returns-in_err-add_text_run-in-Some-eq123-clause-opens
+add_opening-returns-in_err-add_text_run-in-Some-eq123-clause-opens g m c =
     rw (out_of_memory c.from_residual.result c.from_residual.ensures.1) no_memory
 
-pub add_opening-returns-in_default-clause-opens : goal.add_opening-returns-in_default-clause-opens
-add_opening-returns-in_default-clause-opens g m c =
+pub add_opening-returns-in_default-byte_at-clause-opens : goal.add_opening-returns-in_default-byte_at-clause-opens
+add_opening-returns-in_default-byte_at-clause-opens g m c =
     let t = c.args.self.now.source.bytes.now in
     let R = within c.args.self.now.edition t c.args.nesting in
     let f = g.M.MakeTexts.source c.args.self.now.texts.now in
@@ -106,8 +136,17 @@ add_opening-returns-in_default-clause-opens g m c =
     let functional = functional_within c.args.self.now.edition t c.args.nesting in
     let run = c.run_end-to.ensures.run in
     let ends = c.get_ending-ending.ensures.parses in
+    let apart : (slice_get t c.run_end-to.result ≡ Some left_brace → ⊥)
+    × (slice_get t c.run_end-to.result ≡ Some right_brace → ⊥) =
+    elim c.in_default-byte_at.branch [
+      | add_opening-in_default-byte_at-via-in-Some+in_default w ↦
+          let test = w.in_default.field-0-test in
+          let is = sym w.in_default.ensures in (other_byte _ _ is test.0.1, other_byte _ _ is test.1)
+      | add_opening-in_default-byte_at-via-in_default w ↦
+          let none = sym c.byte_at.ensures ∙ w.in_default.is in (no_byte_there none, no_byte_there none)
+    ] in
     let there = opening_read t R f g.M.MakeTexts.made _ (functional_next_piece t R functional) _ _ run _
-    old.gathered.behind (line_ends t R _ _ run (λ e. cc) (λ e. cc)) in
+    old.gathered.behind (line_ends t R _ _ run apart.0 apart.1) in
     record {
       opening =
           Some (record {
@@ -129,8 +168,8 @@ add_opening-returns-in_default-clause-opens g m c =
           (fails_next (functional_ending t) ends (fails_first h))));
     }
 
-pub add_opening-returns-in_default-clause-rest : goal.add_opening-returns-in_default-clause-rest
-add_opening-returns-in_default-clause-rest g m c = (
+pub add_opening-returns-in_default-byte_at-clause-rest : goal.add_opening-returns-in_default-byte_at-clause-rest
+add_opening-returns-in_default-byte_at-clause-rest g m c = (
   c.run_end-to.ensures.run.forward,
   ends_at c.args.self.now.source.bytes.now _ _ _ c.get_ending-ending.ensures.parses,
 )
@@ -165,23 +204,23 @@ get_long_pattern-returns-then-is_empty-clause-parses g m c =
     let size : length elements.items ≡ vec_len elements = omega (arith, elements.ok.0) in
     let none = no_elements elements.items _ size c.if-is_empty.ensures in
     on_made c.in_ok-end.ensures.parses (λ ls there same.
-    let made_of = c.in_ok-end_elements.ensures ∙ ap (λ es. es ++ _) opened.made
-    ∙ layout_spelled f t c.args.self.now.edition (record { opening = opened.opening; lines = ls }) opened.settled _
-    opened.same _ same in
+    let made_of = added_as _ c.in_ok-end_elements.ensures opened.made
+    (layout_spelled f t c.args.self.now.edition (record { opening = opened.opening; lines = ls }) opened.settled _
+    opened.same _ same) in
     made (goes_on (goes_on (passed c.requires.blank) (opened.read ls _ there)) given)
     (none_spelled f g.M.MakeTexts.made _ elements.items made_of none))
 
-pub get_long_pattern-returns-clause-parses : goal.get_long_pattern-returns-clause-parses
-get_long_pattern-returns-clause-parses g m c =
+pub get_long_pattern-returns-else-is_empty-clause-parses : goal.get_long_pattern-returns-else-is_empty-clause-parses
+get_long_pattern-returns-else-is_empty-clause-parses g m c =
     let t = c.args.self.now.source.bytes.now in
     let f = g.M.MakeTexts.source c.args.self.now.texts.now in
     let opened = c.in_ok-opening.ensures.opens in
     let elements = c.end_elements.new.elements in
     let size : length elements.items ≡ vec_len elements = omega (arith, elements.ok.0) in
     on_made c.in_ok-end.ensures.parses (λ ls there same.
-    let made_of = c.in_ok-end_elements.ensures ∙ ap (λ es. es ++ _) opened.made
-    ∙ layout_spelled f t c.args.self.now.edition (record { opening = opened.opening; lines = ls }) opened.settled _
-    opened.same _ same in
+    let made_of = added_as _ c.in_ok-end_elements.ensures opened.made
+    (layout_spelled f t c.args.self.now.edition (record { opening = opened.opening; lines = ls }) opened.settled _
+    opened.same _ same) in
     made (goes_on (goes_on (passed c.requires.blank) (opened.read ls _ there)) given)
     (some_spelled f g.M.MakeTexts.made _ (record { elements = elements }) made_of
     (some_items elements.items _ size c.if-is_empty.ensures)))
@@ -231,8 +270,8 @@ gather_pieces-returns-in_err-place-in-Some-clause-parses g m c =
     (sym c.in-Some.ensures) (sym c.if-is_eol_at.ensures)
     c.if-byte-eq123.true (fails_first c.in_err-place-in-Some.ensures.parses)))
 
-pub gather_pieces-loop-elements-preserved-then-byte-eq123 : goal.gather_pieces-loop-elements-preserved-then-byte-eq123
-gather_pieces-loop-elements-preserved-then-byte-eq123 g m c =
+pub gather_pieces-loop-elements-preserved-in-Continue-branch-2 : goal.gather_pieces-loop-elements-preserved-in-Continue-branch-2
+gather_pieces-loop-elements-preserved-in-Continue-branch-2 g m c =
     let t = c.args.self.now.source.bytes.now in
     let read = c.in_ok-place-in-Some.ensures in
     let (e, there, added) = read.parses in
