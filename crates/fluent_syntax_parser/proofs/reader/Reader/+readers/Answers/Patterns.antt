@@ -78,7 +78,8 @@ add_opening-loop-elements-preserved g m c =
     let found = sym (rw c.in-Some-eq123.field-0-test at c.in-Some-eq123.ensures) in
     let run = c.run_end-to.ensures.run in
     let read = c.in_ok-place-in-Some-eq123.ensures in
-    let (e, there, x, pushed, seen) = read.parses in
+    let (e, there, added) = read.parses in
+    let (x, pushed, seen) = added in
     record {
       forward = omega (arith, old.forward, run.forward, read.within.0);
       within = read.within.1;
@@ -140,10 +141,10 @@ add_opening-returns-in_default-byte_at-clause-opens g m c =
     × (slice_get t c.run_end-to.result ≡ Some right_brace → ⊥) =
     elim c.in_default-byte_at.branch [
       | add_opening-in_default-byte_at-via-in-Some+in_default w ↦
-          let test = w.in_default.field-0-test in
-          let is = sym w.in_default.ensures in (other_byte _ _ is test.0.1, other_byte _ _ is test.1)
+          let test = w.in_default-byte_at.field-0-test in
+          let is = sym w.in_default-byte_at.ensures in (other_byte _ _ is test.0.1, other_byte _ _ is test.1)
       | add_opening-in_default-byte_at-via-in_default w ↦
-          let none = sym c.byte_at.ensures ∙ w.in_default.is in (no_byte_there none, no_byte_there none)
+          let none = sym c.byte_at.ensures ∙ w.in_default-byte_at.is in (no_byte_there none, no_byte_there none)
     ] in
     let there = opening_read t R f g.M.MakeTexts.made _ (functional_next_piece t R functional) _ _ run _
     old.gathered.behind (line_ends t R _ _ run apart.0 apart.1) in
