@@ -2,7 +2,8 @@
 use Rattle.std.proofs.Common.{◌≡◌, ℕ, ◌+◌, List, subst, refl, inl as left, inr}
 use Rattle.std.specs.Prelude.{◌⊎◌, Result, Ok, Err}
 use Rattle.fluent_syntax_tree.specs.Kind.{ExpectedLiteral}
-use Rattle.fluent_syntax_tree.specs.Tree.{InlineTree, MaybeArguments, number_literal}
+use Rattle.fluent_syntax_tree.specs.Tree.{ExpressionTree, InlineTree, MaybeArguments, number_literal}
+use Rattle.fluent_syntax_tree.specs.declared.ast.PatternElement.{PatternElement}
 use Rattle.fluent_syntax_tree.specs.declared.spans.Span.{Span}
 use Rattle.fluent_syntax_grammar.specs.Arguments.{argument_value}
 use Rattle.fluent_syntax_grammar.specs.Construct.{Outcome, Read, Refused, ◌>>=◌, gives, at_each, chosen, failed}
@@ -13,12 +14,11 @@ use Rattle.fluent_syntax_grammar.specs.Starts.{Start, digit, letter, minus, quot
 use Rattle.fluent_syntax_grammar.specs.Tokens.{identifier, number}
 use Rattle.fluent_syntax_grammar.proofs.FunctionalRules.{IsFunctionalFamily, functional_call}
 use Rattle.fluent_syntax_grammar.proofs.FunctionalWords.{functional_identifier}
-use Rattle.fluent_syntax_parser.specs.Made.{Parses, made}
+use Rattle.fluent_syntax_parser.specs.Last.{Pushes}
 use Rattle.fluent_syntax_parser.specs.Outcomes.{Fails}
 use Rattle.fluent_syntax_parser.specs.Starts.{start_view}
 use Rattle.fluent_syntax_parser.specs.declared.fault.ReadFault.{ReadFault}
 use Rattle.fluent_syntax_parser.proofs.readers.Fails.{fails_next, fails_seen}
-use Rattle.fluent_syntax_parser.proofs.readers.Made.{on_made}
 use Rattle.fluent_syntax_parser.specs.declared.expression.starts.Start as found
 use Rattle.fluent_syntax_parser.specs.declared.expression.starts.Start.TheVariants as starts
 
@@ -81,12 +81,12 @@ module _ (t : List ℕ) (R : Family) (i : ℕ) where
       (refused_value s a b c))
 
 -- a name with its arguments, by the reference that these are
-pub referred : {B X : Type 0} (t : List ℕ) (R : Family) (i : ℕ) (f : InlineTree Span → B) (view : X → B) {name : Span}
-    {a : MaybeArguments Span} {m j : ℕ} (r : Result (X × ℕ) ReadFault) →
-    Parses t f (named_reference t name a) view j r → letter ≡ start t i → identifier t i (Read name m) →
-    call_arguments t R m (Read a j) → IsFunctionalFamily R → Parses t f (inline_expression t R) view i r
-referred t R i f view (Ok x) h s n c g =
-    on_made h (λ e read same. made (by_start t R i letter _ s (goes_on n (goes_on c read))) same)
-referred t R i f view (Err e) h s n c g =
+pub referred : {S X : Type 0} (v : S → X) (t : List ℕ) (R : Family) (i : ℕ) (f : InlineTree Span → ExpressionTree X)
+    (old new : List (PatternElement S)) {name : Span} {a : MaybeArguments Span} {m j : ℕ} (r : Result ℕ ReadFault) →
+    Pushes v t f (named_reference t name a) old new j r → letter ≡ start t i → identifier t i (Read name m) →
+    call_arguments t R m (Read a j) → IsFunctionalFamily R → Pushes v t f (inline_expression t R) old new i r
+referred v t R i f old new (Ok k) (e, read, added) s n c g =
+    (e, by_start t R i letter _ s (goes_on n (goes_on c read)), added)
+referred v t R i f old new (Err e) h s n c g =
     fails_seen (inline_of t R) letter s
     (fails_next (functional_identifier t) n (fails_next (functional_call t R g) c h))
