@@ -4,7 +4,7 @@ use Rattle.std.proofs.Common.{refl, sym, ap, ◌∙◌}
 use Rattle.std.specs.Prelude.{ℤ, ◌&&◌, ◌≢◌, ◌⊎◌}
 use Rattle.std.proofs.Common.{inl, inr, subst, true≢false, map, All, ◌++◌}
 use Rattle.std.proofs.lemmas.List.{map-append}
-use Rattle.std.specs.Prelude.{IfErr, IfOk, IfSome, OnOk, is_some, ok_or, option_and_then, option_map}
+use Rattle.std.specs.Prelude.{IfErr, IfOk, IfSome, OnOk, is_some, option_and_then, option_map}
 use Rattle.std.specs.Str.{bytes_eq}
 use Rattle.std.proofs.lemmas.Map.{update_same}
 use Rattle.std.proofs.lemmas.Slice.Eq.{bytes_eq-Decides}
@@ -23,8 +23,7 @@ use Rattle.ftl_lsp.specs.Diagnostics.{DiagnosesText, shown}
 use Rattle.ftl_lsp.specs.DiagnosticForms.{IsLintDiagnostic, PublishesDiagnostics, error_form}
 use Rattle.ftl_lsp.specs.declared.diagnostics.Diagnostic.{Diagnostic}
 use Rattle.ftl_lsp.specs.Sessions.{Answers, AnswersNotification, AnswersRequest, AnswersRunning, HandlesNotification}
-use Rattle.ftl_lsp.specs.Sessions.{Finds, HasResponse, RefusesFor, Republishes, Unasked, fits}
-use Rattle.ftl_lsp.specs.Sessions as sessions
+use Rattle.ftl_lsp.specs.Sessions.{Finds, HasResponse, RefusesFor, Republishes, fits}
 use Rattle.ftl_lsp.specs.Sessions.{IsMethod, Session, TakesRequest, concerns}
 use Rattle.ftl_lsp.specs.Asking.{IsResult, names_open}
 use Rattle.ftl_lsp.specs.Sessions.{changes, published, requested, notified, opens, passes, runs}
@@ -33,7 +32,6 @@ use Rattle.ftl_lsp.specs.declared.methods.Method.{Method}
 use Rattle.ftl_lsp.specs.declared.methods.Method.TheVariants.{DidChange, DidClose, DidOpen, DidSave}
 use Rattle.ftl_lsp.specs.declared.methods.Method.TheVariants.{Initialized, Rename}
 use Rattle.ftl_lsp.specs.declared.phases.ErrorCode.{ErrorCode}
-use Rattle.ftl_lsp.specs.declared.phases.ErrorCode.TheVariants.{InvalidParams}
 use Rattle.ftl_lsp.specs.declared.phases.Phase.{Phase}
 use Rattle.ftl_lsp.specs.declared.phases.Phase.TheVariants.{Running}
 
@@ -224,33 +222,6 @@ responds None fitting found other is = is
 responds (Some Rename) fitting found other is = absurd (other refl)
 responds (Some _) fitting found other is = is
 
--- what is answered where something may be found: its parameters fit where it is, and don't where it is not
-pub found_fits : (method : Option Method) (fitting : Bool) (found : Option Value) (r : Result Value ErrorCode) →
-    method ≢ Some Rename → HasResponse method fitting (is_some found) → r ≡ ok_or found InvalidParams →
-    IfOk r (λ v. fitting ≡ true)
-found_fits method fitting (Some value) r other is made =
-    subst (λ (s : Result Value ErrorCode). IfOk s (λ v. fitting ≡ true)) (sym made)
-    (sym (responds method fitting true other is))
-found_fits method fitting None r other is made =
-    subst (λ (s : Result Value ErrorCode). IfOk s (λ v. fitting ≡ true)) (sym made) tt
-
-pub found_result : (texts : List ℕ → Option OpenText) (d : Data) (method : Option Method) (found : Option Value)
-    (r : Result Value ErrorCode) → IfSome found (λ value. IsResult texts d method (view value)) →
-    r ≡ ok_or found InvalidParams → IfOk r (λ value. IsResult texts d method (view value))
-found_result texts d method (Some value) r is made =
-    subst (λ (s : Result Value ErrorCode). IfOk s (λ v. IsResult texts d method (view v))) (sym made) is
-found_result texts d method None r is made =
-    subst (λ (s : Result Value ErrorCode). IfOk s (λ v. IsResult texts d method (view v))) (sym made) tt
-
-pub refuses_unfound : (method : Option Method) (fitting : Bool) (found : Option Value) (r : Result Value ErrorCode) →
-    method ≢ Some Rename → HasResponse method fitting (is_some found) → r ≡ ok_or found InvalidParams →
-    IfErr r (RefusesFor method fitting)
-refuses_unfound method fitting (Some value) r other is made =
-    subst (λ (s : Result Value ErrorCode). IfErr s (RefusesFor method fitting)) (sym made) tt
-refuses_unfound method fitting None r other is made =
-    subst (λ (s : Result Value ErrorCode). IfErr s (RefusesFor method fitting)) (sym made)
-    (subst (λ (b : Bool). RefusesFor method b InvalidParams) (responds method fitting false other is) refl)
-
 -- a request that was taken behind something that changes nothing of the session
 pub takes_request : {Y : Type 0} (r : Result (Option Value) Y) (old mid new : Session) (body : List ℕ)
     (d id same_id : Data) (name : List ℕ) (method : Option Method) → read body ≡ Some d →
@@ -346,12 +317,3 @@ publishes_open (Ok (Some value)) session uri running sent =
     published_if_open session uri _ (view value) running refl sent
 publishes_open (Ok None) session uri running sent = tt
 publishes_open (Err e) session uri running sent = sent
-
--- the same, behind what changes nothing of the session
-pub publishes_unasked : {Y : Type 0} (r : Result (Option Value) Y) (old mid : Session) → mid ≡ old →
-    IfOk r (λ sent. IfSome sent (λ value. Republishes mid (view value))) →
-    IfOk r (λ sent. IfSome sent (λ value. Unasked old (view value)))
-publishes_unasked (Ok (Some value)) old mid same anew =
-    sessions.republishes (subst (λ (s : Session). Republishes s (view value)) same anew)
-publishes_unasked (Ok None) old mid same anew = tt
-publishes_unasked (Err e) old mid same anew = anew
