@@ -15,3 +15,29 @@ returns-in-Some c =
       is_out_of_phase c.in-Some.code _ (sym c.in-Some.ensures) refl,
     ))
     c.refuse.ensures
+
+pub returns-in-Err : goal.returns-in-Err
+returns-in-Err c =
+    let refuses = refuses_for c.args.method
+    (fits (session_of c.args.self.now).texts (view c.args.message.now) c.args.method) c.in_ok-response.field-0
+    c.in-Err.code c.in_ok-response.ensures.refused c.in-Err.is in
+    IfOk-weaker c.refuse-in-Err.result _ _
+    (λ sent is. (
+      refused (view c.args.id) c.in-Err.code,
+      is,
+      finds_none c.in-Err.code _ (sym c.in_default.ensures) refuses c.in_ok-response.ensures.same,
+    ))
+    c.refuse-in-Err.ensures
+
+pub returns : goal.returns
+returns c =
+    let response = finds_of (session_of c.args.self.now)
+    (view c.args.message.now) c.args.method c.in_ok-response.field-0
+    c.in-Ok.response (sym c.in_default.ensures)
+    c.in_ok-response.ensures.fitting c.in_ok-response.ensures.result c.in-Ok.is in (
+      answered (view c.args.id) (view c.in-Ok.response),
+      sent_as _ _ _ c.in_ok-reply.ensures (sends_answer _ _),
+      finds _ _ response
+          (answered_in _ (session_of c.response.new.self) _ c.args.method c.after_request-self.ensures
+          c.in_ok-response.ensures.same),
+    )
