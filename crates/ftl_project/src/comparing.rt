@@ -224,11 +224,11 @@ impl Comparing<'_> {
     }
 
     /// What comes of a pair whose files say this.
-    fn comparison_of_indexes(
+    fn comparison_of_indexes<'o>(
         &self,
         pair: &Pair,
         reference: &NameIndex<'_>,
-        other: &NameIndex<'_>,
+        other: &'o NameIndex<'o>,
     ) -> Result<PairComparison, AllocError>
         requires reference { IsShort reference.now }
         requires other { IsShort other.now }

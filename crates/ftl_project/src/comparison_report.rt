@@ -18,14 +18,14 @@ use std::alloc::{AllocError, Global};
 
 /// A pair of which is told what each file lacks: what the other file says, and the form.
 #[derive(Clone, Copy)]
-pub(crate) struct PairReporter<'a> {
+pub(crate) struct PairReporter<'a, 't> {
     pub(crate) alloc: Global,
     pub(crate) pair: &'a Pair,
-    pub(crate) translation: &'a Translation<'a, 'a>,
+    pub(crate) translation: &'a Translation<'t, 't>,
     pub(crate) form: Form,
 }
 
-impl PairReporter<'_> {
+impl PairReporter<'_, '_> {
     /// What is told of the parts that the file of this side has and the other one lacks. The names are those of the
     /// entries that the file defines.
     pub(crate) fn report_of(
@@ -69,9 +69,9 @@ impl PairReporter<'_> {
         }
     }
 
-    fn missing_report<'t>(
-        &self,
-        text: &str,
+    fn missing_report<'s, 't>(
+        &'s self,
+        text: &'s str,
         names: &EntryNames,
         lines: &mut Lines<'t>,
         missing: &MissingPart,

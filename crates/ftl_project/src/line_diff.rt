@@ -72,28 +72,29 @@ pub(crate) fn line_diff(
 /// The lines of both texts in one order.
 fn lines_of<'t>(
     alloc: Global,
-    mut old: &[&'t str],
-    mut new: &[&'t str],
+    old: &[&'t str],
+    new: &[&'t str],
 ) -> Result<Vec<Line<'t>>, AllocError> {
     let mut lines = Vec::new(alloc);
+    let mut at = LineNumbers { old: 0, new: 0 };
     for _ in 0..old.len().saturating_add(new.len()) {
-        let (gone, come) = next_common(old, new);
-        let (removed, old_rest) = old.split_at(gone.min(old.len()));
-        let (added, new_rest) = new.split_at(come.min(new.len()));
-        for line in removed {
+        let (_, old_rest) = old.split_at(at.old.min(old.len()));
+        let (_, new_rest) = new.split_at(at.new.min(new.len()));
+        let (gone, come) = next_common(old_rest, new_rest);
+        for line in old_rest.iter().take(gone) {
             lines.push(Line::Removed(*line))?;
         }
-        for line in added {
+        for line in new_rest.iter().take(come) {
             lines.push(Line::Added(*line))?;
         }
-        match (old_rest.split_first(), new_rest.split_first()) {
-            (Some((line, old_behind)), Some((_, new_behind))) => {
-                lines.push(Line::Kept(*line))?;
-                old = old_behind;
-                new = new_behind;
-            }
-            _ => break,
-        }
+        let Some(line) = old_rest.get(gone) else {
+            break;
+        };
+        lines.push(Line::Kept(*line))?;
+        at = LineNumbers {
+            old: at.old.saturating_add(gone).saturating_add(1),
+            new: at.new.saturating_add(come).saturating_add(1),
+        };
     }
     Ok(lines)
 }
@@ -115,18 +116,19 @@ fn next_common(old: &[&str], new: &[&str]) -> (usize, usize) {
 
 /// Adds each stretch of lines that differ, with those around it.
 fn push_hunks(out: &mut String, lines: &[Line<'_>]) -> Result<(), AllocError> {
-    let mut rest = lines;
+    let mut start = 0;
     let mut before = LineNumbers { old: 0, new: 0 };
     for _ in 0..lines.len() {
+        let (_, rest) = lines.split_at(start.min(lines.len()));
         let Some(first) = rest.iter().position(|line| !line.is_kept()) else {
             break;
         };
         let (passed, from) = rest.split_at(first.saturating_sub(AROUND).min(rest.len()));
-        before = before.behind(passed);
         let (hunk, behind) = from.split_at(hunk_length(from).min(from.len()));
+        before = before.behind(passed);
         push_hunk(out, before, hunk)?;
         before = before.behind(hunk);
-        rest = behind;
+        start = lines.len().saturating_sub(behind.len());
     }
     Ok(())
 }

@@ -33,12 +33,12 @@ pub fn report(
 }
 
 /// What is told of an error in the file's text.
-fn error_report<'t>(
+fn error_report<'s, 't>(
     alloc: Global,
-    path: &str,
-    text: &str,
+    path: &'s str,
+    text: &'s str,
     lines: &mut Lines<'t>,
-    error: &ParserError,
+    error: &'s ParserError,
     form: Form,
 ) -> Result<String, AllocError>
     requires { lines.old ≡ text.now }

@@ -1,6 +1,11 @@
-use Rattle.std.proofs.Common.{codes, refl, string_bytes, subst}
+use Rattle.std.proofs.Common.{◌≡◌, Bool, codes, false, if◌then◌else◌, refl, string_bytes, subst, true}
+use Rattle.std.specs.Int.{from_bool}
 use Rattle.ftl_project.specs.Comparing.{IsFileReport}
 use Rattle.ftl_project.proofs.comparing.Comparing.comparison_without_file.Goals as goal
+
+one_if : (b : Bool) → from_bool b ≡ (if b then 1 else 0)
+one_if false = refl
+one_if true = refl
 
 pub returns-clause-compared : goal.returns-clause-compared
 returns-clause-compared c =
@@ -11,7 +16,7 @@ returns-clause-compared c =
       record {
         report_text = subst (λ told. IsFileReport self.options.form c.args.pair.now told report_text)
             c.is_told-is_told.ensures c.in_ok-report_text.ensures;
-        errors_are = rw c.is_told-is_told.ensures at c.from-errors.ensures;
+        errors_are = rw (c.from.ensures, c.is_told-is_told.ensures) (one_if _);
         share_is = rw c.entry_count-wanted.ensures refl;
       },
     )
