@@ -2,10 +2,10 @@
 use Rattle.std.proofs.Common.{◌≡◌, ℕ, zero, suc, ◌+◌, ◌<◌, ◌≤◌, Option, Some, None, Bool, true, false, refl, sym, subst}
 use Rattle.std.proofs.Common.{arith, inl, inr}
 use Rattle.fluent_syntax_tree.specs.Kind.{Kind}
-use Rattle.fluent_syntax_grammar.specs.Places.{Stretch, Steps, Reaches}
-use Rattle.fluent_syntax_grammar.specs.Construct.{Outcome, Read, Refused, Construct, ◌>>=◌, stops, goes_on, gives}
-use Rattle.fluent_syntax_grammar.specs.Construct.{given, here, at_place, fails, failed, fails_from, failed_from, over}
-use Rattle.fluent_syntax_grammar.specs.Construct.{passed, at_each, chosen, either, first, second, More, no_item, item}
+use Rattle.fluent_syntax_grammar.specs.Places.{LongestRun, Steps, Reaches}
+use Rattle.fluent_syntax_grammar.specs.Construct.{Outcome, Read, Refused, Construct, ◌>>=◌, stops, goes_on, yields}
+use Rattle.fluent_syntax_grammar.specs.Construct.{given, here, at_place, fails, failed, fails_from, failed_from, skip}
+use Rattle.fluent_syntax_grammar.specs.Construct.{passed, peek, chosen, branch_on, first, second, More, no_item, item}
 use Rattle.fluent_syntax_grammar.specs.Construct.{many}
 use Rattle.fluent_syntax_grammar.proofs.Facts.{here_or_on, some_same}
 use Rattle.fluent_syntax_grammar.proofs.Lists.{rest_of, into_list}
@@ -45,10 +45,10 @@ computed_bind {c = c} {f = f} x g =
       sound = λ i o h. then_sound c f x g i o (x.run i) refl h;
     }
 
-pub gives_sound : {A : Type 0} (a : A) (i : ℕ) (o : Outcome A) → Some (Read a i) ≡ Some o → gives a i o
-gives_sound a i o h = let same : Read a i ≡ o = cc in subst (λ o. gives a i o) same given
+pub gives_sound : {A : Type 0} (a : A) (i : ℕ) (o : Outcome A) → Some (Read a i) ≡ Some o → yields a i o
+gives_sound a i o h = let same : Read a i ≡ o = cc in subst (λ o. yields a i o) same given
 
-abbrev pub computed_gives : {A : Type 0} {a : A} → Computed (gives a)
+abbrev pub computed_gives : {A : Type 0} {a : A} → Computed (yields a)
 computed_gives {a = a} = record { run = λ i. Some (Read a i); sound = gives_sound a }
 
 pub here_sound : (i : ℕ) (o : Outcome ℕ) → Some (Read i i) ≡ Some o → here i o
@@ -75,21 +75,21 @@ over_run None = None
 over_run (Some j) = Some (Read tt j)
 
 pub over_sound : (W : ℕ → ℕ → Type 0) (w : ComputedWord W) (i : ℕ) (o : Outcome (Unit {0})) (r : Option ℕ) →
-    w.run i ≡ r → over_run r ≡ Some o → over W i o
+    w.run i ≡ r → over_run r ≡ Some o → skip W i o
 over_sound W w i o None e h = cc
-over_sound W w i o (Some j) e h = let same : Read tt j ≡ o = cc in subst (λ o. over W i o) same (passed (w.sound i j e))
+over_sound W w i o (Some j) e h = let same : Read tt j ≡ o = cc in subst (λ o. skip W i o) same (passed (w.sound i j e))
 
-abbrev pub computed_over : {W : ℕ → ℕ → Type 0} → ComputedWord W → Computed (over W)
+abbrev pub computed_over : {W : ℕ → ℕ → Type 0} → ComputedWord W → Computed (skip W)
 computed_over {W = W} w = record { run = λ i. over_run (w.run i); sound = λ i o h. over_sound W w i o (w.run i) refl h }
 
 abbrev pub computed_at_each : {A B : Type 0} {look : ℕ → A} {part : A → Construct B} → ((a : A) → Computed (part a)) →
-    Computed (at_each look part)
+    Computed (peek look part)
 computed_at_each {look = look} {part = part} g =
     record { run = λ i. (g (look i)).run i; sound = λ i o h. chosen ((g (look i)).sound i o h) }
 
 pub either_sound :
     {A : Type 0} (test : Bool) (c d : Construct A) (x : Computed c) (y : Computed d) (i : ℕ) (o : Outcome A) →
-    choose test (λ u. x.run i) (λ u. y.run i) ≡ Some o → either test c d i o
+    choose test (λ u. x.run i) (λ u. y.run i) ≡ Some o → branch_on test c d i o
 either_sound true c d x y i o h = first refl (x.sound i o h)
 either_sound false c d x y i o h = second refl (y.sound i o h)
 
@@ -97,7 +97,7 @@ pub none_some : {A X : Type 0} {a : A} → None ≡ Some a → X
 none_some e = cc
 
 abbrev pub computed_either : {A : Type 0} {test : Bool} {c d : Construct A} → Computed c → Computed d →
-    Computed (either test c d)
+    Computed (branch_on test c d)
 computed_either {test = test} {c = c} {d = d} x y =
     record { run = λ i. choose test (λ u. x.run i) (λ u. y.run i); sound = λ i o h. either_sound test c d x y i o h }
 
@@ -129,29 +129,29 @@ abbrev pub find : (ℕ → Bool) → (fuel : ℕ) → ℕ → Option ℕ
 find test zero i = None
 find test (suc n) i = choose (test i) (λ u. find test n (i + 1)) (λ u. Some i)
 
-pub find_here : (test : ℕ → Bool) (i j : ℕ) → test i ≡ false → Some i ≡ Some j → Stretch test i j
+pub find_here : (test : ℕ → Bool) (i j : ℕ) → test i ≡ false → Some i ≡ Some j → LongestRun test i j
 find_here test i j e h = let same : i ≡ j = some_same h in
-    subst (λ j. Stretch test i j) same
+    subst (λ j. LongestRun test i j) same
     (record { forward = omega arith; each = λ k a b. absurd (omega arith); longest = e })
 
-find_each : (test : ℕ → Bool) (i j k : ℕ) → test i ≡ true → Stretch test (i + 1) j → i ≤ k → k < j → test k ≡ true
+find_each : (test : ℕ → Bool) (i j k : ℕ) → test i ≡ true → LongestRun test (i + 1) j → i ≤ k → k < j → test k ≡ true
 find_each test i j k e s a b =
     elim (here_or_on i k a) [ inl same ↦ subst (λ k. test k ≡ true) same e | inr l ↦ s.each k l b ]
 
-pub find_on : (test : ℕ → Bool) (i j : ℕ) → test i ≡ true → Stretch test (i + 1) j → Stretch test i j
+pub find_on : (test : ℕ → Bool) (i j : ℕ) → test i ≡ true → LongestRun test (i + 1) j → LongestRun test i j
 find_on test i j e s = let f = s.forward in
     record { forward = omega arith; each = λ k a b. find_each test i j k e s a b; longest = s.longest }
 
 find_sound : (test : ℕ → Bool) (n i j : ℕ) (b : Bool) → test i ≡ b →
-    choose b (λ u. find test n (i + 1)) (λ u. Some i) ≡ Some j → Stretch test i j
+    choose b (λ u. find test n (i + 1)) (λ u. Some i) ≡ Some j → LongestRun test i j
 find_sound test n i j false e h = find_here test i j e h
 find_sound test zero i j true e h = cc
 find_sound test (suc n) i j true e h = find_on test i j e (find_sound test n (i + 1) j (test (i + 1)) refl h)
 
-pub found_stretch : (test : ℕ → Bool) (n i j : ℕ) → find test n i ≡ Some j → Stretch test i j
+pub found_stretch : (test : ℕ → Bool) (n i j : ℕ) → find test n i ≡ Some j → LongestRun test i j
 found_stretch test zero i j h = cc
 found_stretch test (suc n) i j h = find_sound test n i j (test i) refl h
 
 -- the longest stretch, within so many places
-abbrev pub computed_stretch : {test : ℕ → Bool} → ℕ → ComputedWord (Stretch test)
+abbrev pub computed_stretch : {test : ℕ → Bool} → ℕ → ComputedWord (LongestRun test)
 computed_stretch {test = test} n = record { run = λ i. find test n i; sound = λ i j h. found_stretch test n i j h }

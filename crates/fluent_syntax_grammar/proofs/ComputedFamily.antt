@@ -8,15 +8,15 @@ use Rattle.fluent_syntax_tree.specs.Tree.{no_arguments}
 use Rattle.fluent_syntax_tree.specs.Tree.{some_arguments}
 use Rattle.fluent_syntax_grammar.specs.Bytes.{is_space}
 use Rattle.fluent_syntax_grammar.specs.Places.{has}
-use Rattle.fluent_syntax_grammar.specs.Construct.{Outcome, Read, ◌>>=◌, gives, More, no_item, item}
+use Rattle.fluent_syntax_grammar.specs.Construct.{Outcome, Read, ◌>>=◌, yields, More, no_item, item}
 use Rattle.fluent_syntax_grammar.specs.Family.{Family}
 use Rattle.fluent_syntax_grammar.specs.Grammar.{family, within}
 use Rattle.fluent_syntax_grammar.specs.Starts.{Start, quote, digit, term, minus, dollar, letter, brace, other}
 use Rattle.fluent_syntax_grammar.specs.Arguments.{accessor, separator, call_arguments, argument_value, named_rest}
 use Rattle.fluent_syntax_grammar.specs.Arguments.{positional_rest, argument_name, argument_rest, next_argument_at}
 use Rattle.fluent_syntax_grammar.specs.Arguments.{next_argument, more_arguments}
-use Rattle.fluent_syntax_grammar.specs.Placeables.{arrow_line_end, selector_fault, variants_of_select, select_with}
-use Rattle.fluent_syntax_grammar.specs.Placeables.{expression, placeable}
+use Rattle.fluent_syntax_grammar.specs.Expressions.{arrow_line_end, selector_fault, variants_of_select, select_with}
+use Rattle.fluent_syntax_grammar.specs.Expressions.{expression, placeable}
 use Rattle.fluent_syntax_grammar.specs.Inline.{named_reference, inline_of, inline_expression}
 use Rattle.fluent_syntax_grammar.specs.Layout.{Line}
 use Rattle.fluent_syntax_grammar.specs.Lines.{belongs, ending_of, ending, next_piece_at, next_piece, more_pieces, line}
@@ -161,7 +161,7 @@ module _ (t : List ℕ) (n : ℕ) (R : Family) (h : ComputedFamily R) where
   abbrev pub computed_pieces : Computed (more_pieces t R)
   computed_pieces = computed_many (λ u. next_piece t R) _ _ (λ u. computed_at_each computed_piece_at) n tt
 
-  abbrev pub computed_own : Computed {A = More Line (Unit {0})} (line t R >>= λ l. gives (item l tt))
+  abbrev pub computed_own : Computed {A = More Line (Unit {0})} (line t R >>= λ l. yields (item l tt))
   computed_own =
       computed_bind
       (computed_bind computed_here

@@ -6,7 +6,8 @@ use Rattle.std.proofs.lemmas.Option.{slice_get_within, slice_get_cases}
 use Rattle.std.proofs.lemmas.Bool.Decides.{nat_tests}
 use Rattle.fluent_syntax_grammar.specs.Bytes.{lf, cr, space, is_space, is_digit, is_name_byte}
 use Rattle.std.specs.Char.{is_ascii_hexdigit}
-use Rattle.fluent_syntax_grammar.specs.Places.{holds, Stretch, Word, has, has_byte, has_eol, after_eol, is_line_place}
+use Rattle.fluent_syntax_grammar.specs.Places.{holds, LongestRun, ByteRun, has, has_byte, has_eol, after_eol}
+use Rattle.fluent_syntax_grammar.specs.Places.{is_line_place}
 use Rattle.fluent_syntax_grammar.specs.Places.{is_blank_place, Blank, BlankBlock, no_line, line}
 use Rattle.fluent_syntax_grammar.specs.Lines.{is_run_place}
 use Rattle.fluent_syntax_grammar.proofs.Facts.{byte_found, stretch_in_text, two_on, add_one, has_inside, some_none}
@@ -149,7 +150,7 @@ block_forward t i j (line {k = k} {m = m} a b c) = let f = a.forward in let g = 
 module _ (t : List ℕ) (P : ℕ → Type 0) (cuts : IsCuts t P) where
   -- every place of a stretch over ASCII bytes
   pub stretch_places : (test : ℕ → Bool) → ((k : ℕ) → test k ≡ true → AsciiAt t k) → (i j : ℕ) → P i →
-      Stretch test i j → (k : ℕ) → i ≤ k → k ≤ j → P k
+      LongestRun test i j → (k : ℕ) → i ≤ k → k ≤ j → P k
   stretch_places test ascii i j p s zero a b = let e : i ≡ 0 = omega arith in subst P e p
   stretch_places test ascii i j p s (suc k) a b =
       let split : (i ≤ k) ⊎ (i ≡ suc k) = grind arith in
@@ -158,7 +159,7 @@ module _ (t : List ℕ) (P : ℕ → Type 0) (cuts : IsCuts t P) where
         | inr e ↦ subst P e p
       ]
 
-  pub word_place : (set : ℕ → Bool) → IsAsciiSet set → (i j : ℕ) → P i → Word t set i j → P j
+  pub word_place : (set : ℕ → Bool) → IsAsciiSet set → (i j : ℕ) → P i → ByteRun t set i j → P j
   word_place set s i j p w = stretch_places (has t set) (λ k e. ascii_has t set k s e) i j p w j w.forward (omega arith)
 
   pub blank_place : (i j : ℕ) → P i → Blank t i j → P j
@@ -188,13 +189,13 @@ module _ (t : List ℕ) (P : ℕ → Type 0) (cuts : IsCuts t P) where
       ]
 
   -- the rest of a line stops at a line end or at the text's end
-  pub line_stop : (i j : ℕ) → P i → Stretch (is_line_place t) i j → P j
+  pub line_stop : (i j : ℕ) → P i → LongestRun (is_line_place t) i j → P j
   line_stop i j p s =
       stop_place j (stretch_in_text (length t) (is_line_place t) (line_inside t) i j (cuts.in_text i p) s)
       (line_ends t j s.longest)
 
   -- a run stops at a line end, a brace or the text's end
-  pub run_stop : (i j : ℕ) → P i → Stretch (is_run_place t) i j → P j
+  pub run_stop : (i j : ℕ) → P i → LongestRun (is_run_place t) i j → P j
   run_stop i j p s =
       stop_place j (stretch_in_text (length t) (is_run_place t) (run_inside t) i j (cuts.in_text i p) s)
       (run_ends t j s.longest)

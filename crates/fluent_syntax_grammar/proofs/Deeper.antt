@@ -1,8 +1,8 @@
 -- Where a part nests too deeply, so does the whole.
 use Rattle.std.proofs.Common.{◌≡◌, ℕ, zero, suc, List, [], Bool, true, false}
 use Rattle.std.proofs.Common.{refl, subst}
-use Rattle.fluent_syntax_grammar.specs.Construct.{Outcome, Construct, Read, Refused, ◌>>=◌, stops, goes_on, at_each}
-use Rattle.fluent_syntax_grammar.specs.Construct.{chosen, either, first, second, More, item, many, list_ends}
+use Rattle.fluent_syntax_grammar.specs.Construct.{Outcome, Construct, Read, Refused, ◌>>=◌, stops, goes_on, peek}
+use Rattle.fluent_syntax_grammar.specs.Construct.{chosen, branch_on, first, second, More, item, many, list_ends}
 use Rattle.fluent_syntax_grammar.specs.Construct.{list_stops}
 use Rattle.fluent_syntax_grammar.specs.Construct.{item_and_more, stops_later, passed}
 use Rattle.fluent_syntax_tree.specs.declared.edition.Edition.{Edition}
@@ -10,7 +10,7 @@ use Rattle.fluent_syntax_grammar.specs.Arguments.{call_arguments, more_arguments
 use Rattle.fluent_syntax_grammar.specs.Bytes.{left_brace, left_parenthesis}
 use Rattle.fluent_syntax_grammar.specs.Family.{Family}
 use Rattle.fluent_syntax_grammar.specs.Grammar.{within}
-use Rattle.fluent_syntax_grammar.specs.Placeables.{expression, placeable}
+use Rattle.fluent_syntax_grammar.specs.Expressions.{expression, placeable}
 use Rattle.fluent_syntax_grammar.specs.Places.{Blank}
 use Rattle.fluent_syntax_grammar.specs.Tokens.{optional, token}
 use Rattle.fluent_syntax_grammar.proofs.FunctionalWords.{functional_blank, functional_optional, functional_token}
@@ -35,15 +35,15 @@ module _ {A B : Type 0} {c : Construct A} {f : A → Construct B} {i : ℕ} wher
       d o (subst (λ k. f a k o) place (subst (λ b. f b k o) value z))
 
 pub deeper_at_each : {A B : Type 0} {look : ℕ → A} {part : A → Construct B} {i : ℕ} → TooDeep (part (look i)) i →
-    TooDeep (at_each look part) i
+    TooDeep (peek look part) i
 deeper_at_each d o (chosen x) = d o x
 
 module _ {A : Type 0} {test : Bool} {c d : Construct A} {i : ℕ} where
-  pub deeper_yes : test ≡ true → TooDeep c i → TooDeep (either test c d) i
+  pub deeper_yes : test ≡ true → TooDeep c i → TooDeep (branch_on test c d) i
   deeper_yes e h o (first f x) = h o x
   deeper_yes e h o (second f x) = cc
 
-  pub deeper_no : test ≡ false → TooDeep d i → TooDeep (either test c d) i
+  pub deeper_no : test ≡ false → TooDeep d i → TooDeep (branch_on test c d) i
   deeper_no e h o (first f x) = cc
   deeper_no e h o (second f x) = h o x
 

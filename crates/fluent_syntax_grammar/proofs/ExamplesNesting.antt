@@ -6,8 +6,8 @@ use Rattle.fluent_syntax_grammar.specs.Bytes.{is_letter, is_name_byte, left_brac
 use Rattle.fluent_syntax_grammar.specs.Construct.{Outcome, Read, goes_on, given, passed, chosen, first, at_place}
 use Rattle.fluent_syntax_grammar.specs.Grammar.{within}
 use Rattle.fluent_syntax_grammar.specs.Nesting.{TooDeep}
-use Rattle.fluent_syntax_grammar.specs.Placeables.{placeable}
-use Rattle.fluent_syntax_grammar.specs.Places.{Stretch, has, has_byte, is_blank_place}
+use Rattle.fluent_syntax_grammar.specs.Expressions.{placeable}
+use Rattle.fluent_syntax_grammar.specs.Places.{LongestRun, has, has_byte, is_blank_place}
 use Rattle.fluent_syntax_grammar.specs.Bytes.{equals_sign, is_space}
 use Rattle.fluent_syntax_grammar.specs.Nesting.{NestsDeeper}
 use Rattle.fluent_syntax_grammar.specs.Patterns.{pattern}
@@ -27,10 +27,10 @@ use Rattle.fluent_syntax_grammar.proofs.FunctionalWords.{functional_identifier}
 
 -- ---- what stands in them
 
-none_there : (test : ℕ → Bool) (i : ℕ) → test i ≡ false → Stretch test i i
+none_there : (test : ℕ → Bool) (i : ℕ) → test i ≡ false → LongestRun test i i
 none_there test i e = record { forward = omega arith; each = λ k l r. absurd (omega arith); longest = e }
 
-one_there : (test : ℕ → Bool) (i : ℕ) → test i ≡ true → test (i + 1) ≡ false → Stretch test i (i + 1)
+one_there : (test : ℕ → Bool) (i : ℕ) → test i ≡ true → test (i + 1) ≡ false → LongestRun test i (i + 1)
 one_there test i there e = record {
   forward = omega arith;
   each = λ k l r. (let same : k ≡ i = omega arith in rw same there);

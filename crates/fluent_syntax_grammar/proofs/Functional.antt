@@ -1,12 +1,12 @@
 -- At each place a construct of parts has at most one outcome, if its parts have.
 use Rattle.std.proofs.Common.{◌≡◌, ℕ, Bool, refl, sym, ◌∙◌, subst, arith}
-use Rattle.fluent_syntax_grammar.specs.Places.{Stretch, Steps, Reaches, BlankBlock, no_line, line}
+use Rattle.fluent_syntax_grammar.specs.Places.{LongestRun, Steps, Reaches, BlankBlock, no_line, line}
 use Rattle.std.proofs.Common.{List}
 use Rattle.fluent_syntax_tree.specs.Kind.{Kind}
-use Rattle.fluent_syntax_grammar.specs.Construct.{Outcome, Read, Refused, Construct, ◌>>=◌, stops, goes_on, gives}
+use Rattle.fluent_syntax_grammar.specs.Construct.{Outcome, Read, Refused, Construct, ◌>>=◌, stops, goes_on, yields}
 use Rattle.fluent_syntax_grammar.specs.Construct.{given, here}
-use Rattle.fluent_syntax_grammar.specs.Construct.{at_place, fails, failed, fails_from, failed_from, over, passed}
-use Rattle.fluent_syntax_grammar.specs.Construct.{at_each, chosen, either, first, second, More, many, list_ends}
+use Rattle.fluent_syntax_grammar.specs.Construct.{at_place, fails, failed, fails_from, failed_from, skip, passed}
+use Rattle.fluent_syntax_grammar.specs.Construct.{peek, chosen, branch_on, first, second, More, many, list_ends}
 use Rattle.fluent_syntax_grammar.specs.Construct.{list_stops, item_and_more, stops_later}
 use Rattle.fluent_syntax_grammar.specs.Laws.{IsFunctional}
 
@@ -29,10 +29,10 @@ pub functional_bind : {A B : Type 0} {c : Construct A} {f : A → Construct B} �
     ((a : A) → IsFunctional (f a)) → IsFunctional (c >>= f)
 functional_bind {c = c} {f = f} cf ff = record { same = bind_same c f cf ff }
 
-gives_same : {A : Type 0} (a : A) (i : ℕ) (o p : Outcome A) → gives a i o → gives a i p → o ≡ p
+gives_same : {A : Type 0} (a : A) (i : ℕ) (o p : Outcome A) → yields a i o → yields a i p → o ≡ p
 gives_same a i o p given given = refl
 
-pub functional_gives : {A : Type 0} {a : A} → IsFunctional (gives a)
+pub functional_gives : {A : Type 0} {a : A} → IsFunctional (yields a)
 functional_gives {a = a} = record { same = gives_same a }
 
 here_same : (i : ℕ) (o p : Outcome ℕ) → here i o → here i p → o ≡ p
@@ -54,29 +54,29 @@ fails_from_same k from i o p failed_from failed_from = refl
 pub functional_fails_from : {A : Type 0} {k : Kind} {from : ℕ} → IsFunctional (fails_from {A = A} k from)
 functional_fails_from {k = k} {from = from} = record { same = fails_from_same k from }
 
-over_same : (W : ℕ → ℕ → Type 0) → IsSingle W → (i : ℕ) (o p : Outcome (Unit {0})) → over W i o → over W i p → o ≡ p
+over_same : (W : ℕ → ℕ → Type 0) → IsSingle W → (i : ℕ) (o p : Outcome (Unit {0})) → skip W i o → skip W i p → o ≡ p
 over_same W single i o p (passed x) (passed y) = let e = single.same i _ _ x y in cc
 
-pub functional_over : {W : ℕ → ℕ → Type 0} → IsSingle W → IsFunctional (over W)
+pub functional_over : {W : ℕ → ℕ → Type 0} → IsSingle W → IsFunctional (skip W)
 functional_over {W = W} single = record { same = over_same W single }
 
 at_each_same : {A B : Type 0} (look : ℕ → A) (part : A → Construct B) → ((a : A) → IsFunctional (part a)) →
-    (i : ℕ) (o p : Outcome B) → at_each look part i o → at_each look part i p → o ≡ p
+    (i : ℕ) (o p : Outcome B) → peek look part i o → peek look part i p → o ≡ p
 at_each_same look part f i o p (chosen x) (chosen y) = (f (look i)).same i o p x y
 
 pub functional_at_each : {A B : Type 0} {look : ℕ → A} {part : A → Construct B} → ((a : A) → IsFunctional (part a)) →
-    IsFunctional (at_each look part)
+    IsFunctional (peek look part)
 functional_at_each {look = look} {part = part} f = record { same = at_each_same look part f }
 
 either_same : {A : Type 0} (b : Bool) (c d : Construct A) → IsFunctional c → IsFunctional d →
-    (i : ℕ) (o p : Outcome A) → either b c d i o → either b c d i p → o ≡ p
+    (i : ℕ) (o p : Outcome A) → branch_on b c d i o → branch_on b c d i p → o ≡ p
 either_same b c d cf df i o p (first e x) (first f y) = cf.same i o p x y
 either_same b c d cf df i o p (first e x) (second f y) = cc
 either_same b c d cf df i o p (second e x) (first f y) = cc
 either_same b c d cf df i o p (second e x) (second f y) = df.same i o p x y
 
 pub functional_either : {A : Type 0} {b : Bool} {c d : Construct A} → IsFunctional c → IsFunctional d →
-    IsFunctional (either b c d)
+    IsFunctional (branch_on b c d)
 functional_either {b = b} {c = c} {d = d} cf df = record { same = either_same b c d cf df }
 
 module _ {A S B : Type 0} (next : S → Construct (More A S)) (add : A → B → B) (none : B)
@@ -131,10 +131,10 @@ functional_many {next = next} {add = add} {none = none} {s = s} f =
 
 -- ---- longest words
 
-stretch_same : (test : ℕ → Bool) (i j k : ℕ) → Stretch test i j → Stretch test i k → j ≡ k
+stretch_same : (test : ℕ → Bool) (i j k : ℕ) → LongestRun test i j → LongestRun test i k → j ≡ k
 stretch_same test i j k a b = grind (arith, a.each k b.forward, b.each j a.forward, a.longest, b.longest)
 
-pub single_stretch : {test : ℕ → Bool} → IsSingle (Stretch test)
+pub single_stretch : {test : ℕ → Bool} → IsSingle (LongestRun test)
 single_stretch {test = test} = record { same = stretch_same test }
 
 steps_same : (n i j k : ℕ) → Steps n i j → Steps n i k → j ≡ k

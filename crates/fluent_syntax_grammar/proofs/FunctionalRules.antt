@@ -3,13 +3,13 @@ use Rattle.std.proofs.Common.{◌≡◌, ℕ, List, [], ◌∷◌, Option, Some,
 use Rattle.fluent_syntax_tree.specs.Kind.{Kind}
 use Rattle.fluent_syntax_tree.specs.Tree.{InlineTree, KeyTree, PatternTree, MaybeArguments, no_arguments}
 use Rattle.fluent_syntax_tree.specs.Tree.{some_arguments}
-use Rattle.fluent_syntax_grammar.specs.Construct.{Outcome, ◌>>=◌, gives, More, item}
+use Rattle.fluent_syntax_grammar.specs.Construct.{Outcome, ◌>>=◌, yields, More, item}
 use Rattle.fluent_syntax_grammar.specs.Family.{Family}
 use Rattle.fluent_syntax_grammar.specs.Starts.{Start, quote, digit, term, minus, dollar, letter, brace, other}
 use Rattle.fluent_syntax_grammar.specs.Arguments.{accessor, separator, call_arguments, argument_value, named_rest}
 use Rattle.fluent_syntax_grammar.specs.Arguments.{positional_rest, argument_rest, next_argument_at, next_argument}
 use Rattle.fluent_syntax_grammar.specs.Arguments.{more_arguments}
-use Rattle.fluent_syntax_grammar.specs.Placeables.{arrow_line_end, select_with, expression, placeable}
+use Rattle.fluent_syntax_grammar.specs.Expressions.{arrow_line_end, select_with, expression, placeable}
 use Rattle.fluent_syntax_grammar.specs.Inline.{named_reference, inline_of, inline_expression}
 use Rattle.fluent_syntax_grammar.specs.Lines.{ending_of, ending, next_piece_at, next_piece, more_pieces, line}
 use Rattle.fluent_syntax_grammar.specs.Lines.{next_line, more_lines, no_byte, other_line, own_line}
@@ -129,7 +129,7 @@ module _ (t : List ℕ) (R : Family) (h : IsFunctionalFamily R) where
   pub functional_line : IsFunctional (line t R)
   functional_line = search (words, functional_ending, functional_pieces) depth 30
 
-  own_same : IsFunctional {A = More Line (Unit {0})} (line t R >>= λ l. gives (item l tt))
+  own_same : IsFunctional {A = More Line (Unit {0})} (line t R >>= λ l. yields (item l tt))
   own_same = search (words, functional_line) depth 30
 
   line_same : (i : ℕ) (o p : Outcome (More Line (Unit {0}))) → next_line t R i o → next_line t R i p → o ≡ p

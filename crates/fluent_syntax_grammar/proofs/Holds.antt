@@ -1,9 +1,9 @@
 -- The logic of constructs: what holds after every reading and of every refusal, from each place of a kind.
 use Rattle.std.proofs.Common.{◌≡◌, ℕ, ◌+◌, Bool, true, false, refl}
 use Rattle.fluent_syntax_tree.specs.Kind.{Kind}
-use Rattle.fluent_syntax_grammar.specs.Construct.{Read, Refused, Construct, ◌>>=◌, stops, goes_on, gives, given, here}
-use Rattle.fluent_syntax_grammar.specs.Construct.{at_place, fails, failed, fails_from, failed_from, over, passed}
-use Rattle.fluent_syntax_grammar.specs.Construct.{at_each, chosen, either, first, second, More, no_item, item}
+use Rattle.fluent_syntax_grammar.specs.Construct.{Read, Refused, Construct, ◌>>=◌, stops, goes_on, yields, given, here}
+use Rattle.fluent_syntax_grammar.specs.Construct.{at_place, fails, failed, fails_from, failed_from, skip, passed}
+use Rattle.fluent_syntax_grammar.specs.Construct.{peek, chosen, branch_on, first, second, More, no_item, item}
 use Rattle.fluent_syntax_grammar.specs.Construct.{many, list_ends, list_stops, item_and_more, stops_later}
 
 -- From each place with `pre`, every reading has `read value end`, and every refusal `refused kind from to`.
@@ -43,18 +43,18 @@ holds_bind {pre = pre} {c = c} {f = f} {mid = mid} {read = read} {refused = refu
     record { on_read = bind_read pre c f mid read refused h g; on_refused = bind_refused pre c f mid read refused h g }
 
 gives_read : {A : Type 0} (pre : ℕ → Type 0) (a : A) (read : A → ℕ → Type 0) → ((i : ℕ) → pre i → read a i) →
-    (i j : ℕ) (b : A) → pre i → gives a i (Read b j) → read b j
+    (i j : ℕ) (b : A) → pre i → yields a i (Read b j) → read b j
 gives_read pre a read h i j b p given = h i p
 
-gives_refused : {A : Type 0} (a : A) (X : Type 0) (i from to : ℕ) (k : Kind) → gives a i (Refused k from to) → X
+gives_refused : {A : Type 0} (a : A) (X : Type 0) (i from to : ℕ) (k : Kind) → yields a i (Refused k from to) → X
 gives_refused a X i from to k x = elim x [ ]
 
 -- what was given is the value, at the same place
-pub gave : {A : Type 0} (a b : A) (i j : ℕ) → gives a i (Read b j) → (a ≡ b) × (i ≡ j)
+pub gave : {A : Type 0} (a b : A) (i j : ℕ) → yields a i (Read b j) → (a ≡ b) × (i ≡ j)
 gave a b i j given = (refl, refl)
 
 pub holds_gives : {A : Type 0} {pre : ℕ → Type 0} {a : A} {read : A → ℕ → Type 0} {refused : Kind → ℕ → ℕ → Type 0} →
-    ((i : ℕ) → pre i → read a i) → Holds pre (gives a) read refused
+    ((i : ℕ) → pre i → read a i) → Holds pre (yields a) read refused
 holds_gives {pre = pre} {a = a} {read = read} {refused = refused} h =
     record {
       on_read = gives_read pre a read h;
@@ -107,15 +107,15 @@ holds_fails_from {pre = pre} {k = k} {start = start} {read = read} {refused = re
     }
 
 over_read : (pre : ℕ → Type 0) (W : ℕ → ℕ → Type 0) (read : Unit {0} → ℕ → Type 0) →
-    ((i j : ℕ) → pre i → W i j → read tt j) → (i j : ℕ) (a : Unit {0}) → pre i → over W i (Read a j) → read a j
+    ((i j : ℕ) → pre i → W i j → read tt j) → (i j : ℕ) (a : Unit {0}) → pre i → skip W i (Read a j) → read a j
 over_read pre W read h i j a p (passed w) = h i j p w
 
-over_refused : (W : ℕ → ℕ → Type 0) (X : Type 0) (i from to : ℕ) (k : Kind) → over W i (Refused k from to) → X
+over_refused : (W : ℕ → ℕ → Type 0) (X : Type 0) (i from to : ℕ) (k : Kind) → skip W i (Refused k from to) → X
 over_refused W X i from to k x = elim x [ ]
 
 pub holds_over :
     {pre : ℕ → Type 0} {W : ℕ → ℕ → Type 0} {read : Unit {0} → ℕ → Type 0} {refused : Kind → ℕ → ℕ → Type 0} →
-    ((i j : ℕ) → pre i → W i j → read tt j) → Holds pre (over W) read refused
+    ((i j : ℕ) → pre i → W i j → read tt j) → Holds pre (skip W) read refused
 holds_over {pre = pre} {W = W} {read = read} {refused = refused} h =
     record {
       on_read = over_read pre W read h;
@@ -124,17 +124,17 @@ holds_over {pre = pre} {W = W} {read = read} {refused = refused} h =
 
 module _ {A B : Type 0} (pre : ℕ → Type 0) (look : ℕ → A) (part : A → Construct B) (read : B → ℕ → Type 0)
     (refused : Kind → ℕ → ℕ → Type 0) (h : (a : A) → Holds (λ i. pre i × (look i ≡ a)) (part a) read refused) where
-  at_each_read : (i j : ℕ) (b : B) → pre i → at_each look part i (Read b j) → read b j
+  at_each_read : (i j : ℕ) (b : B) → pre i → peek look part i (Read b j) → read b j
   at_each_read i j b p (chosen x) = (h (look i)).on_read i j b (p, refl) x
 
-  at_each_refused : (i from to : ℕ) (k : Kind) → pre i → at_each look part i (Refused k from to) → refused k from to
+  at_each_refused : (i from to : ℕ) (k : Kind) → pre i → peek look part i (Refused k from to) → refused k from to
   at_each_refused i from to k p (chosen x) = (h (look i)).on_refused i from to k (p, refl) x
 
 -- a part is read where it was chosen
 pub holds_at_each :
     {A B : Type 0} {pre : ℕ → Type 0} {look : ℕ → A} {part : A → Construct B} {read : B → ℕ → Type 0}
     {refused : Kind → ℕ → ℕ → Type 0} →
-    ((a : A) → Holds (λ i. pre i × (look i ≡ a)) (part a) read refused) → Holds pre (at_each look part) read refused
+    ((a : A) → Holds (λ i. pre i × (look i ≡ a)) (part a) read refused) → Holds pre (peek look part) read refused
 holds_at_each {pre = pre} {look = look} {part = part} {read = read} {refused = refused} h =
     record {
       on_read = at_each_read pre look part read refused h;
@@ -144,11 +144,11 @@ holds_at_each {pre = pre} {look = look} {part = part} {read = read} {refused = r
 module _ {A : Type 0} (pre : ℕ → Type 0) (test : Bool) (yes no : Construct A) (read : A → ℕ → Type 0)
     (refused : Kind → ℕ → ℕ → Type 0) (h : test ≡ true → Holds pre yes read refused)
     (g : test ≡ false → Holds pre no read refused) where
-  either_read : (i j : ℕ) (a : A) → pre i → either test yes no i (Read a j) → read a j
+  either_read : (i j : ℕ) (a : A) → pre i → branch_on test yes no i (Read a j) → read a j
   either_read i j a p (first e x) = (h e).on_read i j a p x
   either_read i j a p (second e x) = (g e).on_read i j a p x
 
-  either_refused : (i from to : ℕ) (k : Kind) → pre i → either test yes no i (Refused k from to) → refused k from to
+  either_refused : (i from to : ℕ) (k : Kind) → pre i → branch_on test yes no i (Refused k from to) → refused k from to
   either_refused i from to k p (first e x) = (h e).on_refused i from to k p x
   either_refused i from to k p (second e x) = (g e).on_refused i from to k p x
 
@@ -156,7 +156,7 @@ pub holds_either :
     {A : Type 0} {pre : ℕ → Type 0} {test : Bool} {yes no : Construct A} {read : A → ℕ → Type 0}
     {refused : Kind → ℕ → ℕ → Type 0} →
     (test ≡ true → Holds pre yes read refused) → (test ≡ false → Holds pre no read refused) →
-    Holds pre (either test yes no) read refused
+    Holds pre (branch_on test yes no) read refused
 holds_either {pre = pre} {test = test} {yes = c} {no = d} {read = read} {refused = refused} h g =
     record {
       on_read = either_read pre test c d read refused h g;

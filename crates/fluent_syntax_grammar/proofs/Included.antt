@@ -2,15 +2,15 @@
 use Rattle.std.proofs.Common.{ℕ, List, [], Option, Some, None, Bool, true, false}
 use Rattle.fluent_syntax_tree.specs.Kind.{Kind}
 use Rattle.fluent_syntax_tree.specs.Tree.{InlineTree}
-use Rattle.fluent_syntax_grammar.specs.Construct.{Outcome, Construct, ◌>>=◌, stops, goes_on, gives, at_each, chosen}
-use Rattle.fluent_syntax_grammar.specs.Construct.{either}
+use Rattle.fluent_syntax_grammar.specs.Construct.{Outcome, Construct, ◌>>=◌, stops, goes_on, yields, peek, chosen}
+use Rattle.fluent_syntax_grammar.specs.Construct.{branch_on}
 use Rattle.fluent_syntax_grammar.specs.Construct.{first, second, More, item, many, list_ends, list_stops}
 use Rattle.fluent_syntax_grammar.specs.Construct.{item_and_more, stops_later}
 use Rattle.fluent_syntax_grammar.specs.Family.{Family}
 use Rattle.fluent_syntax_grammar.specs.Starts.{Start, quote, digit, term, minus, dollar, letter, brace, other}
 use Rattle.fluent_syntax_grammar.specs.Arguments.{call_arguments, argument_value, named_rest}
 use Rattle.fluent_syntax_grammar.specs.Arguments.{argument_rest, next_argument_at, next_argument, more_arguments}
-use Rattle.fluent_syntax_grammar.specs.Placeables.{select_with, expression, placeable}
+use Rattle.fluent_syntax_grammar.specs.Expressions.{select_with, expression, placeable}
 use Rattle.fluent_syntax_grammar.specs.Inline.{inline_of, inline_expression}
 use Rattle.fluent_syntax_grammar.specs.Lines.{next_piece_at, next_piece, more_pieces, line, next_line, more_lines}
 use Rattle.fluent_syntax_grammar.specs.Lines.{no_byte, other_line, own_line}
@@ -40,20 +40,20 @@ pub included_bind : {A B : Type 0} {c d : Construct A} {f g : A → Construct B}
 included_bind {c = c} {d = d} {f = f} {g = g} cd fg = record { part = bind_part c d f g cd fg }
 
 at_each_part : {A B : Type 0} (look : ℕ → A) (f g : A → Construct B) → ((a : A) → IsIncluded (f a) (g a)) →
-    (i : ℕ) (o : Outcome B) → at_each look f i o → at_each look g i o
+    (i : ℕ) (o : Outcome B) → peek look f i o → peek look g i o
 at_each_part look f g fg i o (chosen x) = chosen ((fg (look i)).part i o x)
 
 pub included_at_each : {A B : Type 0} {look : ℕ → A} {f g : A → Construct B} → ((a : A) → IsIncluded (f a) (g a)) →
-    IsIncluded (at_each look f) (at_each look g)
+    IsIncluded (peek look f) (peek look g)
 included_at_each {look = look} {f = f} {g = g} fg = record { part = at_each_part look f g fg }
 
 either_part : {A : Type 0} (b : Bool) (c c' d d' : Construct A) → IsIncluded c c' → IsIncluded d d' →
-    (i : ℕ) (o : Outcome A) → either b c d i o → either b c' d' i o
+    (i : ℕ) (o : Outcome A) → branch_on b c d i o → branch_on b c' d' i o
 either_part b c c' d d' p q i o (first e x) = first e (p.part i o x)
 either_part b c c' d d' p q i o (second e x) = second e (q.part i o x)
 
 pub included_either : {A : Type 0} {b : Bool} {c c' d d' : Construct A} → IsIncluded c c' → IsIncluded d d' →
-    IsIncluded (either b c d) (either b c' d')
+    IsIncluded (branch_on b c d) (branch_on b c' d')
 included_either {b = b} {c = c} {c' = c'} {d = d} {d' = d'} p q = record { part = either_part b c c' d d' p q }
 
 module _ {A S B : Type 0} (f g : S → Construct (More A S)) (add : A → B → B) (none : B)
@@ -148,8 +148,8 @@ module _ (t : List ℕ) (R S : Family) (h : IsIncludedFamily R S) where
   included_line : IsIncluded (line t R) (line t S)
   included_line = search (inclusions, included_pieces) depth 30
 
-  included_own : IsIncluded {A = More Line (Unit {0})} (line t R >>= λ l. gives (item l tt))
-      (line t S >>= λ l. gives (item l tt))
+  included_own : IsIncluded {A = More Line (Unit {0})} (line t R >>= λ l. yields (item l tt))
+      (line t S >>= λ l. yields (item l tt))
   included_own = search (inclusions, included_line) depth 30
 
   line_part : (i : ℕ) (o : Outcome (More Line (Unit {0}))) → next_line t R i o → next_line t S i o

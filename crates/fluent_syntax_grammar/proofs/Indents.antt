@@ -2,7 +2,7 @@
 use Rattle.std.proofs.Common.{◌≡◌, ℕ, ◌+◌, ◌-◌, ◌*◌, List, [], ◌∷◌, ◌++◌, replicate, ap, ◌∙◌, sym, arith}
 use Rattle.std.proofs.lemmas.List.{replicate-append-replicate}
 use Rattle.std.proofs.Math.Nat.{mul-add}
-use Rattle.fluent_syntax_grammar.specs.Written.{indent, short_indent}
+use Rattle.fluent_syntax_grammar.specs.Written.{indent, star_indent}
 use Rattle.fluent_syntax_grammar.specs.Writing.{Appends}
 use Rattle.fluent_syntax_grammar.proofs.Bytes.{Appends-append, Appends-bytes}
 use Rattle.fluent_syntax_grammar.specs.declared.text_writer.TextWriter.{TextWriter}
@@ -10,8 +10,8 @@ use Rattle.fluent_syntax_grammar.specs.declared.text_writer.TextWriter.{TextWrit
 indent-append : (m n : ℕ) → indent (m + n) ≡ indent m ++ indent n
 indent-append m n = ap (λ k. replicate k 32) (mul-add 4 m n) ∙ sym (replicate-append-replicate (4 * m) (4 * n) 32)
 
-pub short_indent-add : (outer : ℕ) → short_indent (outer + 1) ≡ indent outer ++ (32 ∷ 32 ∷ 32 ∷ [])
-short_indent-add outer =
+pub star_indent-add : (outer : ℕ) → star_indent (outer + 1) ≡ indent outer ++ (32 ∷ 32 ∷ 32 ∷ [])
+star_indent-add outer =
     let order : 4 * (outer + 1) - 1 ≡ 4 * outer + 3 = omega arith in
     ap (λ k. replicate k 32) order ∙ sym (replicate-append-replicate (4 * outer) 3 32)
 

@@ -13,7 +13,7 @@ use Rattle.fluent_syntax_grammar.specs.Construct.{Read, chosen, goes_on, first, 
 use Rattle.fluent_syntax_grammar.specs.Comments.{comment_entry, level_of, hashes}
 use Rattle.fluent_syntax_grammar.specs.Tiling.{Fault, Tile, entry, refused, dropped, Tiled, done, next, entry_of}
 use Rattle.fluent_syntax_grammar.specs.Tiling.{TileAt, reads, refuses, RuntimeTileAt, drops, stands}
-use Rattle.fluent_syntax_grammar.specs.Body.{faults, attached, attaches, alone, joined, body}
+use Rattle.fluent_syntax_grammar.specs.Body.{faults, attached, attached_entry, alone, or_attached, body}
 use Rattle.fluent_syntax_grammar.specs.Laws.{Ascend, junk_slice, fault_slice, JunkOfErrors, RuntimeJunkOfErrors}
 use Rattle.fluent_syntax_grammar.specs.Laws.{ErrorsAscend, RuntimeErrorsAscend, BodyInText, RuntimeBodyInText}
 use Rattle.fluent_syntax_tree.specs.declared.edition.Edition.{Edition}
@@ -57,7 +57,8 @@ module _ (P : ℕ → Type 0) where
   good_if true content e h c g p = good_attached content e (attached content e) refl c g h p
   good_if false content e h c g p = cc
 
-  good_attaches : (x y : Tile) (h : EntryTree Span) → GoodGiven x → GoodGiven y → attaches x y ≡ Some h → GoodEntry h
+  good_attaches : (x y : Tile) (h : EntryTree Span) → GoodGiven x → GoodGiven y → attached_entry x y ≡ Some h
+      → GoodEntry h
   good_attaches (entry s (comment regular c)) (entry r e) h g k p = good_if (s.end == r.start) c e h g k p
   good_attaches (entry s (comment regular c)) (refused f) h g k p = cc
   good_attaches (entry s (comment regular c)) dropped h g k p = cc
@@ -78,8 +79,8 @@ module _ (P : ℕ → Type 0) where
   good_append [] ys g h = h
   good_append (x ∷ xs) ys (g, k) h = (g, good_append xs ys k h)
 
-  good_joined : (x y : Tile) (others after : BodyTree Span) (o : Option (EntryTree Span)) → attaches x y ≡ o →
-      GoodGiven x → GoodGiven y → GoodBody others → GoodBody after → GoodBody (joined o (alone x) others after)
+  good_joined : (x y : Tile) (others after : BodyTree Span) (o : Option (EntryTree Span)) → attached_entry x y ≡ o →
+      GoodGiven x → GoodGiven y → GoodBody others → GoodBody after → GoodBody (or_attached o (alone x) others after)
   good_joined x y others after None e g h p q = good_append (alone x) others (good_alone x g) p
   good_joined x y others after (Some z) e g h p q = (good_attaches x y z g h e, q)
 
@@ -87,7 +88,7 @@ module _ (P : ℕ → Type 0) where
   good_body [] g = tt
   good_body (x ∷ []) (g, h) = good_alone x g
   good_body (x ∷ y ∷ tiles) (g, (h, k)) =
-      good_joined x y (body (y ∷ tiles)) (body tiles) (attaches x y) refl g h (good_body (y ∷ tiles) (h, k))
+      good_joined x y (body (y ∷ tiles)) (body tiles) (attached_entry x y) refl g h (good_body (y ∷ tiles) (h, k))
       (good_body tiles k)
 
 module _ (edition : Edition) (t : List ℕ) (P : ℕ → Type 0) (cuts : IsCuts t P) where
@@ -165,34 +166,34 @@ module _ (edition : Edition) (t : List ℕ) where
 
 -- ---- junk
 
-abbrev IsEntry : EntryTree Span → Type 0
-IsEntry (message m) = Unit {0}
-IsEntry (term m) = Unit {0}
-IsEntry (comment level content) = Unit {0}
-IsEntry (junk s) = ⊥
+abbrev IsNotJunk : EntryTree Span → Type 0
+IsNotJunk (message m) = Unit {0}
+IsNotJunk (term m) = Unit {0}
+IsNotJunk (comment level content) = Unit {0}
+IsNotJunk (junk s) = ⊥
 
 abbrev HoldsEntry : Tile → Type 0
-HoldsEntry (entry s e) = IsEntry e
+HoldsEntry (entry s e) = IsNotJunk e
 HoldsEntry (refused f) = Unit {0}
 HoldsEntry dropped = Unit {0}
 
-bare_is : (e : EntryTree Span) → IsBare e → IsEntry e
-bare_is (message m) b = tt
-bare_is (term m) b = tt
-bare_is (comment level content) b = tt
-bare_is (junk s) b = b
+bare_is_not_junk : (e : EntryTree Span) → IsBare e → IsNotJunk e
+bare_is_not_junk (message m) b = tt
+bare_is_not_junk (term m) b = tt
+bare_is_not_junk (comment level content) b = tt
+bare_is_not_junk (junk s) b = b
 
 module _ (edition : Edition) (t : List ℕ) where
-  comment_is : (i j : ℕ) (e : EntryTree Span) → comment_entry t i (Read e j) → IsEntry e
+  comment_is : (i j : ℕ) (e : EntryTree Span) → comment_entry t i (Read e j) → IsNotJunk e
   comment_is i j e (chosen (goes_on {a = c} x (goes_on {j = m} {a = more} y z))) =
-      subst IsEntry (gave (comment (level_of (hashes t i)) (c ++ more)) e m j z).0 tt
+      subst IsNotJunk (gave (comment (level_of (hashes t i)) (c ++ more)) e m j z).0 tt
 
   entry_is : (i j : ℕ) (e : EntryTree Span) (o : Option ℕ) → entry_of edition t (family edition t) o i (Read e j) →
-      IsEntry e
-  entry_is i j e None x = bare_is e ((message_bare edition t).on_read i j e tt x)
+      IsNotJunk e
+  entry_is i j e None x = bare_is_not_junk e ((message_bare edition t).on_read i j e tt x)
   entry_is i j e (Some b) (first f x) = comment_is i j e x
-  entry_is i j e (Some b) (second f (first g x)) = bare_is e ((term_bare edition t).on_read i j e tt x)
-  entry_is i j e (Some b) (second f (second g x)) = bare_is e ((message_bare edition t).on_read i j e tt x)
+  entry_is i j e (Some b) (second f (first g x)) = bare_is_not_junk e ((term_bare edition t).on_read i j e tt x)
+  entry_is i j e (Some b) (second f (second g x)) = bare_is_not_junk e ((message_bare edition t).on_read i j e tt x)
 
   tile_is : (i j : ℕ) (x : Tile) → TileAt edition t i j x → HoldsEntry x
   tile_is i j x (reads {e = e} (chosen y)) = entry_is i j e (slice_get t i) y
@@ -216,7 +217,7 @@ tile_junk (entry s e) = []
 tile_junk (refused f) = f.slice ∷ []
 tile_junk dropped = []
 
-no_junk : (e : EntryTree Span) → IsEntry e → junk_slice e ≡ []
+no_junk : (e : EntryTree Span) → IsNotJunk e → junk_slice e ≡ []
 no_junk (message m) b = refl
 no_junk (term m) b = refl
 no_junk (comment level content) b = refl
@@ -241,7 +242,8 @@ if_junk : (b : Bool) (content : List Span) (e h : EntryTree Span) → (if b then
 if_junk true content e h p = attached_junk content e (attached content e) refl h p
 if_junk false content e h p = cc
 
-attaches_junk : (x y : Tile) (h : EntryTree Span) → attaches x y ≡ Some h → (junk_slice h ≡ []) × (tile_junk x ≡ []) ×
+attaches_junk : (x y : Tile) (h : EntryTree Span) → attached_entry x y ≡ Some h → (junk_slice h ≡ [])
+    × (tile_junk x ≡ []) ×
     (tile_junk y ≡ [])
 attaches_junk (entry s (comment regular c)) (entry r e) h p = (if_junk (s.end == r.start) c e h p, refl, refl)
 attaches_junk (entry s (comment regular c)) (refused f) h p = cc
@@ -255,10 +257,11 @@ attaches_junk (refused f) y h p = cc
 attaches_junk dropped y h p = cc
 
 joined_junk : (x y : Tile) (others after : BodyTree Span) (tiles : List Tile) (o : Option (EntryTree Span)) →
-    attaches x y ≡ o → HoldsEntry x →
+    attached_entry x y ≡ o → HoldsEntry x →
     flat_map junk_slice others ≡ tile_junk y ++ flat_map tile_junk tiles →
     flat_map junk_slice after ≡ flat_map tile_junk tiles →
-    flat_map junk_slice (joined o (alone x) others after) ≡ tile_junk x ++ (tile_junk y ++ flat_map tile_junk tiles)
+    flat_map junk_slice (or_attached o (alone x) others after) ≡ tile_junk x
+    ++ (tile_junk y ++ flat_map tile_junk tiles)
 joined_junk x y others after tiles None e b p q =
     flat_append junk_slice (alone x) others
     ∙ (ap (λ zs. zs ++ flat_map junk_slice others) (alone_junk x b) ∙ ap (λ zs. tile_junk x ++ zs) p)
@@ -274,7 +277,7 @@ body_junk : (xs : List Tile) → list_every HoldsEntry xs → flat_map junk_slic
 body_junk [] b = refl
 body_junk (x ∷ []) (b, c) = alone_junk x b ∙ sym (append_nothing (tile_junk x))
 body_junk (x ∷ y ∷ tiles) (b, (c, d)) =
-    joined_junk x y (body (y ∷ tiles)) (body tiles) tiles (attaches x y) refl b (body_junk (y ∷ tiles) (c, d))
+    joined_junk x y (body (y ∷ tiles)) (body tiles) tiles (attached_entry x y) refl b (body_junk (y ∷ tiles) (c, d))
     (body_junk tiles d)
 
 junk_faults : (xs : List Tile) → flat_map tile_junk xs ≡ map fault_slice (faults xs)

@@ -4,7 +4,7 @@ use Rattle.std.proofs.Common.{◌≡◌, ℕ, zero, suc, ◌+◌, ◌≤◌, Lis
 use Rattle.fluent_syntax_tree.specs.Tree.{ArgumentsTree, ExpressionTree}
 use Rattle.fluent_syntax_grammar.specs.Construct.{Outcome}
 use Rattle.fluent_syntax_grammar.specs.Arguments as arguments
-use Rattle.fluent_syntax_grammar.specs.Placeables as placeables
+use Rattle.fluent_syntax_grammar.specs.Expressions as expressions
 use Rattle.fluent_syntax_grammar.specs.Grammar.{within, family}
 use Rattle.fluent_syntax_tree.specs.declared.edition.Edition.{Edition}
 use Rattle.fluent_syntax_tree.specs.declared.spans.Span.{Span}
@@ -48,13 +48,13 @@ module _ (edition : Edition) (t : List ℕ) where
   }
 
   expression_at : (n i : ℕ) (o : Outcome (ExpressionTree Span)) →
-      placeables.expression edition t (within edition t n) i o → (family edition t).expression i o
+      expressions.expression edition t (within edition t n) i o → (family edition t).expression i o
   unfolding family within
   expression_at n i o x = (suc n, x)
 
   -- what the rule gives over the family, the family gives
   pub into_expression : (i : ℕ) (o : Outcome (ExpressionTree Span)) →
-      placeables.expression edition t (family edition t) i o → (family edition t).expression i o
+      expressions.expression edition t (family edition t) i o → (family edition t).expression i o
   into_expression i o x =
       let m = (union_expression edition t (family edition t) (within edition t) union_family).found i o x in
       expression_at m.0 i o m.1

@@ -5,7 +5,7 @@ use Rattle.std.specs.List.{flat_map}
 use Rattle.fluent_syntax_tree.specs.Entry.{EntryTree, message, term, comment, junk, regular, group, resource, BodyTree}
 use Rattle.fluent_syntax_tree.specs.Every.{list_every}
 use Rattle.fluent_syntax_grammar.specs.Tiling.{Tile, entry, refused, dropped}
-use Rattle.fluent_syntax_grammar.specs.Body.{faults, attached, attaches, alone, joined, body}
+use Rattle.fluent_syntax_grammar.specs.Body.{faults, attached, attached_entry, alone, or_attached, body}
 use Rattle.fluent_syntax_grammar.specs.Laws.{bare, without_comments, named, messages_and_terms}
 use Rattle.fluent_syntax_tree.specs.declared.spans.Span.{Span}
 use Rattle.fluent_syntax_grammar.proofs.Aligned.{Aligned, nothing, both, comment_left, dropped_right, junk_left}
@@ -43,7 +43,8 @@ if_attached : (b : Bool) (content : List Span) (e h : EntryTree Span)
 if_attached true content e h p = attached_bare content e (attached content e) refl h p
 if_attached false content e h p = cc
 
-attaches_bare : (x y : Tile) (h : EntryTree Span) → attaches x y ≡ Some h → (bare_tile x ≡ []) × (bare h ≡ bare_tile y)
+attaches_bare : (x y : Tile) (h : EntryTree Span) → attached_entry x y ≡ Some h → (bare_tile x ≡ [])
+    × (bare h ≡ bare_tile y)
 attaches_bare (entry s (comment regular c)) (entry r e) h p = (refl, if_attached (s.end == r.start) c e h p)
 attaches_bare (entry s (comment regular c)) (refused f) h p = cc
 attaches_bare (entry s (comment regular c)) dropped h p = cc
@@ -56,9 +57,9 @@ attaches_bare (refused f) y h p = cc
 attaches_bare dropped y h p = cc
 
 bare_joined : (x y : Tile) (others after : BodyTree Span) (tiles : List Tile) (o : Option (EntryTree Span)) →
-    attaches x y ≡ o →
+    attached_entry x y ≡ o →
     without_comments others ≡ bare_tile y ++ bare_tiles tiles → without_comments after ≡ bare_tiles tiles →
-    without_comments (joined o (alone x) others after) ≡ bare_tile x ++ (bare_tile y ++ bare_tiles tiles)
+    without_comments (or_attached o (alone x) others after) ≡ bare_tile x ++ (bare_tile y ++ bare_tiles tiles)
 bare_joined x y others after tiles None e p q =
     flat_append bare (alone x) others
     ∙ (ap (λ zs. zs ++ without_comments others) (alone_bare x) ∙ ap (λ zs. bare_tile x ++ zs) p)
@@ -72,7 +73,8 @@ pub bare_body : (xs : List Tile) → without_comments (body xs) ≡ bare_tiles x
 bare_body [] = refl
 bare_body (x ∷ []) = alone_bare x ∙ sym (append_nothing (bare_tile x))
 bare_body (x ∷ y ∷ tiles) =
-    bare_joined x y (body (y ∷ tiles)) (body tiles) tiles (attaches x y) refl (bare_body (y ∷ tiles)) (bare_body tiles)
+    bare_joined x y (body (y ∷ tiles)) (body tiles) tiles (attached_entry x y) refl (bare_body (y ∷ tiles))
+    (bare_body tiles)
 
 -- ---- the tiling without comments
 
@@ -96,7 +98,7 @@ bare_alone (entry s (junk x)) b = absurd b
 bare_alone (refused f) b = refl
 bare_alone dropped b = refl
 
-bare_attaches : (x y : Tile) → IsBareTile x → attaches x y ≡ None
+bare_attaches : (x y : Tile) → IsBareTile x → attached_entry x y ≡ None
 bare_attaches (entry s (message m)) y b = refl
 bare_attaches (entry s (term m)) y b = refl
 bare_attaches (entry s (comment level c)) y b = absurd b
@@ -108,7 +110,7 @@ pub body_bare : (xs : List Tile) → list_every IsBareTile xs → body xs ≡ ba
 body_bare [] b = refl
 body_bare (x ∷ []) (b, c) = bare_alone x b ∙ sym (append_nothing (bare_tile x))
 body_bare (x ∷ y ∷ tiles) (b, c) =
-    ap (λ o. joined o (alone x) (body (y ∷ tiles)) (body tiles)) (bare_attaches x y b) ∙
+    ap (λ o. or_attached o (alone x) (body (y ∷ tiles)) (body tiles)) (bare_attaches x y b) ∙
     (ap (λ zs. zs ++ body (y ∷ tiles)) (bare_alone x b) ∙ ap (λ zs. bare_tile x ++ zs) (body_bare (y ∷ tiles) c))
 
 -- ---- beside one another

@@ -3,12 +3,11 @@ use Rattle.std.proofs.Common.{◌≡◌, ℕ, zero, suc, ◌+◌, ◌<◌, ◌�
 use Rattle.std.proofs.Common.{true, false, refl, subst, arith, inl, inr}
 use Rattle.fluent_syntax_tree.specs.Entry.{EntryTree}
 use Rattle.fluent_syntax_grammar.specs.Grammar.{family}
-use Rattle.fluent_syntax_grammar.specs.Places.{Stretch, has_byte, after_eol, is_line_place, BlankBlock}
+use Rattle.fluent_syntax_grammar.specs.Places.{LongestRun, has_byte, after_eol, is_line_place, BlankBlock}
 use Rattle.fluent_syntax_grammar.specs.Construct.{Outcome, Read, Refused}
 use Rattle.fluent_syntax_grammar.specs.Tiling.{Tile, entry, dropped, failing_place, starts_entry, JunkEnd, Tiled, done}
 use Rattle.fluent_syntax_grammar.specs.Tiling.{next, entry_at, TileAt, reads, refuses, RuntimeTileAt, drops}
-use Rattle.fluent_syntax_grammar.specs.Tiling.{stands}
-use Rattle.fluent_syntax_grammar.specs.Laws.{SomeTiling, SomeRuntimeTiling}
+use Rattle.fluent_syntax_grammar.specs.Tiling.{stands, SomeTiling, SomeRuntimeTiling}
 use Rattle.fluent_syntax_tree.specs.declared.edition.Edition.{Edition}
 use Rattle.fluent_syntax_tree.specs.declared.spans.Span.{Span}
 use Rattle.fluent_syntax_grammar.proofs.Cuts.{block_forward, line_inside}
@@ -38,7 +37,7 @@ module _ (t : List ℕ) where
   end_exists zero k a l = end_at k l (starts_entry t k) refl (λ b. absurd (omega arith))
   end_exists (suc m) k a l = end_at k l (starts_entry t k) refl (λ b. end_exists m (k + 1) (omega arith) (omega arith))
 
-  line_end : (i k : ℕ) → Stretch (is_line_place t) i k → (o : Option ℕ) → after_eol t k ≡ o → (j : ℕ) × IsLine t i j
+  line_end : (i k : ℕ) → LongestRun (is_line_place t) i k → (o : Option ℕ) → after_eol t k ≡ o → (j : ℕ) × IsLine t i j
   line_end i k s None e = (k, record { end = k; stretch = s; eol = inr (e, refl) })
   line_end i k s (Some j) e = (j, record { end = k; stretch = s; eol = inl e })
 

@@ -3,10 +3,10 @@
 use Rattle.std.proofs.Common.{◌≡◌, ℕ, ◌+◌, ◌≤◌, List, length, Option, Some, None, Bool, true, false, refl, sym, subst}
 use Rattle.std.proofs.Common.{arith}
 use Rattle.fluent_syntax_tree.specs.Kind.{Kind, ExpectedMessageField, ExpectedTermField}
-use Rattle.fluent_syntax_grammar.specs.Places.{Stretch, after_eol, Word, Blank, BlankBlock, is_line_place}
+use Rattle.fluent_syntax_grammar.specs.Places.{LongestRun, after_eol, ByteRun, Blank, BlankBlock, is_line_place}
 use Rattle.fluent_syntax_grammar.specs.Lines.{is_run_place}
-use Rattle.fluent_syntax_grammar.specs.Construct.{Read, Refused, Construct, ◌>>=◌, stops, goes_on, gives, here}
-use Rattle.fluent_syntax_grammar.specs.Construct.{at_place, fails, over, at_each, either, More, no_item, item, many}
+use Rattle.fluent_syntax_grammar.specs.Construct.{Read, Refused, Construct, ◌>>=◌, stops, goes_on, yields, here}
+use Rattle.fluent_syntax_grammar.specs.Construct.{at_place, fails, skip, peek, branch_on, More, no_item, item, many}
 use Rattle.fluent_syntax_grammar.specs.Tokens.{spanned, inline_blank, blank, blank_block, past_eol, optional_eol}
 use Rattle.fluent_syntax_grammar.specs.Tokens.{rest_of_line}
 use Rattle.fluent_syntax_grammar.specs.Meaning.{kind_means}
@@ -91,7 +91,7 @@ module _ {t : List ℕ} {P : ℕ → Type 0} {s : ℕ} where
       Sound t P s c Mid → ((a : A) → Mid a → Sound t P s (f a) Good) → Sound t P s (c >>= f) Good
   sound_bind {Mid = Mid} x g = record { holds = holds_bind x.holds (λ a. known {Mid = Mid} (g a)) }
 
-  pub sound_gives : {A : Type 0} {Good : A → Type 0} {a : A} → Good a → Sound t P s (gives a) Good
+  pub sound_gives : {A : Type 0} {Good : A → Type 0} {a : A} → Good a → Sound t P s (yields a) Good
   sound_gives g = record { holds = holds_gives (λ i p. record { late = p.late; place = p.place; good = g }) }
 
   pub sound_fails : {A : Type 0} {Good : A → Type 0} {k : Kind} → ((i : ℕ) → P i → i ≤ length t) → IsPlain k →
@@ -103,7 +103,7 @@ module _ {t : List ℕ} {P : ℕ → Type 0} {s : ℕ} where
             record { late = p.late; in_text = inside i p.place; one = refl; plain = plain; means = m i });
       }
 
-  pub sound_over : {W : ℕ → ℕ → Type 0} → IsOnward P W → Sound t P s (over W) (λ u. Unit {0})
+  pub sound_over : {W : ℕ → ℕ → Type 0} → IsOnward P W → Sound t P s (skip W) (λ u. Unit {0})
   sound_over w =
       record {
         holds =
@@ -112,12 +112,12 @@ module _ {t : List ℕ} {P : ℕ → Type 0} {s : ℕ} where
       }
 
   pub sound_at_each : {A B : Type 0} {Good : B → Type 0} {look : ℕ → A} {part : A → Construct B} →
-      ((a : A) → Sound t P s (part a) Good) → Sound t P s (at_each look part) Good
+      ((a : A) → Sound t P s (part a) Good) → Sound t P s (peek look part) Good
   sound_at_each g =
       record { holds = holds_at_each (λ a. holds_weaker (λ i p. p.0) (λ b j e. e) (λ k from to e. e) (g a).holds) }
 
   pub sound_either : {A : Type 0} {Good : A → Type 0} {test : Bool} {c d : Construct A} →
-      (test ≡ true → Sound t P s c Good) → (test ≡ false → Sound t P s d Good) → Sound t P s (either test c d) Good
+      (test ≡ true → Sound t P s c Good) → (test ≡ false → Sound t P s d Good) → Sound t P s (branch_on test c d) Good
   sound_either g h = record { holds = holds_either (λ e. (g e).holds) (λ e. (h e).holds) }
 
   -- after a place, what follows goes on from it
@@ -148,7 +148,7 @@ pub sound_spanned : {t : List ℕ} {P : ℕ → Type 0} {s : ℕ} → P s → So
 sound_spanned p = sound_here (λ m q. sound_gives (q.late, p, q.place))
 
 module _ (t : List ℕ) (P : ℕ → Type 0) (cuts : IsCuts t P) where
-  pub onward_word : {set : ℕ → Bool} → IsAsciiSet set → IsOnward P (Word t set)
+  pub onward_word : {set : ℕ → Bool} → IsAsciiSet set → IsOnward P (ByteRun t set)
   onward_word {set = set} a =
       record { forward = λ i j w. w.forward; place = λ i j p w. word_place t P cuts set a i j p w }
 
@@ -158,10 +158,10 @@ module _ (t : List ℕ) (P : ℕ → Type 0) (cuts : IsCuts t P) where
   pub onward_block : IsOnward P (BlankBlock t)
   onward_block = record { forward = λ i j w. block_forward t i j w; place = λ i j p w. block_place t P cuts i j p w }
 
-  pub onward_line : IsOnward P (Stretch (is_line_place t))
+  pub onward_line : IsOnward P (LongestRun (is_line_place t))
   onward_line = record { forward = λ i j w. w.forward; place = λ i j p w. line_stop t P cuts i j p w }
 
-  pub onward_run : IsOnward P (Stretch (is_run_place t))
+  pub onward_run : IsOnward P (LongestRun (is_run_place t))
   onward_run = record { forward = λ i j w. w.forward; place = λ i j p w. run_stop t P cuts i j p w }
 
   pub sound_inline_blank : {s : ℕ} → Sound t P s (inline_blank t) (λ u. Unit {0})

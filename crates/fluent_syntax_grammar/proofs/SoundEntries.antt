@@ -8,8 +8,8 @@ use Rattle.fluent_syntax_tree.specs.Tree.{PatternTree}
 use Rattle.fluent_syntax_tree.specs.Entry.{AttributeTree, EntryTree}
 use Rattle.fluent_syntax_tree.specs.Every.{pattern_every, option_every, list_every, attribute_every, entry_every}
 use Rattle.fluent_syntax_grammar.specs.Bytes.{is_letter, is_name_byte}
-use Rattle.fluent_syntax_grammar.specs.Places.{Word, has, has_byte}
-use Rattle.fluent_syntax_grammar.specs.Construct.{Read, Refused, Construct, ◌>>=◌, ◌>>◌, stops, goes_on, gives, given}
+use Rattle.fluent_syntax_grammar.specs.Places.{ByteRun, has, has_byte}
+use Rattle.fluent_syntax_grammar.specs.Construct.{Read, Refused, Construct, ◌>>=◌, ◌>>◌, stops, goes_on, yields, given}
 use Rattle.fluent_syntax_grammar.specs.Construct.{at_place, passed, chosen, first, second}
 use Rattle.fluent_syntax_grammar.specs.Tokens.{token, inline_blank, blank_block, identifier}
 use Rattle.fluent_syntax_grammar.specs.Grammar.{pattern, family}
@@ -79,7 +79,7 @@ module _ {t : List ℕ} {P : ℕ → Type 0} {i s : ℕ} where
             (λ a. known_entry {Mid = Mid} (g a));
       }
 
-  pub entry_gives : {A : Type 0} {Good : A → Type 0} {a : A} → Good a → SoundEntry t P i s (gives a) Good
+  pub entry_gives : {A : Type 0} {Good : A → Type 0} {a : A} → Good a → SoundEntry t P i s (yields a) Good
   entry_gives g = record { holds = holds_gives (λ i p. record { late = p.late; place = p.place; good = g }) }
 
 module _ (edition : Edition) (t : List ℕ) (P : ℕ → Type 0) (cuts : IsCuts t P) where
@@ -173,7 +173,7 @@ module _ (edition : Edition) (t : List ℕ) (P : ℕ → Type 0) (cuts : IsCuts 
       (λ u v. entry_bind l (sound_token t P cuts 61 refl) (λ u v. entry_bind l sound_pattern (λ value k.
       entry_bind l (sound_blank_block t P cuts) (λ u v. entry_bind l sound_attributes (λ rest m. g value rest k m)))))
 
-name_goes_on : (t : List ℕ) (i j : ℕ) → has t is_letter i ≡ true → Word t is_name_byte i j → i < j
+name_goes_on : (t : List ℕ) (i j : ℕ) → has t is_letter i ≡ true → ByteRun t is_name_byte i j → i < j
 name_goes_on t i j e w =
     let forward = w.forward in
     let split : (i < j) ⊎ (i ≡ j) = grind arith in

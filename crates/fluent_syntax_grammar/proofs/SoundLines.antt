@@ -10,15 +10,15 @@ use Rattle.fluent_syntax_tree.specs.Every.{key_every, expression_every, variants
 use Rattle.fluent_syntax_tree.specs.Every.{list_every, variant_every, inline_every}
 use Rattle.fluent_syntax_grammar.specs.Bytes.{lf, is_space}
 use Rattle.fluent_syntax_grammar.specs.Places.{has, after_eol, InlineBlank}
-use Rattle.fluent_syntax_grammar.specs.Construct.{Read, Refused, ◌>>=◌, stops, goes_on, gives, given}
-use Rattle.fluent_syntax_grammar.specs.Construct.{at_place, passed, chosen, either, fails, More, no_item, item}
+use Rattle.fluent_syntax_grammar.specs.Construct.{Read, Refused, ◌>>=◌, stops, goes_on, yields, given}
+use Rattle.fluent_syntax_grammar.specs.Construct.{at_place, passed, chosen, branch_on, fails, More, no_item, item}
 use Rattle.fluent_syntax_grammar.specs.Construct.{many, list_ends, list_stops, item_and_more, stops_later}
 use Rattle.fluent_syntax_grammar.specs.Family.{Family}
 use Rattle.fluent_syntax_grammar.specs.Layout.{Piece, Ending, lf_at, crlf_at, Line}
 use Rattle.fluent_syntax_grammar.specs.Lines.{ending_of, ending, text_run, next_piece_at, next_piece, more_pieces, line}
 use Rattle.fluent_syntax_grammar.specs.Lines.{next_line, more_lines, no_byte, other_line, own_line}
-use Rattle.fluent_syntax_grammar.specs.Placeables.{selector_fault, is_term_attribute, variants_of_select, select_with}
-use Rattle.fluent_syntax_grammar.specs.Placeables.{expression}
+use Rattle.fluent_syntax_grammar.specs.Expressions.{selector_fault, is_term_attribute, variants_of_select, select_with}
+use Rattle.fluent_syntax_grammar.specs.Expressions.{expression}
 use Rattle.fluent_syntax_grammar.specs.Patterns.{layout_at, layout, pattern}
 use Rattle.fluent_syntax_grammar.specs.Variants.{variant_of, variant_after, next_variant, more_variants}
 use Rattle.fluent_syntax_grammar.specs.Grammar.{next, within, family}
@@ -38,12 +38,12 @@ use Rattle.fluent_syntax_grammar.proofs.GoodLayout.{earlier_pieces, good_pattern
 use Rattle.fluent_syntax_grammar.proofs.SoundRules.{IsSoundFamily, sound_key, sound_only, sound_end, plain_fault}
 use Rattle.fluent_syntax_grammar.proofs.SoundRules.{sound_arrow, AtArrow, after_arrow, sound_placeable, sound_inline}
 use Rattle.fluent_syntax_grammar.proofs.SoundRules.{sound_arguments}
-use Rattle.fluent_syntax_grammar.proofs.Facts.{byte_holds, two_on, two_on_as_one, one_on_as_two}
+use Rattle.fluent_syntax_grammar.proofs.Facts.{byte_holds, two_on, two_on_as_one, not_next}
 
-by_test : (P : ℕ → Type 0) (s i : ℕ) (test : Bool) → (test ≡ true → GoodEnding P s (lf_at i)) →
+good_ending_if : (P : ℕ → Type 0) (s i : ℕ) (test : Bool) → (test ≡ true → GoodEnding P s (lf_at i)) →
     (test ≡ false → GoodEnding P s (crlf_at i)) → GoodEnding P s (if test then lf_at i else crlf_at i)
-by_test P s i true f g = f refl
-by_test P s i false f g = g refl
+good_ending_if P s i true f g = f refl
+good_ending_if P s i false f g = g refl
 
 module _ (t : List ℕ) (P : ℕ → Type 0) (cuts : IsCuts t P) where
   lf_good : (s i k : ℕ) → Inside P s i → after_eol t i ≡ Some k → (k == i + 1) ≡ true → GoodEnding P s (lf_at i)
@@ -55,7 +55,7 @@ module _ (t : List ℕ) (P : ℕ → Type 0) (cuts : IsCuts t P) where
 
   crlf_good : (s i k : ℕ) → Inside P s i → after_eol t i ≡ Some k → (k == i + 1) ≡ false → GoodEnding P s (crlf_at i)
   crlf_good s i k p e f = elim (eol_cases t i k e) [
-    | inl x ↦ absurd (one_on_as_two i k x.1 f)
+    | inl x ↦ absurd (not_next i k x.1 f)
     | inr x ↦ (let a = ascii_byte t lf (i + 1) (omega arith) x.1 in
         (p.late, cuts.before (i + 1) a, subst P (two_on i) (cuts.after (i + 1) a)))
   ]
@@ -74,7 +74,8 @@ module _ (t : List ℕ) (P : ℕ → Type 0) (cuts : IsCuts t P) where
         late = omega arith;
         place = subst P place (eol_place t P cuts i k e);
         good =
-            subst (GoodEnding P s) value.0 (by_test P s i (k == i + 1) (lf_good s i k p e) (crlf_good s i k p e));
+            subst (GoodEnding P s) value.0 (good_ending_if P s i (k == i + 1) (lf_good s i k p e)
+            (crlf_good s i k p e));
       }
 
   ending_read : (s i j : ℕ) (x : Ending) → Inside P s i → ending t i (Read x j) → Ended P s (GoodEnding P s) x j
@@ -231,7 +232,7 @@ module _ (t : List ℕ) (P : ℕ → Type 0) (cuts : IsCuts t P) (R : Family) (h
   sound_line : {s : ℕ} → Sound t P s (line t R) (GoodLine P)
   sound_line {s = s} = record { holds = record { on_read = line_read s; on_refused = line_refused s } }
 
-  sound_own : {s : ℕ} → Sound t P s (line t R >>= λ l. gives (item l tt)) (good_more {S = Unit {0}} (GoodLine P))
+  sound_own : {s : ℕ} → Sound t P s (line t R >>= λ l. yields (item l tt)) (good_more {S = Unit {0}} (GoodLine P))
   sound_own = sound_bind sound_line (λ l g. sound_gives g)
 
   next_line_read : (s i j : ℕ) (l : More Line (Unit {0})) → Inside P s i → next_line t R i (Read l j) →
@@ -347,8 +348,8 @@ module _ (edition : Edition) (t : List ℕ) (P : ℕ → Type 0) (cuts : IsCuts 
 
     after_blank : (s : ℕ) (e : InlineTree Span) → inline_every (IsSpan P) e → (arrow : Bool) →
         Holds (AtArrow t P cuts s arrow)
-        (either arrow (select_with edition t R e (selector_fault e))
-        (either (is_term_attribute e) (fails TermAttributeAsPlaceable) (gives (inline e))))
+        (branch_on arrow (select_with edition t R e (selector_fault e))
+        (branch_on (is_term_attribute e) (fails TermAttributeAsPlaceable) (yields (inline e))))
         (Ended P s (expression_every (IsSpan P))) (IsFault t s)
     after_blank s e g arrow = holds_either
         (λ y. holds_weaker (λ i p. (p.0, p.1 ∙ y)) (λ a j x. x) (λ k from to x. x)

@@ -11,13 +11,13 @@ use Rattle.fluent_syntax_tree.specs.Tree.{ArgumentsTree, arguments, MaybeArgumen
 use Rattle.fluent_syntax_tree.specs.Every.{key_every, expression_every, inline_every, arguments_every, maybe_every}
 use Rattle.fluent_syntax_tree.specs.Every.{variant_every, option_every}
 use Rattle.fluent_syntax_grammar.specs.Places.{Steps, has_byte, after_eol}
-use Rattle.fluent_syntax_grammar.specs.Construct.{gives, at_each}
+use Rattle.fluent_syntax_grammar.specs.Construct.{yields, peek}
 use Rattle.fluent_syntax_grammar.specs.Family.{Family}
 use Rattle.fluent_syntax_grammar.specs.Starts.{Start, quote, digit, term, minus, dollar, letter, brace, other}
 use Rattle.fluent_syntax_grammar.specs.Arguments.{accessor, separator, Argument, positional, named, add_argument}
 use Rattle.fluent_syntax_grammar.specs.Arguments.{call_arguments, argument_value, named_rest, positional_rest}
 use Rattle.fluent_syntax_grammar.specs.Arguments.{argument_name, argument_rest, next_argument_at, more_arguments}
-use Rattle.fluent_syntax_grammar.specs.Placeables.{arrow_line_end, has_arrow, selector_fault, placeable}
+use Rattle.fluent_syntax_grammar.specs.Expressions.{arrow_line_end, has_arrow, selector_fault, placeable}
 use Rattle.fluent_syntax_grammar.specs.Inline.{named_reference, inline_of, inline_expression}
 use Rattle.fluent_syntax_grammar.specs.Variants.{variant_key, only_star, variants_end}
 use Rattle.fluent_syntax_tree.specs.declared.edition.Edition.{Edition}
@@ -37,7 +37,7 @@ pub record IsSoundFamily (t : List ℕ) (P : ℕ → Type 0) (R : Family) : Type
   pub argument_list : (s : ℕ) → Sound t P s R.argument_list (arguments_every (IsSpan P))
 
 sound_look : {A : Type 0} {t : List ℕ} {P : ℕ → Type 0} {s : ℕ} {look : ℕ → A} →
-    Sound t P s (at_each look gives) (λ a. Unit {0})
+    Sound t P s (peek look yields) (λ a. Unit {0})
 sound_look = sound_at_each (λ a. sound_gives tt)
 
 module _ (t : List ℕ) (P : ℕ → Type 0) (cuts : IsCuts t P) where
@@ -119,7 +119,7 @@ module _ (t : List ℕ) (P : ℕ → Type 0) (cuts : IsCuts t P) where
       holds_over (λ i j p w. let q = p.0 in let l = q.late in let f = eol_forward t i k p.1 in let e = w.there in
       record { late = omega arith; place = subst P (sym e) (eol_place t P cuts i k p.1); good = tt })
 
-  pub sound_arrow : {s : ℕ} → Sound t P s (at_each (after_eol t) arrow_line_end) (λ u. Unit {0})
+  pub sound_arrow : {s : ℕ} → Sound t P s (peek (after_eol t) arrow_line_end) (λ u. Unit {0})
   sound_arrow {s = s} = record { holds = holds_at_each (arrow_holds s) }
 
   abbrev pub AtArrow : ℕ → Bool → ℕ → Type 0

@@ -1,9 +1,9 @@
 -- Constructs that have an outcome at each place of the text from some place on, and that do not go back.
 use Rattle.std.proofs.Common.{◌≡◌, ℕ, zero, suc, ◌+◌, ◌<◌, ◌≤◌, List, length, Bool, true, false, refl, arith}
 use Rattle.fluent_syntax_tree.specs.Kind.{Kind}
-use Rattle.fluent_syntax_grammar.specs.Construct.{Outcome, Read, Refused, Construct, ◌>>=◌, stops, goes_on, gives}
-use Rattle.fluent_syntax_grammar.specs.Construct.{given, here, at_place, fails, failed, fails_from, failed_from, over}
-use Rattle.fluent_syntax_grammar.specs.Construct.{passed, at_each, chosen, either, first, second, More, no_item, item}
+use Rattle.fluent_syntax_grammar.specs.Construct.{Outcome, Read, Refused, Construct, ◌>>=◌, stops, goes_on, yields}
+use Rattle.fluent_syntax_grammar.specs.Construct.{given, here, at_place, fails, failed, fails_from, failed_from, skip}
+use Rattle.fluent_syntax_grammar.specs.Construct.{passed, peek, chosen, branch_on, first, second, More, no_item, item}
 use Rattle.fluent_syntax_grammar.specs.Construct.{many, list_ends, list_stops, item_and_more, stops_later}
 use Rattle.fluent_syntax_grammar.proofs.Holds.{Holds, holds_weaker, holds_bind, holds_gives, holds_here, holds_fails}
 use Rattle.fluent_syntax_grammar.proofs.Holds.{holds_fails_from, holds_over, holds_at_each, holds_either}
@@ -47,7 +47,7 @@ pub total_weaker : {A : Type 0} {pre pre' : ℕ → Type 0} {c : Construct A} �
     Total pre' c
 total_weaker w x = record { has = λ i p. x.has i (w i p) }
 
-pub total_gives : {A : Type 0} {pre : ℕ → Type 0} {a : A} → Total pre (gives a)
+pub total_gives : {A : Type 0} {pre : ℕ → Type 0} {a : A} → Total pre (yields a)
 total_gives {a = a} = record { has = λ i p. (Read a i, given) }
 
 pub total_here : {pre : ℕ → Type 0} → Total pre here
@@ -59,20 +59,20 @@ total_fails {k = k} = record { has = λ i p. (Refused k i (i + 1), failed refl) 
 total_fails_from : {A : Type 0} {pre : ℕ → Type 0} {k : Kind} {start : ℕ} → Total pre (fails_from {A = A} k start)
 total_fails_from {k = k} {start = start} = record { has = λ i p. (Refused k start i, failed_from) }
 
-pub total_over : {pre : ℕ → Type 0} {W : ℕ → ℕ → Type 0} → ((i : ℕ) → pre i → (j : ℕ) × W i j) → Total pre (over W)
+pub total_over : {pre : ℕ → Type 0} {W : ℕ → ℕ → Type 0} → ((i : ℕ) → pre i → (j : ℕ) × W i j) → Total pre (skip W)
 total_over w = record { has = λ i p. let x = w i p in (Read tt x.0, passed x.1) }
 
 pub total_at_each : {A B : Type 0} {pre : ℕ → Type 0} {look : ℕ → A} {part : A → Construct B} →
-    ((a : A) → Total (λ i. pre i × (look i ≡ a)) (part a)) → Total pre (at_each look part)
+    ((a : A) → Total (λ i. pre i × (look i ≡ a)) (part a)) → Total pre (peek look part)
 total_at_each {look = look} g = record { has = λ i p. let x = (g (look i)).has i (p, refl) in (x.0, chosen x.1) }
 
 either_has : {A : Type 0} (pre : ℕ → Type 0) (test : Bool) (c d : Construct A) → (test ≡ true → Total pre c) →
-    (test ≡ false → Total pre d) → (i : ℕ) → pre i → (o : Outcome A) × either test c d i o
+    (test ≡ false → Total pre d) → (i : ℕ) → pre i → (o : Outcome A) × branch_on test c d i o
 either_has pre true c d g h i p = let x = (g refl).has i p in (x.0, first refl x.1)
 either_has pre false c d g h i p = let x = (h refl).has i p in (x.0, second refl x.1)
 
 pub total_either : {A : Type 0} {pre : ℕ → Type 0} {test : Bool} {c d : Construct A} → (test ≡ true → Total pre c) →
-    (test ≡ false → Total pre d) → Total pre (either test c d)
+    (test ≡ false → Total pre d) → Total pre (branch_on test c d)
 total_either {pre = pre} {test = test} {c = c} {d = d} g h = record { has = either_has pre test c d g h }
 
 -- ---- from a place on
@@ -88,7 +88,7 @@ module _ {t : List ℕ} {s : ℕ} where
       Both t s (c >>= f)
   both_bind x g = record { total = total_bind x.total x.on (λ a. (g a).total); on = holds_bind x.on (λ a. (g a).on) }
 
-  pub both_gives : {A : Type 0} {a : A} → Both t s (gives a)
+  pub both_gives : {A : Type 0} {a : A} → Both t s (yields a)
   both_gives = record { total = total_gives; on = holds_gives (λ i p. p) }
 
   pub both_here : Both t s here
@@ -100,7 +100,7 @@ module _ {t : List ℕ} {s : ℕ} where
   pub both_fails_from : {A : Type 0} {k : Kind} {start : ℕ} → Both t s (fails_from {A = A} k start)
   both_fails_from = record { total = total_fails_from; on = holds_fails_from (λ i p. tt) }
 
-  pub both_over : {W : ℕ → ℕ → Type 0} → IsWord t W → Both t s (over W)
+  pub both_over : {W : ℕ → ℕ → Type 0} → IsWord t W → Both t s (skip W)
   both_over w = record {
     total = total_over (λ i p. w.exists i p.in_text);
     on =
@@ -109,14 +109,14 @@ module _ {t : List ℕ} {s : ℕ} where
   }
 
   pub both_at_each : {A B : Type 0} {look : ℕ → A} {part : A → Construct B} → ((a : A) → Both t s (part a)) →
-      Both t s (at_each look part)
+      Both t s (peek look part)
   both_at_each g = record {
     total = total_at_each (λ a. total_weaker (λ i p. p.0) (g a).total);
     on = holds_at_each (λ a. holds_weaker (λ i p. p.0) (λ b j x. x) (λ k from to x. x) (g a).on);
   }
 
   pub both_either : {A : Type 0} {test : Bool} {c d : Construct A} → Both t s c → Both t s d →
-      Both t s (either test c d)
+      Both t s (branch_on test c d)
   both_either x y =
       record { total = total_either (λ e. x.total) (λ e. y.total); on = holds_either (λ e. x.on) (λ e. y.on) }
 
@@ -139,14 +139,14 @@ module _ {t : List ℕ} {s : ℕ} where
   strict_fails = record { total = total_fails; on = holds_fails (λ i p. tt) }
 
   pub strict_at_each : {A B : Type 0} {look : ℕ → A} {part : A → Construct B} → ((a : A) → Strict t s (part a)) →
-      Strict t s (at_each look part)
+      Strict t s (peek look part)
   strict_at_each g = record {
     total = total_at_each (λ a. total_weaker (λ i p. p.0) (g a).total);
     on = holds_at_each (λ a. holds_weaker (λ i p. p.0) (λ b j x. x) (λ k from to x. x) (g a).on);
   }
 
   pub strict_either : {A : Type 0} {test : Bool} {c d : Construct A} → Strict t s c → Strict t s d →
-      Strict t s (either test c d)
+      Strict t s (branch_on test c d)
   strict_either x y =
       record { total = total_either (λ e. x.total) (λ e. y.total); on = holds_either (λ e. x.on) (λ e. y.on) }
 

@@ -6,7 +6,8 @@ use Rattle.fluent_syntax_tree.specs.Tree.{PatternTree}
 use Rattle.fluent_syntax_tree.specs.Entry.{AttributeTree, EntryTree}
 use Rattle.fluent_syntax_grammar.specs.Grammar.{family}
 use Rattle.fluent_syntax_grammar.specs.Places.{has_byte}
-use Rattle.fluent_syntax_grammar.specs.Construct.{Outcome, Read, Refused, stops, goes_on, given, chosen, either, first}
+use Rattle.fluent_syntax_grammar.specs.Construct.{Outcome, Read, Refused, stops, goes_on, given, chosen, branch_on}
+use Rattle.fluent_syntax_grammar.specs.Construct.{first}
 use Rattle.fluent_syntax_grammar.specs.Construct.{second}
 use Rattle.fluent_syntax_grammar.specs.Entries.{attribute_with, message_with, term_with, no_more}
 use Rattle.fluent_syntax_grammar.specs.Entries.{one_more}
@@ -201,7 +202,7 @@ module _ (edition : Edition) (t : List ℕ) (R : Family) (h : IsIncludedFamily R
   hash_holds i b e f = rw e f
 
   entry_other : (i b : ℕ) (minus : Bool) → low ≤ i → i ≤ length t → (b == 45) ≡ minus → (o : Outcome (EntryTree Span)) ×
-      either (b == 45) (term_of edition t R) (message_of edition t R) i o
+      branch_on (b == 45) (term_of edition t R) (message_of edition t R) i o
   entry_other i b true g l e =
       let x = (both_term edition t R h low patterns i g).total.has i (record { late = omega arith; in_text = l }) in
       (x.0, first e x.1)

@@ -6,8 +6,8 @@ use Rattle.fluent_syntax_tree.specs.Kind.{Kind, TermAttributeAsPlaceable}
 use Rattle.fluent_syntax_tree.specs.Tree.{ExpressionTree, inline, InlineTree, KeyTree, PatternTree, VariantTree}
 use Rattle.fluent_syntax_grammar.specs.Bytes.{is_space}
 use Rattle.fluent_syntax_grammar.specs.Places.{after_eol, has_byte, InlineBlank, Steps}
-use Rattle.fluent_syntax_grammar.specs.Construct.{Outcome, Read, Construct, ◌>>=◌, goes_on, gives, at_place, passed}
-use Rattle.fluent_syntax_grammar.specs.Construct.{at_each, either, fails, More, no_item, item}
+use Rattle.fluent_syntax_grammar.specs.Construct.{Outcome, Read, Construct, ◌>>=◌, goes_on, yields, at_place, passed}
+use Rattle.fluent_syntax_grammar.specs.Construct.{peek, branch_on, fails, More, no_item, item}
 use Rattle.fluent_syntax_grammar.specs.Tokens.{optional, blank, blank_block, inline_blank}
 use Rattle.fluent_syntax_grammar.specs.Family.{Family}
 use Rattle.fluent_syntax_grammar.specs.Grammar.{family, within}
@@ -15,9 +15,9 @@ use Rattle.fluent_syntax_grammar.specs.Grammar as grammar
 use Rattle.fluent_syntax_grammar.specs.Layout.{Line, Layout}
 use Rattle.fluent_syntax_grammar.specs.Lines.{belongs, line, next_line, more_lines, no_byte, other_line, own_line}
 use Rattle.fluent_syntax_grammar.specs.Patterns.{layout_at, layout, pattern}
-use Rattle.fluent_syntax_grammar.specs.Placeables.{arrow_line_end, expression, has_arrow, is_term_attribute}
-use Rattle.fluent_syntax_grammar.specs.Placeables.{select_with}
-use Rattle.fluent_syntax_grammar.specs.Placeables.{selector_fault, variants_of_select}
+use Rattle.fluent_syntax_grammar.specs.Expressions.{arrow_line_end, expression, has_arrow, is_term_attribute}
+use Rattle.fluent_syntax_grammar.specs.Expressions.{select_with}
+use Rattle.fluent_syntax_grammar.specs.Expressions.{selector_fault, variants_of_select}
 use Rattle.fluent_syntax_grammar.specs.Variants.{only_star, variants_end, variant_of, variant_after, next_variant}
 use Rattle.fluent_syntax_grammar.specs.Variants.{more_variants}
 use Rattle.fluent_syntax_tree.specs.declared.edition.Edition.{Edition}
@@ -67,7 +67,7 @@ module _ (edition : Edition) (t : List ℕ) (R : Family) (low : ℕ) (h : (s : �
       subst (λ j. From t (s + 1) j) same.1 r
 
   own_total : (s : ℕ) → low ≤ s + 1 → (i : ℕ) → From t s i → (o : Outcome (More Line (Unit {0}))) ×
-      (line t R >>= λ x. gives (item x tt)) i o
+      (line t R >>= λ x. yields (item x tt)) i o
   own_total s l i p =
       let whole = total_bind (both_line s l).total (both_line s l).on (λ x. total_gives {a = item x tt}) in
       whole.has i p
@@ -111,7 +111,7 @@ module _ (edition : Edition) (t : List ℕ) (R : Family) (low : ℕ) (h : (s : �
 
   layout_rest : (s : ℕ) → low ≤ s + 1 →
       Both {A = Layout} t s
-      (blank_block t >>= λ u. more_lines t R >>= λ ls. gives (record { opening = None; lines = ls }))
+      (blank_block t >>= λ u. more_lines t R >>= λ ls. yields (record { opening = None; lines = ls }))
   layout_rest s l = both_bind (both_blank_block t) (λ u. both_bind (both_lines s l) (λ ls. both_gives))
 
   layout_open : (s : ℕ) → low ≤ s + 1 → Both t s (layout_at t R None)
@@ -166,7 +166,7 @@ module _ (edition : Edition) (t : List ℕ) (R : Family) (low : ℕ) (h : (s : �
   abbrev Bracket : (starred star : Bool) → Construct (More (VariantTree Span) Bool)
   Bracket starred star =
       optional t 91 >>= λ bracket.
-      either bracket (variant_after edition t R starred star) (variants_end edition starred star)
+      branch_on bracket (variant_after edition t R starred star) (variants_end edition starred star)
 
   going_bracket : (s : ℕ) → low ≤ s + 1 → (starred star : Bool) → Going t s (Bracket starred star)
   going_bracket s l starred star = record {
@@ -210,7 +210,7 @@ module _ (edition : Edition) (t : List ℕ) (R : Family) (low : ℕ) (h : (s : �
 
   after_two : (s : ℕ) → low ≤ s + 1 →
       Both t s
-      (inline_blank t >>= λ u. at_each (after_eol t) arrow_line_end >>= λ u. blank t >>= λ u.
+      (inline_blank t >>= λ u. peek (after_eol t) arrow_line_end >>= λ u. blank t >>= λ u.
       more_variants edition t R false)
   after_two s l =
       both_bind (both_inline_blank t)
@@ -236,16 +236,16 @@ module _ (edition : Edition) (t : List ℕ) (R : Family) (low : ℕ) (h : (s : �
   select_on s l e (Some k) = holds_fails (λ i p. tt)
 
   no_select : (s : ℕ) (e : InlineTree Span) →
-      Both t s (either (is_term_attribute e) (fails TermAttributeAsPlaceable) (gives (inline e)))
+      Both t s (branch_on (is_term_attribute e) (fails TermAttributeAsPlaceable) (yields (inline e)))
   no_select s e = both_either both_fails both_gives
 
   abbrev AfterBlank : InlineTree Span → Bool → Construct (ExpressionTree Span)
   AfterBlank e arrow =
-      either arrow (select_with edition t R e (selector_fault e))
-      (either (is_term_attribute e) (fails TermAttributeAsPlaceable) (gives (inline e)))
+      branch_on arrow (select_with edition t R e (selector_fault e))
+      (branch_on (is_term_attribute e) (fails TermAttributeAsPlaceable) (yields (inline e)))
 
   arrow_at : (s : ℕ) → low ≤ s + 1 → (e : InlineTree Span) →
-      Both t s (at_each (has_arrow t) gives >>= λ arrow. AfterBlank e arrow)
+      Both t s (peek (has_arrow t) yields >>= λ arrow. AfterBlank e arrow)
   arrow_at s l e = record {
     total =
         total_bind {mid = AtArrow s} (total_at_each (λ a. total_gives)) (holds_at_each (λ a. holds_gives (λ i p. p)))

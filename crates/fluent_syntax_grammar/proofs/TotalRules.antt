@@ -5,16 +5,16 @@ use Rattle.std.specs.Prelude.{slice_get, ◌⊎◌, ◌==◌, ◌||◌, ◌&&◌
 use Rattle.fluent_syntax_tree.specs.Kind.{UnbalancedClosingBrace}
 use Rattle.fluent_syntax_tree.specs.Tree.{InlineTree, MaybeArguments, no_arguments, some_arguments}
 use Rattle.fluent_syntax_grammar.specs.Bytes.{lf, cr}
-use Rattle.fluent_syntax_grammar.specs.Places.{holds, Stretch, has_byte, has_eol, after_eol}
-use Rattle.fluent_syntax_grammar.specs.Construct.{Read, Construct, ◌>>=◌, goes_on, gives, here, at_place, passed}
-use Rattle.fluent_syntax_grammar.specs.Construct.{at_each, chosen, either, first, second, fails, More, no_item, item}
+use Rattle.fluent_syntax_grammar.specs.Places.{holds, LongestRun, has_byte, has_eol, after_eol}
+use Rattle.fluent_syntax_grammar.specs.Construct.{Read, Construct, ◌>>=◌, goes_on, yields, here, at_place, passed}
+use Rattle.fluent_syntax_grammar.specs.Construct.{peek, chosen, branch_on, first, second, fails, More, no_item, item}
 use Rattle.fluent_syntax_grammar.specs.Construct.{many, list_ends, item_and_more}
 use Rattle.fluent_syntax_grammar.specs.Family.{Family}
 use Rattle.fluent_syntax_grammar.specs.Starts.{Start, quote, digit, term, minus, dollar, letter, brace, other}
 use Rattle.fluent_syntax_grammar.specs.Arguments.{accessor, separator, call_arguments, argument_value, named_rest}
 use Rattle.fluent_syntax_grammar.specs.Arguments.{positional_rest, argument_name, argument_rest, next_argument_at}
 use Rattle.fluent_syntax_grammar.specs.Arguments.{next_argument, more_arguments}
-use Rattle.fluent_syntax_grammar.specs.Placeables.{arrow_line_end, placeable}
+use Rattle.fluent_syntax_grammar.specs.Expressions.{arrow_line_end, placeable}
 use Rattle.fluent_syntax_grammar.specs.Inline.{named_reference, inline_of, inline_expression}
 use Rattle.fluent_syntax_grammar.specs.Layout.{Piece, run, placed, Ending}
 use Rattle.fluent_syntax_grammar.specs.Lines.{is_run_place, ending_of, ending, text_run, next_piece_at, next_piece}
@@ -41,7 +41,7 @@ pub record BothFamily (t : List ℕ) (s : ℕ) (R : Family) : Type 0 where
   pub expression : Both t s R.expression
   pub argument_list : Both t s R.argument_list
 
-both_look : {A : Type 0} {t : List ℕ} {s : ℕ} {look : ℕ → A} → Both t s (at_each look gives)
+both_look : {A : Type 0} {t : List ℕ} {s : ℕ} {look : ℕ → A} → Both t s (peek look yields)
 both_look = both_at_each (λ a. both_gives)
 
 module _ (t : List ℕ) where
@@ -74,7 +74,7 @@ module _ (t : List ℕ) where
       holds_over (λ i j p w. let q = p.0 in let late = q.late in let there = w.there in let f = eol_forward t i k p.1 in
       let l = eol_text t i k p.1 in record { late = omega arith; in_text = omega arith })
 
-  pub both_arrow : {s : ℕ} → Both t s (at_each (after_eol t) arrow_line_end)
+  pub both_arrow : {s : ℕ} → Both t s (peek (after_eol t) arrow_line_end)
   both_arrow {s = s} = record { total = total_at_each (arrow_total s); on = holds_at_each (arrow_on s) }
 
   -- ---- endings
@@ -227,11 +227,11 @@ module _ (t : List ℕ) (R : Family) (low : ℕ) (h : (s : ℕ) → low ≤ s �
     abbrev AtRun : ℕ → Type 0
     AtRun i = From t s i × (is_run_place t i ≡ true)
 
-    past_run : (i j : ℕ) → AtRun i → Stretch (is_run_place t) i j → From t (s + 1) j
+    past_run : (i j : ℕ) → AtRun i → LongestRun (is_run_place t) i j → From t (s + 1) j
     past_run i j p w = let q = p.0 in let late = q.late in let on = stretch_onward (is_run_place t) i j p.1 w in
         record { late = omega arith; in_text = (run_word t).in_text i j q.in_text w }
 
-    after_run : (from : ℕ) → Both {A = Piece} t (s + 1) (here >>= λ to. gives (run from to))
+    after_run : (from : ℕ) → Both {A = Piece} t (s + 1) (here >>= λ to. yields (run from to))
     after_run from = both_bind both_here (λ to. both_gives)
 
     run_total : Total AtRun (text_run t)
@@ -245,7 +245,7 @@ module _ (t : List ℕ) (R : Family) (low : ℕ) (h : (s : ℕ) → low ≤ s �
         holds_bind {mid = λ from. AtRun} (holds_here (λ i p. p))
         (λ from. holds_bind (holds_over past_run) (λ u. (after_run from).on))
 
-    placed_piece : Strict {A = More Piece (Unit {0})} t s (placeable t R >>= λ e. gives (item (placed e) tt))
+    placed_piece : Strict {A = More Piece (Unit {0})} t s (placeable t R >>= λ e. yields (item (placed e) tt))
     placed_piece = strict_first (strict_placeable s l) (λ e. both_gives)
 
     -- a byte stands there that begins no line end
@@ -254,9 +254,9 @@ module _ (t : List ℕ) (R : Family) (low : ℕ) (h : (s : ℕ) → low ≤ s �
 
     abbrev AlignedRest : ℕ → Construct (More Piece (Unit {0}))
     AlignedRest b =
-        either (b == 125) (fails UnbalancedClosingBrace)
-        (either (b == 123) (placeable t R >>= λ e. gives (item (placed e) tt))
-        (text_run t >>= λ p. gives (item p tt)))
+        branch_on (b == 125) (fails UnbalancedClosingBrace)
+        (branch_on (b == 123) (placeable t R >>= λ e. yields (item (placed e) tt))
+        (text_run t >>= λ p. yields (item p tt)))
 
     rest_total : (b : ℕ) → Total (AtByte b) (AlignedRest b)
     rest_total b = total_either (λ x. total_fails) (λ x. total_either

@@ -5,9 +5,9 @@ use Rattle.std.specs.Prelude.{slice_get, ◌==◌}
 use Rattle.std.proofs.lemmas.Bool.{false≢true}
 use Rattle.std.proofs.lemmas.Option.{slice_get_within}
 use Rattle.fluent_syntax_grammar.specs.Bytes.{is_space, is_digit, is_name_byte}
-use Rattle.fluent_syntax_grammar.specs.Places.{Stretch, Word, Steps, has, has_byte, after_eol, is_blank_place}
+use Rattle.fluent_syntax_grammar.specs.Places.{LongestRun, ByteRun, Steps, has, has_byte, after_eol, is_blank_place}
 use Rattle.fluent_syntax_grammar.specs.Places.{is_line_place, InlineBlank, BlankBlock, no_line, line}
-use Rattle.fluent_syntax_grammar.specs.Construct.{Outcome, Read, Refused, Construct, over}
+use Rattle.fluent_syntax_grammar.specs.Construct.{Outcome, Read, Refused, Construct, skip}
 use Rattle.fluent_syntax_grammar.specs.Tokens.{spanned, optional, token, inline_blank, blank, blank_block, past_eol}
 use Rattle.fluent_syntax_grammar.specs.Tokens.{optional_eol, rest_of_line, digits, identifier, number}
 use Rattle.fluent_syntax_grammar.specs.Strings.{hex_digits, all_there, escaped, string_unit, string_units, before_quote}
@@ -44,18 +44,18 @@ hex_forward i w j m u p (all_there h e) = let f = h.forward in omega arith
 
 module _ (t : List ℕ) where
   stretch_at : (test : ℕ → Bool) → ((k : ℕ) → test k ≡ true → k < length t) → (m i : ℕ) → length t ≤ i + m →
-      (b : Bool) → test i ≡ b → (test i ≡ true → (j : ℕ) × Stretch test (i + 1) j) → (j : ℕ) × Stretch test i j
+      (b : Bool) → test i ≡ b → (test i ≡ true → (j : ℕ) × LongestRun test (i + 1) j) → (j : ℕ) × LongestRun test i j
   stretch_at test inside m i l false e more = (i, find_here test i i e refl)
   stretch_at test inside m i l true e more = let x = more e in (x.0, find_on test i x.0 e x.1)
 
   stretch_exists : (test : ℕ → Bool) → ((k : ℕ) → test k ≡ true → k < length t) → (m i : ℕ) → length t ≤ i + m →
-      (j : ℕ) × Stretch test i j
+      (j : ℕ) × LongestRun test i j
   stretch_exists test inside zero i l =
       stretch_at test inside zero i l (test i) refl (λ e. let x = inside i e in absurd (omega arith))
   stretch_exists test inside (suc m) i l =
       stretch_at test inside (suc m) i l (test i) refl (λ e. stretch_exists test inside m (i + 1) (omega arith))
 
-  pub stretch_word : (test : ℕ → Bool) → ((k : ℕ) → test k ≡ true → k < length t) → IsWord t (Stretch test)
+  pub stretch_word : (test : ℕ → Bool) → ((k : ℕ) → test k ≡ true → k < length t) → IsWord t (LongestRun test)
   stretch_word test inside = record {
     exists = λ i l. stretch_exists test inside (length t) i (omega arith);
     forward = λ i j s. s.forward;
@@ -65,10 +65,10 @@ module _ (t : List ℕ) where
   blank_inside : (k : ℕ) → is_blank_place t k ≡ true → k < length t
   blank_inside k e = let a = ascii_blank t k e in slice_get_within t k a.byte a.stands
 
-  pub word_of : (set : ℕ → Bool) → IsWord t (Word t set)
+  pub word_of : (set : ℕ → Bool) → IsWord t (ByteRun t set)
   word_of set = stretch_word (has t set) (has_inside set t)
 
-  pub run_word : IsWord t (Stretch (is_run_place t))
+  pub run_word : IsWord t (LongestRun (is_run_place t))
   run_word = stretch_word (is_run_place t) (run_inside t)
 
   -- ---- blank blocks
@@ -165,7 +165,7 @@ module _ (t : List ℕ) where
       both_bind both_here
       (λ start. both_bind (both_over (stretch_word (is_line_place t) (line_inside t))) (λ u. both_spanned))
 
-  word_on : (set : ℕ → Bool) (i j : ℕ) → has t set i ≡ true → Word t set i j → i < j
+  word_on : (set : ℕ → Bool) (i j : ℕ) → has t set i ≡ true → ByteRun t set i j → i < j
   word_on set i j e w =
       elim (lt_or_same i j w.forward)
       [ inl l ↦ l | inr same ↦ absurd (false≢true (sym w.longest ∙ subst (λ k. has t set k ≡ true) same e)) ]
@@ -222,10 +222,10 @@ module _ (t : List ℕ) where
   abbrev Always : {A : Type 0} → A → ℕ → Type 0
   Always a j = Unit {0}
 
-  steps_total : {pre : ℕ → Type 0} (n : ℕ) → Total pre (over (Steps n))
+  steps_total : {pre : ℕ → Type 0} (n : ℕ) → Total pre (skip (Steps n))
   steps_total n = total_over (λ i p. (i + n, record { by = refl }))
 
-  steps_on : {pre : ℕ → Type 0} (n : ℕ) → Holds pre (over (Steps n)) Always AnyFault
+  steps_on : {pre : ℕ → Type 0} (n : ℕ) → Holds pre (skip (Steps n)) Always AnyFault
   steps_on n = holds_over (λ i j p w. tt)
 
   escaped_total : {pre : ℕ → Type 0} (o : Option ℕ) → Total pre (escaped t o)

@@ -2,15 +2,15 @@
 use Rattle.std.proofs.Common.{ℕ, ◌+◌, ◌≤◌, arith, List, Option, Some, None, Bool, true, false}
 use Rattle.fluent_syntax_tree.specs.Kind.{Kind}
 use Rattle.fluent_syntax_tree.specs.Tree.{InlineTree}
-use Rattle.fluent_syntax_grammar.specs.Construct.{Outcome, Construct, ◌>>=◌, stops, goes_on, gives, at_each, chosen}
-use Rattle.fluent_syntax_grammar.specs.Construct.{either}
+use Rattle.fluent_syntax_grammar.specs.Construct.{Outcome, Construct, ◌>>=◌, stops, goes_on, yields, peek, chosen}
+use Rattle.fluent_syntax_grammar.specs.Construct.{branch_on}
 use Rattle.fluent_syntax_grammar.specs.Construct.{first, second, More, item, many, list_ends, list_stops}
 use Rattle.fluent_syntax_grammar.specs.Construct.{item_and_more, stops_later}
 use Rattle.fluent_syntax_grammar.specs.Family.{Family}
 use Rattle.fluent_syntax_grammar.specs.Starts.{Start, quote, digit, term, minus, dollar, letter, brace, other}
 use Rattle.fluent_syntax_grammar.specs.Arguments.{call_arguments, argument_value, named_rest}
 use Rattle.fluent_syntax_grammar.specs.Arguments.{argument_rest, next_argument_at, next_argument, more_arguments}
-use Rattle.fluent_syntax_grammar.specs.Placeables.{select_with, expression, placeable}
+use Rattle.fluent_syntax_grammar.specs.Expressions.{select_with, expression, placeable}
 use Rattle.fluent_syntax_grammar.specs.Inline.{inline_of, inline_expression}
 use Rattle.fluent_syntax_grammar.specs.Lines.{next_piece_at, next_piece, more_pieces, line, next_line, more_lines}
 use Rattle.fluent_syntax_grammar.specs.Lines.{no_byte, other_line, own_line}
@@ -53,24 +53,24 @@ union_bind {c = c} {cs = cs} {f = f} {fs = fs} u v = record {
 }
 
 at_each_found : {A B : Type 0} (look : ℕ → A) (f : A → Construct B) (fs : ℕ → A → Construct B) →
-    ((a : A) → IsUnion (f a) (λ n. fs n a)) → (i : ℕ) (o : Outcome B) → at_each look f i o → (n : ℕ) ×
-    at_each look (fs n) i o
+    ((a : A) → IsUnion (f a) (λ n. fs n a)) → (i : ℕ) (o : Outcome B) → peek look f i o → (n : ℕ) ×
+    peek look (fs n) i o
 at_each_found look f fs v i o (chosen x) = let m = (v (look i)).found i o x in (m.0, chosen m.1)
 
 pub union_at_each : {A B : Type 0} {look : ℕ → A} {f : A → Construct B} {fs : ℕ → A → Construct B} →
-    ((a : A) → IsUnion (f a) (λ n. fs n a)) → IsUnion (at_each look f) (λ n. at_each look (fs n))
+    ((a : A) → IsUnion (f a) (λ n. fs n a)) → IsUnion (peek look f) (λ n. peek look (fs n))
 union_at_each {look = look} {f = f} {fs = fs} v = record {
   grows = λ m n l. included_at_each (λ a. (v a).grows m n l);
   found = at_each_found look f fs v;
 }
 
 either_found : {A : Type 0} (b : Bool) (c d : Construct A) (cs ds : ℕ → Construct A) → IsUnion c cs → IsUnion d ds →
-    (i : ℕ) (o : Outcome A) → either b c d i o → (n : ℕ) × either b (cs n) (ds n) i o
+    (i : ℕ) (o : Outcome A) → branch_on b c d i o → (n : ℕ) × branch_on b (cs n) (ds n) i o
 either_found b c d cs ds u v i o (first e x) = let m = u.found i o x in (m.0, first e m.1)
 either_found b c d cs ds u v i o (second e x) = let m = v.found i o x in (m.0, second e m.1)
 
 pub union_either : {A : Type 0} {b : Bool} {c d : Construct A} {cs ds : ℕ → Construct A} → IsUnion c cs → IsUnion d ds →
-    IsUnion (either b c d) (λ n. either b (cs n) (ds n))
+    IsUnion (branch_on b c d) (λ n. branch_on b (cs n) (ds n))
 union_either {b = b} {c = c} {d = d} {cs = cs} {ds = ds} u v = record {
   grows = λ m n l. included_either (u.grows m n l) (v.grows m n l);
   found = either_found b c d cs ds u v;
@@ -186,8 +186,8 @@ module _ (t : List ℕ) (R : Family) (Rs : ℕ → Family) (h : IsUnionFamily R 
   union_line : IsUnion (line t R) (λ n. line t (Rs n))
   union_line = search (unions, union_pieces) depth 30
 
-  union_own : IsUnion {A = More Line (Unit {0})} (line t R >>= λ l. gives (item l tt))
-      (λ n. line t (Rs n) >>= λ l. gives (item l tt))
+  union_own : IsUnion {A = More Line (Unit {0})} (line t R >>= λ l. yields (item l tt))
+      (λ n. line t (Rs n) >>= λ l. yields (item l tt))
   union_own = search (unions, union_line) depth 30
 
   line_found : (i : ℕ) (o : Outcome (More Line (Unit {0}))) → next_line t R i o → (n : ℕ) × next_line t (Rs n) i o

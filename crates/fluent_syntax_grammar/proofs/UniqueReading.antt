@@ -2,9 +2,9 @@
 use Rattle.std.proofs.Common.{ℕ, List, [], ◌∷◌, ap, sym, ◌∙◌, arith}
 use Rattle.fluent_syntax_tree.specs.Every.{list_every}
 use Rattle.fluent_syntax_grammar.specs.Grammar.{family}
-use Rattle.fluent_syntax_grammar.specs.Tiling.{Tile, entry, refused, dropped}
+use Rattle.fluent_syntax_grammar.specs.Tiling.{Tile, entry, refused, dropped, OneTiling, OneRuntimeTiling}
 use Rattle.fluent_syntax_grammar.specs.Body.{faults}
-use Rattle.fluent_syntax_grammar.specs.Laws.{OneReading, OneTiling, OneRuntimeTiling, FaultMeans, KindsMean}
+use Rattle.fluent_syntax_grammar.specs.Laws.{OneReading, FaultMeans, KindsMean}
 use Rattle.fluent_syntax_grammar.specs.Laws.{RuntimeKindsMean, HasNoComments, SameMessagesAndTerms, NoNewErrors}
 use Rattle.fluent_syntax_grammar.specs.Laws.{SameWithoutComments, messages_and_terms}
 use Rattle.fluent_syntax_tree.specs.declared.edition.Edition.{Edition}

@@ -6,7 +6,8 @@ use Rattle.std.proofs.lemmas.Bool.{false≢true}
 use Rattle.std.proofs.lemmas.Bool.Decides.{nat_tests}
 use Rattle.std.proofs.lemmas.Option.{slice_get_within, slice_get_cases}
 use Rattle.fluent_syntax_grammar.specs.Bytes.{lf, cr}
-use Rattle.fluent_syntax_grammar.specs.Places.{holds, Stretch, has_byte, has_eol, after_eol, is_line_place, starts_line}
+use Rattle.fluent_syntax_grammar.specs.Places.{holds, LongestRun, has_byte, has_eol, after_eol, is_line_place}
+use Rattle.fluent_syntax_grammar.specs.Places.{starts_line}
 use Rattle.fluent_syntax_grammar.specs.Construct.{Read, goes_on, given, at_place, passed, chosen, first, second}
 use Rattle.fluent_syntax_grammar.specs.Tokens.{token, optional_eol, past_eol}
 use Rattle.fluent_syntax_grammar.specs.Tiling.{whole_line}
@@ -20,7 +21,7 @@ use Rattle.fluent_syntax_grammar.proofs.Tests.{neither_left, or_none, and_left}
 -- a line from i on, with its line end, reaches to j
 pub record IsLine (t : List ℕ) (i j : ℕ) : Type 0 where
   pub end : ℕ
-  pub stretch : Stretch (is_line_place t) i end
+  pub stretch : LongestRun (is_line_place t) i end
   pub eol : (after_eol t end ≡ Some j) ⊎ ((after_eol t end ≡ None) × (j ≡ end))
 
 no_byte_holds : (o : Option ℕ) (e : Bool) → (is_some o && not e) ≡ false → e ≡ false → o ≡ None
@@ -72,7 +73,7 @@ module _ (t : List ℕ) where
   place_no_lf k e = let b = byte_holds (slice_get t k) (has_eol t k) e in
       neither_left (has_byte t lf k) (has_byte t cr k && has_byte t lf (k + 1)) b.0
 
-  stretch_inside : (i k : ℕ) → i ≤ length t → Stretch (is_line_place t) i k → k ≤ length t
+  stretch_inside : (i k : ℕ) → i ≤ length t → LongestRun (is_line_place t) i k → k ≤ length t
   stretch_inside i k l s =
       let forward = s.forward in
       elim (lt_or_le i k) [
@@ -83,7 +84,7 @@ module _ (t : List ℕ) where
   no_byte_at : (k : ℕ) → slice_get t k ≡ None → length t ≤ k
   no_byte_at k e = elim (slice_get_cases t k).1 [ inl x ↦ some_none x.2 e | inr x ↦ x.0 ]
 
-  line_none : (i k : ℕ) → i ≤ length t → Stretch (is_line_place t) i k → after_eol t k ≡ None → k ≡ length t
+  line_none : (i k : ℕ) → i ≤ length t → LongestRun (is_line_place t) i k → after_eol t k ≡ None → k ≡ length t
   line_none i k l s e =
       let inside = stretch_inside i k l s in
       let past =
@@ -142,7 +143,7 @@ module _ (t : List ℕ) where
   token_read b i j (goes_on (chosen (second e given)) (second f x)) = elim x [ ]
 
   joined_stretch : (test : ℕ → Bool) (i m k : ℕ) → i ≤ m → ((n : ℕ) → i ≤ n → n < m → test n ≡ true) →
-      Stretch test m k → Stretch test i k
+      LongestRun test m k → LongestRun test i k
   joined_stretch test i m k l f s =
       let forward = s.forward in
       record {
@@ -157,7 +158,7 @@ module _ (t : List ℕ) where
   eol_read : (k j : ℕ) → optional_eol t k (Read tt j) → Eol k j
   eol_read k j (chosen y) = past_of k j (after_eol t k) refl y
 
-  empty_stretch : (i : ℕ) → is_line_place t i ≡ false → Stretch (is_line_place t) i i
+  empty_stretch : (i : ℕ) → is_line_place t i ≡ false → LongestRun (is_line_place t) i i
   empty_stretch i e = record { forward = omega arith; each = λ k a b. absurd (omega arith); longest = e }
 
   none_place : (o : Option ℕ) (e : Bool) → o ≡ None → (is_some o && not e) ≡ false

@@ -11,7 +11,7 @@ use Rattle.fluent_syntax_tree.specs.Kind.{ExpectedToken, PositionalArgumentFollo
 use Rattle.fluent_syntax_tree.specs.Kind.{ExpectedLiteral}
 pub use Rattle.fluent_syntax_grammar.specs.Family.{call_arguments}
 pub use Rattle.fluent_syntax_grammar.specs.Inline.{accessor}
-use Rattle.fluent_syntax_grammar.specs.Construct.{Construct, ◌>>=◌, ◌>>◌, gives, fails, at_each, either, More, no_item}
+use Rattle.fluent_syntax_grammar.specs.Construct.{Construct, ◌>>=◌, ◌>>◌, yields, fails, peek, branch_on, More, no_item}
 use Rattle.fluent_syntax_grammar.specs.Construct.{item, many}
 use Rattle.fluent_syntax_grammar.specs.Tokens.{optional, token, blank}
 use Rattle.fluent_syntax_grammar.specs.Starts.{Start, quote, digit, letter, start}
@@ -56,7 +56,7 @@ module _ (t : List ℕ) where
 
   -- From the end of a positional argument on: after a named one it is refused.
   abbrev pub positional_rest : List (List ℕ) → InlineTree Span → Construct (More Argument (List (List ℕ)))
-  positional_rest [] e = separator >> gives (item (positional e) [])
+  positional_rest [] e = separator >> yields (item (positional e) [])
   positional_rest (name ∷ names) e = fails PositionalArgumentFollowsNamed
 
 module _ (t : List ℕ) (R : Family) where
@@ -72,12 +72,12 @@ module _ (t : List ℕ) (R : Family) where
   -- what stands between it and the next argument.
   abbrev pub named_rest : List (List ℕ) → Span → Construct (More Argument (List (List ℕ)))
   named_rest names name =
-      either (is_used (bytes_at t name) names) (fails (DuplicatedNamedArgument (bytes_at t name))) (do
+      branch_on (is_used (bytes_at t name) names) (fails (DuplicatedNamedArgument (bytes_at t name))) (do
         token t colon
         blank t
-        e ← at_each (start t) argument_value
+        e ← peek (start t) argument_value
         separator t
-        gives (item (named name e) (bytes_at t name ∷ names)))
+        yields (item (named name e) (bytes_at t name ∷ names)))
 
   -- From the end of an argument's expression on: a message reference without attribute that `:` follows is the name of
   -- a named argument.
@@ -91,14 +91,14 @@ module _ (t : List ℕ) (R : Family) where
   abbrev pub next_argument_at : List (List ℕ) → Option ℕ → Construct (More Argument (List (List ℕ)))
   next_argument_at names None = fails (ExpectedToken right_parenthesis)
   next_argument_at names (Some b) =
-      either (b == right_parenthesis) (token t right_parenthesis >> gives no_item) (do
+      branch_on (b == right_parenthesis) (token t right_parenthesis >> yields no_item) (do
         e ← inline_expression t R
-        is_named ← at_each (has_byte t colon) gives
+        is_named ← peek (has_byte t colon) yields
         argument_rest names e (argument_name e) is_named)
 
   -- the next argument of a list, if it has one more
   abbrev pub next_argument : List (List ℕ) → Construct (More Argument (List (List ℕ)))
-  next_argument names = at_each (slice_get t) (next_argument_at names)
+  next_argument names = peek (slice_get t) (next_argument_at names)
 
   -- the rest of an argument list, after named arguments of these names
   abbrev pub more_arguments : List (List ℕ) → Construct (ArgumentsTree Span)

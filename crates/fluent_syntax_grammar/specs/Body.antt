@@ -19,9 +19,9 @@ attached content _ = None
 
 -- What two tiles give together: a comment of level 1 becomes the comment of a message or a term whose tile begins where
 -- the comment's tile ends.
-abbrev pub attaches : Tile → Tile → Option (EntryTree Span)
-attaches (entry s (comment regular content)) (entry r e) = if s.end == r.start then attached content e else None
-attaches x y = None
+abbrev pub attached_entry : Tile → Tile → Option (EntryTree Span)
+attached_entry (entry s (comment regular content)) (entry r e) = if s.end == r.start then attached content e else None
+attached_entry x y = None
 
 -- what a tile gives by itself
 abbrev pub alone : Tile → List (EntryTree Span)
@@ -31,12 +31,12 @@ alone dropped = []
 
 -- Two tiles that give an entry together, and what the tiles after them give; or what the first gives alone, and what
 -- the others give.
-abbrev pub joined : Option (EntryTree Span) → (first others after : List (EntryTree Span)) → List (EntryTree Span)
-joined None first others after = first ++ others
-joined (Some e) first others after = e ∷ after
+abbrev pub or_attached : Option (EntryTree Span) → (first others after : List (EntryTree Span)) → List (EntryTree Span)
+or_attached None first others after = first ++ others
+or_attached (Some e) first others after = e ∷ after
 
 -- the body of the tree that a tiling gives
 abbrev pub body : List Tile → BodyTree Span
 body [] = []
 body (x ∷ []) = alone x
-body (x ∷ y ∷ tiles) = joined (attaches x y) (alone x) (body (y ∷ tiles)) (body tiles)
+body (x ∷ y ∷ tiles) = or_attached (attached_entry x y) (alone x) (body (y ∷ tiles)) (body tiles)

@@ -5,8 +5,8 @@ use Rattle.fluent_syntax_grammar.specs.Bytes.{space, hash}
 use Rattle.fluent_syntax_grammar.specs.Places.{Steps, has_byte, has_eol}
 use Rattle.fluent_syntax_tree.specs.Entry.{EntryTree, comment, Level, regular, group, resource}
 use Rattle.fluent_syntax_tree.specs.Kind.{Kind}
-use Rattle.fluent_syntax_grammar.specs.Construct.{Outcome, Read, Refused, Construct, ◌>>=◌, ◌>>◌, gives, here, over}
-use Rattle.fluent_syntax_grammar.specs.Construct.{at_each}
+use Rattle.fluent_syntax_grammar.specs.Construct.{Outcome, Read, Refused, Construct, ◌>>=◌, ◌>>◌, yields, here, skip}
+use Rattle.fluent_syntax_grammar.specs.Construct.{peek}
 use Rattle.fluent_syntax_grammar.specs.Tokens.{spanned, token, optional_eol, rest_of_line}
 use Rattle.fluent_syntax_tree.specs.declared.spans.Span.{Span}
 
@@ -31,15 +31,15 @@ module _ (t : List ℕ) where
 
   -- What a comment line adds after its hashes, with its line end. Hashes at the very end of the text add no line.
   abbrev pub comment_rest : Option ℕ → Construct (List Span)
-  comment_rest None = gives []
+  comment_rest None = yields []
   comment_rest (Some b) = do
-    content ← at_each (has_eol t) comment_text
+    content ← peek (has_eol t) comment_text
     optional_eol t
-    gives (content ∷ [])
+    yields (content ∷ [])
 
   -- a comment line with that many hashes
   abbrev pub comment_line : ℕ → Construct (List Span)
-  comment_line level = over (Steps level) >> at_each (slice_get t) comment_rest
+  comment_line level = skip (Steps level) >> peek (slice_get t) comment_rest
 
   -- The longest run of comment lines of one level. A line that is none ends the comment before it.
   pub data comment_lines (level : ℕ) : ℕ → Outcome (List Span) → Type 0 where
@@ -54,8 +54,8 @@ module _ (t : List ℕ) where
   comment_of level = do
     first ← comment_line level
     rest ← comment_lines level
-    gives (comment (level_of level) (first ++ rest))
+    yields (comment (level_of level) (first ++ rest))
 
   -- Comment: the leading hashes of its first line give its level.
   abbrev pub comment_entry : Construct (EntryTree Span)
-  comment_entry = at_each hashes comment_of
+  comment_entry = peek hashes comment_of

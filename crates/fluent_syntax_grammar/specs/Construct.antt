@@ -25,8 +25,8 @@ abbrev pub ◌>>◌ : {A B : Type 0} → Construct A → Construct B → Constru
 c >> d = c >>= λ _. d
 
 -- Nothing is passed over, and it spells the value.
-pub data gives {A : Type 0} (a : A) : ℕ → Outcome A → Type 0 where
-  given : {i : ℕ} → gives a i (Read a i)
+pub data yields {A : Type 0} (a : A) : ℕ → Outcome A → Type 0 where
+  given : {i : ℕ} → yields a i (Read a i)
 
 -- Nothing is passed over, and it spells the place itself.
 pub data here : ℕ → Outcome ℕ → Type 0 where
@@ -41,17 +41,17 @@ pub data fails_from {A : Type 0} (k : Kind) (from : ℕ) : ℕ → Outcome A →
   failed_from : {i : ℕ} → fails_from k from i (Refused k from i)
 
 -- What the relation between two places allows is passed over.
-pub data over (W : ℕ → ℕ → Type 0) : ℕ → Outcome (Unit {0}) → Type 0 where
-  passed : {i j : ℕ} → W i j → over W i (Read tt j)
+pub data skip (W : ℕ → ℕ → Type 0) : ℕ → Outcome (Unit {0}) → Type 0 where
+  passed : {i j : ℕ} → W i j → skip W i (Read tt j)
 
 -- What is seen at the place chooses the part.
-pub data at_each {A B : Type 0} (look : ℕ → A) (part : A → Construct B) : ℕ → Outcome B → Type 0 where
-  chosen : {i : ℕ} {o : Outcome B} → part (look i) i o → at_each look part i o
+pub data peek {A B : Type 0} (look : ℕ → A) (part : A → Construct B) : ℕ → Outcome B → Type 0 where
+  chosen : {i : ℕ} {o : Outcome B} → part (look i) i o → peek look part i o
 
 -- the first construct where the test passed, and else the second
-pub data either {A : Type 0} (test : Bool) (yes no : Construct A) : ℕ → Outcome A → Type 0 where
-  first : {i : ℕ} {o : Outcome A} → test ≡ true → yes i o → either test yes no i o
-  second : {i : ℕ} {o : Outcome A} → test ≡ false → no i o → either test yes no i o
+pub data branch_on {A : Type 0} (test : Bool) (yes no : Construct A) : ℕ → Outcome A → Type 0 where
+  first : {i : ℕ} {o : Outcome A} → test ≡ true → yes i o → branch_on test yes no i o
+  second : {i : ℕ} {o : Outcome A} → test ≡ false → no i o → branch_on test yes no i o
 
 -- Where a list may go on: its end, or one more item, and with it the state by which the next ones are read.
 pub data More (A S : Type 0) : Type 0 where

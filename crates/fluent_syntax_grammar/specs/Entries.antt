@@ -5,7 +5,7 @@ use Rattle.fluent_syntax_tree.specs.Spans.{bytes_at}
 use Rattle.fluent_syntax_tree.specs.Tree.{PatternTree}
 use Rattle.fluent_syntax_tree.specs.Entry.{AttributeTree, EntryTree, message, term}
 use Rattle.fluent_syntax_tree.specs.Kind.{Kind, ExpectedMessageField, ExpectedTermField, MissingValue}
-use Rattle.fluent_syntax_grammar.specs.Construct.{Outcome, Read, Refused, Construct, ◌>>=◌, ◌>>◌, gives, here, fails}
+use Rattle.fluent_syntax_grammar.specs.Construct.{Outcome, Read, Refused, Construct, ◌>>=◌, ◌>>◌, yields, here, fails}
 use Rattle.fluent_syntax_grammar.specs.Construct.{fails_from}
 use Rattle.fluent_syntax_grammar.specs.Tokens.{token, inline_blank, blank_block, identifier}
 use Rattle.fluent_syntax_grammar.specs.Family.{Family}
@@ -17,23 +17,23 @@ use Rattle.fluent_syntax_tree.specs.declared.edition.Edition.{Edition}
 -- An attribute has to have a pattern.
 abbrev pub attribute_with : Span → Option (PatternTree Span) → Construct (AttributeTree Span)
 attribute_with id None = fails MissingValue
-attribute_with id (Some value) = gives (record { id = id; value = value })
+attribute_with id (Some value) = yields (record { id = id; value = value })
 
 -- A message with neither pattern nor attribute is refused, from its start up to where its list of attributes ended.
 abbrev pub message_with : List ℕ → (start : ℕ) → Span → Option (PatternTree Span) → List (AttributeTree Span) →
     Construct (EntryTree Span)
 message_with t start id None [] = fails_from (ExpectedMessageField (bytes_at t id)) start
 message_with t start id None (a ∷ rest) =
-    gives (message (record { id = id; value = None; attributes = a ∷ rest; comment = None }))
+    yields (message (record { id = id; value = None; attributes = a ∷ rest; comment = None }))
 message_with t start id (Some value) rest =
-    gives (message (record { id = id; value = Some value; attributes = rest; comment = None }))
+    yields (message (record { id = id; value = Some value; attributes = rest; comment = None }))
 
 -- A term without pattern is refused, from its start up to where its list of attributes ended.
 abbrev pub term_with : List ℕ → (start : ℕ) → Span → Option (PatternTree Span) → List (AttributeTree Span) →
     Construct (EntryTree Span)
 term_with t start id None rest = fails_from (ExpectedTermField (bytes_at t id)) start
 term_with t start id (Some value) rest =
-    gives (term (record { id = id; value = value; attributes = rest; comment = None }))
+    yields (term (record { id = id; value = value; attributes = rest; comment = None }))
 
 module _ (edition : Edition) (t : List ℕ) (R : Family) where
   -- Attribute: an inline blank, `.`, identifier, inline blank, `=`, pattern.

@@ -2,7 +2,7 @@
 use Rattle.std.specs.Prelude.{ℕ, List}
 use Rattle.fluent_syntax_tree.specs.Tree.{ArgumentsTree, ExpressionTree, MaybeArguments, no_arguments, some_arguments}
 use Rattle.fluent_syntax_grammar.specs.Bytes.{left_brace, left_parenthesis, right_brace}
-use Rattle.fluent_syntax_grammar.specs.Construct.{Construct, ◌>>=◌, ◌>>◌, gives, either}
+use Rattle.fluent_syntax_grammar.specs.Construct.{Construct, ◌>>=◌, ◌>>◌, yields, branch_on}
 use Rattle.fluent_syntax_grammar.specs.Tokens.{optional, token, inline_blank, blank}
 use Rattle.fluent_syntax_tree.specs.declared.spans.Span.{Span}
 
@@ -22,7 +22,7 @@ module _ (t : List ℕ) (R : Family) where
     e ← R.expression
     inline_blank t
     token t right_brace
-    gives e
+    yields e
 
   -- Arguments: a blank, and where `(` follows, that, a blank, and the list with its `)`. Else there are none, and the
   -- blank stays passed.
@@ -30,4 +30,4 @@ module _ (t : List ℕ) (R : Family) where
   call_arguments = do
     blank t
     bracket ← optional t left_parenthesis
-    either bracket (blank t >> R.argument_list >>= λ a. gives (some_arguments a)) (gives no_arguments)
+    branch_on bracket (blank t >> R.argument_list >>= λ a. yields (some_arguments a)) (yields no_arguments)

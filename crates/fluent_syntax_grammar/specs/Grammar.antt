@@ -3,7 +3,7 @@ use Rattle.std.specs.Prelude.{ℕ, zero, suc, List, [], Bool, false, Option}
 use Rattle.fluent_syntax_grammar.specs.Construct.{Construct}
 use Rattle.fluent_syntax_grammar.specs.Family.{Family}
 use Rattle.fluent_syntax_grammar.specs.Arguments as arguments
-use Rattle.fluent_syntax_grammar.specs.Placeables as placeables
+use Rattle.fluent_syntax_grammar.specs.Expressions as expressions
 use Rattle.fluent_syntax_grammar.specs.Inline as inline
 use Rattle.fluent_syntax_grammar.specs.Lines as lines
 use Rattle.fluent_syntax_grammar.specs.Patterns as patterns
@@ -17,7 +17,7 @@ use Rattle.fluent_syntax_tree.specs.declared.spans.Span.{Span}
 module _ (edition : Edition) (t : List ℕ) where
   -- the rules over a family
   abbrev pub next : Family → Family
-  next R = record { expression = placeables.expression edition t R; argument_list = arguments.more_arguments t R [] }
+  next R = record { expression = expressions.expression edition t R; argument_list = arguments.more_arguments t R [] }
 
   -- What stands inside, where at most n placeables and argument lists are open at once inside it. What opens one more
   -- has no outcome: so a construct over this family has none where it nests deeper than n.
@@ -46,11 +46,11 @@ module _ (edition : Edition) (t : List ℕ) where
 
   -- an expression in a placeable
   abbrev pub expression : Construct (ExpressionTree Span)
-  expression = placeables.expression edition t family
+  expression = expressions.expression edition t family
 
   -- a placeable
   abbrev pub placeable : Construct (ExpressionTree Span)
-  placeable = placeables.placeable t family
+  placeable = expressions.placeable t family
 
   -- the rest of a list of variants; the flag says whether a default stood before
   abbrev pub more_variants : (starred : Bool) → Construct (VariantTrees Span)

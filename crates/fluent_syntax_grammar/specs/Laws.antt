@@ -6,7 +6,7 @@ use Rattle.fluent_syntax_tree.specs.Entry.{EntryTree, message, term, comment, ju
 use Rattle.fluent_syntax_tree.specs.Every.{list_every, body_every}
 use Rattle.fluent_syntax_tree.specs.Spans.{IsPart}
 use Rattle.fluent_syntax_grammar.specs.Construct.{Outcome, Construct}
-use Rattle.fluent_syntax_grammar.specs.Tokens as words
+use Rattle.fluent_syntax_grammar.specs.Tokens as tokens
 use Rattle.fluent_syntax_grammar.specs.Strings as strings
 use Rattle.fluent_syntax_grammar.specs.Arguments as arguments
 use Rattle.fluent_syntax_grammar.specs.Variants as variants
@@ -76,14 +76,14 @@ module _ (edition : Edition) (t : List ℕ) where
   -- Each construct of the grammar has at most one outcome at a place: entries, what they are made of, and the parts of
   -- these down to bytes and blanks.
   pub record OneReading : Type 0 where
-    pub token : (byte : ℕ) → IsFunctional (words.token t byte)
-    pub inline_blank : IsFunctional (words.inline_blank t)
-    pub blank : IsFunctional (words.blank t)
-    pub blank_block : IsFunctional (words.blank_block t)
-    pub line_end : IsFunctional (words.optional_eol t)
-    pub rest_of_line : IsFunctional (words.rest_of_line t)
-    pub identifier : IsFunctional (words.identifier t)
-    pub number : IsFunctional (words.number t)
+    pub token : (byte : ℕ) → IsFunctional (tokens.token t byte)
+    pub inline_blank : IsFunctional (tokens.inline_blank t)
+    pub blank : IsFunctional (tokens.blank t)
+    pub blank_block : IsFunctional (tokens.blank_block t)
+    pub line_end : IsFunctional (tokens.optional_eol t)
+    pub rest_of_line : IsFunctional (tokens.rest_of_line t)
+    pub identifier : IsFunctional (tokens.identifier t)
+    pub number : IsFunctional (tokens.number t)
     pub string_literal : IsFunctional (strings.string_literal t)
     pub inline_expression : IsFunctional (grammar.inline_expression edition t)
     pub attribute_accessor : IsFunctional (arguments.accessor t)
@@ -109,22 +109,6 @@ module _ (edition : Edition) (t : List ℕ) where
     pub comment : IsFunctional (comments.comment_entry t)
     pub entry : IsFunctional (entry_at edition t)
     pub dropped_line : IsFunctional (whole_line t)
-
-  -- the text has a tiling
-  abbrev pub SomeTiling : Type 0
-  SomeTiling = (tiles : List Tile) × Tiling edition t tiles
-
-  -- the text has a tiling without comments
-  abbrev pub SomeRuntimeTiling : Type 0
-  SomeRuntimeTiling = (tiles : List Tile) × RuntimeTiling edition t tiles
-
-  -- the text has at most one tiling
-  abbrev pub OneTiling : Type 0
-  OneTiling = (xs ys : List Tile) → Tiling edition t xs → Tiling edition t ys → xs ≡ ys
-
-  -- the text has at most one tiling without comments
-  abbrev pub OneRuntimeTiling : Type 0
-  OneRuntimeTiling = (xs ys : List Tile) → RuntimeTiling edition t xs → RuntimeTiling edition t ys → xs ≡ ys
 
   -- the kind of each error means what it says
   abbrev pub KindsMean : Type 0

@@ -2,10 +2,10 @@
 use Rattle.std.specs.Prelude.{◌≡◌, ℕ, ◌+◌, ◌-◌, List, slice_get, Option, Some, None, Bool, true, false, ◌&&◌}
 use Rattle.std.specs.Prelude.{◌||◌, ◌==◌, not, nat_lt, if◌then◌else◌}
 use Rattle.fluent_syntax_grammar.specs.Bytes.{lf, cr, asterisk, full_stop, left_brace, left_bracket, right_brace}
-use Rattle.fluent_syntax_grammar.specs.Places.{Stretch, Reaches, has, has_byte, after_eol, has_eol, InlineBlank}
+use Rattle.fluent_syntax_grammar.specs.Places.{LongestRun, Reaches, has, has_byte, after_eol, has_eol, InlineBlank}
 use Rattle.fluent_syntax_tree.specs.Kind.{UnbalancedClosingBrace}
-use Rattle.fluent_syntax_grammar.specs.Construct.{Outcome, Read, Construct, ◌>>=◌, ◌>>◌, gives, here, fails, over}
-use Rattle.fluent_syntax_grammar.specs.Construct.{at_each, either, More, no_item, item, list_of}
+use Rattle.fluent_syntax_grammar.specs.Construct.{Outcome, Read, Construct, ◌>>=◌, ◌>>◌, yields, here, fails, skip}
+use Rattle.fluent_syntax_grammar.specs.Construct.{peek, branch_on, More, no_item, item, list_of}
 use Rattle.fluent_syntax_grammar.specs.Tokens.{inline_blank}
 use Rattle.fluent_syntax_grammar.specs.Layout.{Piece, run, placed, Ending, lf_at, crlf_at, text_end, Line}
 use Rattle.fluent_syntax_grammar.specs.Family.{Family, placeable}
@@ -17,14 +17,14 @@ module _ (t : List ℕ) where
 
   -- the ending at a place, by where the line end there ends
   abbrev pub ending_of : ℕ → Option ℕ → Construct Ending
-  ending_of i None = gives text_end
-  ending_of i (Some k) = over (Reaches k) >> gives (if k == i + 1 then lf_at i else crlf_at i)
+  ending_of i None = yields text_end
+  ending_of i (Some k) = skip (Reaches k) >> yields (if k == i + 1 then lf_at i else crlf_at i)
 
   -- a line's ending: LF, CRLF or the text's end
   abbrev pub ending : Construct Ending
   ending = do
     i ← here
-    at_each (after_eol t) (ending_of i)
+    peek (after_eol t) (ending_of i)
 
   -- Whether a line belongs to a pattern, by what stands after its leading spaces, if it has some. A blank line does.
   -- With leading spaces: any byte but `.`, `}`, `[` and `*`. Without: `{`, or a CR that begins no line end.
@@ -37,23 +37,24 @@ module _ (t : List ℕ) where
   abbrev pub text_run : Construct Piece
   text_run = do
     from ← here
-    over (Stretch is_run_place)
+    skip (LongestRun is_run_place)
     to ← here
-    gives (run from to)
+    yields (run from to)
 
 module _ (t : List ℕ) (R : Family) where
   -- The next piece of a line by the byte there. The line ends before a line end and at the text's end; `}` is refused;
   -- `{` begins a placeable; any other byte begins a run.
   abbrev pub next_piece_at : Option ℕ → Construct (More Piece (Unit {0}))
-  next_piece_at None = gives no_item
+  next_piece_at None = yields no_item
   next_piece_at (Some b) =
-      at_each (has_eol t) (λ eol. either eol (gives no_item) (either (b == right_brace) (fails UnbalancedClosingBrace)
-      (either (b == left_brace) (placeable t R >>= λ e. gives (item (placed e) tt))
-      (text_run t >>= λ p. gives (item p tt)))))
+      peek (has_eol t) (λ eol. branch_on eol (yields no_item)
+      (branch_on (b == right_brace) (fails UnbalancedClosingBrace)
+      (branch_on (b == left_brace) (placeable t R >>= λ e. yields (item (placed e) tt))
+      (text_run t >>= λ p. yields (item p tt)))))
 
   -- the next piece of a line, if it has one more
   abbrev pub next_piece : Construct (More Piece (Unit {0}))
-  next_piece = at_each (slice_get t) next_piece_at
+  next_piece = peek (slice_get t) next_piece_at
 
   -- the rest of a line, up to its ending
   abbrev pub more_pieces : Construct (List Piece)
@@ -67,7 +68,7 @@ module _ (t : List ℕ) (R : Family) where
     first ← here
     ps ← more_pieces
     e ← ending t
-    gives (record { start = start; spaces = first - start; pieces = ps; ending = e })
+    yields (record { start = start; spaces = first - start; pieces = ps; ending = e })
 
   -- The next line of a pattern, if one more belongs to it. The first that does not belong stays unread. Spaces alone at
   -- the text's end are passed over and give nothing.
@@ -76,7 +77,7 @@ module _ (t : List ℕ) (R : Family) where
     other_line : {i k b : ℕ} → InlineBlank t i k → slice_get t k ≡ Some b → belongs t (nat_lt i k) k ≡ false →
         next_line i (Read no_item i)
     own_line : {i k b : ℕ} {o : Outcome (More Line (Unit {0}))} → InlineBlank t i k → slice_get t k ≡ Some b →
-        belongs t (nat_lt i k) k ≡ true → (line >>= λ l. gives (item l tt)) i o → next_line i o
+        belongs t (nat_lt i k) k ≡ true → (line >>= λ l. yields (item l tt)) i o → next_line i o
 
   -- the lines that belong to a pattern, from a line's start on
   abbrev pub more_lines : Construct (List Line)

@@ -2,7 +2,7 @@
 use Rattle.std.specs.Prelude.{ℕ, List, Option, Some, None}
 use Rattle.fluent_syntax_grammar.specs.Places.{Reaches, after_eol}
 use Rattle.fluent_syntax_tree.specs.Tree.{PatternTree}
-use Rattle.fluent_syntax_grammar.specs.Construct.{Construct, ◌>>=◌, ◌>>◌, gives, here, over, at_each}
+use Rattle.fluent_syntax_grammar.specs.Construct.{Construct, ◌>>=◌, ◌>>◌, yields, here, skip, peek}
 use Rattle.fluent_syntax_grammar.specs.Tokens.{inline_blank, blank_block}
 use Rattle.fluent_syntax_grammar.specs.Layout.{Layout}
 use Rattle.fluent_syntax_grammar.specs.Elements.{pattern_of}
@@ -17,26 +17,26 @@ module _ (t : List ℕ) (R : Family) where
   -- leading spaces.
   abbrev pub layout_at : Option ℕ → Construct Layout
   layout_at (Some k) = do
-    over (Reaches k)
+    skip (Reaches k)
     blank_block t
     ls ← more_lines t R
-    gives (record { opening = None; lines = ls })
+    yields (record { opening = None; lines = ls })
   layout_at None = do
     start ← here
     ps ← more_pieces t R
     e ← ending t
     ls ← more_lines t R
-    gives (record { opening = Some (record { start = start; spaces = 0; pieces = ps; ending = e }); lines = ls })
+    yields (record { opening = Some (record { start = start; spaces = 0; pieces = ps; ending = e }); lines = ls })
 
   -- Layout: an inline blank, and what follows on the line decides.
   abbrev pub layout : Construct Layout
   layout = do
     inline_blank t
-    at_each (after_eol t) layout_at
+    peek (after_eol t) layout_at
 
 module _ (edition : Edition) (t : List ℕ) (R : Family) where
   -- Pattern: what the layout spells, if it spells something.
   abbrev pub pattern : Construct (Option (PatternTree Span))
   pattern = do
     y ← layout t R
-    gives (pattern_of edition t y)
+    yields (pattern_of edition t y)

@@ -1,4 +1,4 @@
--- Places of a text, longest words, line ends and blanks. A text is its list of bytes. A place is a number: 0 is before
+-- Places of a text, longest runs, line ends and blanks. A text is its list of bytes. A place is a number: 0 is before
 -- the first byte, and the text's length is after the last one.
 use Rattle.std.specs.Prelude.{◌≡◌, ℕ, ◌+◌, ◌-◌, ◌<◌, ◌≤◌, List, slice_get, Option, Some, None, Bool, true, false, ◌&&◌}
 use Rattle.std.specs.Prelude.{◌||◌, ◌==◌, not, is_some, if◌then◌else◌}
@@ -10,7 +10,7 @@ holds test None = false
 holds test (Some b) = test b
 
 -- The longest stretch from i on, each place of which passes the test, ends at j.
-pub record Stretch (test : ℕ → Bool) (i j : ℕ) : Type 0 where
+pub record LongestRun (test : ℕ → Bool) (i j : ℕ) : Type 0 where
   pub forward : i ≤ j
   pub each : (k : ℕ) → i ≤ k → k < j → test k ≡ true
   pub longest : test j ≡ false
@@ -33,8 +33,8 @@ module _ (t : List ℕ) where
   has_byte b i = has (λ c. c == b) i
 
   -- The longest run of bytes of the set, perhaps empty, reaches from the one place to the other.
-  abbrev pub Word : (ℕ → Bool) → ℕ → ℕ → Type 0
-  Word set = Stretch (has set)
+  abbrev pub ByteRun : (ℕ → Bool) → ℕ → ℕ → Type 0
+  ByteRun set = LongestRun (has set)
 
   -- Where a line end that begins at the place ends. A line end is LF, or CR followed by LF; a CR elsewhere is an
   -- ordinary byte.
@@ -54,7 +54,7 @@ module _ (t : List ℕ) where
 
   -- Inline blank: the longest run of spaces, perhaps empty.
   abbrev pub InlineBlank : ℕ → ℕ → Type 0
-  InlineBlank = Word is_space
+  InlineBlank = ByteRun is_space
 
   -- whether a space stands or a line end begins at the place
   abbrev pub is_blank_place : ℕ → Bool
@@ -62,7 +62,7 @@ module _ (t : List ℕ) where
 
   -- Blank: the longest run of spaces, LFs and CRLFs, perhaps empty. (The LF of a CRLF is a blank place too.)
   abbrev pub Blank : ℕ → ℕ → Type 0
-  Blank = Stretch is_blank_place
+  Blank = LongestRun is_blank_place
 
   -- A line starts at place 0 and after every LF.
   abbrev pub starts_line : ℕ → Bool

@@ -7,8 +7,8 @@ use Rattle.fluent_syntax_grammar.specs.Bytes.{lf, backslash, capital_u, double_q
 use Rattle.fluent_syntax_grammar.specs.Places.{Steps, has, has_byte}
 use Rattle.fluent_syntax_tree.specs.Kind.{Kind, ExpectedToken, UnterminatedStringLiteral, UnknownEscapeSequence}
 use Rattle.fluent_syntax_tree.specs.Kind.{InvalidUnicodeEscapeSequence}
-use Rattle.fluent_syntax_grammar.specs.Construct.{Outcome, Read, Refused, Construct, ◌>>=◌, ◌>>◌, gives, here, fails}
-use Rattle.fluent_syntax_grammar.specs.Construct.{over, at_each, either}
+use Rattle.fluent_syntax_grammar.specs.Construct.{Outcome, Read, Refused, Construct, ◌>>=◌, ◌>>◌, yields, here, fails}
+use Rattle.fluent_syntax_grammar.specs.Construct.{skip, peek, branch_on}
 use Rattle.fluent_syntax_grammar.specs.Tokens.{spanned, token}
 use Rattle.fluent_syntax_tree.specs.declared.spans.Span.{Span}
 
@@ -42,18 +42,18 @@ module _ (t : List ℕ) where
   abbrev pub escaped : Option ℕ → Construct (Unit {0})
   escaped None = fails (UnknownEscapeSequence (codes "32"))
   escaped (Some b) =
-      either (b == backslash || b == double_quote || b == left_brace) (over (Steps 2))
-      (either (b == small_u) (over (Steps 2) >> hex_digits 4)
-      (either (b == capital_u) (over (Steps 2) >> hex_digits 6)
+      branch_on (b == backslash || b == double_quote || b == left_brace) (skip (Steps 2))
+      (branch_on (b == small_u) (skip (Steps 2) >> hex_digits 4)
+      (branch_on (b == capital_u) (skip (Steps 2) >> hex_digits 6)
       (fails (UnknownEscapeSequence (decimal b)))))
 
   -- A unit of a string, by its first byte: an escape, or any other byte but a quote and LF.
   abbrev pub string_unit : Option ℕ → Construct (Unit {0})
   string_unit None = fails (ExpectedToken double_quote)
   string_unit (Some b) =
-      either (b == lf) (fails UnterminatedStringLiteral)
-      (either (b == backslash) (at_each (λ i. slice_get t (i + 1)) escaped)
-      (over (Steps 1)))
+      branch_on (b == lf) (fails UnterminatedStringLiteral)
+      (branch_on (b == backslash) (peek (λ i. slice_get t (i + 1)) escaped)
+      (skip (Steps 1)))
 
   -- the units up to the next quote
   pub data string_units : ℕ → Outcome (Unit {0}) → Type 0 where
@@ -71,4 +71,4 @@ module _ (t : List ℕ) where
     string_units
     value ← spanned start
     token t double_quote
-    gives value
+    yields value

@@ -4,7 +4,7 @@ use Rattle.std.specs.Prelude.{false, ◌&&◌, ◌||◌, ◌==◌}
 use Rattle.fluent_syntax_grammar.specs.Bytes.{is_letter, hash, hyphen}
 use Rattle.fluent_syntax_grammar.specs.Places.{has, has_byte, starts_line, BlankBlock}
 use Rattle.fluent_syntax_tree.specs.Kind.{Kind, ExpectedMessageField, ExpectedTermField}
-use Rattle.fluent_syntax_grammar.specs.Construct.{Read, Refused, Construct, ◌>>◌, at_each, either}
+use Rattle.fluent_syntax_grammar.specs.Construct.{Read, Refused, Construct, ◌>>◌, peek, branch_on}
 use Rattle.fluent_syntax_grammar.specs.Tokens.{rest_of_line, optional_eol}
 use Rattle.fluent_syntax_tree.specs.Entry.{EntryTree}
 use Rattle.fluent_syntax_grammar.specs.Entries.{message_of, term_of}
@@ -67,11 +67,11 @@ module _ (edition : Edition) (t : List ℕ) (R : Family) where
   abbrev pub entry_of : Option ℕ → Construct (EntryTree Span)
   entry_of None = message_of edition t R
   entry_of (Some b) =
-      either (b == hash) (comment_entry t) (either (b == hyphen) (term_of edition t R) (message_of edition t R))
+      branch_on (b == hash) (comment_entry t) (branch_on (b == hyphen) (term_of edition t R) (message_of edition t R))
 
   -- Entry: what stands at the place decides its form.
   abbrev pub entry_in : Construct (EntryTree Span)
-  entry_in = at_each (slice_get t) entry_of
+  entry_in = peek (slice_get t) entry_of
 
   -- The tile that stands from i to j: the entry that is read there; or, where it is refused, junk that reaches
   -- from there to the first entry start at or after the failing place.
@@ -108,3 +108,19 @@ module _ (edition : Edition) (t : List ℕ) where
   -- The tiles of the whole text without comments.
   abbrev pub RuntimeTiling : List Tile → Type 0
   RuntimeTiling tiles = Tiled t RuntimeTileAt 0 tiles
+
+  -- the text has a tiling
+  abbrev pub SomeTiling : Type 0
+  SomeTiling = (tiles : List Tile) × Tiling tiles
+
+  -- the text has a tiling without comments
+  abbrev pub SomeRuntimeTiling : Type 0
+  SomeRuntimeTiling = (tiles : List Tile) × RuntimeTiling tiles
+
+  -- the text has at most one tiling
+  abbrev pub OneTiling : Type 0
+  OneTiling = (xs ys : List Tile) → Tiling xs → Tiling ys → xs ≡ ys
+
+  -- the text has at most one tiling without comments
+  abbrev pub OneRuntimeTiling : Type 0
+  OneRuntimeTiling = (xs ys : List Tile) → RuntimeTiling xs → RuntimeTiling ys → xs ≡ ys

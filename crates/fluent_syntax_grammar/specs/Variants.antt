@@ -5,7 +5,7 @@ use Rattle.fluent_syntax_grammar.specs.Places.{has}
 use Rattle.fluent_syntax_tree.specs.Tree.{KeyTree, name_key, number_key, PatternTree, VariantTree, VariantTrees}
 use Rattle.fluent_syntax_tree.specs.Tree.{no_variants, variants, variant}
 use Rattle.fluent_syntax_tree.specs.Kind.{MissingDefaultVariant, MissingValue, MultipleDefaultVariants}
-use Rattle.fluent_syntax_grammar.specs.Construct.{Construct, ◌>>=◌, ◌>>◌, gives, fails, at_each, either, More}
+use Rattle.fluent_syntax_grammar.specs.Construct.{Construct, ◌>>=◌, ◌>>◌, yields, fails, peek, branch_on, More}
 use Rattle.fluent_syntax_grammar.specs.Construct.{no_item, item, many}
 use Rattle.fluent_syntax_grammar.specs.Tokens.{optional, token, blank, identifier, number}
 use Rattle.fluent_syntax_grammar.specs.Family.{Family}
@@ -26,25 +26,25 @@ is_number_start b = is_digit b || b == hyphen
 
 -- Key: a number where a digit or `-` stands, else an identifier.
 abbrev pub variant_key : List ℕ → Construct (KeyTree Span)
-variant_key t = at_each (has t is_number_start) (λ is_number. either is_number
-    (number t >>= λ v. gives (number_key v))
-    (identifier t >>= λ v. gives (name_key v)))
+variant_key t = peek (has t is_number_start) (λ is_number. branch_on is_number
+    (number t >>= λ v. yields (number_key v))
+    (identifier t >>= λ v. yields (name_key v)))
 
 -- A star, where one stood before: refused at the place after it.
 abbrev pub only_star : (starred star : Bool) → Construct (Unit {0})
-only_star starred star = either (starred && star) (fails MultipleDefaultVariants) (gives tt)
+only_star starred star = branch_on (starred && star) (fails MultipleDefaultVariants) (yields tt)
 
 -- the end of a list of variants, which has to have a default
 abbrev pub variants_end : Edition → (starred star : Bool) → Construct (More (VariantTree Span) Bool)
 variants_end edition starred star =
-    either (has_default edition starred star) (gives no_item) (fails MissingDefaultVariant)
+    branch_on (has_default edition starred star) (yields no_item) (fails MissingDefaultVariant)
 
 module _ (t : List ℕ) where
   -- From the end of a variant's pattern on: there has to be one. Then a blank.
   abbrev pub variant_of : (starred star : Bool) → KeyTree Span → Option (PatternTree Span) →
       Construct (More (VariantTree Span) Bool)
   variant_of starred star key None = fails MissingValue
-  variant_of starred star key (Some value) = blank t >> gives (item (variant key value star) (starred || star))
+  variant_of starred star key (Some value) = blank t >> yields (item (variant key value star) (starred || star))
 
 module _ (edition : Edition) (t : List ℕ) (R : Family) where
   -- Variant, after its star and `[`: a blank, a key, a blank, `]`, a pattern, a blank.
@@ -64,7 +64,7 @@ module _ (edition : Edition) (t : List ℕ) (R : Family) where
     star ← optional t asterisk
     only_star starred star
     bracket ← optional t left_bracket
-    either bracket (variant_after starred star) (variants_end edition starred star)
+    branch_on bracket (variant_after starred star) (variants_end edition starred star)
 
   -- the rest of a list of variants; the flag says whether a default stood before
   abbrev pub more_variants : (starred : Bool) → Construct (VariantTrees Span)

@@ -41,14 +41,14 @@ abbrev pub indent : ℕ → Text
 indent level = replicate (4 * level) space
 
 -- the indent without its last space, which a star takes
-abbrev pub short_indent : ℕ → Text
-short_indent level = replicate (4 * level - 1) space
+abbrev pub star_indent : ℕ → Text
+star_indent level = replicate (4 * level - 1) space
 
 -- A literal that follows an LF, the empty one too, is preceded by the indent of its level. A star takes the place of
 -- the last space of that indent. A line end is LF, preceded by one more CR where the text so far ends in CR.
 abbrev pub mark_text : Option ℕ → Mark → Text
 mark_text last (literal level bs) = (if is_last lf last then indent level else []) ++ bs
-mark_text last (star level) = (if is_last lf last then short_indent level else []) ++ codes "*"
+mark_text last (star level) = (if is_last lf last then star_indent level else []) ++ codes "*"
 mark_text last line_end = (if is_last cr last then cr ∷ [] else []) ++ lf ∷ []
 
 -- the text of the marks, after a text with that last byte
@@ -212,12 +212,12 @@ pattern_marks level p = opening_mark level p ∷ elements_marks (inner_level lev
 -- ---- Entries, at level 0
 
 -- whether the line holds a byte other than space, CR and LF
-abbrev pub is_shown : Text → Bool
-is_shown bs = list_any (λ b. not (b == space || b == cr || b == lf)) bs
+abbrev pub is_nonblank_line : Text → Bool
+is_nonblank_line bs = list_any (λ b. not (b == space || b == cr || b == lf)) bs
 
 -- a space and the line, unless it shows nothing
 abbrev pub shown_marks : Text → List Mark
-shown_marks line = if is_shown line then literal 0 (codes " ") ∷ literal 0 line ∷ [] else []
+shown_marks line = if is_nonblank_line line then literal 0 (codes " ") ∷ literal 0 line ∷ [] else []
 
 -- the hashes, what the line shows, and a line end
 abbrev pub comment_line_marks : Text → Text → List Mark

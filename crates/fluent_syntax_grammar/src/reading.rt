@@ -8,17 +8,14 @@ ghost use Rattle.fluent_syntax_grammar.specs.Laws.{
   KindsMean,
   NoNewErrors,
   OneReading,
-  OneRuntimeTiling,
-  OneTiling,
   RuntimeBodyInText,
   RuntimeErrorsAscend,
   RuntimeJunkOfErrors,
   RuntimeKindsMean,
   SameMessagesAndTerms,
   SameWithoutComments,
-  SomeRuntimeTiling,
-  SomeTiling,
 };
+ghost use Rattle.fluent_syntax_grammar.specs.Tiling.{OneRuntimeTiling, OneTiling, SomeRuntimeTiling, SomeTiling};
 ghost use Rattle.fluent_syntax_tree.specs.declared.edition.Edition.{Edition};
 
 /// The laws of unique reading, of a text and both editions of the grammar.

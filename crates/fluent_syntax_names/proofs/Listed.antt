@@ -21,10 +21,10 @@ module _ {X : Type 0} (lists : List (Vec X Global)) where
       ap (map items) is ∙ map_push items lists list ∙ ap (λ (l : List X). map items lists ++ l ∷ []) empty
 
   -- an item more in one of them
-  pub list_longer : (u : ℕ) (list longer : Vec X Global) (item : X) → u < length lists → list ≡ get_or lists u list
+  pub items_pushed : (u : ℕ) (list longer : Vec X Global) (item : X) → u < length lists → list ≡ get_or lists u list
       → longer.items ≡ list.items ++ item ∷ []
       → map items (set lists u longer) ≡ set (map items lists) u (get_or (map items lists) u [] ++ item ∷ [])
-  list_longer u list longer item within is more =
+  items_pushed u list longer item within is more =
       map-set items lists u longer
       ∙ ap (set (map items lists) u)
       (more ∙ ap (λ (l : List X). l ++ item ∷ []) (sym (list_read u list within is)))

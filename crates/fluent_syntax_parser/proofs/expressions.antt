@@ -6,6 +6,7 @@ pub mod Given
 pub mod InlineForms
 pub mod InlineStarts
 pub mod Inlines
+pub mod LastPlaced
 pub mod Noted
 pub mod Selects
 pub mod Stars

@@ -3,8 +3,11 @@ pub mod Cut
 pub mod Layouts
 pub mod LineEndings
 pub mod OneLine
+pub mod Opening
 pub mod Pieces
+pub mod Rest
 pub mod Runs
+pub mod Settled
 pub mod Shapes
 pub mod Spelled
 pub mod Waiting

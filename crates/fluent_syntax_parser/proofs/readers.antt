@@ -1,4 +1,4 @@
-pub mod Behind
+pub mod ContinuesFrom
 pub mod Carried
 pub mod Fails
 pub mod Gathers

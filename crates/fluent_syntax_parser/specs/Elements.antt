@@ -1,19 +1,22 @@
 -- What a layout spells, as a reader makes it.
-use Rattle.std.specs.Prelude.{◌≡◌, Box, ℕ, ◌+◌, List, [], ◌∷◌, ◌++◌, map, Option, Some, None, option_map, min, nat_lt}
+use Rattle.std.specs.Prelude.{◌≡◌, Box, ℕ, ◌+◌, List, [], ◌∷◌, ◌++◌, map, Option, Some, None, min, nat_lt}
 use Rattle.std.specs.Prelude.{if◌then◌else◌}
 use Rattle.std.specs.Global.{Global}
-use Rattle.fluent_syntax_tree.specs.Tree.{ElementTree, ExpressionTree, text_element, pattern_map, placeable}
-use Rattle.fluent_syntax_tree.specs.View.{pattern_view}
+use Rattle.std.specs.Prelude.{false, slice_range}
+use Rattle.std.specs.List.{flat_map}
+use Rattle.fluent_syntax_tree.specs.Tree.{ElementTree, ExpressionTree, text_element, placeable}
+use Rattle.fluent_syntax_tree.specs.View.{element_view}
 use Rattle.fluent_syntax_tree.specs.declared.ast.Expression.{Expression}
-use Rattle.fluent_syntax_tree.specs.declared.ast.Pattern.{Pattern}
+use Rattle.fluent_syntax_tree.specs.declared.ast.PatternElement.{PatternElement}
 use Rattle.fluent_syntax_tree.specs.declared.edition.Edition.{Edition}
 use Rattle.fluent_syntax_tree.specs.declared.edition.Edition.TheVariants.{One, Two}
 use Rattle.fluent_syntax_tree.specs.declared.spans.Span.{Span}
-use Rattle.fluent_syntax_grammar.specs.Elements.{ItemOf, text, filled, cut, opening_items, pattern_of, trimmed_end}
-use Rattle.fluent_syntax_grammar.specs.Layout.{Layout, PieceOf, run, placed, Ending, lf_at, crlf_at, text_end}
+use Rattle.fluent_syntax_grammar.specs.Elements.{ItemOf, text, filled, cut, is_nonblank, line_items, trimmed_end}
+use Rattle.fluent_syntax_grammar.specs.Elements.{with_ending}
+use Rattle.fluent_syntax_grammar.specs.Layout.{PieceOf, run, placed, Ending, lf_at, crlf_at, text_end, least, counted}
 use Rattle.fluent_syntax_parser.specs.Boxed.{boxed_expression_view}
-use Rattle.fluent_syntax_parser.specs.Layouts.{line_of}
-use Rattle.fluent_syntax_parser.specs.Lines.{line_view}
+use Rattle.fluent_syntax_parser.specs.Lines.{ending_view, line_view}
+use Rattle.fluent_syntax_parser.specs.declared.pattern.line.OpeningEnd.{OpeningEnd}
 use Rattle.fluent_syntax_parser.specs.declared.pattern.line.Line.{Line}
 use Rattle.fluent_syntax_parser.specs.declared.pattern.line.Piece.{Piece}
 use Rattle.fluent_syntax_parser.specs.declared.pattern.line.Piece.TheVariants as piece
@@ -86,11 +89,41 @@ module _ {X : Type 0} (f : Span → X) where
   last_of t (text from to) = text_element (f (record { start = from; end = trimmed_end t from to }))
   last_of t (filled e) = placeable e
 
--- The pattern is what a layout spells: that of any layout of the grammar of which the items of the opening line and the
--- other lines are made, with f of each text.
-abbrev pub MakesPattern : {S X : Type 0} → (Span → X) → (S → X) → Edition → List ℕ → (items : List (Piece S)) →
-    (lines : List (Line S)) → Option (Pattern S) → Type 0
-MakesPattern f v edition t items lines pattern =
-    (y : Layout) → map (item_view v) items ≡ opening_items (option_map (line_of f) y.opening) →
-    map (line_view v) lines ≡ map (line_of f) y.lines →
-    option_map (pattern_view v) pattern ≡ option_map (pattern_map f) (pattern_of edition t y)
+  -- the elements of the items
+  abbrev pub spelled : List ℕ → List (ItemOf (ExpressionTree X)) → List (ElementTree X)
+  spelled t [] = []
+  spelled t (text from to ∷ []) = text_element (f (record { start = from; end = trimmed_end t from to })) ∷ []
+  spelled t (text from to ∷ x ∷ xs) = text_element (f (record { start = from; end = to })) ∷ spelled t (x ∷ xs)
+  spelled t (filled e ∷ xs) = placeable e ∷ spelled t xs
+
+-- ---- what is left of the line on which a pattern opens
+
+module _ {E : Type 0} where
+  -- the run, if it holds a byte
+  abbrev pub run_of : Span → List (PieceOf E)
+  run_of s = if nat_lt s.start s.end then run s.start s.end ∷ [] else []
+
+  -- the items of the run and of the line's ending
+  abbrev pub rest_items : OpeningEnd → List (ItemOf E)
+  rest_items rest = with_ending (run_of rest.run) (ending_view rest.ending)
+
+-- where the text ends that the run of a line is, whose ending joins it where it is LF
+abbrev pub rest_end : (to : ℕ) → Ending → ℕ
+rest_end to (lf_at p) = p + 1
+rest_end to (crlf_at p) = to
+rest_end to text_end = to
+
+-- An LF ends the line where its run ends, and behind CR stands an LF.
+abbrev pub EndsAt : List ℕ → (to : ℕ) → Ending → Type 0
+EndsAt t to (lf_at p) = p ≡ to
+EndsAt t to (crlf_at p) = is_nonblank (slice_range t (p + 1) (p + 2)) ≡ false
+EndsAt t to text_end = Unit {0}
+
+-- The elements were added that the rest of the opening line and the other lines spell, with f of each text.
+abbrev pub AddsRest : {S X : Type 0} → (Span → X) → (S → X) → Edition → List ℕ → OpeningEnd → (lines : List (Line S)) →
+    (old new : List (PatternElement S)) → Type 0
+AddsRest f v edition t rest lines old new =
+    let seen = map (line_view v) lines in
+    map (element_view v) new
+    ≡ map (element_view v) old
+    ++ spelled f t (cut t (rest_items rest ++ flat_map (line_items edition (least (flat_map (counted edition) seen))) seen))

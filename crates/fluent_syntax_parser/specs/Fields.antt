@@ -6,7 +6,7 @@ use Rattle.fluent_syntax_tree.specs.View.{attribute_view, pattern_view}
 use Rattle.fluent_syntax_tree.specs.declared.edition.Edition.{Edition}
 use Rattle.fluent_syntax_tree.specs.declared.spans.Span.{Span}
 use Rattle.fluent_syntax_grammar.specs.Bytes.{equals_sign}
-use Rattle.fluent_syntax_grammar.specs.Construct.{Construct, ◌>>=◌, ◌>>◌, gives}
+use Rattle.fluent_syntax_grammar.specs.Construct.{Construct, ◌>>=◌, ◌>>◌, yields}
 use Rattle.fluent_syntax_grammar.specs.Entries.{attributes_of}
 use Rattle.fluent_syntax_grammar.specs.Family.{Family}
 use Rattle.fluent_syntax_grammar.specs.Patterns.{pattern}
@@ -31,4 +31,4 @@ fields edition t R = do
   value ← pattern edition t R
   blank_block t
   rest ← attributes_of edition t R
-  gives (value, rest)
+  yields (value, rest)

@@ -15,6 +15,7 @@ pub mod Made
 pub mod MadeEntries
 pub mod Outcomes
 pub mod OneLine
+pub mod Last
 pub mod Opened
 pub mod Parts
 pub mod Rest

@@ -43,7 +43,7 @@ module _ {S X : Type 0} (f : Span → X) (v : S → X) where
   pub record MappedTile (edition : Edition) (t : List ℕ) (n i j : ℕ) (e : Entry S) (error : Option ParserError) :
       Type 0 where
     pub tree : EntryTree Span
-    pub gives : GivesTile edition t n i j tree error
+    pub yields : GivesTile edition t n i j tree error
     pub same : entry_view v e ≡ entry_map f tree
 
   -- Behind that comment of level 1, which ends at the place, there is that entry, with it or it itself, and the rest

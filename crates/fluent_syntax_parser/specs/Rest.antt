@@ -58,7 +58,7 @@ pub record Rest (comments : Comments) (edition : Edition) (t : List ℕ) (i : �
     (errors : List (Option Fault)) : Type 0 where
   pub tiles : List Tile
   pub tiled : Tiled t (TileIn comments edition t (family edition t)) i tiles
-  pub gives : body tiles ≡ entries
+  pub yields : body tiles ≡ entries
   pub errors_are : map Some (faults tiles) ≡ errors
 
 -- the tiles from a place on, at which no blank block is left
@@ -76,7 +76,7 @@ pub record RestAt (comments : Comments) (edition : Edition) (t : List ℕ) (i : 
     (errors : List (Option Fault)) : Type 0 where
   pub tiles : List Tile
   pub tiled_here : TiledHere t (TileIn comments edition t (family edition t)) i tiles
-  pub gives : body tiles ≡ entries
+  pub yields : body tiles ≡ entries
   pub errors_are : map Some (faults tiles) ≡ errors
 
 -- Behind a comment of level 1 that ends at the place there is that entry, with it or it itself, and the rest from the

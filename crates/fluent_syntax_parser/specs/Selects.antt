@@ -4,9 +4,9 @@ use Rattle.fluent_syntax_tree.specs.Kind.{Kind}
 use Rattle.fluent_syntax_tree.specs.Tree.{VariantTrees}
 use Rattle.fluent_syntax_tree.specs.declared.edition.Edition.{Edition}
 use Rattle.fluent_syntax_tree.specs.declared.spans.Span.{Span}
-use Rattle.fluent_syntax_grammar.specs.Construct.{Construct, ◌>>◌, fails, over, at_each}
+use Rattle.fluent_syntax_grammar.specs.Construct.{Construct, ◌>>◌, fails, skip, peek}
 use Rattle.fluent_syntax_grammar.specs.Family.{Family}
-use Rattle.fluent_syntax_grammar.specs.Placeables.{arrow_line_end}
+use Rattle.fluent_syntax_grammar.specs.Expressions.{arrow_line_end}
 use Rattle.fluent_syntax_grammar.specs.Places.{Steps, after_eol}
 use Rattle.fluent_syntax_grammar.specs.Variants.{more_variants}
 use Rattle.fluent_syntax_grammar.specs.Tokens.{blank, inline_blank}
@@ -15,9 +15,9 @@ use Rattle.fluent_syntax_grammar.specs.Tokens.{blank, inline_blank}
 abbrev pub select_start : List ℕ → Option Kind → Construct (Unit {0})
 select_start t (Some fault) = fails fault
 select_start t None = do
-  over (Steps 2)
+  skip (Steps 2)
   inline_blank t
-  at_each (after_eol t) arrow_line_end
+  peek (after_eol t) arrow_line_end
   blank t
 
 -- the variants of a select, from its arrow on

@@ -21,7 +21,7 @@ pub record TileTo (edition : Edition) (t : List ℕ) (i j : ℕ) (found : Spanne
   pub blank : BlankBlock t i found.span.start
   pub inside : found.span.start < length t
   pub stands : TileAt edition t found.span.start found.span.end tile
-  pub gives : Gives tile found.entry found.error
+  pub yields : Gives tile found.entry found.error
   pub ends : j ≡ found.span.end
 
 -- What comes next from the place on: what was found, up to the other place; or nothing but a blank block is left.

@@ -1,32 +1,35 @@
 //! Inline expressions, placeables and selects.
-ghost use Rattle.std.specs.Prelude.{◌≡◌, ◌-◌, ◌<◌, ◌≤◌, length, IfOk};
-ghost use Rattle.fluent_syntax_tree.specs.Tree.{expression_map, inline, inline_placeable};
-ghost use Rattle.fluent_syntax_grammar.specs.Construct.{at_each};
+ghost use Rattle.std.specs.Prelude.{◌≡◌, ◌-◌, ◌<◌, ◌≤◌, List, length, IfOk, OnOk};
+ghost use Rattle.fluent_syntax_tree.specs.Tree.{ExpressionTree, expression_map, inline, inline_placeable};
+ghost use Rattle.fluent_syntax_tree.specs.declared.ast.PatternElement.{PatternElement};
+ghost use Rattle.fluent_syntax_grammar.specs.Construct.{peek};
 ghost use Rattle.fluent_syntax_grammar.specs.Family.{placeable};
 ghost use Rattle.fluent_syntax_grammar.specs.Grammar.{within};
 ghost use Rattle.fluent_syntax_grammar.specs.Inline.{inline_expression};
-ghost use Rattle.fluent_syntax_grammar.specs.Placeables.{arrow_line_end, expression, has_arrow};
+ghost use Rattle.fluent_syntax_grammar.specs.Expressions.{arrow_line_end, expression, has_arrow};
 ghost use Rattle.fluent_syntax_grammar.specs.Places.{after_eol};
 ghost use Rattle.fluent_syntax_grammar.specs.Starts.{brace, letter, start, term};
-ghost use Rattle.fluent_syntax_parser.specs.Boxed.{boxed_expression_view, mapped_inline};
-ghost use Rattle.fluent_syntax_parser.specs.Made.{Parses};
+ghost use Rattle.fluent_syntax_parser.specs.Boxed.{mapped_inline};
+ghost use Rattle.fluent_syntax_parser.specs.Last.{AddsPlaced, EndsPlaced, Pushes};
 ghost use Rattle.fluent_syntax_parser.specs.Outcomes.{ParsesEnd};
 
 pub(crate) mod argument_names;
 pub(crate) mod arguments;
 pub(crate) mod forms;
+pub(crate) mod last;
 pub(crate) mod literals;
 pub(crate) mod references;
 pub(crate) mod selects;
 pub(crate) mod starts;
 pub(crate) mod variants;
 
+use crate::expression::last::{add_inline, last_inline, take_expression};
 use crate::expression::starts::Start;
 use crate::fault::{Fault, ReadFault, Refusal};
 use crate::reader::Reader;
 use crate::source::Source;
 use crate::texts::MakeTexts;
-use fluent_syntax_tree::ast::{Expression, InlineExpression};
+use fluent_syntax_tree::ast::{Expression, InlineExpression, PatternElement};
 use fluent_syntax_tree::spans::Span;
 use std::alloc::AllocError;
 
@@ -43,7 +46,7 @@ impl<'s> Source<'s> {
     pub(crate) fn arrow_line_end(&self, ptr: usize) -> Result<usize, Refusal>
         requires { ptr ≤ length self.now.bytes.now }
         ensures parses { let t = self.now.bytes.now in
-            ParsesEnd t (at_each (after_eol t) arrow_line_end) ptr result }
+            ParsesEnd t (peek (after_eol t) arrow_line_end) ptr result }
         ensures within { IfOk result (λ end. (ptr < end) × (end ≤ length self.now.bytes.now)) }
     {
         match self.eol_end(ptr) {
@@ -58,105 +61,112 @@ impl<'s> Source<'s> {
 }
 
 impl<'s, 't, M: MakeTexts> Reader<'s, 't, M> {
-    /// Reads a reference to a term: `-`, its name, an attribute if `.` follows, and arguments if `(` follows.
+    /// Reads a reference to a term, and adds it: `-`, its name, an attribute if `.` follows, and arguments if `(`
+    /// follows.
     #[cycle(readers)]
     #[inline(never)]
-    fn get_term_reference(
+    fn add_term_reference(
         &self,
         nesting: usize,
         ptr: usize,
-    ) -> Result<(Box<Expression<M::Text>>, usize), ReadFault>
+        elements: &mut Vec<PatternElement<M::Text>>,
+    ) -> Result<usize, ReadFault>
         requires within { ptr ≤ length self.now.source.bytes.now }
         requires starts { term ≡ start self.now.source.bytes.now ptr }
         ensures parses { let t = self.now.source.bytes.now in
-            Parses t (mapped_inline (M.source self.now.texts.now))
-            (inline_expression t (within self.now.edition t nesting)) (boxed_expression_view M.made) ptr result }
-        ensures within { IfOk result (λ read. (ptr < read.1) × (read.1 ≤ length self.now.source.bytes.now)) }
+            Pushes M.made t (mapped_inline (M.source self.now.texts.now))
+            (inline_expression t (within self.now.edition t nesting)) elements.old.items elements.new.items ptr
+            result }
+        ensures within { IfOk result (λ end. (ptr < end) × (end ≤ length self.now.source.bytes.now)) }
     {
         let start = self.source.expect_byte(b'-', ptr)?;
         let end = self.source.identifier_end(start)?;
         let (attribute, ptr) = self.source.get_attribute_accessor(end)?;
         let (arguments, ptr) = self.get_call_arguments(nesting, ptr)?;
-        let expression = self.boxed_term(Span { start, end }, attribute, arguments)?;
-        Ok((expression, ptr))
+        self.add_term_named(Span { start, end }, attribute, arguments, elements)?;
+        Ok(ptr)
     }
 
-    /// Reads a reference to a function or to a message, by its name and what follows it.
+    /// Reads a reference to a function or to a message, by its name and what follows it, and adds it.
     #[cycle(readers)]
     #[inline(never)]
-    fn get_reference(
+    fn add_reference(
         &self,
         nesting: usize,
         ptr: usize,
-    ) -> Result<(Box<Expression<M::Text>>, usize), ReadFault>
+        elements: &mut Vec<PatternElement<M::Text>>,
+    ) -> Result<usize, ReadFault>
         requires within { ptr ≤ length self.now.source.bytes.now }
         requires starts { letter ≡ start self.now.source.bytes.now ptr }
         ensures parses { let t = self.now.source.bytes.now in
-            Parses t (mapped_inline (M.source self.now.texts.now))
-            (inline_expression t (within self.now.edition t nesting)) (boxed_expression_view M.made) ptr result }
-        ensures within { IfOk result (λ read. (ptr < read.1) × (read.1 ≤ length self.now.source.bytes.now)) }
+            Pushes M.made t (mapped_inline (M.source self.now.texts.now))
+            (inline_expression t (within self.now.edition t nesting)) elements.old.items elements.new.items ptr
+            result }
+        ensures within { IfOk result (λ end. (ptr < end) × (end ≤ length self.now.source.bytes.now)) }
     {
         let end = self.source.identifier_end(ptr)?;
         let name = Span { start: ptr, end };
         let (arguments, ptr) = self.get_call_arguments(nesting, end)?;
-        self.get_named_reference(name, arguments, ptr)
+        self.add_named_reference(name, arguments, ptr, elements)
     }
 
-    /// A box with the expression that a placeable is.
+    /// Puts the expression that was added last into a placeable of its own.
     #[inline(never)]
-    fn boxed_placeable(
-        &self,
-        expression: Box<Expression<M::Text>>,
-    ) -> Result<Box<Expression<M::Text>>, AllocError>
-        ensures { IfOk result (λ boxed. boxed_expression_view M.made boxed
-            ≡ inline (inline_placeable (boxed_expression_view M.made expression))) }
+    fn wrap_last(&self, elements: &mut Vec<PatternElement<M::Text>>) -> Result<(), AllocError>
+        requires { EndsPlaced M.made elements.old.items }
+        ensures { OnOk result ((old : List (PatternElement M.Text)) (tree : ExpressionTree _) →
+            AddsPlaced M.made old elements.old.items tree →
+            AddsPlaced M.made old elements.new.items (inline (inline_placeable tree))) }
     {
-        let placeable = InlineExpression::Placeable { expression };
-        let boxed = Box::new(self.alloc, Expression::Inline(placeable))?;
-        Ok(boxed)
+        let expression = Box::new(self.alloc, take_expression::<M>(elements))?;
+        add_inline(InlineExpression::Placeable { expression }, elements)
     }
 
-    /// Reads a placeable that is an inline expression.
+    /// Reads a placeable that is an inline expression, and adds it.
     #[cycle(readers)]
     #[inline(never)]
-    fn get_inner_placeable(
+    fn add_inner_placeable(
         &self,
         nesting: usize,
         ptr: usize,
-    ) -> Result<(Box<Expression<M::Text>>, usize), ReadFault>
+        elements: &mut Vec<PatternElement<M::Text>>,
+    ) -> Result<usize, ReadFault>
         requires within { ptr ≤ length self.now.source.bytes.now }
         requires starts { brace ≡ start self.now.source.bytes.now ptr }
         ensures parses { let t = self.now.source.bytes.now in
-            Parses t (mapped_inline (M.source self.now.texts.now))
-            (inline_expression t (within self.now.edition t nesting)) (boxed_expression_view M.made) ptr result }
-        ensures within { IfOk result (λ read. (ptr < read.1) × (read.1 ≤ length self.now.source.bytes.now)) }
+            Pushes M.made t (mapped_inline (M.source self.now.texts.now))
+            (inline_expression t (within self.now.edition t nesting)) elements.old.items elements.new.items ptr
+            result }
+        ensures within { IfOk result (λ end. (ptr < end) × (end ≤ length self.now.source.bytes.now)) }
     {
-        let (expression, end) = self.get_placeable(nesting, ptr)?;
-        let expression = self.boxed_placeable(expression)?;
-        Ok((expression, end))
+        let end = self.add_placeable(nesting, ptr, elements)?;
+        self.wrap_last(elements)?;
+        Ok(end)
     }
 
-    /// Reads an inline expression: what stands at the place decides its form.
+    /// Reads an inline expression, and adds it: what stands at the place decides its form.
     #[cycle(readers)]
     #[inline(always)]
-    pub(crate) fn get_inline_expression(
+    pub(crate) fn add_inline_expression(
         &self,
         nesting: usize,
         ptr: usize,
-    ) -> Result<(Box<Expression<M::Text>>, usize), ReadFault>
+        elements: &mut Vec<PatternElement<M::Text>>,
+    ) -> Result<usize, ReadFault>
         requires { ptr ≤ length self.now.source.bytes.now }
         ensures parses { let t = self.now.source.bytes.now in
-            Parses t (mapped_inline (M.source self.now.texts.now))
-            (inline_expression t (within self.now.edition t nesting)) (boxed_expression_view M.made) ptr result }
-        ensures within { IfOk result (λ read. (ptr < read.1) × (read.1 ≤ length self.now.source.bytes.now)) }
+            Pushes M.made t (mapped_inline (M.source self.now.texts.now))
+            (inline_expression t (within self.now.edition t nesting)) elements.old.items elements.new.items ptr
+            result }
+        ensures within { IfOk result (λ end. (ptr < end) × (end ≤ length self.now.source.bytes.now)) }
     {
         match self.source.start(ptr) {
-            Start::Quote => self.get_string(ptr),
-            Start::Digit | Start::Minus => self.get_number(ptr),
-            Start::Term => self.get_term_reference(nesting, ptr),
-            Start::Dollar => self.get_variable(ptr),
-            Start::Letter => self.get_reference(nesting, ptr),
-            Start::Brace => self.get_inner_placeable(nesting, ptr),
+            Start::Quote => self.add_string(ptr, elements),
+            Start::Digit | Start::Minus => self.add_number(ptr, elements),
+            Start::Term => self.add_term_reference(nesting, ptr, elements),
+            Start::Dollar => self.add_variable(ptr, elements),
+            Start::Letter => self.add_reference(nesting, ptr, elements),
+            Start::Brace => self.add_inner_placeable(nesting, ptr, elements),
             Start::Other => Err(ReadFault::Refused {
                 fault: Fault::InlineExpression,
                 from: ptr,
@@ -165,56 +175,58 @@ impl<'s, 't, M: MakeTexts> Reader<'s, 't, M> {
         }
     }
 
-    /// Reads an inline expression or a select.
+    /// Reads an inline expression or a select, and adds it.
     #[cycle(readers)]
-    fn get_expression(
+    fn add_expression(
         &self,
         nesting: usize,
         ptr: usize,
-    ) -> Result<(Box<Expression<M::Text>>, usize), ReadFault>
+        elements: &mut Vec<PatternElement<M::Text>>,
+    ) -> Result<usize, ReadFault>
         requires { ptr ≤ length self.now.source.bytes.now }
         ensures parses { let t = self.now.source.bytes.now in
-            Parses t (expression_map (M.source self.now.texts.now))
-            (expression self.now.edition t (within self.now.edition t nesting)) (boxed_expression_view M.made) ptr
-            result }
-        ensures within { IfOk result (λ read. (ptr < read.1) × (read.1 ≤ length self.now.source.bytes.now)) }
+            Pushes M.made t (expression_map (M.source self.now.texts.now))
+            (expression self.now.edition t (within self.now.edition t nesting)) elements.old.items elements.new.items
+            ptr result }
+        ensures within { IfOk result (λ end. (ptr < end) × (end ≤ length self.now.source.bytes.now)) }
     {
-        let (expression, ptr) = self.get_inline_expression(nesting, ptr)?;
+        let ptr = self.add_inline_expression(nesting, ptr, elements)?;
         let ptr = self.source.skip_blank(ptr);
         if self.source.is_arrow(ptr) {
-            return self.get_select(nesting, expression, ptr);
+            return self.end_select(nesting, ptr, elements);
         }
-        if self.is_term_attribute(self.inline_in(&expression)) {
+        if self.is_term_attribute(last_inline::<M>(elements)) {
             return Err(ReadFault::Refused {
                 fault: Fault::TermAttribute,
                 from: ptr,
                 place: ptr,
             });
         }
-        Ok((expression, ptr))
+        Ok(ptr)
     }
 
-    /// Reads an expression in braces.
+    /// Reads an expression in braces, and adds the placeable.
     #[cycle(readers)]
-    pub(crate) fn get_placeable(
+    pub(crate) fn add_placeable(
         &self,
         nesting: usize,
         ptr: usize,
-    ) -> Result<(Box<Expression<M::Text>>, usize), ReadFault>
+        elements: &mut Vec<PatternElement<M::Text>>,
+    ) -> Result<usize, ReadFault>
         requires { ptr ≤ length self.now.source.bytes.now }
         ensures parses { let t = self.now.source.bytes.now in
-            Parses t (expression_map (M.source self.now.texts.now)) (placeable t (within self.now.edition t nesting))
-            (boxed_expression_view M.made) ptr result }
-        ensures within { IfOk result (λ read. (ptr < read.1) × (read.1 ≤ length self.now.source.bytes.now)) }
+            Pushes M.made t (expression_map (M.source self.now.texts.now))
+            (placeable t (within self.now.edition t nesting)) elements.old.items elements.new.items ptr result }
+        ensures within { IfOk result (λ end. (ptr < end) × (end ≤ length self.now.source.bytes.now)) }
     {
         let start = self.source.expect_byte(b'{', ptr)?;
         if nesting == 0 {
             return Err(ReadFault::TooDeep);
         }
         let start = self.source.skip_blank(start);
-        let (expression, ptr) = self.get_expression(nesting - 1, start)?;
+        let ptr = self.add_expression(nesting - 1, start, elements)?;
         let ptr = self.source.skip_blank_inline(ptr);
-        let ptr = self.source.expect_byte(b'}', ptr)?;
-        Ok((expression, ptr))
+        let end = self.source.expect_byte(b'}', ptr)?;
+        Ok(end)
     }
 }

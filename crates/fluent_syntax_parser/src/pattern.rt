@@ -1,18 +1,13 @@
 //! Patterns.
-ghost use Rattle.std.specs.Prelude.{◌≡◌, ◌≤◌, [], length, map, option_map, IfOk, IfSome};
+ghost use Rattle.std.specs.Prelude.{◌≡◌, ◌≤◌, [], length, option_map, IfOk, IfSome};
 ghost use Rattle.fluent_syntax_tree.specs.Tree.{pattern_map};
 ghost use Rattle.fluent_syntax_tree.specs.View.{pattern_view};
-ghost use Rattle.fluent_syntax_grammar.specs.Construct.{Read};
 ghost use Rattle.fluent_syntax_grammar.specs.Grammar.{within};
-ghost use Rattle.fluent_syntax_grammar.specs.Lines.{ending};
 ghost use Rattle.fluent_syntax_grammar.specs.Patterns.{pattern};
 ghost use Rattle.fluent_syntax_grammar.specs.Places.{BlankBlock, InlineBlank};
-ghost use Rattle.fluent_syntax_parser.specs.Elements.{item_view};
-ghost use Rattle.fluent_syntax_grammar.specs.Elements.{with_ending};
-ghost use Rattle.fluent_syntax_parser.specs.Lines.{piece_view};
 ghost use Rattle.fluent_syntax_parser.specs.Made.{Parses};
 ghost use Rattle.fluent_syntax_parser.specs.OneLine.{EndsBlank, EndsLine, OpensAs, text_pattern};
-ghost use Rattle.fluent_syntax_parser.specs.Opened.{LaysOut, Opens};
+ghost use Rattle.fluent_syntax_parser.specs.Opened.{IsRest, Opens};
 
 pub(crate) mod elements;
 pub(crate) mod indents;
@@ -20,9 +15,8 @@ pub(crate) mod line;
 pub(crate) mod lines;
 pub(crate) mod tails;
 
-use crate::fault::ReadFault;
-use crate::pattern::elements::end_opening;
-use crate::pattern::line::{Line, Piece};
+use crate::fault::{Fault, ReadFault};
+use crate::pattern::line::{Ending, OpeningEnd};
 use crate::reader::Reader;
 use crate::source::Source;
 use crate::texts::MakeTexts;
@@ -120,74 +114,57 @@ impl<'s, 't, M: MakeTexts> Reader<'s, 't, M> {
         Ok(Some(Pattern { elements }))
     }
 
-    /// Ends the line on which a pattern opens, whose pieces end at a place: they are its items then. Gives where the
-    /// next line begins.
-    #[inline(never)]
-    fn end_first_line(
-        &self,
-        end: usize,
-        items: &mut Vec<Piece<M::Text>>,
-    ) -> Result<usize, AllocError>
-        requires { end ≤ length self.now.source.bytes.now }
-        ensures ends { let t = self.now.source.bytes.now in IfOk result (λ next. (found : _)
-            × (map (item_view M.made) items.new.items ≡ with_ending (map (piece_view M.made) items.old.items) found)
-            × ending t end (Read found next)) }
-        ensures within { IfOk result (λ next. (end ≤ next) × (next ≤ length self.now.source.bytes.now)) }
-    {
-        let (ending, next) = self.source.get_ending(end);
-        end_opening(ending, items)?;
-        Ok(next)
-    }
-
-    /// Gathers the items of the line on which a pattern opens, after the inline blank there, in an empty list. Gives
-    /// where its other lines begin.
-    #[cycle(readers)]
-    #[inline(never)]
-    fn gather_opening(
-        &self,
-        nesting: usize,
-        ptr: usize,
-        items: &mut Vec<Piece<M::Text>>,
-    ) -> Result<usize, ReadFault>
-        requires within { ptr ≤ length self.now.source.bytes.now }
-        requires empty { items.old.items ≡ [] }
-        ensures opens { let t = self.now.source.bytes.now in let R = within self.now.edition t nesting in
-            Opens t R (M.source self.now.texts.now) M.made ptr items.new.items result }
-        ensures within { IfOk result (λ next. (ptr ≤ next) × (next ≤ length self.now.source.bytes.now)) }
-    {
-        match self.source.eol_end(ptr) {
-            Some(next) => Ok(self.source.skip_blank_block(next)),
-            None => {
-                let end = self.gather_pieces(nesting, ptr, items)?;
-                let next = self.end_first_line(end, items)?;
-                Ok(next)
-            }
-        }
-    }
-
-    /// Gathers the items of the line on which a pattern opens, after the inline blank there, and its other lines, in
-    /// empty lists.
+    /// Reads the line on which a pattern opens, after the inline blank there: adds its elements up to its last
+    /// placeable, and gives what is left of it, and where the other lines begin.
     #[cycle(readers)]
     #[inline(always)]
-    fn gather_layout(
+    fn add_opening(
         &self,
         nesting: usize,
         ptr: usize,
-        items: &mut Vec<Piece<M::Text>>,
-        lines: &mut Vec<Line<M::Text>>,
-    ) -> Result<usize, ReadFault>
+        elements: &mut Vec<PatternElement<M::Text>>,
+    ) -> Result<(OpeningEnd, usize), ReadFault>
         requires within { ptr ≤ length self.now.source.bytes.now }
-        requires no_items { items.old.items ≡ [] }
-        requires no_lines { lines.old.items ≡ [] }
-        ensures parses { let t = self.now.source.bytes.now in
-            LaysOut t (within self.now.edition t nesting) (M.source self.now.texts.now) M.made ptr items.new.items
-            lines.new.items result }
-        ensures behind { IfOk result (λ end. BlankBlock self.now.source.bytes.now end end) }
-        ensures within { IfOk result (λ end. (ptr ≤ end) × (end ≤ length self.now.source.bytes.now)) }
+        requires empty { elements.old.items ≡ [] }
+        ensures opens { let t = self.now.source.bytes.now in let R = within self.now.edition t nesting in
+            Opens t R (M.source self.now.texts.now) M.made ptr elements.new.items result }
+        ensures rest { IfOk result (λ read. IsRest self.now.source.bytes.now read.0) }
+        ensures within { IfOk result (λ read. (ptr ≤ read.1) × (read.1 ≤ length self.now.source.bytes.now)) }
     {
-        let next = self.gather_opening(nesting, ptr, items)?;
-        let end = self.gather_lines(nesting, next, lines)?;
-        Ok(end)
+        if let Some(next) = self.source.eol_end(ptr) {
+            let run = Span {
+                start: ptr,
+                end: ptr,
+            };
+            let ending = Ending::TextEnd;
+            let line = self.source.skip_blank_block(next);
+            return Ok((OpeningEnd { run, ending }, line));
+        }
+        let mut place = ptr;
+        loop {
+            let to = self.source.run_end(place);
+            let run = Span {
+                start: place,
+                end: to,
+            };
+            match self.source.byte_at(to) {
+                Some(b'{') => {
+                    self.add_text_run(run, elements)?;
+                    place = self.add_placeable(nesting, to, elements)?;
+                }
+                Some(b'}') => {
+                    return Err(ReadFault::Refused {
+                        fault: Fault::UnbalancedBrace,
+                        from: to,
+                        place: to,
+                    });
+                }
+                _ => {
+                    let (ending, next) = self.source.get_ending(to);
+                    return Ok((OpeningEnd { run, ending }, next));
+                }
+            }
+        }
     }
 
     /// Reads a pattern that does not stand on one line, or that has a placeable. The inline blank that opens it ends at
@@ -209,11 +186,16 @@ impl<'s, 't, M: MakeTexts> Reader<'s, 't, M> {
         ensures behind { IfOk result (λ read. BlankBlock self.now.source.bytes.now read.1 read.1) }
         ensures within { IfOk result (λ read. (ptr ≤ read.1) × (read.1 ≤ length self.now.source.bytes.now)) }
     {
-        let mut items = Vec::new(self.alloc);
+        let mut elements = Vec::new(self.alloc);
         let mut lines = Vec::new(self.alloc);
-        let end = self.gather_layout(nesting, start, &mut items, &mut lines)?;
-        let pattern = self.pattern_of(items, lines)?;
-        Ok((pattern, end))
+        let (opening, next) = self.add_opening(nesting, start, &mut elements)?;
+        let end = self.gather_lines(nesting, next, &mut lines)?;
+        self.end_elements(opening, lines, &mut elements)?;
+        if elements.is_empty() {
+            Ok((None, end))
+        } else {
+            Ok((Some(Pattern { elements }), end))
+        }
     }
 
     /// Reads a pattern, if one stands there. No blank line stands behind it. That of one line without placeable is read

@@ -3,7 +3,7 @@ ghost use Rattle.std.specs.Prelude.{◌≡◌, ◌<◌, ◌≤◌, ℕ, length, 
 ghost use Rattle.fluent_syntax_tree.specs.declared.spans.Span.{Span};
 ghost use Rattle.fluent_syntax_grammar.specs.Bytes.{is_digit, is_name_byte};
 ghost use Rattle.fluent_syntax_grammar.specs.Construct.{Read};
-ghost use Rattle.fluent_syntax_grammar.specs.Places.{Word};
+ghost use Rattle.fluent_syntax_grammar.specs.Places.{ByteRun};
 ghost use Rattle.fluent_syntax_grammar.specs.Tokens.{digits, identifier, number, optional, token};
 ghost use Rattle.fluent_syntax_parser.specs.Outcomes.{ParsesEnd, ParsesText, name_text};
 
@@ -51,7 +51,7 @@ impl<'s> Source<'s> {
     /// The end of the longest run of name bytes.
     fn name_end(&self, ptr: usize) -> usize
         requires { ptr ≤ length self.now.bytes.now }
-        ensures name { Word self.now.bytes.now is_name_byte ptr result }
+        ensures name { ByteRun self.now.bytes.now is_name_byte ptr result }
         ensures within { result ≤ length self.now.bytes.now }
     {
         let mut end = ptr;
@@ -109,7 +109,7 @@ impl<'s> Source<'s> {
     /// The end of the longest run of digits.
     fn digit_run_end(&self, ptr: usize) -> usize
         requires { ptr ≤ length self.now.bytes.now }
-        ensures digits { Word self.now.bytes.now is_digit ptr result }
+        ensures digits { ByteRun self.now.bytes.now is_digit ptr result }
         ensures within { result ≤ length self.now.bytes.now }
     {
         let mut end = ptr;

@@ -8,7 +8,7 @@ use Rattle.fluent_syntax_tree.specs.Tree.{PatternTree, no_elements, elements, Va
 use Rattle.fluent_syntax_tree.specs.Entry.{MessageTree, EntryTree}
 use Rattle.fluent_syntax_tree.specs.declared.edition.Edition.{Edition}
 use Rattle.fluent_syntax_grammar.specs.Arguments.{is_used}
-use Rattle.fluent_syntax_grammar.specs.Placeables.{selector_fault, is_term_attribute}
+use Rattle.fluent_syntax_grammar.specs.Expressions.{selector_fault, is_term_attribute}
 use Rattle.fluent_syntax_grammar.specs.Elements.{is_nonblank, without_last_lf}
 use Rattle.fluent_syntax_grammar.specs.Layout.{least}
 use Rattle.fluent_syntax_grammar.specs.Written.{Text, has_lf, is_multiline, begins_with_mark}

@@ -12,7 +12,6 @@ ghost use Rattle.fluent_syntax_writer.specs.Uncanonical.{broken_rule, first_unca
 mod argument_names;
 mod arguments;
 mod broken_rules;
-mod check_options;
 mod comments;
 mod elements;
 mod entries;
@@ -28,12 +27,11 @@ pub mod texts;
 mod walk;
 
 pub use broken_rules::Uncanonical;
-use check_options::CheckOptions;
 use fluent_syntax_tree::ast::{Entry, Resource};
 use fluent_syntax_tree::edition::Edition;
 use fluent_syntax_tree::slice::Slice;
 use fluent_syntax_tree::texts::BySlice;
-use rule_set::RuleSet;
+use rule_set::{RuleCheck, RuleSet};
 pub use rules::Rule;
 use std::alloc::Global;
 use walk::body_obeys;
@@ -45,7 +43,7 @@ use walk::body_obeys;
 pub fn is_canonical<'s, S: Slice<'s>>(r: &Resource<S>, edition: Edition) -> bool
     ensures exact { result ≡ is_canonical edition (resource_view S.text r.now) }
 {
-    let canonical = CheckOptions {
+    let canonical = RuleCheck {
         rule_set: RuleSet::Canonical(edition),
         alloc: None,
     };
@@ -58,7 +56,7 @@ pub fn is_canonical<'s, S: Slice<'s>>(r: &Resource<S>, edition: Edition) -> bool
 pub fn is_readable<'s, S: Slice<'s>>(r: &Resource<S>, edition: Edition) -> bool
     ensures exact { result ≡ is_readable edition (resource_view S.text r.now) }
 {
-    let readable = CheckOptions {
+    let readable = RuleCheck {
         rule_set: RuleSet::Readable(edition),
         alloc: None,
     };

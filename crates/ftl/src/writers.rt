@@ -18,7 +18,7 @@ use std::alloc::{AllocError, Global};
 
 /// An empty text, with room for so many bytes where there is memory for it. Where there is none, the first write asks
 /// again.
-fn text_for(alloc: Global, room: usize) -> String
+fn string_with_room(alloc: Global, room: usize) -> String
     ensures { string_bytes result ≡ [] }
 {
     match String::with_capacity(alloc, room) {
@@ -42,7 +42,7 @@ impl NormalWriter {
         ensures { HasNormal edition [] result }
     {
         NormalWriter {
-            writer: EntryWriter::new(text_for(alloc, room), Options::default()),
+            writer: EntryWriter::new(string_with_room(alloc, room), Options::default()),
             edition,
             all_canonical: asks,
         }

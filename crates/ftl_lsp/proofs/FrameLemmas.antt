@@ -1,7 +1,7 @@
 -- Headers, and the length that they name.
 use Rattle.std.proofs.Common.{◌≡◌, ℕ, ◌+◌, ◌<◌, ◌≤◌, List, length, take, drop, Option}
 use Rattle.std.proofs.Common.{None, sym, ap, ◌∙◌, subst}
-use Rattle.ftl_lsp.specs.Breaks.{IsLineEnd}
+use Rattle.ftl_lsp.specs.HeaderEnds.{IsLineEnd}
 use Rattle.ftl_lsp.specs.Fields.{HasLength, NamesLength, number_of}
 use Rattle.ftl_lsp.specs.Fields.HasLength.{in_line, behind_line, nowhere}
 

@@ -5,7 +5,7 @@ use Rattle.std.proofs.lemmas.List.{take-append-drop, length-append, length-drop,
 use Rattle.std.proofs.lemmas.List.{take-append-le}
 use Rattle.std.proofs.Math.ListN.{get_or-append}
 use Rattle.std.specs.List.{slice_range}
-use Rattle.ftl_lsp.specs.Breaks.{Breaks, IsHeaderEnd, HeaderOf, NoHeader}
+use Rattle.ftl_lsp.specs.HeaderEnds.{IsCrlfAt, IsHeaderEnd, HeaderOf, NoHeader}
 use Rattle.ftl_lsp.specs.Fields.{HasLength}
 use Rattle.ftl_lsp.specs.Frames.{IsFrame, IsFraming}
 use Rattle.ftl_lsp.specs.Frames.IsFraming.{frame, partial_header, partial_body, long_header, no_length}
@@ -15,10 +15,10 @@ use Rattle.ftl_lsp.specs.declared.frames.Framing.TheVariants.{Frame, Partial}
 
 module _ (t more : List ℕ) where
   -- a line end within the text is one of the longer text
-  breaks_more : (k : ℕ) → k + 1 < length t → Breaks t k → Breaks (t ++ more) k
+  breaks_more : (k : ℕ) → k + 1 < length t → IsCrlfAt t k → IsCrlfAt (t ++ more) k
   breaks_more k h b = (get_or-append t more 0 k (omega arith) ∙ b.0, get_or-append t more 0 (k + 1) h ∙ b.1)
 
-  breaks_less : (k : ℕ) → k + 1 < length t → Breaks (t ++ more) k → Breaks t k
+  breaks_less : (k : ℕ) → k + 1 < length t → IsCrlfAt (t ++ more) k → IsCrlfAt t k
   breaks_less k h b =
       (sym (get_or-append t more 0 k (omega arith)) ∙ b.0, sym (get_or-append t more 0 (k + 1) h) ∙ b.1)
 

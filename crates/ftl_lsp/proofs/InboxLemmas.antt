@@ -4,7 +4,7 @@ use Rattle.std.proofs.Common.{subst, arith, append_assoc, codes}
 use Rattle.std.proofs.lemmas.List.{length-append}
 use Rattle.std.specs.Io.KnownBytes.{Keeps, prepend_known}
 use Rattle.std.specs.List.{slice_range}
-use Rattle.ftl_lsp.specs.Breaks.{HeaderOf}
+use Rattle.ftl_lsp.specs.HeaderEnds.{HeaderOf}
 use Rattle.ftl_lsp.specs.Frames.{IsFrame, IsFraming}
 use Rattle.ftl_lsp.specs.Inbox.{TakesFrame}
 use Rattle.ftl_lsp.specs.declared.frames.FrameFault.{FrameFault}

@@ -3,7 +3,7 @@ use Rattle.std.specs.Prelude.{◌≡◌, ℕ, ◌+◌, ◌-◌, ◌*◌, ◌<◌
 use Rattle.std.specs.Prelude.{drop, length, codes, Bool, Option, Some, None, if◌then◌else◌}
 use Rattle.std.specs.List.{list_all}
 use Rattle.std.specs.Char.{to_ascii_lowercase}
-use Rattle.ftl_lsp.specs.Breaks.{IsLineEnd}
+use Rattle.ftl_lsp.specs.HeaderEnds.{IsLineEnd}
 use Rattle.ftl_lsp.specs.declared.limits.TheConstants.{BODY_LIMIT}
 
 -- the line is the field `Content-Length`, in letters of either case

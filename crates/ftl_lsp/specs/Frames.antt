@@ -1,6 +1,6 @@
 -- Frames of the protocol.
 use Rattle.std.specs.Prelude.{◌≡◌, ℕ, ◌+◌, ◌<◌, ◌≤◌, List, ◌++◌, take, length, codes, Some, None}
-use Rattle.ftl_lsp.specs.Breaks.{IsHeaderEnd, HeaderOf, NoHeader}
+use Rattle.ftl_lsp.specs.HeaderEnds.{IsHeaderEnd, HeaderOf, NoHeader}
 use Rattle.ftl_lsp.specs.Fields.{HasLength}
 use Rattle.ftl_lsp.specs.declared.limits.TheConstants.{BODY_LIMIT, HEADER_LIMIT}
 use Rattle.ftl_lsp.specs.declared.frames.FrameFault.TheVariants.{LongHeader, NoLength, LongBody}

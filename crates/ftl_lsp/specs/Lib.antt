@@ -1,5 +1,5 @@
 pub mod Asking
-pub mod Breaks
+pub mod HeaderEnds
 pub mod Changes
 pub mod Diagnostics
 pub mod Edits

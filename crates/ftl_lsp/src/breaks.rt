@@ -1,13 +1,13 @@
 //! Line ends of a header, which are CRLF, and the empty line at its end.
 ghost use Rattle.std.specs.Prelude.{◌↔◌, ◌<◌, length, IsTrue, MatchOption};
-ghost use Rattle.ftl_lsp.specs.Breaks.{Breaks, HeaderOf, IsLineEnd, NoHeader};
+ghost use Rattle.ftl_lsp.specs.HeaderEnds.{IsCrlfAt, HeaderOf, IsLineEnd, NoHeader};
 
 use crate::limits::HEADER_LIMIT;
 
 /// Whether a CRLF stands at the place.
 fn is_break(bytes: &[u8], at: usize) -> bool
     requires { at < length bytes.now }
-    ensures { IsTrue result ↔ Breaks bytes.now at }
+    ensures { IsTrue result ↔ IsCrlfAt bytes.now at }
 {
     bytes[at] == b'\r' && at + 1 < bytes.len() && bytes[at + 1] == b'\n'
 }

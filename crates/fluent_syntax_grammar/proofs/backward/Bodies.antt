@@ -13,7 +13,7 @@ use Rattle.fluent_syntax_tree.specs.Entry.{junk, regular, group, resource, BodyT
 use Rattle.fluent_syntax_grammar.specs.Bytes.{cr}
 use Rattle.fluent_syntax_grammar.specs.Places.{has_byte}
 use Rattle.fluent_syntax_grammar.specs.Tiling.{Tile, entry, refused, dropped, Tiled, done, next, TileAt, reads, refuses}
-use Rattle.fluent_syntax_grammar.specs.Body.{faults, attached, attaches, alone, joined, body}
+use Rattle.fluent_syntax_grammar.specs.Body.{faults, attached, attached_entry, alone, or_attached, body}
 use Rattle.fluent_syntax_grammar.specs.Written.{Text}
 use Rattle.fluent_syntax_grammar.specs.Rules.{message_obeys, term_obeys, body_obeys}
 use Rattle.fluent_syntax_grammar.specs.Readable.{readable_rules}
@@ -23,7 +23,7 @@ use Rattle.fluent_syntax_grammar.specs.RoundTrip.{JoinedIsCanonical, tree_of}
 use Rattle.fluent_syntax_grammar.proofs.FurtherRules.{readable_further}
 use Rattle.fluent_syntax_grammar.proofs.Facts.{differs}
 use Rattle.fluent_syntax_grammar.proofs.Tests.{both}
-use Rattle.fluent_syntax_grammar.proofs.backward.Entries.{IsLines, IsMessage, IsTerm, IsEntry, ensures_entry}
+use Rattle.fluent_syntax_grammar.proofs.backward.Entries.{IsLines, IsMessage, IsTerm, IsNotJunk, ensures_entry}
 
 module _ (t : List ℕ) (Joins Junk : Type 0) where
   -- an entry of a body: one that was read, or junk where it is allowed
@@ -38,7 +38,7 @@ module _ (t : List ℕ) (Joins Junk : Type 0) where
   IsTile (refused f) = Junk
   IsTile dropped = Unit {0}
 
-  part_of : (e : EntryTree Span) → IsEntry t Joins e → IsPart e
+  part_of : (e : EntryTree Span) → IsNotJunk t Joins e → IsPart e
   part_of (message m) g = g
   part_of (term m) g = g
   part_of (comment level content) g = g
@@ -59,7 +59,7 @@ module _ (t : List ℕ) (Joins Junk : Type 0) where
   attached_if true content e l g = attached_part content e l g
   attached_if false content e l g = tt
 
-  attaches_part : (x y : Tile) → IsTile x → IsTile y → option_every IsPart (attaches x y)
+  attaches_part : (x y : Tile) → IsTile x → IsTile y → option_every IsPart (attached_entry x y)
   attaches_part (entry s (comment regular content)) (entry r e) g h = attached_if (s.end == r.start) content e g h
   attaches_part (entry s (comment regular content)) (refused f) g h = tt
   attaches_part (entry s (comment regular content)) dropped g h = tt
@@ -83,7 +83,7 @@ module _ (t : List ℕ) (Joins Junk : Type 0) where
 
   joined_part : (o : Option (EntryTree Span)) (first others after : List (EntryTree Span)) → option_every IsPart o →
       list_every IsPart first → list_every IsPart others → list_every IsPart after →
-      list_every IsPart (joined o first others after)
+      list_every IsPart (or_attached o first others after)
   joined_part None first others after g h k l = parts_append first others h k
   joined_part (Some e) first others after g h k l = (g, l)
 
@@ -91,7 +91,8 @@ module _ (t : List ℕ) (Joins Junk : Type 0) where
   body_part [] g = tt
   body_part (x ∷ []) (g, h) = alone_part x g
   body_part (x ∷ y ∷ tiles) (g, (h, k)) =
-      joined_part (attaches x y) (alone x) (body (y ∷ tiles)) (body tiles) (attaches_part x y g h) (alone_part x g)
+      joined_part (attached_entry x y) (alone x) (body (y ∷ tiles)) (body tiles) (attaches_part x y g h)
+      (alone_part x g)
       (body_part (y ∷ tiles) (h, k)) (body_part tiles k)
 
   -- ---- the tests

@@ -126,11 +126,11 @@ module _ (t : List ℕ) (Joins : Type 0) where
     pub attributes : IsAttributes m.attributes
     pub comment : IsComment m.comment
 
-  abbrev pub IsEntry : EntryTree Span → Type 0
-  IsEntry (message m) = IsMessage m
-  IsEntry (term m) = IsTerm m
-  IsEntry (comment level content) = IsLines t content
-  IsEntry (junk s) = ⊥
+  abbrev pub IsNotJunk : EntryTree Span → Type 0
+  IsNotJunk (message m) = IsMessage m
+  IsNotJunk (term m) = IsTerm m
+  IsNotJunk (comment level content) = IsLines t content
+  IsNotJunk (junk s) = ⊥
 
   value_of : (o : Option (PatternTree Span)) → option_every (IsPattern t Joins) o → IsValue o
   value_of None g = record { obeys = refl; same = λ none. refl }
@@ -185,7 +185,7 @@ module _ (t : List ℕ) (bare : HasNoBareCr t) (Joins : Type 0) (crs : (i : ℕ)
 
   ensures_message_with : (start : ℕ) (id : Span) (o : Option (PatternTree Span)) (rest : List (AttributeTree Span)) →
       IsName t id → option_every (IsPattern t Joins) o → IsAttributes t Joins rest →
-      Ensures (message_with t start id o rest) (IsEntry t Joins)
+      Ensures (message_with t start id o rest) (IsNotJunk t Joins)
   ensures_message_with start id None [] n g k = record { on_read = λ i j a x. elim x [ ] }
   ensures_message_with start id None (a ∷ rest) n g k =
       ensures_gives (record { name = n; field = refl; value = value_of t Joins None g; attributes = k; comment = refl })
@@ -195,19 +195,19 @@ module _ (t : List ℕ) (bare : HasNoBareCr t) (Joins : Type 0) (crs : (i : ℕ)
 
   ensures_term_with : (start : ℕ) (id : Span) (o : Option (PatternTree Span)) (rest : List (AttributeTree Span)) →
       IsName t id → option_every (IsPattern t Joins) o → IsAttributes t Joins rest →
-      Ensures (term_with t start id o rest) (IsEntry t Joins)
+      Ensures (term_with t start id o rest) (IsNotJunk t Joins)
   ensures_term_with start id None rest n g k = record { on_read = λ i j a x. elim x [ ] }
   ensures_term_with start id (Some p) rest n g k =
       ensures_gives (record { name = n; value = g; attributes = k; comment = refl })
 
-  ensures_message : Ensures (message_entry One t) (IsEntry t Joins)
+  ensures_message : Ensures (message_entry One t) (IsNotJunk t Joins)
   ensures_message =
       ensures_then (λ start.
       ensures_bind (ensures_name t Joins)
       (λ id n. ensures_then (λ u. ensures_then (λ u. ensures_bind ensures_pattern (λ o g. ensures_then (λ u.
       ensures_bind ensures_attributes (λ rest k. ensures_message_with start id o rest n g k)))))))
 
-  ensures_term : Ensures (term_entry One t) (IsEntry t Joins)
+  ensures_term : Ensures (term_entry One t) (IsNotJunk t Joins)
   ensures_term =
       ensures_then (λ start.
       ensures_then (λ u.
@@ -215,17 +215,17 @@ module _ (t : List ℕ) (bare : HasNoBareCr t) (Joins : Type 0) (crs : (i : ℕ)
       (λ id n. ensures_then (λ u. ensures_then (λ u. ensures_bind ensures_pattern (λ o g. ensures_then (λ u.
       ensures_bind ensures_attributes (λ rest k. ensures_term_with start id o rest n g k))))))))
 
-  ensures_comment : Ensures (comment_entry t) (IsEntry t Joins)
+  ensures_comment : Ensures (comment_entry t) (IsNotJunk t Joins)
   ensures_comment =
       ensures_at_each
       (λ level. ensures_bind (ensures_line t level)
       (λ c g. ensures_bind {Mid = IsLines t} (record { on_read = lines_read t level })
       (λ rest k. ensures_gives (lines_append t c rest g k))))
 
-  ensures_entry_of : (o : Option ℕ) → Ensures (entry_of One t (family One t) o) (IsEntry t Joins)
+  ensures_entry_of : (o : Option ℕ) → Ensures (entry_of One t (family One t) o) (IsNotJunk t Joins)
   ensures_entry_of None = ensures_message
   ensures_entry_of (Some b) =
       ensures_either (λ e. ensures_comment) (λ e. ensures_either (λ e. ensures_term) (λ e. ensures_message))
 
-  pub ensures_entry : Ensures (entry_at One t) (IsEntry t Joins)
+  pub ensures_entry : Ensures (entry_at One t) (IsNotJunk t Joins)
   ensures_entry = ensures_at_each ensures_entry_of

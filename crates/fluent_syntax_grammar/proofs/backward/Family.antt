@@ -13,7 +13,7 @@ use Rattle.fluent_syntax_tree.specs.Tree.{variant, variants_map}
 use Rattle.fluent_syntax_grammar.specs.Bytes.{lf, cr, is_space}
 use Rattle.fluent_syntax_grammar.specs.Places.{holds, has, has_byte, has_eol, after_eol, InlineBlank}
 use Rattle.fluent_syntax_grammar.specs.Places.{BlankBlock, no_line, line}
-use Rattle.fluent_syntax_grammar.specs.Construct.{Read, ◌>>=◌, goes_on, gives, given, at_place, passed, chosen, first}
+use Rattle.fluent_syntax_grammar.specs.Construct.{Read, ◌>>=◌, goes_on, yields, given, at_place, passed, chosen, first}
 use Rattle.fluent_syntax_grammar.specs.Construct.{second, More, no_item, item, many, list_ends, item_and_more}
 use Rattle.fluent_syntax_grammar.specs.Tokens.{number}
 use Rattle.fluent_syntax_grammar.specs.Family.{Family}
@@ -23,7 +23,7 @@ use Rattle.fluent_syntax_grammar.specs.Lines as lines
 use Rattle.fluent_syntax_grammar.specs.Lines.{is_run_place, belongs, ending_of, ending, next_piece_at, next_piece}
 use Rattle.fluent_syntax_grammar.specs.Lines.{next_line}
 use Rattle.fluent_syntax_grammar.specs.Lines.{no_byte, other_line, own_line}
-use Rattle.fluent_syntax_grammar.specs.Placeables.{selector_fault, variants_of_select, select_with, expression}
+use Rattle.fluent_syntax_grammar.specs.Expressions.{selector_fault, variants_of_select, select_with, expression}
 use Rattle.fluent_syntax_grammar.specs.Patterns.{layout_at, layout, pattern}
 use Rattle.fluent_syntax_grammar.specs.Variants.{variant_key, only_star, variants_end, variant_of, variant_after}
 use Rattle.fluent_syntax_grammar.specs.Variants.{next_variant, more_variants}
@@ -36,7 +36,7 @@ use Rattle.fluent_syntax_grammar.specs.RoundTrip.{HasNoBareCr}
 use Rattle.fluent_syntax_grammar.proofs.Holds.{gave}
 use Rattle.fluent_syntax_grammar.proofs.Cuts.{eol_cases}
 use Rattle.fluent_syntax_grammar.proofs.Functional.{single_stretch}
-use Rattle.fluent_syntax_grammar.proofs.Facts.{byte_holds, differs, two_on_as_one, one_on_as_two}
+use Rattle.fluent_syntax_grammar.proofs.Facts.{byte_holds, differs, two_on_as_one, not_next}
 use Rattle.fluent_syntax_grammar.proofs.Facts.{stretch_onward}
 use Rattle.fluent_syntax_grammar.proofs.Tests.{both}
 use Rattle.fluent_syntax_grammar.proofs.backward.Shapes.{Kept, kept_cut, shape_cut, tree, Well, items_well, items_same}
@@ -124,14 +124,14 @@ module _ (t : List ℕ) where
   block_stop i j (line {m = m} w e b) = block_stop m j b
 
 module _ (t : List ℕ) (Joins : Type 0) where
-  by_test : (i k j : ℕ) (test : Bool) → (k == i + 1) ≡ test → after_eol t i ≡ Some k → k ≡ j →
+  good_ending_if : (i k j : ℕ) (test : Bool) → (k == i + 1) ≡ test → after_eol t i ≡ Some k → k ≡ j →
       EndingAt t Joins i (if test then lf_at i else crlf_at i) j
-  by_test i k j true f e s = elim (eol_cases t i k e) [
+  good_ending_if i k j true f e s = elim (eol_cases t i k e) [
     | inl x ↦ subst (EndingAt t Joins i (lf_at i)) (sym x.1 ∙ s) (lf_ends x.0)
     | inr x ↦ absurd (two_on_as_one i k x.2 f)
   ]
-  by_test i k j false f e s = elim (eol_cases t i k e) [
-    | inl x ↦ absurd (one_on_as_two i k x.1 f)
+  good_ending_if i k j false f e s = elim (eol_cases t i k e) [
+    | inl x ↦ absurd (not_next i k x.1 f)
     | inr x ↦ subst (EndingAt t Joins i (crlf_at i)) (sym x.2 ∙ s) (crlf_ends x.0 x.1)
   ]
 
@@ -144,7 +144,7 @@ module _ (t : List ℕ) (Joins : Type 0) where
   ending_at i j x None n e given = text_ends (end_none i n e)
   ending_at i j x (Some k) n e (goes_on {j = m} (passed w) y) =
       let value = gave (if k == i + 1 then lf_at i else crlf_at i) x m j y in
-      subst (λ x. EndingAt t Joins i x j) value.0 (by_test i k j (k == i + 1) refl e (sym w.there ∙ value.1))
+      subst (λ x. EndingAt t Joins i x j) value.0 (good_ending_if i k j (k == i + 1) refl e (sym w.there ∙ value.1))
 
   pub ending_was : (i j : ℕ) (x : Ending) → IsEnd t i → ending t i (Read x j) → EndingAt t Joins i x j
   ending_was i j x n (goes_on at_place (chosen y)) = ending_at i j x (after_eol t i) n refl y
@@ -267,7 +267,7 @@ module _ (t : List ℕ) (bare : HasNoBareCr t) (Joins : Type 0) (crs : (i : ℕ)
 
   -- ---- variants
 
-  number_key_was : (i j : ℕ) (k : KeyTree Span) → (number t >>= λ v. gives (number_key v)) i (Read k j) →
+  number_key_was : (i j : ℕ) (k : KeyTree Span) → (number t >>= λ v. yields (number_key v)) i (Read k j) →
       IsKey t Joins k
   number_key_was i j k (goes_on {j = m} {a = v} x given) = (number_was t i m v x).number
 

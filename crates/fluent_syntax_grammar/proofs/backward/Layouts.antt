@@ -6,7 +6,7 @@ use Rattle.std.specs.List.{list_all, flat_map}
 use Rattle.fluent_syntax_tree.specs.declared.edition.Edition.TheVariants.{One}
 use Rattle.fluent_syntax_grammar.specs.PatternTexts.{is_empty, after_spaces, begins_with_space}
 use Rattle.fluent_syntax_grammar.specs.Bytes.{lf, cr, is_space}
-use Rattle.fluent_syntax_grammar.specs.Places.{holds, Stretch, has, has_byte, has_eol, InlineBlank}
+use Rattle.fluent_syntax_grammar.specs.Places.{holds, LongestRun, has, has_byte, has_eol, InlineBlank}
 use Rattle.fluent_syntax_grammar.specs.Layout.{Piece, run, placed, Ending, lf_at, crlf_at, text_end, Line, Layout}
 use Rattle.fluent_syntax_grammar.specs.Layout.{common_indent}
 use Rattle.fluent_syntax_grammar.specs.Lines.{is_run_place, belongs}
@@ -132,14 +132,14 @@ module _ (t : List ℕ) (bare : HasNoBareCr t) where
   shown_some (x ∷ u) e = refl
 
   kept_plain : (kept first to : ℕ) → ((k : ℕ) → kept ≤ k → k < first → has t is_space k ≡ true) →
-      Stretch (is_run_place t) first to → (k : ℕ) → kept ≤ k → k < to → has t is_plain k ≡ true
+      LongestRun (is_run_place t) first to → (k : ℕ) → kept ≤ k → k < to → has t is_plain k ≡ true
   kept_plain kept first to e w k l n = elim (lt_or_le k first) [
     | inl x ↦ implies is_space is_plain (slice_get t k) space_plain (e k l x)
     | inr x ↦ run_plain k (w.each k x n)
   ]
 
   line_text : (kept first to b : ℕ) → kept ≤ first → first < to →
-      ((k : ℕ) → kept ≤ k → k < first → has t is_space k ≡ true) → Stretch (is_run_place t) first to →
+      ((k : ℕ) → kept ≤ k → k < first → has t is_space k ≡ true) → LongestRun (is_run_place t) first to →
       slice_get t first ≡ Some b → is_space b ≡ false → LineText kept first to b
   line_text kept first to b l n e w f g =
       let s : kept + (first - kept) ≡ first = omega arith in
@@ -172,15 +172,16 @@ module _ (t : List ℕ) (bare : HasNoBareCr t) (Joins : Type 0) (crs : (i : ℕ)
       subst (λ rest. Shape t Joins m s (text kept to ∷ rest)) (sym a)
       (more (runs (slice_range t kept to) refl p n b) done)
 
-  no_run_after : (i to j : ℕ) (ps : List Piece) → is_run_place t i ≡ false → i < to → Stretch (is_run_place t) i to → ⊥
+  no_run_after : (i to j : ℕ) (ps : List Piece) → is_run_place t i ≡ false → i < to → LongestRun (is_run_place t) i to
+      → ⊥
   no_run_after i to j ps e l w = differs (w.each i (omega arith) l) e
 
-  run_some : (i to : ℕ) → i < to → Stretch (is_run_place t) i to → is_empty (slice_range t i to) ≡ false
+  run_some : (i to : ℕ) → i < to → LongestRun (is_run_place t) i to → is_empty (slice_range t i to) ≡ false
   run_some i to l w =
       let b = byte_found is_plain (slice_get t i) (run_plain t bare i (w.each i (omega arith) l)) in
       ap is_empty (range_first t i to b.0 l b.1)
 
-  run_all : (i to : ℕ) → i < to → Stretch (is_run_place t) i to → list_all is_plain (slice_range t i to) ≡ true
+  run_all : (i to : ℕ) → i < to → LongestRun (is_run_place t) i to → list_all is_plain (slice_range t i to) ≡ true
   run_all i to l w = range_all t is_plain i to (omega arith) (λ k x y. run_plain t bare k (w.each k x y))
 
   -- after a placeable
@@ -224,7 +225,7 @@ module _ (t : List ℕ) (bare : HasNoBareCr t) (Joins : Type 0) (crs : (i : ℕ)
     pub stands : slice_get t first ≡ Some byte
     pub shown : is_space byte ≡ false
 
-  pub run_text : (kept first byte to : ℕ) → HeadAt kept first byte → first < to → Stretch (is_run_place t) first to →
+  pub run_text : (kept first byte to : ℕ) → HeadAt kept first byte → first < to → LongestRun (is_run_place t) first to →
       LineText t bare kept first to byte
   run_text kept first byte to h l w = line_text t bare kept first to byte h.on l h.leading w h.stands h.shown
 

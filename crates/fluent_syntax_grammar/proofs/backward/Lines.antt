@@ -7,7 +7,7 @@ use Rattle.std.proofs.lemmas.Option.{slice_get_within, slice_get-get_or}
 use Rattle.fluent_syntax_tree.specs.declared.spans.Span.{Span}
 use Rattle.fluent_syntax_tree.specs.Tree.{ExpressionTree}
 use Rattle.fluent_syntax_grammar.specs.Bytes.{lf, cr, is_space}
-use Rattle.fluent_syntax_grammar.specs.Places.{Stretch, has, has_byte, has_eol, InlineBlank}
+use Rattle.fluent_syntax_grammar.specs.Places.{LongestRun, has, has_byte, has_eol, InlineBlank}
 use Rattle.fluent_syntax_grammar.specs.Layout.{Piece, run, placed, Ending, lf_at, crlf_at, text_end, Line, Layout}
 use Rattle.fluent_syntax_grammar.specs.Lines.{is_run_place, belongs}
 use Rattle.fluent_syntax_grammar.proofs.Facts.{byte_found, equal, has_inside}
@@ -98,7 +98,7 @@ module _ (t : List ℕ) (Joins : Type 0) where
   -- the rest of a line, from its first piece to where its ending begins
   pub data PiecesAt : ℕ → List Piece → ℕ → Type 0 where
     no_piece : {i : ℕ} → IsEnd t i → PiecesAt i [] i
-    a_run : {i to j : ℕ} {ps : List Piece} → i < to → Stretch (is_run_place t) i to → PiecesAt to ps j →
+    a_run : {i to j : ℕ} {ps : List Piece} → i < to → LongestRun (is_run_place t) i to → PiecesAt to ps j →
         PiecesAt i (run i to ∷ ps) j
     a_placeable : {i m j : ℕ} {e : ExpressionTree Span} {ps : List Piece} → IsRead t Joins e → PiecesAt m ps j →
         PiecesAt i (placed e ∷ ps) j

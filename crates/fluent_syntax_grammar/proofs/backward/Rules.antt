@@ -14,8 +14,8 @@ use Rattle.fluent_syntax_tree.specs.Tree.{nameds_map, PatternTree, pattern_map, 
 use Rattle.fluent_syntax_tree.specs.Tree.{option_texts, no_inlines, no_named}
 use Rattle.fluent_syntax_grammar.specs.Bytes.{is_digit, is_letter}
 use Rattle.fluent_syntax_grammar.specs.Places.{holds, has}
-use Rattle.fluent_syntax_grammar.specs.Construct.{Read, Construct, ◌>>=◌, goes_on, gives, given, fails, at_each, chosen}
-use Rattle.fluent_syntax_grammar.specs.Construct.{either, first, second, More, no_item, item, many, list_ends}
+use Rattle.fluent_syntax_grammar.specs.Construct.{Read, Construct, ◌>>=◌, goes_on, yields, given, fails, peek, chosen}
+use Rattle.fluent_syntax_grammar.specs.Construct.{branch_on, first, second, More, no_item, item, many, list_ends}
 use Rattle.fluent_syntax_grammar.specs.Construct.{item_and_more}
 use Rattle.fluent_syntax_grammar.specs.Tokens.{identifier, number}
 use Rattle.fluent_syntax_grammar.specs.Strings as strings
@@ -27,7 +27,7 @@ use Rattle.fluent_syntax_grammar.specs.Arguments.{call_arguments}
 use Rattle.fluent_syntax_grammar.specs.Arguments.{argument_value, named_rest, positional_rest, argument_name}
 use Rattle.fluent_syntax_grammar.specs.Arguments.{argument_rest, next_argument_at, next_argument, more_arguments}
 use Rattle.fluent_syntax_grammar.specs.Arguments.{is_used}
-use Rattle.fluent_syntax_grammar.specs.Placeables.{selector_fault, is_term_attribute, placeable}
+use Rattle.fluent_syntax_grammar.specs.Expressions.{selector_fault, is_term_attribute, placeable}
 use Rattle.fluent_syntax_grammar.specs.Inline.{named_reference, inline_of, inline_expression, is_callee_byte}
 use Rattle.fluent_syntax_grammar.specs.Written.{Text}
 use Rattle.fluent_syntax_grammar.specs.Spellings.{is_name}
@@ -60,10 +60,10 @@ pub ensures_then : {A B : Type 0} {Good : B → Type 0} {c : Construct A} {f : A
     ((a : A) → Ensures (f a) Good) → Ensures (c >>= f) Good
 ensures_then g = ensures_bind {Mid = λ a. Unit {0}} (record { on_read = λ i j a x. tt }) (λ a u. g a)
 
-gives_read : {A : Type 0} (Good : A → Type 0) (a b : A) (i j : ℕ) → Good a → gives a i (Read b j) → Good b
+gives_read : {A : Type 0} (Good : A → Type 0) (a b : A) (i j : ℕ) → Good a → yields a i (Read b j) → Good b
 gives_read Good a b i j g given = g
 
-pub ensures_gives : {A : Type 0} {Good : A → Type 0} {a : A} → Good a → Ensures (gives a) Good
+pub ensures_gives : {A : Type 0} {Good : A → Type 0} {a : A} → Good a → Ensures (yields a) Good
 ensures_gives {Good = Good} {a = a} g = record { on_read = λ i j b x. gives_read Good a b i j g x }
 
 fails_read : {A : Type 0} (X : Type 0) (k : Kind) (i j : ℕ) (a : A) → fails k i (Read a j) → X
@@ -73,20 +73,20 @@ pub ensures_fails : {A : Type 0} {Good : A → Type 0} {k : Kind} → Ensures (f
 ensures_fails {Good = Good} {k = k} = record { on_read = λ i j a x. fails_read (Good a) k i j a x }
 
 at_each_read : {A B : Type 0} (Good : B → Type 0) (look : ℕ → A) (part : A → Construct B) →
-    ((a : A) → Ensures (part a) Good) → (i j : ℕ) (b : B) → at_each look part i (Read b j) → Good b
+    ((a : A) → Ensures (part a) Good) → (i j : ℕ) (b : B) → peek look part i (Read b j) → Good b
 at_each_read Good look part g i j b (chosen x) = (g (look i)).on_read i j b x
 
 pub ensures_at_each : {A B : Type 0} {Good : B → Type 0} {look : ℕ → A} {part : A → Construct B} →
-    ((a : A) → Ensures (part a) Good) → Ensures (at_each look part) Good
+    ((a : A) → Ensures (part a) Good) → Ensures (peek look part) Good
 ensures_at_each {Good = Good} {look = look} {part = part} g = record { on_read = at_each_read Good look part g }
 
 either_read : {A : Type 0} (Good : A → Type 0) (test : Bool) (c d : Construct A) → (test ≡ true → Ensures c Good) →
-    (test ≡ false → Ensures d Good) → (i j : ℕ) (a : A) → either test c d i (Read a j) → Good a
+    (test ≡ false → Ensures d Good) → (i j : ℕ) (a : A) → branch_on test c d i (Read a j) → Good a
 either_read Good test c d g h i j a (first e x) = (g e).on_read i j a x
 either_read Good test c d g h i j a (second e x) = (h e).on_read i j a x
 
 pub ensures_either : {A : Type 0} {Good : A → Type 0} {test : Bool} {c d : Construct A} →
-    (test ≡ true → Ensures c Good) → (test ≡ false → Ensures d Good) → Ensures (either test c d) Good
+    (test ≡ true → Ensures c Good) → (test ≡ false → Ensures d Good) → Ensures (branch_on test c d) Good
 ensures_either {Good = Good} {test = test} {c = c} {d = d} g h = record { on_read = either_read Good test c d g h }
 
 module _ {A S B : Type 0} (next : S → Construct (More A S)) (add : A → B → B) (none : B) (Good : S → B → Type 0) where
@@ -268,14 +268,14 @@ module _ (t : List ℕ) (Joins : Type 0) (R : Family) (h : IsFineFamily t Joins 
 
   -- ---- inline expressions
 
-  number_read : (i j : ℕ) (a : InlineTree Span) → (number t >>= λ v. gives (number_literal v)) i (Read a j) →
+  number_read : (i j : ℕ) (a : InlineTree Span) → (number t >>= λ v. yields (number_literal v)) i (Read a j) →
       IsInline t Joins a ×
       (has t is_digit i ≡ true → is_argument_value (joined_inline (inline_map (bytes_at t) a)) ≡ true)
   number_read i j a (goes_on {j = m} {a = v} x given) = let n = number_was t i m v x in
       (record { obeys = n.number; same = λ none. refl }, n.unsigned)
 
   string_read : (i j : ℕ) (a : InlineTree Span) →
-      (strings.string_literal t >>= λ v. gives (string_literal v)) i (Read a j) → IsInline t Joins a ×
+      (strings.string_literal t >>= λ v. yields (string_literal v)) i (Read a j) → IsInline t Joins a ×
       (is_argument_value (joined_inline (inline_map (bytes_at t) a)) ≡ true)
   string_read i j a (goes_on {j = m} {a = v} x given) =
       (record { obeys = string_was t i m v x; same = λ none. refl }, refl)
@@ -327,7 +327,7 @@ module _ (t : List ℕ) (Joins : Type 0) (R : Family) (h : IsFineFamily t Joins 
   value_read brace i j e s x = elim x [ ]
   value_read other i j e s x = elim x [ ]
 
-  value_at : (i j : ℕ) (e : InlineTree Span) → at_each (start t) (argument_value t R) i (Read e j) → IsValue t Joins e
+  value_at : (i j : ℕ) (e : InlineTree Span) → peek (start t) (argument_value t R) i (Read e j) → IsValue t Joins e
   value_at i j e (chosen x) = value_read (start t i) i j e refl x
 
   add_named_fine : (names : List Text) (name : Span) (e : InlineTree Span) (a : ArgumentsTree Span) → IsName t name →

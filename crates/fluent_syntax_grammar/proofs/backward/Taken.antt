@@ -6,7 +6,7 @@ use Rattle.std.specs.List.{list_all}
 use Rattle.fluent_syntax_tree.specs.Spans.{bytes_at}
 use Rattle.fluent_syntax_tree.specs.declared.spans.Span.{Span}
 use Rattle.fluent_syntax_grammar.specs.Bytes.{is_letter, is_name_byte}
-use Rattle.fluent_syntax_grammar.specs.Places.{holds, has, Word}
+use Rattle.fluent_syntax_grammar.specs.Places.{holds, has, ByteRun}
 use Rattle.fluent_syntax_grammar.specs.Construct.{Read, goes_on, given, at_place, passed, chosen, first as first_of}
 use Rattle.fluent_syntax_grammar.specs.Construct.{second}
 use Rattle.fluent_syntax_grammar.specs.Tokens.{identifier}
@@ -29,7 +29,7 @@ taken_all set (suc n) (b ∷ bs) i l e =
     (taken_all set n bs (i + 1) (left_next l) (λ k a c. e k (omega arith) (omega arith)))
 
 -- the bytes of a word
-word_bytes : (t : List ℕ) (set : ℕ → Bool) (i j : ℕ) → i ≤ length t → Word t set i j →
+word_bytes : (t : List ℕ) (set : ℕ → Bool) (i j : ℕ) → i ≤ length t → ByteRun t set i j →
     list_all set (slice_range t i j) ≡ true
 word_bytes t set i j l w = let f = w.forward in
     taken_all set (j - i) (drop i t) i (left_at t i l) (λ k a c. w.each k a (omega arith))
@@ -40,7 +40,7 @@ named_bytes [] n e f = absurd cc
 named_bytes (b ∷ bs) n e f = both e (right_true (is_name_byte b) (list_all is_name_byte (take n bs)) f)
 
 module _ (t : List ℕ) where
-  forward_one : (i j : ℕ) → i ≤ j → has t is_name_byte i ≡ true → Word t is_name_byte i j → i < j
+  forward_one : (i j : ℕ) → i ≤ j → has t is_name_byte i ≡ true → ByteRun t is_name_byte i j → i < j
   forward_one i j l e w = grind (arith, w.longest)
 
   -- a name that was read is a name

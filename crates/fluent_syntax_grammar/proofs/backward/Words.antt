@@ -6,9 +6,10 @@ use Rattle.std.specs.Char.{is_ascii_hexdigit}
 use Rattle.fluent_syntax_tree.specs.Spans.{bytes_at}
 use Rattle.fluent_syntax_tree.specs.declared.spans.Span.{Span}
 use Rattle.fluent_syntax_grammar.specs.Bytes.{lf, is_letter, is_digit}
-use Rattle.fluent_syntax_grammar.specs.Places.{holds, has, has_byte, Word}
-use Rattle.fluent_syntax_grammar.specs.Construct.{Read, goes_on, given, at_place, passed, chosen, first, second, either}
-use Rattle.fluent_syntax_grammar.specs.Construct.{gives}
+use Rattle.fluent_syntax_grammar.specs.Places.{holds, has, has_byte, ByteRun}
+use Rattle.fluent_syntax_grammar.specs.Construct.{Read, goes_on, given, at_place, passed, chosen, first, second}
+use Rattle.fluent_syntax_grammar.specs.Construct.{branch_on}
+use Rattle.fluent_syntax_grammar.specs.Construct.{yields}
 use Rattle.fluent_syntax_grammar.specs.Tokens.{optional, digits, identifier, number}
 use Rattle.fluent_syntax_grammar.specs.Strings.{hex_digits, all_there, escaped, string_unit, string_units, before_quote}
 use Rattle.fluent_syntax_grammar.specs.Strings.{unit_and_more, string_literal}
@@ -36,15 +37,15 @@ module _ (t : List ℕ) where
   -- what may follow digits: nothing, or a point and digits
   pub data FractionAt : ℕ → ℕ → Type 0 where
     no_fraction : {i : ℕ} → FractionAt i i
-    point : {i j : ℕ} → has_byte t 46 i ≡ true → has t is_digit (i + 1) ≡ true → Word t is_digit (i + 1) j →
+    point : {i j : ℕ} → has_byte t 46 i ≡ true → has t is_digit (i + 1) ≡ true → ByteRun t is_digit (i + 1) j →
         FractionAt i j
 
-  on_digit : (i j : ℕ) → has t is_digit i ≡ true → Word t is_digit i j → i < j
+  on_digit : (i j : ℕ) → has t is_digit i ≡ true → ByteRun t is_digit i j → i < j
   on_digit i j e w =
       elim (lt_or_same i j w.forward)
       [ inl l ↦ l | inr same ↦ differs (subst (λ k. has t is_digit k ≡ true) same e) w.longest ]
 
-  digits_range : (i j : ℕ) → has t is_digit i ≡ true → Word t is_digit i j → is_digits (slice_range t i j) ≡ true
+  digits_range : (i j : ℕ) → has t is_digit i ≡ true → ByteRun t is_digit i j → is_digits (slice_range t i j) ≡ true
   digits_range i j e w =
       let l = on_digit i j e w in
       let b = byte_found is_digit (slice_get t i) e in
@@ -71,7 +72,7 @@ module _ (t : List ℕ) where
       (or_left (is_digit b.0 && is_number_rest (slice_range t (i + 1) j)) _ (both b.2 r))
 
   -- digits, and what follows them
-  unsigned_range : (i k j : ℕ) → has t is_digit i ≡ true → Word t is_digit i k → FractionAt k j →
+  unsigned_range : (i k j : ℕ) → has t is_digit i ≡ true → ByteRun t is_digit i k → FractionAt k j →
       is_unsigned (slice_range t i j) ≡ true
   unsigned_range i k j e w f =
       let l = on_digit i k e w in
@@ -90,13 +91,13 @@ module _ (t : List ℕ) where
     pub number : is_number (bytes_at t s) ≡ true
     pub unsigned : has t is_digit i ≡ true → is_unsigned (bytes_at t s) ≡ true
 
-  point_at : (k p j : ℕ) → has_byte t 46 k ≡ true → p ≡ k + 1 → has t is_digit p ≡ true → Word t is_digit p j →
+  point_at : (k p j : ℕ) → has_byte t 46 k ≡ true → p ≡ k + 1 → has t is_digit p ≡ true → ByteRun t is_digit p j →
       FractionAt k j
-  point_at k p j e s f w = point e (subst (λ p. has t is_digit p ≡ true) s f) (subst (λ p. Word t is_digit p j) s w)
+  point_at k p j e s f w = point e (subst (λ p. has t is_digit p ≡ true) s f) (subst (λ p. ByteRun t is_digit p j) s w)
 
   -- the end of a number, after its digits
   fraction_of : (k p j : ℕ) (found : Bool) (u : Unit {0}) → optional t 46 k (Read found p) →
-      either found (digits t) (gives tt) p (Read u j) → FractionAt k j
+      branch_on found (digits t) (yields tt) p (Read u j) → FractionAt k j
   fraction_of k p j found u (chosen (first e (goes_on (passed o) given))) (first g (chosen (first f (passed w)))) =
       point_at k p j e o.by f w
   fraction_of k p j found u (chosen (first e (goes_on (passed o) given))) (first g (chosen (second f x))) = elim x [ ]
@@ -107,7 +108,7 @@ module _ (t : List ℕ) where
   minus_digit : (i : ℕ) → has_byte t 45 i ≡ true → has t is_digit i ≡ true → ⊥
   minus_digit i e f = let g : has t is_digit i ≡ false = ap (holds is_digit) (byte_at t 45 i e) in cc
 
-  after_minus : (i m k j : ℕ) → has_byte t 45 i ≡ true → m ≡ i + 1 → has t is_digit m ≡ true → Word t is_digit m k →
+  after_minus : (i m k j : ℕ) → has_byte t 45 i ≡ true → m ≡ i + 1 → has t is_digit m ≡ true → ByteRun t is_digit m k →
       FractionAt k j → IsNumber i (record { start = i; end = j })
   after_minus i m k j e s f w x =
       let l = on_digit m k f w in
@@ -122,7 +123,7 @@ module _ (t : List ℕ) where
         unsigned = λ d. absurd (minus_digit i e d);
       }
 
-  no_minus : (i k j : ℕ) → has t is_digit i ≡ true → Word t is_digit i k → FractionAt k j →
+  no_minus : (i k j : ℕ) → has t is_digit i ≡ true → ByteRun t is_digit i k → FractionAt k j →
       IsNumber i (record { start = i; end = j })
   no_minus i k j f w x = let v = unsigned_range i k j f w x in
       record { number = unsigned_number (slice_range t i j) v; unsigned = λ d. v }

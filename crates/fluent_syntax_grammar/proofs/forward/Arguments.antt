@@ -15,7 +15,7 @@ use Rattle.fluent_syntax_tree.specs.declared.edition.Edition.{Edition}
 use Rattle.fluent_syntax_grammar.specs.Bytes.{lf, cr, is_name_byte, is_letter, is_digit}
 use Rattle.fluent_syntax_grammar.specs.Places.{holds, has_byte}
 use Rattle.fluent_syntax_grammar.specs.Starts.{start, quote, digit, letter}
-use Rattle.fluent_syntax_grammar.specs.Construct.{◌>>=◌, gives, at_each, More, item}
+use Rattle.fluent_syntax_grammar.specs.Construct.{◌>>=◌, yields, peek, More, item}
 use Rattle.fluent_syntax_grammar.specs.Tokens.{blank}
 use Rattle.fluent_syntax_grammar.specs.Written.{Text}
 use Rattle.fluent_syntax_grammar.specs.Spellings.{is_name, is_number, is_number_rest, is_unsigned}
@@ -261,7 +261,7 @@ module _ (edition : Edition) (t : List ℕ) where
   -- the rest of a list, at an argument's first byte
   at_argument : (names : List Text) (i : ℕ) (bs : List ℕ) (a : More Said (List Text)) (left : List ℕ) → Begins bs →
       Left t i bs →
-      Reads t (grammar.inline_expression edition t >>= λ e. at_each (has_byte t 58) gives >>= λ colon.
+      Reads t (grammar.inline_expression edition t >>= λ e. peek (has_byte t 58) yields >>= λ colon.
       argument_rest t (family edition t) names e (argument_name e) colon) (more_map (said t) (λ ns. ns)) i a
       left →
       ReadsNext names i a left
@@ -327,7 +327,7 @@ module _ (edition : Edition) (t : List ℕ) where
       inline_obeys (canonical_rules edition) e ≡ true → is_argument_value e ≡ true →
       Left t i (inline_bytes level e tail) →
       Reads t (grammar.inline_expression edition t) (inline_map (bytes_at t)) i e left →
-      Reads t (at_each (start t) (argument_value t (family edition t))) (inline_map (bytes_at t)) i e left
+      Reads t (peek (start t) (argument_value t (family edition t))) (inline_map (bytes_at t)) i e left
   value_at level (string_literal v) i tail left h a l r = reads_at_each quote (starts_with quote refl l) r
   value_at level (number_literal []) i tail left h a l r = absurd cc
   value_at level (number_literal (b ∷ bs)) i tail left h a l r =

@@ -19,7 +19,7 @@ use Rattle.fluent_syntax_grammar.specs.Comments.{comment_entry}
 use Rattle.fluent_syntax_grammar.specs.Tiling.{Tile, entry, refused, dropped, is_entry_byte, Tiled, done, next}
 use Rattle.fluent_syntax_grammar.specs.Tiling.{entry_of, entry_at, TileAt, reads, refuses}
 use Rattle.fluent_syntax_grammar.specs.Body.{body, attached}
-use Rattle.fluent_syntax_grammar.specs.Written.{Text, hashes_of, is_shown}
+use Rattle.fluent_syntax_grammar.specs.Written.{Text, hashes_of, is_nonblank_line}
 use Rattle.fluent_syntax_grammar.specs.Spellings.{is_name}
 use Rattle.fluent_syntax_grammar.specs.Rules.{option_obeys, pattern_obeys, attribute_obeys, entry_obeys, body_obeys}
 use Rattle.fluent_syntax_grammar.specs.Readable.{has_field, are_lines}
@@ -287,8 +287,9 @@ module _ (edition : Edition) (t : List ℕ) where
   field_back (Some []) e es b bs rest o h is n r k = absurd cc
   field_back (Some (x ∷ xs)) e es b bs rest o h is n r k =
       begins_there (with_comment (x ∷ xs) e ∷ es) (comment_bytes (35 ∷ []) (x ∷ xs) (b ∷ bs))
-      (begins 35 (after_hashes (is_shown x) x (comment_bytes (35 ∷ []) xs (b ∷ bs))) refl)
-      (λ j l. tiles_attached (x ∷ xs) e es j 35 (after_hashes (is_shown x) x (comment_bytes (35 ∷ []) xs (b ∷ bs))) b bs
+      (begins 35 (after_hashes (is_nonblank_line x) x (comment_bytes (35 ∷ []) xs (b ∷ bs))) refl)
+      (λ j l. tiles_attached (x ∷ xs) e es j 35 (after_hashes (is_nonblank_line x) x
+      (comment_bytes (35 ∷ []) xs (b ∷ bs))) b bs
       rest h refl l is
       (comment_back t regular (x ∷ xs) j (b ∷ bs) (right_true (are_lines (x ∷ xs)) _ o)
       (left_true (are_lines (x ∷ xs)) _ o) n l) r k)

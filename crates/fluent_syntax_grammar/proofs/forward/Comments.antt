@@ -8,12 +8,12 @@ use Rattle.fluent_syntax_tree.specs.Spans.{bytes_at}
 use Rattle.fluent_syntax_tree.specs.declared.spans.Span.{Span}
 use Rattle.fluent_syntax_grammar.specs.PatternTexts.{is_empty}
 use Rattle.fluent_syntax_grammar.specs.Bytes.{lf, cr, space}
-use Rattle.fluent_syntax_grammar.specs.Places.{Stretch, holds, is_line_place}
-use Rattle.fluent_syntax_grammar.specs.Construct.{at_each}
+use Rattle.fluent_syntax_grammar.specs.Places.{LongestRun, holds, is_line_place}
+use Rattle.fluent_syntax_grammar.specs.Construct.{peek}
 use Rattle.fluent_syntax_grammar.specs.Tokens.{optional_eol}
 use Rattle.fluent_syntax_grammar.specs.Comments.{level_of, hashes, comment_rest, comment_line, comment_lines}
 use Rattle.fluent_syntax_grammar.specs.Comments.{other_level, one_more, comment_entry}
-use Rattle.fluent_syntax_grammar.specs.Written.{Text, has_lf, last_of, is_last, is_shown, hashes_of}
+use Rattle.fluent_syntax_grammar.specs.Written.{Text, has_lf, last_of, is_last, is_nonblank_line, hashes_of}
 use Rattle.fluent_syntax_grammar.specs.Readable.{are_lines}
 use Rattle.fluent_syntax_grammar.specs.Canonical.{is_plain_line, is_plain_comment}
 use Rattle.fluent_syntax_grammar.proofs.Facts.{left_true, right_true, two_on}
@@ -56,9 +56,10 @@ last_safe false tail = refl
 
 -- a line reaches to its end
 left_line : (t line tail : List ℕ) (i : ℕ) → has_lf line ≡ false →
-    Left t i (line ++ doubled (is_last cr (last_of None line)) tail) → Stretch (is_line_place t) i (i + length line)
+    Left t i (line ++ doubled (is_last cr (last_of None line)) tail) → LongestRun (is_line_place t) i (i + length line)
 left_line t [] tail i e l = let s : i ≡ i + 0 = omega arith in
-    subst (λ n. Stretch (is_line_place t) i n) s (find_here (is_line_place t) i i (doubled_end t false i tail l) refl)
+    subst (λ n. LongestRun (is_line_place t) i n) s (find_here (is_line_place t) i i
+    (doubled_end t false i tail l) refl)
 left_line t (x ∷ []) tail i e l =
     let n = left_next l in
     find_on (is_line_place t) i (i + 1)
@@ -67,7 +68,7 @@ left_line t (x ∷ []) tail i e l =
 left_line t (x ∷ y ∷ xs) tail i e l =
     let s : (i + 1) + length (y ∷ xs) ≡ i + length (x ∷ y ∷ xs) = omega arith in
     let more = neither_right (x == lf) (has_lf (y ∷ xs)) e in
-    subst (λ n. Stretch (is_line_place t) i n) s
+    subst (λ n. LongestRun (is_line_place t) i n) s
     (find_on (is_line_place t) i
     _ (line_place t i x _ (neither_left (x == lf) (has_lf (y ∷ xs)) e)
     (and_no (x == cr) (y == lf) (neither_left (y == lf) (has_lf xs) more)) l)
@@ -129,7 +130,7 @@ module _ (t : List ℕ) where
   -- the rest of a line after its hashes
   rest_back : (line : Text) (shown : Bool) (i : ℕ) (tail : List ℕ) → LineForm line shown → has_lf line ≡ false →
       Left t i (after_hashes shown line tail) →
-      Reads t (at_each (slice_get t) (comment_rest t)) (map (bytes_at t)) i (line ∷ []) tail
+      Reads t (peek (slice_get t) (comment_rest t)) (map (bytes_at t)) i (line ∷ []) tail
   rest_back [] false i tail blank_line e l =
       reads_at_each (Some lf) (left_first l)
       (reads_bind (reads_at_each true (rw (left_first l) refl) (reads_here (reads_spanned [] (lf ∷ tail) l l)))
@@ -148,11 +149,11 @@ module _ (t : List ℕ) where
       (λ k n. reads_gives (one_text (bytes_at t) x line f) n)))
 
   line_back : (level : Level) (line : Text) (i : ℕ) (tail : List ℕ) → is_plain_line line ≡ true → has_lf line ≡ false →
-      Left t i (hashes_of level ++ after_hashes (is_shown line) line tail) →
+      Left t i (hashes_of level ++ after_hashes (is_nonblank_line line) line tail) →
       Reads t (comment_line t (count level)) (map (bytes_at t)) i (line ∷ []) tail
   line_back level line i tail p e l =
       passes_then (passes_over {j = i + count level} (record { by = refl }) (left_past (hashes_of level) l))
-      (λ j m. rest_back line (is_shown line) j tail (line_form line (is_shown line) p) e m)
+      (λ j m. rest_back line (is_nonblank_line line) j tail (line_form line (is_nonblank_line line) p) e m)
 
   after_no_hash : (line : Text) (shown : Bool) (tail : List ℕ) →
       holds (λ b. b == 35) (first (after_hashes shown line tail)) ≡ false
@@ -182,8 +183,8 @@ module _ (t : List ℕ) where
         end = others.end;
         reads =
             one_more (hash_count t level i
-            (after_hashes (is_shown line) line (comment_bytes (hashes_of level) lines tail))
-            (after_no_hash line (is_shown line) (comment_bytes (hashes_of level) lines tail)) l) one.reads
+            (after_hashes (is_nonblank_line line) line (comment_bytes (hashes_of level) lines tail))
+            (after_no_hash line (is_nonblank_line line) (comment_bytes (hashes_of level) lines tail)) l) one.reads
             others.reads;
         spells = same_lines one.value others.value line lines one.spells others.spells;
         rest = others.rest;
@@ -202,8 +203,8 @@ module _ (t : List ℕ) where
   comment_back level [] i tail p a e l = absurd cc
   comment_back level (line ∷ lines) i tail p a e l =
       reads_at_each (count level)
-      (hash_count t level i (after_hashes (is_shown line) line (comment_bytes (hashes_of level) lines tail))
-      (after_no_hash line (is_shown line) (comment_bytes (hashes_of level) lines tail)) l)
+      (hash_count t level i (after_hashes (is_nonblank_line line) line (comment_bytes (hashes_of level) lines tail))
+      (after_no_hash line (is_nonblank_line line) (comment_bytes (hashes_of level) lines tail)) l)
       (reads_bind (line_back level line i (comment_bytes (hashes_of level) lines tail)
       (left_true (is_plain_line line) _ p) (not_true (has_lf line) (left_true (not (has_lf line)) _ a)) l)
       (λ x j f m.

@@ -13,7 +13,7 @@ use Rattle.fluent_syntax_grammar.specs.Bytes.{lf, cr, is_space, is_name_byte, is
 use Rattle.fluent_syntax_grammar.specs.Tokens.{blank}
 use Rattle.fluent_syntax_grammar.specs.Starts.{brace}
 use Rattle.fluent_syntax_grammar.specs.Written.{Text}
-use Rattle.fluent_syntax_grammar.specs.Placeables.{has_arrow, selector_fault, is_term_attribute}
+use Rattle.fluent_syntax_grammar.specs.Expressions.{has_arrow, selector_fault, is_term_attribute}
 use Rattle.fluent_syntax_grammar.specs.Rules.{inline_obeys}
 use Rattle.fluent_syntax_grammar.specs.Canonical.{canonical_rules}
 use Rattle.fluent_syntax_grammar.specs.Grammar.{inline_expression, expression, placeable}

@@ -14,7 +14,7 @@ use Rattle.fluent_syntax_tree.specs.declared.edition.Edition.{Edition}
 use Rattle.fluent_syntax_grammar.specs.Bytes.{lf, cr, is_space, is_name_byte, is_letter, is_digit}
 use Rattle.fluent_syntax_grammar.specs.Places.{holds}
 use Rattle.fluent_syntax_grammar.specs.Starts.{Start, start, start_of, quote, digit, minus, dollar, letter}
-use Rattle.fluent_syntax_grammar.specs.Construct.{◌>>=◌, gives}
+use Rattle.fluent_syntax_grammar.specs.Construct.{◌>>=◌, yields}
 use Rattle.fluent_syntax_grammar.specs.Tokens.{number, blank}
 use Rattle.fluent_syntax_grammar.specs.Written.{Text}
 use Rattle.fluent_syntax_grammar.specs.Spellings.{is_name, is_number, is_number_rest, is_unsigned, is_string}
@@ -116,7 +116,7 @@ module _ (edition : Edition) (t : List ℕ) where
       (λ s j g n. reads_gives (ap variable_reference g) n)))
 
   number_as : (i : ℕ) (v gap more : List ℕ) → is_number v ≡ true → Follows gap more → Left t i (v ++ (gap ++ more)) →
-      Reads t (number t >>= λ v. gives (number_literal v)) (inline_map (bytes_at t)) i (number_literal v) (gap ++ more)
+      Reads t (number t >>= λ v. yields (number_literal v)) (inline_map (bytes_at t)) i (number_literal v) (gap ++ more)
   number_as i v gap more e f l =
       reads_bind (reads_number v (gap ++ more) e f.no_digit f.no_point l)
       (λ s j g m. reads_gives (ap number_literal g) m)

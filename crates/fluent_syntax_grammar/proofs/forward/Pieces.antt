@@ -10,7 +10,7 @@ use Rattle.fluent_syntax_tree.specs.declared.spans.Span.{Span}
 use Rattle.fluent_syntax_tree.specs.declared.edition.Edition.{Edition}
 use Rattle.fluent_syntax_grammar.specs.PatternTexts.{ends_plainly}
 use Rattle.fluent_syntax_grammar.specs.Bytes.{lf, cr}
-use Rattle.fluent_syntax_grammar.specs.Places.{Stretch, has_eol}
+use Rattle.fluent_syntax_grammar.specs.Places.{LongestRun, has_eol}
 use Rattle.fluent_syntax_grammar.specs.Construct.{Read, goes_on, given, at_place, passed, chosen, first as first_of}
 use Rattle.fluent_syntax_grammar.specs.Construct.{second, item, item_and_more}
 use Rattle.fluent_syntax_grammar.specs.Layout.{Piece, run, placed, lf_at, Line, counted}
@@ -132,7 +132,7 @@ module _ (edition : Edition) (t : List ℕ) where
   third_false false false true e = absurd cc
 
   reads_run : {i j b : ℕ} {bs : List ℕ} (ps : List Piece) (at : ℕ) → is_run_byte b ≡ true → Left t i (b ∷ bs) → i < j →
-      Stretch (is_run_place t) i j → grammar.more_pieces edition t j (Read ps at) →
+      LongestRun (is_run_place t) i j → grammar.more_pieces edition t j (Read ps at) →
       grammar.more_pieces edition t i (Read (run i j ∷ ps) at)
   reads_run {i = i} {j = j} {b = b} ps at e l m w q =
       let f = third_false (b == lf) (b == 123) (b == 125) e in

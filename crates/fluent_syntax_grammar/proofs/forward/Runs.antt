@@ -5,7 +5,7 @@ use Rattle.std.specs.Prelude.{◌==◌, ◌||◌, ◌&&◌, not}
 use Rattle.std.specs.List.{list_all, list_any}
 use Rattle.fluent_syntax_grammar.specs.PatternTexts.{is_brace, has_crlf}
 use Rattle.fluent_syntax_grammar.specs.Bytes.{lf, cr}
-use Rattle.fluent_syntax_grammar.specs.Places.{holds, Stretch}
+use Rattle.fluent_syntax_grammar.specs.Places.{holds, LongestRun}
 use Rattle.fluent_syntax_grammar.specs.Lines.{is_run_place}
 use Rattle.fluent_syntax_grammar.specs.Elements.{without_last_lf}
 use Rattle.fluent_syntax_grammar.specs.Written.{last_of, is_last, has_lf}
@@ -53,13 +53,13 @@ run_ends t i bs e l = rw (left_first l, e) refl
 
 -- a run reaches over these bytes
 pub left_run : (t xs ys : List ℕ) (i : ℕ) → list_all is_run_byte xs ≡ true → ends_in_cr_before xs ys ≡ false →
-    holds is_run_byte (first ys) ≡ false → Left t i (xs ++ ys) → Stretch (is_run_place t) i (i + length xs)
+    holds is_run_byte (first ys) ≡ false → Left t i (xs ++ ys) → LongestRun (is_run_place t) i (i + length xs)
 left_run t [] ys i a f e l = let s : i ≡ i + 0 = omega arith in
-    subst (λ n. Stretch (is_run_place t) i n) s (find_here (is_run_place t) i i (run_ends t i ys e l) refl)
+    subst (λ n. LongestRun (is_run_place t) i n) s (find_here (is_run_place t) i i (run_ends t i ys e l) refl)
 left_run t (x ∷ xs) ys i a f e l =
     let s : (i + 1) + length xs ≡ i + suc (length xs) = omega arith in
     let more = right_true (is_run_byte x) (list_all is_run_byte xs) a in
-    subst (λ n. Stretch (is_run_place t) i n) s
+    subst (λ n. LongestRun (is_run_place t) i n) s
     (find_on (is_run_place t) i
     _ (run_place t i x (xs ++ ys) (left_true (is_run_byte x) (list_all is_run_byte xs) a) (inside x xs ys more f)
     l) (left_run t xs ys (i + 1) more (rest_safe x xs ys f) e (left_next l)))

@@ -12,10 +12,10 @@ use Rattle.fluent_syntax_tree.specs.declared.edition.Edition.{Edition}
 use Rattle.fluent_syntax_tree.specs.declared.edition.Edition.TheVariants.{One, Two}
 use Rattle.fluent_syntax_grammar.specs.Bytes.{lf, cr, space, is_space, is_letter, is_digit, is_name_byte}
 use Rattle.fluent_syntax_grammar.specs.Places.{after_eol}
-use Rattle.fluent_syntax_grammar.specs.Construct.{at_each, More, no_item, item}
-use Rattle.fluent_syntax_grammar.specs.Written.{Text, indent, short_indent, key_text}
+use Rattle.fluent_syntax_grammar.specs.Construct.{peek, More, no_item, item}
+use Rattle.fluent_syntax_grammar.specs.Written.{Text, indent, star_indent, key_text}
 use Rattle.fluent_syntax_grammar.specs.Spellings.{is_name, is_number, is_number_rest, is_unsigned}
-use Rattle.fluent_syntax_grammar.specs.Placeables.{arrow_line_end, has_arrow, selector_fault, select_with}
+use Rattle.fluent_syntax_grammar.specs.Expressions.{arrow_line_end, has_arrow, selector_fault, select_with}
 use Rattle.fluent_syntax_grammar.specs.Variants.{is_number_start, variant_key, variants_end, variant_of}
 use Rattle.fluent_syntax_grammar.specs.Variants.{variant_after}
 use Rattle.fluent_syntax_grammar.specs.Grammar as grammar
@@ -71,7 +71,7 @@ variants_stop : (level : ℕ) (vs : VariantTrees Text) (close more : Text) → l
     Stops (variants_bytes level vs (close ++ (125 ∷ more)))
 variants_stop level no_variants close more a = stops_gap close 125 more a refl refl
 variants_stop level (variants (variant key value true) vs) close more a =
-    stops_gap (short_indent level) 42 _ (spaces_of (4 * level - 1)) refl refl
+    stops_gap (star_indent level) 42 _ (spaces_of (4 * level - 1)) refl refl
 variants_stop level (variants (variant key value false) vs) close more a =
     stops_gap (indent level) 91 _ (spaces_of (4 * level)) refl refl
 
@@ -94,7 +94,7 @@ module _ (edition : Edition) (t : List ℕ) where
   passes_indent level no_variants close more i a l =
       passes_blanks close (125 ∷ more) (spaces_blank close a) refl refl refl l
   passes_indent level (variants (variant key value true) vs) close more i a l =
-      passes_blanks (short_indent level) _ (spaces_blank (short_indent level) (spaces_of (4 * level - 1))) refl refl
+      passes_blanks (star_indent level) _ (spaces_blank (star_indent level) (spaces_of (4 * level - 1))) refl refl
       refl l
   passes_indent level (variants (variant key value false) vs) close more i a l =
       passes_blanks (indent level) _ (spaces_blank (indent level) (spaces_of (4 * level))) refl refl refl l
@@ -277,7 +277,7 @@ module _ (edition : Edition) (t : List ℕ) where
       (λ q x. h.back q close more a x))))) (λ ws y d z. reads_gives (same_select ws d) z))
     where
       line_end_passes : {bs : List ℕ} (k : ℕ) → Left t k (lf ∷ bs) →
-          Passes t (at_each (after_eol t) arrow_line_end) k bs
+          Passes t (peek (after_eol t) arrow_line_end) k bs
       line_end_passes k n =
           reads_at_each (Some (k + 1)) (lf_after edition t n)
           (passes_over {j = k + 1} (record { there = refl }) (left_next n))

@@ -7,7 +7,7 @@ use Rattle.std.specs.Char.{is_ascii_hexdigit}
 use Rattle.fluent_syntax_tree.specs.Spans.{bytes_at}
 use Rattle.fluent_syntax_grammar.specs.Bytes.{lf}
 use Rattle.fluent_syntax_grammar.specs.Places.{Steps}
-use Rattle.fluent_syntax_grammar.specs.Construct.{Read, ◌>>◌, over}
+use Rattle.fluent_syntax_grammar.specs.Construct.{Read, ◌>>◌, skip}
 use Rattle.fluent_syntax_grammar.specs.Strings.{HexDigits, hex_digits, all_there, escaped, string_unit, string_units}
 use Rattle.fluent_syntax_grammar.specs.Strings.{before_quote, unit_and_more, string_literal}
 use Rattle.fluent_syntax_grammar.specs.Spellings.{is_units, is_escape, is_string}
@@ -98,7 +98,7 @@ module _ {t : List ℕ} where
       (reads_first (ap (λ b. b == 92) e) (reads_at_each (Some c) (left_first (left_next l)) m))
 
   passes_hex_escape : {i b c : ℕ} {bs : List ℕ} (left : List ℕ) (n : ℕ) (r : HexThen n bs) →
-      Left t i (b ∷ c ∷ (bs ++ left)) → Passes t (over (Steps 2) >> hex_digits t n) i (r.more ++ left)
+      Left t i (b ∷ c ∷ (bs ++ left)) → Passes t (skip (Steps 2) >> hex_digits t n) i (r.more ++ left)
   passes_hex_escape left n r l =
       passes_then (passes_two l)
       (λ j m. passes_hex n r.hex (r.more ++ left) r.count r.digits
@@ -111,7 +111,7 @@ module _ {t : List ℕ} where
   -- an escape with hexadecimal digits, and units after it
   hex_escape_then : (m n : ℕ) → UnitsPass t m → (b c : ℕ) (cs more : List ℕ) (i : ℕ) → length cs ≤ m → b ≡ 92 →
       is_units n cs ≡ true → Left t i (b ∷ c ∷ (cs ++ (34 ∷ more))) →
-      ((left : List ℕ) → Passes t (over (Steps 2) >> hex_digits t n) i left → Passes t (escaped t (Some c)) i left) →
+      ((left : List ℕ) → Passes t (skip (Steps 2) >> hex_digits t n) i left → Passes t (escaped t (Some c)) i left) →
       Passes t (string_units t) i (34 ∷ more)
   hex_escape_then m n h b c cs more i l e f x k =
       let r = hex_then n cs f in

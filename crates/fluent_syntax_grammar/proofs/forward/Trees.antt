@@ -14,7 +14,7 @@ use Rattle.fluent_syntax_grammar.specs.Written.{Text, is_multiline}
 use Rattle.fluent_syntax_grammar.specs.Spellings.{is_name}
 use Rattle.fluent_syntax_grammar.specs.Inline.{is_callee_byte}
 use Rattle.fluent_syntax_grammar.specs.Arguments.{is_used}
-use Rattle.fluent_syntax_grammar.specs.Placeables.{is_term_attribute, selector_fault}
+use Rattle.fluent_syntax_grammar.specs.Expressions.{is_term_attribute, selector_fault}
 use Rattle.fluent_syntax_grammar.specs.Rules.{inline_obeys, maybe_obeys, arguments_obey, inlines_obey, nameds_obey}
 use Rattle.fluent_syntax_grammar.specs.Rules.{named_obeys, expression_obeys, variants_obey, variant_obeys, key_obeys}
 use Rattle.fluent_syntax_grammar.specs.Rules.{option_obeys, elements_obey, pattern_obeys}

@@ -6,7 +6,7 @@ use Rattle.std.specs.List.{list_all}
 use Rattle.fluent_syntax_tree.specs.Spans.{bytes_at}
 use Rattle.fluent_syntax_grammar.specs.Bytes.{is_letter, is_name_byte, is_digit}
 use Rattle.fluent_syntax_grammar.specs.Places.{holds}
-use Rattle.fluent_syntax_grammar.specs.Construct.{Construct, ◌>>=◌, gives, either}
+use Rattle.fluent_syntax_grammar.specs.Construct.{Construct, ◌>>=◌, yields, branch_on}
 use Rattle.fluent_syntax_grammar.specs.Tokens.{optional, digits, identifier, number}
 use Rattle.fluent_syntax_grammar.specs.Spellings.{is_name, is_digits, is_number_rest, is_unsigned, is_number}
 use Rattle.fluent_syntax_grammar.proofs.Facts.{left_true, right_true, equal}
@@ -92,7 +92,7 @@ module _ {t : List ℕ} where
   then_fraction : {B Y : Type 0} {c : Construct B} {r : B → Y} {y : Y} {left : List ℕ} {i : ℕ} (v more : List ℕ) →
       Fraction v → holds is_digit (first more) ≡ false → holds (λ c. c == 46) (first more) ≡ false →
       Left t i (v ++ more) → ((j : ℕ) → Left t j more → Reads t c r j y left) →
-      Reads t (optional t 46 >>= λ p. either p (digits t) (gives tt) >>= λ u. c) r i y left
+      Reads t (optional t 46 >>= λ p. branch_on p (digits t) (yields tt) >>= λ u. c) r i y left
   then_fraction v more none f g l k =
       reads_bind (reads_absent 46 g l) (λ p j e m. passes_then (reads_second e (passes_nothing m)) k)
   then_fraction v more (point {ds = ds} x) f g l k =
@@ -102,7 +102,7 @@ module _ {t : List ℕ} where
   then_unsigned : {B Y : Type 0} {c : Construct B} {r : B → Y} {y : Y} {left : List ℕ} {i : ℕ} (v more : List ℕ) →
       is_unsigned v ≡ true → holds is_digit (first more) ≡ false → holds (λ c. c == 46) (first more) ≡ false →
       Left t i (v ++ more) → ((j : ℕ) → Left t j more → Reads t c r j y left) →
-      Reads t (digits t >>= λ d. optional t 46 >>= λ p. either p (digits t) (gives tt) >>= λ u. c) r i y left
+      Reads t (digits t >>= λ d. optional t 46 >>= λ p. branch_on p (digits t) (yields tt) >>= λ u. c) r i y left
   then_unsigned [] more e f g l k = cc
   then_unsigned (b ∷ bs) more e f g l k =
       let r = number_rest bs (right_true (is_digit b) (is_number_rest bs) e) in

@@ -9,7 +9,8 @@ use Rattle.fluent_syntax_tree.specs.Entry.{regular, group, resource, BodyTree}
 use Rattle.fluent_syntax_tree.specs.declared.edition.Edition.{Edition}
 use Rattle.fluent_syntax_grammar.specs.Bytes.{lf, cr}
 use Rattle.fluent_syntax_grammar.specs.Spellings.{is_name}
-use Rattle.fluent_syntax_grammar.specs.Written.{Text, Mark, literal, line_end, last_of, is_last, text_after, is_shown}
+use Rattle.fluent_syntax_grammar.specs.Written.{Text, Mark, literal, line_end, last_of, is_last, text_after}
+use Rattle.fluent_syntax_grammar.specs.Written.{is_nonblank_line}
 use Rattle.fluent_syntax_grammar.specs.Written.{comment_line_marks, comment_marks, hashes_of, own_comment_marks}
 use Rattle.fluent_syntax_grammar.specs.Written.{attribute_line_marks, attributes_marks, value_marks, pattern_marks}
 use Rattle.fluent_syntax_grammar.specs.Written.{message_marks, term_marks, gap_marks, free_comment_marks, body_marks}
@@ -51,10 +52,11 @@ shown_then line false b ms e f = end_then (Some b) false ms f
 
 comment_line_then : (level : Level) (line : Text) (ms : List Mark) →
     text_after (Some lf) (comment_line_marks (hashes_of level) line ++ ms)
-    ≡ hashes_of level ++ after_hashes (is_shown line) line (text_after (Some lf) ms)
-comment_line_then regular line ms = ap (λ x. 35 ∷ x) (shown_then line (is_shown line) 35 ms refl refl)
-comment_line_then group line ms = ap (λ x. 35 ∷ 35 ∷ x) (shown_then line (is_shown line) 35 ms refl refl)
-comment_line_then resource line ms = ap (λ x. 35 ∷ 35 ∷ 35 ∷ x) (shown_then line (is_shown line) 35 ms refl refl)
+    ≡ hashes_of level ++ after_hashes (is_nonblank_line line) line (text_after (Some lf) ms)
+comment_line_then regular line ms = ap (λ x. 35 ∷ x) (shown_then line (is_nonblank_line line) 35 ms refl refl)
+comment_line_then group line ms = ap (λ x. 35 ∷ 35 ∷ x) (shown_then line (is_nonblank_line line) 35 ms refl refl)
+comment_line_then resource line ms =
+    ap (λ x. 35 ∷ 35 ∷ 35 ∷ x) (shown_then line (is_nonblank_line line) 35 ms refl refl)
 
 comment_then : (level : Level) (content : List Text) (ms : List Mark) →
     text_after (Some lf) (comment_marks (hashes_of level) content ++ ms)
@@ -64,7 +66,7 @@ comment_then level (line ∷ lines) ms =
     ap (text_after (Some lf))
     (append_assoc (comment_line_marks (hashes_of level) line) (comment_marks (hashes_of level) lines) ms)
     ∙ comment_line_then level line (comment_marks (hashes_of level) lines ++ ms)
-    ∙ ap (λ x. hashes_of level ++ after_hashes (is_shown line) line x) (comment_then level lines ms)
+    ∙ ap (λ x. hashes_of level ++ after_hashes (is_nonblank_line line) line x) (comment_then level lines ms)
 
 own_then : (content : Option (List Text)) (ms : List Mark) →
     text_after (Some lf) (own_comment_marks content ++ ms) ≡ own_comment_bytes content (text_after (Some lf) ms)

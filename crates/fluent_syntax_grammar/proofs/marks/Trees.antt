@@ -16,7 +16,7 @@ use Rattle.fluent_syntax_grammar.specs.Bytes.{lf, cr, space}
 use Rattle.fluent_syntax_grammar.specs.Inline.{is_callee_byte}
 use Rattle.fluent_syntax_grammar.specs.Spellings.{is_name}
 use Rattle.fluent_syntax_grammar.specs.Written.{Text, Mark, literal, line_end, last_of, is_last, text_after, indent}
-use Rattle.fluent_syntax_grammar.specs.Written.{short_indent, key_text, opens_line, inner_level, is_multiline}
+use Rattle.fluent_syntax_grammar.specs.Written.{star_indent, key_text, opens_line, inner_level, is_multiline}
 use Rattle.fluent_syntax_grammar.specs.Written.{attribute_marks, more_joined, expression_marks, variants_marks}
 use Rattle.fluent_syntax_grammar.specs.Written.{variant_marks, inline_marks, maybe_marks, arguments_marks}
 use Rattle.fluent_syntax_grammar.specs.Written.{positional_marks, named_marks, argument_marks, elements_marks}
@@ -257,9 +257,9 @@ variant_then level key value true ms p k =
     let rest =
     literal level (codes "[") ∷ literal level (key_text key) ∷ literal level (codes "]") ∷
     (pattern_marks level value ++ ms) in
-    ap (λ o. (short_indent level ++ (42 ∷ [])) ++ text_after o rest) (last_append (short_indent level) (Some lf) 42 [])
-    ∙ append_assoc (short_indent level) (42 ∷ []) (text_after (Some 42) rest)
-    ∙ ap (λ x. short_indent level ++ (42 ∷ x)) (after_byte 42 rest refl refl ∙ bracket level key value ms p k)
+    ap (λ o. (star_indent level ++ (42 ∷ [])) ++ text_after o rest) (last_append (star_indent level) (Some lf) 42 [])
+    ∙ append_assoc (star_indent level) (42 ∷ []) (text_after (Some 42) rest)
+    ∙ ap (λ x. star_indent level ++ (42 ∷ x)) (after_byte 42 rest refl refl ∙ bracket level key value ms p k)
 
 variants_more : (level : ℕ) (key : KeyTree Text) (value : PatternTree Text) (default : Bool) (vs : VariantTrees Text) →
     Plain (last_of None (key_text key)) → PatternMarks level value → VariantsMarks level vs →

@@ -3,7 +3,7 @@ use Rattle.std.specs.Prelude.{List, [], ◌∷◌, ◌++◌, Option, Some, None,
 use Rattle.fluent_syntax_tree.specs.Tree.{PatternTree}
 use Rattle.fluent_syntax_tree.specs.Entry.{AttributeTree}
 use Rattle.fluent_syntax_grammar.specs.Bytes.{lf, cr, space}
-use Rattle.fluent_syntax_grammar.specs.Written.{Text, last_of, is_last, is_shown}
+use Rattle.fluent_syntax_grammar.specs.Written.{Text, last_of, is_last, is_nonblank_line}
 use Rattle.fluent_syntax_grammar.proofs.marks.WrittenBytes.{pattern_bytes}
 
 -- ---- comments
@@ -20,7 +20,8 @@ after_hashes false line tail = lf ∷ tail
 
 abbrev pub comment_bytes : (hashes : Text) → List Text → Text → Text
 comment_bytes hashes [] tail = tail
-comment_bytes hashes (line ∷ lines) tail = hashes ++ after_hashes (is_shown line) line (comment_bytes hashes lines tail)
+comment_bytes hashes (line ∷ lines) tail =
+    hashes ++ after_hashes (is_nonblank_line line) line (comment_bytes hashes lines tail)
 
 abbrev pub own_comment_bytes : Option (List Text) → Text → Text
 own_comment_bytes None tail = tail

@@ -157,8 +157,8 @@ module _ (g : Graph) (states : List State) (stack starts : List ℕ) (pending : 
     abbrev short_starts : List ℕ
     short_starts = take m starts
 
-    stack_length : length short_stack ≡ start
-    stack_length = length-take-le start stack (omega arith)
+    short_stack_length : length short_stack ≡ start
+    short_stack_length = length-take-le start stack (omega arith)
 
     starts_length : length short_starts ≡ m
     starts_length = length-take-le m starts (omega arith)
@@ -233,8 +233,8 @@ module _ (g : Graph) (states : List State) (stack starts : List ℕ) (pending : 
     reach : (i j : ℕ) → i < length short_stack → j < length short_stack → Back short_starts i j
         → Reaches g (at short_stack i) (at short_stack j)
     reach i j i_in j_in back =
-        let i_low : i < start = omega (arith, stack_length) in
-        let j_low : j < start = omega (arith, stack_length) in
+        let i_low : i < start = omega (arith, short_stack_length) in
+        let j_low : j < start = omega (arith, short_stack_length) in
         subst (λ (x : ℕ). Reaches g x (at short_stack j)) (sym (at_stack i i_low))
         (subst (λ (x : ℕ). Reaches g (at stack i) x) (sym (at_stack j j_low))
         (sound.reach i j (omega arith) (omega arith) (back_long i j i_low back)))
@@ -250,7 +250,7 @@ module _ (g : Graph) (states : List State) (stack starts : List ℕ) (pending : 
     looked : (i : ℕ) → i < length short_stack → (k : ℕ) → k < length (edges g (at short_stack i))
         → Looked now short_starts pending i k (target g (at short_stack i) k)
     looked i h k l =
-        let i_low : i < start = omega (arith, stack_length) in
+        let i_low : i < start = omega (arith, short_stack_length) in
         let is = at_stack i i_low in
         let l_old : k < length (edges g (at stack i)) = subst (λ (x : ℕ). k < length (edges g x)) is l in
         subst (λ (x : ℕ). Looked now short_starts pending i k (target g x k)) (sym is)
@@ -302,24 +302,24 @@ module _ (g : Graph) (states : List State) (stack starts : List ℕ) (pending : 
     closed_segment = record {
       sizes = sizes ∙ sound.sizes;
       opened = λ i h.
-          let i_low : i < start = omega (arith, stack_length) in
+          let i_low : i < start = omega (arith, short_stack_length) in
           ap (State_of now) (at_stack i i_low) ∙ now_open (at stack i) i (sound.opened i (omega arith)) i_low;
       placed = λ u i e.
           let was = was_open u i e in
-          (omega (arith, stack_length, was.1), at_stack i was.1 ∙ (sound.placed u i was.0).1);
+          (omega (arith, short_stack_length, was.1), at_stack i was.1 ∙ (sound.placed u i was.0).1);
       ascending = λ k l before h.
           let l_in : l < m = omega (arith, starts_length) in
           let k_in : k < m = omega arith in
           omega (arith, at_starts k k_in, at_starts l l_in, sound.ascending k l before (omega arith));
       within = λ k h.
           let k_in : k < m = omega (arith, starts_length) in
-          omega (arith, at_starts k k_in, sound.ascending k m k_in (omega arith), stack_length);
+          omega (arith, at_starts k k_in, sound.ascending k m k_in (omega arith), short_stack_length);
       reach = reach;
       looked = looked;
       pending_ascending = sound.pending_ascending;
-      pending_within = λ p h. omega (arith, pending_before p h, stack_length);
+      pending_within = λ p h. omega (arith, pending_before p h, short_stack_length);
       numbered = numbered;
       closed = closed;
       joined = joined;
-      room = omega (arith, sound.room, stack_length, ap (count_by (λ (b : Bool). b)) same_news);
+      room = omega (arith, sound.room, short_stack_length, ap (count_by (λ (b : Bool). b)) same_news);
     }

@@ -42,7 +42,7 @@ module _ (edition : Edition) (t : List ℕ) (content : List Span) (ptr : ℕ) wh
   attaches_not e same none = λ i entries errors rest. (
     rest.tiles,
     rest.tiled,
-    by_itself none i rest.tiles rest.tiled ∙ (ap (λ b. comment regular content ∷ b) rest.gives
+    by_itself none i rest.tiles rest.tiled ∙ (ap (λ b. comment regular content ∷ b) rest.yields
         ∙ ap (λ x. x ∷ entries) (sym same)),
     rest.errors_are,
   )
@@ -53,7 +53,7 @@ module _ (edition : Edition) (t : List ℕ) (content : List Span) (ptr : ℕ) wh
   attaches_on e with_comment j block inside read same = λ i entries errors rest. (
     entry (record { start = ptr; end = j }) e ∷ rest.tiles,
     next block inside (reads read) rest.tiled,
-    rw (same_number ptr, same) (ap (λ b. with_comment ∷ b) rest.gives),
+    rw (same_number ptr, same) (ap (λ b. with_comment ∷ b) rest.yields),
     rest.errors_are,
   )
 

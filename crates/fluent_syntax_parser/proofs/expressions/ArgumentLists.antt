@@ -18,7 +18,7 @@ use Rattle.fluent_syntax_grammar.specs.Arguments.{Argument, add_argument, argume
 use Rattle.fluent_syntax_grammar.specs.Arguments.{is_used, named_rest, next_argument, next_argument_at, more_arguments}
 use Rattle.fluent_syntax_grammar.specs.Arguments.{positional_rest, separator}
 use Rattle.fluent_syntax_grammar.specs.Bytes.{colon, right_parenthesis}
-use Rattle.fluent_syntax_grammar.specs.Construct.{Outcome, Read, Refused, ◌>>=◌, gives, at_each, goes_on, given, failed}
+use Rattle.fluent_syntax_grammar.specs.Construct.{Outcome, Read, Refused, ◌>>=◌, yields, peek, goes_on, given, failed}
 use Rattle.fluent_syntax_grammar.specs.Construct.{passed, chosen, first, second, More, no_item, item}
 use Rattle.fluent_syntax_grammar.specs.Family.{Family}
 use Rattle.fluent_syntax_grammar.specs.Inline.{inline_expression}
@@ -35,7 +35,7 @@ use Rattle.fluent_syntax_parser.proofs.scanning.Names.{names_added}
 use Rattle.fluent_syntax_parser.specs.Outcomes.{Fails}
 use Rattle.fluent_syntax_parser.specs.declared.fault.ReadFault.{ReadFault}
 use Rattle.fluent_syntax_parser.specs.Made.{IsMade, made}
-use Rattle.fluent_syntax_parser.proofs.readers.Behind.{Behind, list_read, one_behind}
+use Rattle.fluent_syntax_parser.proofs.readers.ContinuesFrom.{ContinuesFrom, list_read, one_behind}
 use Rattle.fluent_syntax_parser.proofs.readers.Fails.{fails_first, fails_next, fails_no, fails_seen, functional_look}
 
 pub token_there : (t : List ℕ) (b i : ℕ) → has_byte t b i ≡ true → token t b i (Read tt (i + 1))
@@ -62,7 +62,7 @@ module _ (t : List ℕ) (R : Family) where
     where
       begins : (o : Outcome (More Argument (List (List ℕ)))) →
           (inline_expression t R >>= λ e.
-          at_each (has_byte t colon) gives >>= λ is_named. argument_rest t R names e (argument_name e) is_named) i o
+          peek (has_byte t colon) yields >>= λ is_named. argument_rest t R names e (argument_name e) is_named) i o
           →
           next_argument t R names i o
       begins o h =
@@ -72,7 +72,7 @@ module _ (t : List ℕ) (R : Family) where
 
       begins_fails : {f : ReadFault} →
           Fails t (inline_expression t R >>= λ e.
-          at_each (has_byte t colon) gives >>= λ is_named. argument_rest t R names e (argument_name e) is_named) i f
+          peek (has_byte t colon) yields >>= λ is_named. argument_rest t R names e (argument_name e) is_named) i f
           →
           Fails t (next_argument t R names) i f
       begins_fails h =
@@ -120,7 +120,7 @@ pub record MadeArguments {S X : Type 0} (t : List ℕ) (R : Family) (f : Span �
     pub ns : List (NamedTree Span)
     pub same_ps : map (inline_view v) positional ≡ map (inline_map f) ps
     pub same_ns : map (named_view v) named ≡ map (named_map f) ns
-    pub behind : Behind t (next_argument t R) add_argument (arguments no_inlines no_named) [] from
+    pub behind : ContinuesFrom t (next_argument t R) add_argument (arguments no_inlines no_named) [] from
         (put_arguments ps ns) names j
 
 module _ {S X : Type 0} (t : List ℕ) (R : Family) (f : Span → X) (v : S → X) (from : ℕ) where
@@ -155,7 +155,7 @@ module _ {S X : Type 0} (t : List ℕ) (R : Family) (f : Span → X) (v : S → 
         is_used (bytes_at t name) (names_in t names) ≡ false → v x.name.name ≡ f name →
         (more : List (NamedArgument S)) → more ≡ ns ++ x ∷ [] → (others : List Span) → others ≡ names ++ name ∷ [] →
         (m end next : ℕ) → Blank t (j + 1) m → (value : InlineTree Span) →
-        at_each (start t) (argument_value t R) m (Read value end) → inline_view v x.value ≡ inline_map f value →
+        peek (start t) (argument_value t R) m (Read value end) → inline_view v x.value ≡ inline_map f value →
         separator t end (Read tt next) → MadeArguments t R f v from ps more (names_in t others) next
     one_named x name is mark new same more pushed others noted m end next blank value read_value same_value after =
         let all : names_in t others ≡ bytes_at t name ∷ names_in t names =

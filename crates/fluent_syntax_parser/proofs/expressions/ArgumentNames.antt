@@ -8,7 +8,7 @@ use Rattle.fluent_syntax_tree.specs.Tree.{MaybeArguments, no_arguments, some_arg
 use Rattle.fluent_syntax_tree.specs.Spans.{bytes_at}
 use Rattle.fluent_syntax_tree.specs.declared.spans.Span.{Span}
 use Rattle.fluent_syntax_grammar.specs.Arguments.{argument_name}
-use Rattle.fluent_syntax_grammar.specs.Construct.{Outcome, Read, Refused, gives, given, goes_on, chosen, first}
+use Rattle.fluent_syntax_grammar.specs.Construct.{Outcome, Read, Refused, yields, given, goes_on, chosen, first}
 use Rattle.fluent_syntax_grammar.specs.Construct.{second}
 use Rattle.fluent_syntax_grammar.specs.Family.{Family}
 use Rattle.fluent_syntax_grammar.specs.Inline.{inline_expression, inline_of, named_reference}
@@ -55,10 +55,10 @@ module _ (t : List ℕ) (i : ℕ) where
   Named e = is_name e ≡ true → (name : Span) × (end : ℕ) × identifier t i (Read name end) ×
       (argument_name e ≡ Some name)
 
-  gives_same : {A : Type 0} {a b : A} {i j : ℕ} → gives a i (Read b j) → b ≡ a
+  gives_same : {A : Type 0} {a b : A} {i j : ℕ} → yields a i (Read b j) → b ≡ a
   gives_same given = refl
 
-  no_named : (e a : InlineTree Span) {k j : ℕ} → is_name a ≡ false → gives a k (Read e j) → Named e
+  no_named : (e a : InlineTree Span) {k j : ℕ} → is_name a ≡ false → yields a k (Read e j) → Named e
   no_named e a none h is = absurd (true≢false (sym is ∙ ap is_name (gives_same h) ∙ none))
 
   is_of : (id : Span) (a : Option Span) → is_name (message_reference id a) ≡ true →

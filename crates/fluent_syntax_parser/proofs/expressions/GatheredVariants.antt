@@ -10,7 +10,7 @@ use Rattle.fluent_syntax_grammar.specs.Construct.{Construct, Read, More, no_item
 use Rattle.fluent_syntax_grammar.specs.Laws.{IsFunctional}
 use Rattle.fluent_syntax_parser.specs.Gathered.{variants_view}
 use Rattle.fluent_syntax_parser.specs.Made.{IsMade, made}
-use Rattle.fluent_syntax_parser.proofs.readers.Behind.{Behind, list_read, one_behind}
+use Rattle.fluent_syntax_parser.proofs.readers.ContinuesFrom.{ContinuesFrom, list_read, one_behind}
 
 abbrev pub put_variants : List (VariantTree Span) → VariantTrees Span → VariantTrees Span
 put_variants [] vs = vs
@@ -37,7 +37,7 @@ pub record MadeVariants {S X : Type 0} (t : List ℕ) (next : Bool → Construct
     (f : Span → X) (v : S → X) (i : ℕ) (xs : List (Variant S)) (starred : Bool) (j : ℕ) : Type 0 where
   pub items : List (VariantTree Span)
   pub same : map (variant_view v) xs ≡ map (variant_map f) items
-  pub behind : Behind t next variants no_variants false i (put_variants items) starred j
+  pub behind : ContinuesFrom t next variants no_variants false i (put_variants items) starred j
 
 module _ {S X : Type 0} {t : List ℕ} {next : Bool → Construct (More (VariantTree Span) Bool)} {f : Span → X}
     (v : S → X) {i : ℕ} where

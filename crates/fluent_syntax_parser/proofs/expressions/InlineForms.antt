@@ -17,7 +17,7 @@ use Rattle.fluent_syntax_tree.specs.declared.ast.InlineExpression as inl
 use Rattle.fluent_syntax_tree.specs.declared.ast.InlineExpression.{InlineExpression, roll-InlineExpression}
 use Rattle.fluent_syntax_tree.specs.declared.ast.InlineExpression.{out-InlineExpression, roll-out-InlineExpression}
 use Rattle.fluent_syntax_tree.specs.declared.ast.InlineExpression.{map-InlineExpression}
-use Rattle.fluent_syntax_grammar.specs.Placeables.{selector_fault, is_term_attribute}
+use Rattle.fluent_syntax_grammar.specs.Expressions.{selector_fault, is_term_attribute}
 use Rattle.fluent_syntax_parser.proofs.expressions.ArgumentNames.{is_name}
 use denote.Hole.Carrier as carrier
 

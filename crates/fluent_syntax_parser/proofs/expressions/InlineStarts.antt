@@ -2,10 +2,11 @@
 use Rattle.std.proofs.Common.{◌≡◌, ℕ, ◌+◌, List, subst, refl, inl as left, inr}
 use Rattle.std.specs.Prelude.{◌⊎◌, Result, Ok, Err}
 use Rattle.fluent_syntax_tree.specs.Kind.{ExpectedLiteral}
-use Rattle.fluent_syntax_tree.specs.Tree.{InlineTree, MaybeArguments, number_literal}
+use Rattle.fluent_syntax_tree.specs.Tree.{ExpressionTree, InlineTree, MaybeArguments, number_literal}
+use Rattle.fluent_syntax_tree.specs.declared.ast.PatternElement.{PatternElement}
 use Rattle.fluent_syntax_tree.specs.declared.spans.Span.{Span}
 use Rattle.fluent_syntax_grammar.specs.Arguments.{argument_value}
-use Rattle.fluent_syntax_grammar.specs.Construct.{Outcome, Read, Refused, ◌>>=◌, gives, at_each, chosen, failed}
+use Rattle.fluent_syntax_grammar.specs.Construct.{Outcome, Read, Refused, ◌>>=◌, yields, peek, chosen, failed}
 use Rattle.fluent_syntax_grammar.specs.Construct.{goes_on}
 use Rattle.fluent_syntax_grammar.specs.Family.{Family, call_arguments}
 use Rattle.fluent_syntax_grammar.specs.Inline.{inline_expression, inline_of, named_reference}
@@ -13,12 +14,11 @@ use Rattle.fluent_syntax_grammar.specs.Starts.{Start, digit, letter, minus, quot
 use Rattle.fluent_syntax_grammar.specs.Tokens.{identifier, number}
 use Rattle.fluent_syntax_grammar.proofs.FunctionalRules.{IsFunctionalFamily, functional_call}
 use Rattle.fluent_syntax_grammar.proofs.FunctionalWords.{functional_identifier}
-use Rattle.fluent_syntax_parser.specs.Made.{Parses, made}
+use Rattle.fluent_syntax_parser.specs.Last.{Pushes}
 use Rattle.fluent_syntax_parser.specs.Outcomes.{Fails}
 use Rattle.fluent_syntax_parser.specs.Starts.{start_view}
 use Rattle.fluent_syntax_parser.specs.declared.fault.ReadFault.{ReadFault}
 use Rattle.fluent_syntax_parser.proofs.readers.Fails.{fails_next, fails_seen}
-use Rattle.fluent_syntax_parser.proofs.readers.Made.{on_made}
 use Rattle.fluent_syntax_parser.specs.declared.expression.starts.Start as found
 use Rattle.fluent_syntax_parser.specs.declared.expression.starts.Start.TheVariants as starts
 
@@ -35,13 +35,13 @@ module _ (t : List ℕ) (R : Family) (i : ℕ) where
       chosen (subst (λ x. inline_of t R x i o) e h)
 
   pub by_number : (o : Outcome (InlineTree Span)) → (digit ≡ start t i) ⊎ (minus ≡ start t i) →
-      (number t >>= λ v. gives (number_literal v)) i o → inline_expression t R i o
+      (number t >>= λ v. yields (number_literal v)) i o → inline_expression t R i o
   by_number o (left e) h = by_start digit o e h
   by_number o (inr e) h = by_start minus o e h
 
   pub by_value : (s : found.Start) (o : Outcome (InlineTree Span)) →
       (s ≡ starts.Quote) ⊎ ((s ≡ starts.Digit) ⊎ (s ≡ starts.Letter)) → start_view s ≡ start t i →
-      inline_expression t R i o → at_each (start t) (argument_value t R) i o
+      inline_expression t R i o → peek (start t) (argument_value t R) i o
   by_value s o (left is) e h =
       let e' : quote ≡ start t i = rw is at e in
       chosen (subst (λ x. argument_value t R x i o) e' h)
@@ -54,7 +54,7 @@ module _ (t : List ℕ) (R : Family) (i : ℕ) where
 
   pub value_fails : (s : found.Start) → (s ≡ starts.Quote) ⊎ ((s ≡ starts.Digit) ⊎ (s ≡ starts.Letter)) →
       start_view s ≡ start t i → {f : ReadFault} → Fails t (inline_expression t R) i f →
-      Fails t (at_each (start t) (argument_value t R)) i f
+      Fails t (peek (start t) (argument_value t R)) i f
   value_fails s (left is) e h =
       let e' : quote ≡ start t i = rw is at e in fails_seen (argument_value t R) quote e' h
   value_fails s (inr (left is)) e h =
@@ -75,18 +75,18 @@ module _ (t : List ℕ) (R : Family) (i : ℕ) where
 
   pub no_value : (s : found.Start) → (s ≡ starts.Quote → ⊥) → (s ≡ starts.Digit → ⊥) → (s ≡ starts.Letter → ⊥) →
       start_view s ≡ start t i →
-      at_each (start t) (argument_value t R) i (Refused ExpectedLiteral i (i + 1))
+      peek (start t) (argument_value t R) i (Refused ExpectedLiteral i (i + 1))
   no_value s a b c e =
       chosen (subst (λ x. argument_value t R x i (Refused ExpectedLiteral i (i + 1))) e
       (refused_value s a b c))
 
 -- a name with its arguments, by the reference that these are
-pub referred : {B X : Type 0} (t : List ℕ) (R : Family) (i : ℕ) (f : InlineTree Span → B) (view : X → B) {name : Span}
-    {a : MaybeArguments Span} {m j : ℕ} (r : Result (X × ℕ) ReadFault) →
-    Parses t f (named_reference t name a) view j r → letter ≡ start t i → identifier t i (Read name m) →
-    call_arguments t R m (Read a j) → IsFunctionalFamily R → Parses t f (inline_expression t R) view i r
-referred t R i f view (Ok x) h s n c g =
-    on_made h (λ e read same. made (by_start t R i letter _ s (goes_on n (goes_on c read))) same)
-referred t R i f view (Err e) h s n c g =
+pub referred : {S X : Type 0} (v : S → X) (t : List ℕ) (R : Family) (i : ℕ) (f : InlineTree Span → ExpressionTree X)
+    (old new : List (PatternElement S)) {name : Span} {a : MaybeArguments Span} {m j : ℕ} (r : Result ℕ ReadFault) →
+    Pushes v t f (named_reference t name a) old new j r → letter ≡ start t i → identifier t i (Read name m) →
+    call_arguments t R m (Read a j) → IsFunctionalFamily R → Pushes v t f (inline_expression t R) old new i r
+referred v t R i f old new (Ok k) (e, read, added) s n c g =
+    (e, by_start t R i letter _ s (goes_on n (goes_on c read)), added)
+referred v t R i f old new (Err e) h s n c g =
     fails_seen (inline_of t R) letter s
     (fails_next (functional_identifier t) n (fails_next (functional_call t R g) c h))

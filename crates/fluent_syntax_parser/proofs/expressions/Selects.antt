@@ -3,31 +3,32 @@ use Rattle.std.proofs.Common.{◌≡◌, ◌∙◌, ℕ, ◌+◌, List, Option, 
 use Rattle.std.specs.Prelude.{Result, Ok, Err}
 use Rattle.fluent_syntax_tree.specs.Kind.{Kind}
 use Rattle.fluent_syntax_tree.specs.Tree.{ExpressionTree, InlineTree, VariantTrees, inline_map, select}
+use Rattle.fluent_syntax_tree.specs.declared.ast.PatternElement.{PatternElement}
 use Rattle.fluent_syntax_tree.specs.declared.edition.Edition.{Edition}
 use Rattle.fluent_syntax_tree.specs.declared.spans.Span.{Span}
 use Rattle.fluent_syntax_grammar.specs.Construct.{Outcome, Read, Refused, stops, goes_on, given, failed, passed}
 use Rattle.fluent_syntax_grammar.specs.Construct.{chosen, first}
 use Rattle.fluent_syntax_grammar.specs.Family.{Family}
 use Rattle.fluent_syntax_grammar.specs.Inline.{inline_expression}
-use Rattle.fluent_syntax_grammar.specs.Placeables.{expression, has_arrow, select_with, selector_fault}
-use Rattle.fluent_syntax_grammar.specs.Placeables.{variants_of_select}
+use Rattle.fluent_syntax_grammar.specs.Expressions.{expression, has_arrow, select_with, selector_fault}
+use Rattle.fluent_syntax_grammar.specs.Expressions.{variants_of_select}
 use Rattle.fluent_syntax_grammar.specs.Places.{Blank}
 use Rattle.fluent_syntax_grammar.specs.Laws.{IsFunctional}
 use Rattle.fluent_syntax_grammar.proofs.Functional.{functional_bind, functional_fails}
 use Rattle.fluent_syntax_grammar.proofs.FunctionalRules.{IsFunctionalFamily, functional_inline}
 use Rattle.fluent_syntax_grammar.proofs.FunctionalWords.{functional_blank, functional_inline_blank}
-use Rattle.fluent_syntax_parser.specs.Made.{Parses, made}
+use Rattle.fluent_syntax_parser.specs.Last.{Pushes}
 use Rattle.fluent_syntax_parser.specs.Outcomes.{Fails, no_memory, refused, too_deep}
 use Rattle.fluent_syntax_parser.specs.Selects.{arrow_variants, select_start}
 use Rattle.fluent_syntax_parser.specs.declared.fault.ReadFault.{ReadFault}
 use Rattle.fluent_syntax_parser.proofs.readers.Fails.{fails_next, fails_yes}
 use Rattle.fluent_syntax_parser.proofs.readers.Fails.{functional_arrow_end, functional_look, functional_steps}
-use Rattle.fluent_syntax_parser.proofs.readers.Made.{on_made, same_selector_fault}
+use Rattle.fluent_syntax_parser.proofs.readers.Made.{same_selector_fault}
 
 -- what is no selector
-pub no_select_start : (t : List ℕ) (i : ℕ) (fault : Option Kind) (kind : Kind) → fault ≡ Some kind →
+pub non_selector_refused : (t : List ℕ) (i : ℕ) (fault : Option Kind) (kind : Kind) → fault ≡ Some kind →
     select_start t fault i (Refused kind i (i + 1))
-no_select_start t i fault kind is =
+non_selector_refused t i fault kind is =
     subst (λ x. select_start t x i (Refused kind i (i + 1))) (sym is) (failed refl)
 
 -- what is one
@@ -94,13 +95,14 @@ module _ (edition : Edition) (t : List ℕ) (R : Family) (e : InlineTree Span) (
     select_fails {f = f} h = subst (λ x. Fails t (select_with edition t R e x) i f) is (fails_from_arrow fault h)
 
 -- The rest of an expression behind which an arrow stands, by its select.
-pub behind_blank : {B X : Type 0} (edition : Edition) (t : List ℕ) (R : Family) (f : ExpressionTree Span → B)
-    (view : X → B) {i j k : ℕ} {e : InlineTree Span} (r : Result (X × ℕ) ReadFault) →
-    inline_expression t R i (Read e j) → Blank t j k → has_arrow t k ≡ true → IsFunctionalFamily R →
-    Parses t f (select_with edition t R e (selector_fault e)) view k r → Parses t f (expression edition t R) view i r
-behind_blank edition t R f view (Ok x) read blank arrow g h = on_made h (λ b there same. made
-    (goes_on read (goes_on (passed blank) (goes_on (chosen given) (first arrow there)))) same)
-behind_blank edition t R f view (Err _) read blank arrow g h =
+pub behind_blank : {S X : Type 0} (v : S → X) (edition : Edition) (t : List ℕ) (R : Family)
+    (f : ExpressionTree Span → ExpressionTree X) (old new : List (PatternElement S)) {i j k : ℕ} {e : InlineTree Span}
+    (r : Result ℕ ReadFault) → inline_expression t R i (Read e j) → Blank t j k → has_arrow t k ≡ true →
+    IsFunctionalFamily R → Pushes v t f (select_with edition t R e (selector_fault e)) old new k r →
+    Pushes v t f (expression edition t R) old new i r
+behind_blank v edition t R f old new (Ok x) read blank arrow g (b, there, added) =
+    (b, goes_on read (goes_on (passed blank) (goes_on (chosen given) (first arrow there))), added)
+behind_blank v edition t R f old new (Err _) read blank arrow g h =
     fails_next (functional_inline t R g) read
     (fails_next (functional_blank t) (passed blank)
     (fails_next (functional_look (has_arrow t)) (chosen given)

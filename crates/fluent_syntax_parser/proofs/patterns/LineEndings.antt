@@ -1,7 +1,7 @@
 -- Endings of lines.
 use Rattle.std.proofs.Common.{◌≡◌, ℕ, ◌+◌, List, Option, Some, None, refl, sym, subst}
 use Rattle.std.specs.Prelude.{◌==◌, if◌then◌else◌}
-use Rattle.fluent_syntax_grammar.specs.Construct.{Outcome, Read, at_each, goes_on, given, passed, chosen, at_place}
+use Rattle.fluent_syntax_grammar.specs.Construct.{Outcome, Read, peek, goes_on, given, passed, chosen, at_place}
 use Rattle.fluent_syntax_grammar.specs.Layout.{text_end, lf_at, crlf_at}
 use Rattle.fluent_syntax_grammar.specs.Family.{Family}
 use Rattle.fluent_syntax_grammar.specs.Layout as layout
@@ -22,5 +22,5 @@ module _ (t : List ℕ) where
 
   -- a layout, by the line end at its place
   pub by_eol : (R : Family) (i : ℕ) (x : Option ℕ) (o : Outcome layout.Layout) → x ≡ after_eol t i →
-      layout_at t R x i o → at_each (after_eol t) (layout_at t R) i o
+      layout_at t R x i o → peek (after_eol t) (layout_at t R) i o
   by_eol R i x o e h = chosen (subst (λ x. layout_at t R x i o) e h)

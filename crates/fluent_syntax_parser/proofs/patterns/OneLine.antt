@@ -19,7 +19,7 @@ use Rattle.fluent_syntax_grammar.specs.Layout.{Layout, Line, Piece, common_inden
 use Rattle.fluent_syntax_grammar.specs.Layout.{crlf_at, text_end as text_end'}
 use Rattle.fluent_syntax_grammar.specs.Lines.{is_run_place, more_lines, more_pieces, next_piece, text_run, ending}
 use Rattle.fluent_syntax_grammar.specs.Patterns.{layout_at, layout, pattern}
-use Rattle.fluent_syntax_grammar.specs.Places.{BlankBlock, Stretch, after_eol, has_byte, has_eol, InlineBlank}
+use Rattle.fluent_syntax_grammar.specs.Places.{BlankBlock, LongestRun, after_eol, has_byte, has_eol, InlineBlank}
 use Rattle.fluent_syntax_grammar.proofs.Facts.{left_true, byte_found}
 use Rattle.fluent_syntax_grammar.proofs.Tests.{without}
 use Rattle.fluent_syntax_grammar.proofs.LineEnds.{eol_none}
@@ -45,7 +45,7 @@ cut_behind t [] ys none = none
 cut_behind t (x ∷ xs) ys none = ap (cut_before t x) (cut_behind t xs ys none)
 
 module _ (t : List ℕ) where
-  module _ (start to : ℕ) (w : Stretch (is_run_place t) start to) (some : start < to) where
+  module _ (start to : ℕ) (w : LongestRun (is_run_place t) start to) (some : start < to) where
     first_byte : (b : ℕ) × (slice_get t start ≡ Some b) × (not (b == lf || b == left_brace || b == right_brace) ≡ true)
     first_byte =
         byte_found (λ b. not (b == lf || b == left_brace || b == right_brace)) (slice_get t start)
@@ -67,22 +67,19 @@ module _ (t : List ℕ) where
     opens_there = eol_none (has_byte t lf start) _ _ _ (start_eol)
 
 module _ (t : List ℕ) (R : Family) where
-  run_piece : (i j b : ℕ) (ps : List Piece) (end : ℕ) → slice_get t i ≡ Some b →
-      not (b == lf || b == left_brace || b == right_brace) ≡ true → has_eol t i ≡ false → Stretch (is_run_place t) i j →
-      more_pieces t R j (Read ps end) → more_pieces t R i (Read (run' i j ∷ ps) end)
-  run_piece i j b ps end e test eol w h =
+  run_piece : (i j b : ℕ) → slice_get t i ≡ Some b → not (b == lf || b == left_brace || b == right_brace) ≡ true →
+      has_eol t i ≡ false → LongestRun (is_run_place t) i j → next_piece t R i (Read (item (run' i j) tt) j)
+  run_piece i j b e test eol w =
       let close : (b == right_brace) ≡ false = grind (arith, nat_tests) in
       let opening : (b == left_brace) ≡ false = grind (arith, nat_tests) in
       let run : text_run t i (Read (run' i j) j) = goes_on at_place (goes_on (passed w) (goes_on at_place given)) in
-      let piece : next_piece t R i (Read (item (run' i j) tt) j) =
-      chosen (rw e (chosen (second eol (second close (second opening (goes_on run given)))))) in
-      item_and_more piece h
+      chosen (rw e (chosen (second eol (second close (second opening (goes_on run given))))))
 
-  run_before : (start to : ℕ) → Stretch (is_run_place t) start to → start < to → (ps : List Piece) (end : ℕ) →
-      more_pieces t R to (Read ps end) → more_pieces t R start (Read (run' start to ∷ ps) end)
-  run_before start to w some ps end pieces =
+  pub run_item : (start to : ℕ) → LongestRun (is_run_place t) start to → start < to →
+      next_piece t R start (Read (item (run' start to) tt) to)
+  run_item start to w some =
       let f = first_byte t start to w some in
-      run_piece start to f.0 ps end f.1 f.2 (start_eol t start to w some) w pieces
+      run_piece start to f.0 f.1 f.2 (start_eol t start to w some) w
 
   -- ---- a line that ends
 
@@ -155,7 +152,7 @@ module _ (edition : Edition) (t : List ℕ) (n : ℕ) where
 
   -- ---- a pattern of one text
 
-  module _ (start to : ℕ) (w : Stretch (is_run_place t) start to) (some : start < to) where
+  module _ (start to : ℕ) (w : LongestRun (is_run_place t) start to) (some : start < to) where
     pub short_read : (ptr stop next end : ℕ) → InlineBlank t ptr start → EndsLine t to stop next → to ≤ stop →
         stop ≤ length t → EndsBlank edition t next end →
         pattern edition t R ptr
@@ -163,7 +160,7 @@ module _ (edition : Edition) (t : List ℕ) (n : ℕ) where
     short_read ptr stop next end blank line l within lines =
         let stays = run_nonblank t start to w some ptr stop blank l within in
         let ended = line_ended t R to stop next line in
-        let pieces = run_before t R start to w some [] to ended.pieces in
+        let pieces = item_and_more (run_item t R start to w some) ended.pieces in
         let read = opening_read start (opens_there t start to w some)
         (run' start to ∷ []) to pieces ended.ends_by next ended.ends ptr end
         blank lines in

@@ -6,15 +6,15 @@ use Rattle.std.proofs.lemmas.Bool.Decides.{nat_tests}
 use Rattle.std.proofs.lemmas.Option.{slice_get-get_or}
 use Rattle.fluent_syntax_tree.specs.Kind.{UnbalancedClosingBrace}
 use Rattle.fluent_syntax_grammar.specs.Bytes.{lf, left_brace, right_brace}
-use Rattle.fluent_syntax_grammar.specs.Construct.{Outcome, Read, Refused, ◌>>=◌, gives, goes_on, given, failed, passed}
+use Rattle.fluent_syntax_grammar.specs.Construct.{Outcome, Read, Refused, ◌>>=◌, yields, goes_on, given, failed, passed}
 use Rattle.fluent_syntax_grammar.specs.Construct.{chosen, first, second, at_place, More, no_item, item}
 use Rattle.fluent_syntax_grammar.specs.Family.{Family}
 use Rattle.fluent_syntax_grammar.specs.Layout.{Piece, run, placed, Ending, Line}
 use Rattle.fluent_syntax_grammar.specs.Lines.{is_run_place, next_piece, next_piece_at, text_run, ending, no_byte}
 use Rattle.fluent_syntax_grammar.specs.Lines.{belongs, line, more_pieces, next_line, other_line, own_line}
 use Rattle.fluent_syntax_grammar.specs.Nesting.{TooDeep}
-use Rattle.fluent_syntax_grammar.specs.Placeables.{placeable}
-use Rattle.fluent_syntax_grammar.specs.Places.{Stretch, holds, has_eol, InlineBlank}
+use Rattle.fluent_syntax_grammar.specs.Expressions.{placeable}
+use Rattle.fluent_syntax_grammar.specs.Places.{LongestRun, holds, has_eol, InlineBlank}
 use Rattle.fluent_syntax_grammar.proofs.Functional.{single_stretch}
 use Rattle.fluent_syntax_parser.specs.Outcomes.{Fails, no_memory, refused, too_deep}
 use Rattle.fluent_syntax_parser.specs.declared.fault.ReadFault.{ReadFault}
@@ -33,11 +33,11 @@ module _ (t : List ℕ) (R : Family) (i b : ℕ) (e : slice_get t i ≡ Some b) 
   bare_brace is = by_piece _ (chosen (second eol (first (rw is refl) (failed refl))))
 
   pub placed_piece : b ≡ left_brace → (o : Outcome (More Piece (Unit {0}))) →
-      (placeable t R >>= λ e. gives (item (placed e) tt)) i o → next_piece t R i o
+      (placeable t R >>= λ e. yields (item (placed e) tt)) i o → next_piece t R i o
   placed_piece is o h = by_piece o (chosen (second eol (second (rw is refl) (first (rw is refl) h))))
 
   pub placed_fails : b ≡ left_brace → {f : ReadFault} →
-      Fails t (placeable t R >>= λ e. gives {A = More Piece (Unit {0})} (item (placed e) tt)) i f →
+      Fails t (placeable t R >>= λ e. yields {A = More Piece (Unit {0})} (item (placed e) tt)) i f →
       Fails t (next_piece t R) i f
   placed_fails is h =
       fails_seen (next_piece_at t R) (Some b) (sym e)
@@ -50,7 +50,7 @@ module _ (t : List ℕ) (R : Family) (i b : ℕ) (e : slice_get t i ≡ Some b) 
     no_open : (b == left_brace) ≡ false
     no_open = grind (arith, nat_tests)
 
-    pub run_piece : (j : ℕ) → Stretch (is_run_place t) i j → next_piece t R i (Read (item (run i j) tt) j)
+    pub run_piece : (j : ℕ) → LongestRun (is_run_place t) i j → next_piece t R i (Read (item (run i j) tt) j)
     run_piece j w =
         let text : text_run t i (Read (run i j) j) = goes_on at_place (goes_on (passed w) (goes_on at_place given)) in
         by_piece _ (chosen (second eol (second no_close (second no_open (goes_on text given)))))
@@ -62,7 +62,7 @@ module _ (t : List ℕ) (R : Family) (i b : ℕ) (e : slice_get t i ≡ Some b) 
     run_there = run_test (slice_get t i) b (has_eol t i) e eol close opening no_line
 
 -- a stretch that begins with what it is of
-pub further : (test : ℕ → Bool) (i j : ℕ) → Stretch test i j → test i ≡ true → i < j
+pub further : (test : ℕ → Bool) (i j : ℕ) → LongestRun test i j → test i ≡ true → i < j
 further test i j w here =
     let apart : i ≡ j → ⊥ = λ same. true≢false (sym here ∙ ap test same ∙ w.longest) in
     omega (arith, w.forward, apart)
@@ -94,7 +94,7 @@ module _ (t : List ℕ) (R : Family) where
       goes_on at_place (goes_on (passed blank) (goes_on at_place (goes_on pieces (goes_on ends given))))
 
   own_too_deep : {i k : ℕ} → InlineBlank t i k → belongs t (nat_lt i k) k ≡ true → {b : ℕ} → slice_get t k ≡ Some b →
-      TooDeep (line t R >>= λ l. gives {A = More Line (Unit {0})} (item l tt)) i → TooDeep (next_line t R) i
+      TooDeep (line t R >>= λ l. yields {A = More Line (Unit {0})} (item l tt)) i → TooDeep (next_line t R) i
   own_too_deep {i = i} {k = k} w own e h o (no_byte {k = m} v none) =
       let same : m ≡ k = single_stretch.same i m k v w in
       let f = rw same at none in cc
@@ -104,7 +104,7 @@ module _ (t : List ℕ) (R : Family) where
   own_too_deep w own e h o (own_line v there is x) = h o x
 
   pub own_line_fails : {i k b : ℕ} → InlineBlank t i k → slice_get t k ≡ Some b → belongs t (nat_lt i k) k ≡ true →
-      {f : ReadFault} → Fails t (line t R >>= λ l. gives {A = More Line (Unit {0})} (item l tt)) i f →
+      {f : ReadFault} → Fails t (line t R >>= λ l. yields {A = More Line (Unit {0})} (item l tt)) i f →
       Fails t (next_line t R) i f
   own_line_fails w e own (refused h) = refused (λ k from to s. own_line w e own (h k from to s))
   own_line_fails w e own (too_deep h) = too_deep (own_too_deep w own e h)

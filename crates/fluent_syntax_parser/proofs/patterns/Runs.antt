@@ -5,7 +5,7 @@ use Rattle.std.specs.Prelude.{slice_get, ◌&&◌, ◌||◌, ◌==◌, ◌⊎◌
 use Rattle.std.proofs.lemmas.Bool.{false≢true}
 use Rattle.std.proofs.lemmas.Bool.Decides.{nat_tests}
 use Rattle.fluent_syntax_grammar.specs.Bytes.{lf, cr, left_brace, right_brace}
-use Rattle.fluent_syntax_grammar.specs.Places.{Stretch, holds, has, has_byte, Word}
+use Rattle.fluent_syntax_grammar.specs.Places.{LongestRun, holds, has, has_byte, ByteRun}
 use Rattle.fluent_syntax_grammar.specs.Lines.{is_run_place}
 use Rattle.fluent_syntax_grammar.proofs.Tests.{and_right}
 use Rattle.fluent_syntax_grammar.specs.Lanes.{is_passed}
@@ -19,7 +19,7 @@ passed_no_lf : (o : Option ℕ) → holds is_passed o ≡ true → holds (λ c. 
 passed_no_lf None e = refl
 passed_no_lf (Some b) e = grind (arith, nat_tests)
 
-module _ (t : List ℕ) (i m : ℕ) (word : Word t is_passed i m) where
+module _ (t : List ℕ) (i m : ℕ) (word : ByteRun t is_passed i m) where
   ends_run : (x : Bool) (o : Option ℕ) → holds is_passed o ≡ false →
       (holds (λ b. not (b == lf || b == left_brace || b == right_brace)) o && x) ≡ false
   ends_run x o e = rw e refl
@@ -37,7 +37,7 @@ module _ (t : List ℕ) (i m : ℕ) (word : Word t is_passed i m) where
   split k l = grind arith
 
   -- no CRLF ends the search
-  pub run_to : (i < m → (has_byte t cr (m - 1) && has_byte t lf m) ≡ false) → Stretch (is_run_place t) i m
+  pub run_to : (i < m → (has_byte t cr (m - 1) && has_byte t lf m) ≡ false) → LongestRun (is_run_place t) i m
   run_to last = record {
     forward = word.forward;
     each = λ k l r. inside k l r
@@ -53,7 +53,7 @@ module _ (t : List ℕ) (i m : ℕ) (word : Word t is_passed i m) where
 
   -- a CRLF ends it, at its LF
   pub run_before_crlf : i < m → has_byte t cr (m - 1) ≡ true → has_byte t lf m ≡ true →
-      Stretch (is_run_place t) i (m - 1)
+      LongestRun (is_run_place t) i (m - 1)
   run_before_crlf l e f =
       let next : m - 1 + 1 ≡ m = omega arith in
       record {

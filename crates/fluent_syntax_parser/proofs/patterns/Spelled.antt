@@ -1,28 +1,29 @@
 -- The elements that are made of a layout.
-use Rattle.std.proofs.Common.{◌≡◌, ℕ, List, [], ◌∷◌, ◌++◌, map, Option, Some, None, option_map, refl, sym, ap, ◌∙◌}
+use Rattle.std.proofs.Common.{◌≡◌, ℕ, List, [], ◌∷◌, ◌++◌, append_assoc, map, Some, None, option_map, refl, sym, ap, ◌∙◌}
 use Rattle.std.specs.List.{flat_map}
+use Rattle.std.proofs.lemmas.List.{append-nil}
 use Rattle.fluent_syntax_tree.specs.Tree.{ElementTree, ExpressionTree, expression_map, text_element, placeable}
 use Rattle.fluent_syntax_tree.specs.Tree.{elements_of, elements, element_map, pattern_map}
 use Rattle.fluent_syntax_tree.specs.View.{element_view, pattern_view}
 use Rattle.fluent_syntax_tree.proofs.Views.{view-Pattern}
 use Rattle.fluent_syntax_tree.specs.declared.ast.Pattern.{Pattern}
+use Rattle.fluent_syntax_tree.specs.declared.ast.PatternElement.{PatternElement}
 use Rattle.fluent_syntax_tree.specs.declared.edition.Edition.{Edition}
 use Rattle.fluent_syntax_tree.specs.declared.spans.Span.{Span}
 use Rattle.fluent_syntax_grammar.specs.Elements as grammar
-use Rattle.fluent_syntax_grammar.specs.Elements.{if_any, pattern_of, trimmed_end, Item, ItemOf, items, text, filled}
+use Rattle.fluent_syntax_grammar.specs.Elements.{if_any, Item, ItemOf, items, text, filled}
 use Rattle.fluent_syntax_grammar.specs.Elements.{cut, line_items, opening_items}
-use Rattle.fluent_syntax_grammar.specs.Layout.{Layout, least, counted}
-use Rattle.fluent_syntax_parser.specs.Elements.{element_of, item_view, last_of}
+use Rattle.fluent_syntax_grammar.specs.Layout.{Layout, LineOf, PieceOf, least, counted}
+use Rattle.fluent_syntax_parser.specs.Elements.{element_of, last_of, spelled}
 use Rattle.fluent_syntax_parser.specs.Layouts.{item_of, line_of}
-use Rattle.fluent_syntax_parser.specs.Lines.{line_view}
-use Rattle.fluent_syntax_parser.specs.declared.pattern.line.Line.{Line}
-use Rattle.fluent_syntax_parser.specs.declared.pattern.line.Piece.{Piece}
+use Rattle.fluent_syntax_parser.specs.Opened.{Settled, as_item}
 use Rattle.fluent_syntax_parser.proofs.patterns.Layouts.{common_mapped, cut_mapped, items_mapped}
+use Rattle.fluent_syntax_parser.proofs.patterns.Settled.{settled_spelled}
 
-if_some : {X : Type 0} (xs : List (ElementTree X)) (x : ElementTree X) →
-    if_any (xs ++ x ∷ []) ≡ Some (elements_of (xs ++ x ∷ []))
-if_some [] x = refl
-if_some (y ∷ ys) x = refl
+some_of : {S X : Type 0} (v : S → X) (xs : List (PatternElement S)) → (xs ≡ [] → ⊥) →
+    Some (elements_of (map (element_view v) xs)) ≡ if_any (map (element_view v) xs)
+some_of v [] some = absurd (some refl)
+some_of v (x ∷ xs) some = refl
 
 module _ {X : Type 0} (f : Span → X) where
   elements_map : (es : List (ElementTree Span)) →
@@ -30,25 +31,25 @@ module _ {X : Type 0} (f : Span → X) where
   elements_map [] = refl
   elements_map (e ∷ es) = ap (elements (element_map f e)) (elements_map es)
 
-  pub any_of : (es : List (ElementTree Span)) →
+  any_of : (es : List (ElementTree Span)) →
       option_map (pattern_map f) (if_any es) ≡ if_any (map (element_map f) es)
   any_of [] = refl
   any_of (e ∷ es) = ap Some (elements_map (e ∷ es))
 
-no_item_of : {X : Type 0} (f : Span → X) (xs : List Item) → map (item_of f) xs ≡ [] → xs ≡ []
-no_item_of f [] e = refl
-no_item_of f (x ∷ xs) e = cc
+  -- the pattern that elements are, if there are some
+  module _ {S : Type 0} (v : S → X) (es : List (ElementTree Span)) where
+    pub none_spelled : (xs : List (PatternElement S)) → map (element_view v) xs ≡ map (element_map f) es → xs ≡ [] →
+        None ≡ option_map (pattern_map f) (if_any es)
+    none_spelled xs made none = sym (any_of es ∙ ap if_any (sym made) ∙ ap (λ ys. if_any (map (element_view v) ys)) none)
+
+    pub some_spelled : (p : Pattern S) → map (element_view v) p.elements.items ≡ map (element_map f) es →
+        (p.elements.items ≡ [] → ⊥) → Some (pattern_view v p) ≡ option_map (pattern_map f) (if_any es)
+    some_spelled p made some =
+        ap Some (view-Pattern v p) ∙ some_of v p.elements.items some ∙ ap if_any made ∙ sym (any_of es)
 
 module _ {X : Type 0} (f : Span → X) (t : List ℕ) where
-  -- the elements of the items
-  abbrev spelled : List (ItemOf (ExpressionTree X)) → List (ElementTree X)
-  spelled [] = []
-  spelled (text from to ∷ []) = text_element (f (record { start = from; end = trimmed_end t from to })) ∷ []
-  spelled (text from to ∷ x ∷ xs) = text_element (f (record { start = from; end = to })) ∷ spelled (x ∷ xs)
-  spelled (filled e ∷ xs) = placeable e ∷ spelled xs
-
   spelled_of : (xs : List Item) →
-      map (element_map f) (grammar.spelled t xs) ≡ spelled (map (item_of f) xs)
+      map (element_map f) (grammar.spelled t xs) ≡ spelled f t (map (item_of f) xs)
   spelled_of [] = refl
   spelled_of (text from to ∷ []) = refl
   spelled_of (text from to ∷ text a b ∷ xs) =
@@ -58,7 +59,7 @@ module _ {X : Type 0} (f : Span → X) (t : List ℕ) where
   spelled_of (filled e ∷ xs) = ap (λ zs. element_map f (placeable e) ∷ zs) (spelled_of xs)
 
   spelled_end : (xs : List (ItemOf (ExpressionTree X))) (x : ItemOf (ExpressionTree X)) →
-      spelled (xs ++ x ∷ []) ≡ map (element_of f) xs ++ last_of f t x ∷ []
+      spelled f t (xs ++ x ∷ []) ≡ map (element_of f) xs ++ last_of f t x ∷ []
   spelled_end [] (text from to) = refl
   spelled_end [] (filled e) = refl
   spelled_end (text from to ∷ []) x =
@@ -67,47 +68,35 @@ module _ {X : Type 0} (f : Span → X) (t : List ℕ) where
       ap (λ zs. text_element (f (record { start = from; end = to })) ∷ zs) (spelled_end (y ∷ ys) x)
   spelled_end (filled e ∷ xs) x = ap (λ zs. placeable e ∷ zs) (spelled_end xs x)
 
-  -- what the grammar's layout spells, by the items that are left of it
-  spells : (edition : Edition) (y : Layout) →
-      option_map (pattern_map f) (pattern_of edition t y)
-      ≡ if_any (spelled (map (item_of f) (cut t (items edition y))))
-  spells edition y =
-      any_of f (grammar.spelled t (cut t (items edition y)))
-      ∙ ap if_any (spelled_of (cut t (items edition y)))
+  -- what is added for items that were cut
+  module _ (zs : List (ItemOf (ExpressionTree X))) (es : List (ElementTree X)) where
+    pub none_added : cut t zs ≡ [] → es ≡ es ++ spelled f t (cut t zs)
+    none_added none = sym (ap (λ xs. es ++ spelled f t xs) none ∙ append-nil es)
 
-  module _ {S : Type 0} (v : S → X) (edition : Edition) (opening : List (Piece S)) (lines : List (Line S))
-      (common : Option ℕ) (all : List (Piece S))
-      (indent : common ≡ least (flat_map (counted edition) (map (line_view v) lines)))
-      (made : map (item_view v) all
-      ≡ map (item_view v) opening ++ flat_map (line_items edition common) (map (line_view v) lines))
-      (y : Layout) (same_opening : map (item_view v) opening ≡ opening_items (option_map (line_of f) y.opening))
-      (same_lines : map (line_view v) lines ≡ map (line_of f) y.lines) where
-    all_items : map (item_view v) all ≡ map (item_of f) (items edition y)
-    all_items =
-        made
-        ∙ ap (λ c. map (item_view v) opening ++ flat_map (line_items edition c) (map (line_view v) lines))
-        (indent ∙ ap (λ ls. least (flat_map (counted edition) ls)) same_lines
-        ∙ common_mapped (expression_map f) edition y)
-        ∙ rw (same_opening, same_lines) refl
-        ∙ items_mapped (expression_map f) edition y
+    pub some_added : (xs : List (ItemOf (ExpressionTree X))) (x : ItemOf (ExpressionTree X)) →
+        cut t zs ≡ xs ++ x ∷ [] →
+        (es ++ map (element_of f) xs) ++ last_of f t x ∷ [] ≡ es ++ spelled f t (cut t zs)
+    some_added xs x cuts =
+        append_assoc es (map (element_of f) xs) (last_of f t x ∷ [])
+        ∙ ap (λ ys. es ++ ys) (sym (spelled_end xs x) ∙ ap (spelled f t) (sym cuts))
 
-    all_cut : cut t (map (item_view v) all) ≡ map (item_of f) (cut t (items edition y))
-    all_cut = ap (cut t) all_items ∙ cut_mapped (expression_map f) t (items edition y)
-
-    pub none_spelled : cut t (map (item_view v) all) ≡ [] →
-        None ≡ option_map (pattern_map f) (pattern_of edition t y)
-    none_spelled none =
-        let left = no_item_of f (cut t (items edition y)) (sym all_cut ∙ none) in
-        ap (λ xs. option_map (pattern_map f) (if_any (grammar.spelled t xs))) (sym left)
-
-    pub some_spelled : (left : List (Piece S)) (last : Piece S) (pattern : Pattern S) →
-        cut t (map (item_view v) all) ≡ map (item_view v) left ++ item_view v last ∷ [] →
-        map (element_view v) pattern.elements.items
-        ≡ map (element_of f) (map (item_view v) left) ++ last_of f t (item_view v last) ∷ [] →
-        Some (pattern_view v pattern) ≡ option_map (pattern_map f) (pattern_of edition t y)
-    some_spelled left last pattern cuts made_of =
-        ap Some (view-Pattern v pattern ∙ ap elements_of made_of)
-        ∙ sym (if_some (map (element_of f) (map (item_view v) left)) (last_of f t (item_view v last)))
-        ∙ ap if_any (sym (spelled_end (map (item_view v) left) (item_view v last)))
-        ∙ ap (λ xs. if_any (spelled xs)) (sym cuts ∙ all_cut)
-        ∙ sym (spells edition y)
+  -- the elements of a layout: those of its opening line up to the last placeable there, and those of the rest
+  pub layout_spelled : (edition : Edition) (y : Layout) {ps : List (PieceOf (ExpressionTree X))} → Settled ps →
+      (rest : List (ItemOf (ExpressionTree X))) → opening_items (option_map (line_of f) y.opening) ≡ map as_item ps ++ rest →
+      (seen : List (LineOf (ExpressionTree X))) → seen ≡ map (line_of f) y.lines →
+      map (element_of f) (map as_item ps)
+      ++ spelled f t (cut t (rest ++ flat_map (line_items edition (least (flat_map (counted edition) seen))) seen))
+      ≡ map (element_map f) (grammar.spelled t (cut t (items edition y)))
+  layout_spelled edition y {ps = ps} settled rest opening seen lines =
+      let behind = flat_map (line_items edition (least (flat_map (counted edition) seen))) seen in
+      let first = opening_items (option_map (line_of f) y.opening) in
+      sym (settled_spelled f t settled (rest ++ behind))
+      ∙ ap (λ xs. spelled f t (cut t xs))
+      (sym (append_assoc (map as_item ps) rest behind)
+      ∙ ap (λ xs. xs ++ behind) (sym opening)
+      ∙ ap (λ ls. first ++ flat_map (line_items edition (least (flat_map (counted edition) ls))) ls) lines
+      ∙ ap (λ common. first ++ flat_map (line_items edition common) (map (line_of f) y.lines))
+      (common_mapped (expression_map f) edition y)
+      ∙ items_mapped (expression_map f) edition y)
+      ∙ ap (spelled f t) (cut_mapped (expression_map f) t (items edition y))
+      ∙ sym (spelled_of (cut t (items edition y)))

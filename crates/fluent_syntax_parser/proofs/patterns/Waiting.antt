@@ -46,28 +46,6 @@ module _ {E : Type 0} where
         ∙ flush xs pending (placed e) ps
         ∙ ap (λ qs. xs ++ with_ending (pending_run pending qs) end) (sym (placed_leads led e ps))
 
-  -- ---- the line on which a pattern opens: its pieces are items, but for the last one
-
-  abbrev pub as_item : PieceOf E → ItemOf E
-  as_item (run from to) = text from to
-  as_item (placed e) = filled e
-
-  pub run_last : (ps : List (PieceOf E)) (from to : ℕ) (end : Ending) →
-      with_ending (ps ++ run from to ∷ []) end ≡ map as_item ps ++ with_ending (run from to ∷ []) end
-  run_last [] from to end = refl
-  run_last (run a b ∷ []) from to end = refl
-  run_last (run a b ∷ run d e ∷ ps) from to end = ap (λ xs. text a b ∷ xs) (run_last (run d e ∷ ps) from to end)
-  run_last (run a b ∷ placed e ∷ ps) from to end = ap (λ xs. text a b ∷ xs) (run_last (placed e ∷ ps) from to end)
-  run_last (placed e ∷ ps) from to end = ap (λ xs. filled e ∷ xs) (run_last ps from to end)
-
-  pub placed_last : (ps : List (PieceOf E)) (x : E) (end : Ending) →
-      with_ending (ps ++ placed x ∷ []) end ≡ map as_item (ps ++ placed x ∷ []) ++ with_ending [] end
-  placed_last [] x end = refl
-  placed_last (run a b ∷ []) x end = refl
-  placed_last (run a b ∷ run d e ∷ ps) x end = ap (λ xs. text a b ∷ xs) (placed_last (run d e ∷ ps) x end)
-  placed_last (run a b ∷ placed e ∷ ps) x end = ap (λ xs. text a b ∷ xs) (placed_last (placed e ∷ ps) x end)
-  placed_last (placed e ∷ ps) x end = ap (λ xs. filled e ∷ xs) (placed_last ps x end)
-
   -- ---- a line, by whether it holds something
 
   kept_is : (common : Option ℕ) (l : LineOf E) → kept_place common l.start l.spaces ≡ common_indent_end common l

@@ -8,12 +8,12 @@ use Rattle.fluent_syntax_tree.specs.declared.edition.Edition.{Edition}
 use Rattle.fluent_syntax_tree.specs.declared.spans.Span.{Span}
 use Rattle.fluent_syntax_grammar.specs.Arguments.{call_arguments, more_arguments}
 use Rattle.fluent_syntax_grammar.specs.Bytes.{left_brace, left_parenthesis}
-use Rattle.fluent_syntax_grammar.specs.Construct.{Outcome, Construct, Read, Refused, ◌>>=◌, stops, goes_on, over}
-use Rattle.fluent_syntax_grammar.specs.Construct.{passed, either, first, second, at_each, chosen, gives, here}
+use Rattle.fluent_syntax_grammar.specs.Construct.{Outcome, Construct, Read, Refused, ◌>>=◌, stops, goes_on, skip}
+use Rattle.fluent_syntax_grammar.specs.Construct.{passed, branch_on, first, second, peek, chosen, yields, here}
 use Rattle.fluent_syntax_grammar.specs.Grammar.{within}
 use Rattle.fluent_syntax_grammar.specs.Laws.{IsFunctional}
 use Rattle.fluent_syntax_grammar.specs.Nesting.{TooDeep}
-use Rattle.fluent_syntax_grammar.specs.Placeables.{arrow_line_end, expression, placeable}
+use Rattle.fluent_syntax_grammar.specs.Expressions.{arrow_line_end, expression, placeable}
 use Rattle.fluent_syntax_grammar.specs.Places.{Blank, Reaches, Steps, after_eol}
 use Rattle.fluent_syntax_grammar.specs.Variants.{only_star}
 use Rattle.fluent_syntax_grammar.specs.Tokens.{optional, token}
@@ -65,26 +65,26 @@ pub out_of_memory : {X : Type 0} (r : Result X ReadFault) → IsErrAnd r (λ f. 
 out_of_memory r e = let p = err_from_is_err_and r e in rw (p.1, p.2)
 
 pub fails_yes : {A : Type 0} {t : List ℕ} {test : Bool} {c d : Construct A} {i : ℕ} {f : ReadFault} → test ≡ true →
-    Fails t c i f → Fails t (either test c d) i f
+    Fails t c i f → Fails t (branch_on test c d) i f
 fails_yes e (refused h) = refused (λ k from to s. first e (h k from to s))
 fails_yes e (too_deep h) = too_deep (deeper_yes e h)
 fails_yes e no_memory = no_memory
 
 pub fails_no : {A : Type 0} {t : List ℕ} {test : Bool} {c d : Construct A} {i : ℕ} {f : ReadFault} → test ≡ false →
-    Fails t d i f → Fails t (either test c d) i f
+    Fails t d i f → Fails t (branch_on test c d) i f
 fails_no e (refused h) = refused (λ k from to s. second e (h k from to s))
 fails_no e (too_deep h) = too_deep (deeper_no e h)
 fails_no e no_memory = no_memory
 
 pub fails_at_each : {A B : Type 0} {t : List ℕ} {look : ℕ → A} {part : A → Construct B} {i : ℕ} {f : ReadFault} →
-    Fails t (part (look i)) i f → Fails t (at_each look part) i f
+    Fails t (part (look i)) i f → Fails t (peek look part) i f
 fails_at_each (refused h) = refused (λ k from to s. chosen (h k from to s))
 fails_at_each (too_deep h) = too_deep (deeper_at_each h)
 fails_at_each no_memory = no_memory
 
 -- by what was seen at the place
 pub fails_seen : {A B : Type 0} {t : List ℕ} {look : ℕ → A} (part : A → Construct B) {i : ℕ} {f : ReadFault} (a : A) →
-    a ≡ look i → Fails t (part a) i f → Fails t (at_each look part) i f
+    a ≡ look i → Fails t (part a) i f → Fails t (peek look part) i f
 fails_seen {t = t} part {i = i} {f = f} a e h = fails_at_each (subst (λ a. Fails t (part a) i f) e h)
 
 -- ---- parts with one outcome at most
@@ -92,19 +92,19 @@ fails_seen {t = t} part {i = i} {f = f} a e h = fails_at_each (subst (λ a. Fail
 pub functional_here : IsFunctional here
 functional_here = search functional depth 30
 
-pub functional_look : {A : Type 0} (look : ℕ → A) → IsFunctional (at_each look gives)
+pub functional_look : {A : Type 0} (look : ℕ → A) → IsFunctional (peek look yields)
 functional_look look = search functional depth 30
 
-pub functional_steps : {n : ℕ} → IsFunctional (over (Steps n))
+pub functional_steps : {n : ℕ} → IsFunctional (skip (Steps n))
 functional_steps = search functional depth 30
 
-pub functional_reaches : {k : ℕ} → IsFunctional (over (Reaches k))
+pub functional_reaches : {k : ℕ} → IsFunctional (skip (Reaches k))
 functional_reaches = search functional depth 30
 
 pub functional_star : (starred star : Bool) → IsFunctional (only_star starred star)
 functional_star starred star = search functional depth 30
 
-pub functional_arrow_end : (t : List ℕ) → IsFunctional (at_each (after_eol t) arrow_line_end)
+pub functional_arrow_end : (t : List ℕ) → IsFunctional (peek (after_eol t) arrow_line_end)
 functional_arrow_end t = functional_at_each functional_arrow
 
 -- ---- what stands inside, within one more
@@ -158,7 +158,7 @@ module _ (edition : Edition) (t : List ℕ) where
   -- ---- one that may not open
 
   deeper_over : {B : Type 0} {W : ℕ → ℕ → Type 0} {c : Unit {0} → Construct B} {i : ℕ} →
-      ((j : ℕ) → W i j → TooDeep (c tt) j) → TooDeep (over W >>= c) i
+      ((j : ℕ) → W i j → TooDeep (c tt) j) → TooDeep (skip W >>= c) i
   deeper_over h o (stops x) = elim x [ ]
   deeper_over h o (goes_on (passed {j = j} w) y) = h j w o y
 

@@ -3,7 +3,7 @@ use Rattle.std.proofs.Common.{◌≡◌, ℕ, Option, Some, None, option_map, re
 use Rattle.fluent_syntax_tree.specs.Tree.{InlineTree, inline_map, string_literal, number_literal, function_reference}
 use Rattle.fluent_syntax_tree.specs.Tree.{message_reference, term_reference, variable_reference, inline_placeable}
 use Rattle.fluent_syntax_grammar.specs.Construct.{Construct, Read}
-use Rattle.fluent_syntax_grammar.specs.Placeables.{is_term_attribute, selector_fault}
+use Rattle.fluent_syntax_grammar.specs.Expressions.{is_term_attribute, selector_fault}
 use Rattle.fluent_syntax_parser.specs.Made.{IsMade, made}
 
 module _ {A B : Type 0} {f : A → B} {c : Construct A} {i j : ℕ} {b : B} where

@@ -2,13 +2,13 @@
 use Rattle.std.proofs.Common.{ℕ, List, Option, Some, None, refl}
 use Rattle.std.specs.Prelude.{unwrap_or}
 use Rattle.fluent_syntax_grammar.specs.Construct.{Read, goes_on, given, at_place, passed}
-use Rattle.fluent_syntax_grammar.specs.Places.{is_line_place, Stretch}
+use Rattle.fluent_syntax_grammar.specs.Places.{is_line_place, LongestRun}
 use Rattle.fluent_syntax_grammar.specs.Tokens.{past_eol, rest_of_line}
 
 pub eol_passed : (o : Option ℕ) (i : ℕ) → past_eol o i (Read tt (unwrap_or o i))
 eol_passed None i = given
 eol_passed (Some k) i = passed (record { there = refl })
 
-pub line_rest : (t : List ℕ) (i j : ℕ) → Stretch (is_line_place t) i j →
+pub line_rest : (t : List ℕ) (i j : ℕ) → LongestRun (is_line_place t) i j →
     rest_of_line t i (Read (record { start = i; end = j }) j)
 line_rest t i j line = goes_on at_place (goes_on (passed line) (goes_on at_place given))

@@ -10,7 +10,7 @@ use Rattle.fluent_syntax_tree.specs.Spans.{bytes_at}
 use Rattle.fluent_syntax_tree.specs.declared.spans.Span.{Span}
 use Rattle.fluent_syntax_grammar.specs.Bytes.{is_letter, is_name_byte}
 use Rattle.fluent_syntax_grammar.specs.Construct.{Read, at_place, chosen, first, given, goes_on, passed, second}
-use Rattle.fluent_syntax_grammar.specs.Places.{Word, has}
+use Rattle.fluent_syntax_grammar.specs.Places.{ByteRun, has}
 use Rattle.fluent_syntax_grammar.specs.Tokens.{identifier, token}
 use Rattle.fluent_syntax_grammar.proofs.Facts.{has_inside}
 use Rattle.fluent_syntax_parser.specs.Outcomes.{name_text}
@@ -24,7 +24,8 @@ module _ (t : List ℕ) (p : ℕ → Bool) where
       ap p (get_or-drop i t k 0 ∙ ap (λ m. get_or t m 0) is) ∙ at_place_of b n inside e
 
   -- the longest run of bytes that pass a test
-  pub word_text : (i j : ℕ) → i ≤ length t → j ≤ length t → Word t p i j → slice_range t i j ≡ take_while p (drop i t)
+  pub word_text : (i j : ℕ) → i ≤ length t → j ≤ length t → ByteRun t p i j
+      → slice_range t i j ≡ take_while p (drop i t)
   word_text i j from within w =
       let size = length-drop i t in
       let long : prefix_len p (drop i t) ≡ j - i =
@@ -34,7 +35,7 @@ module _ (t : List ℕ) (p : ℕ → Bool) where
       ap (λ n. take n (drop i t)) (sym long)
 
   -- it ends within the text
-  word_within : (i j : ℕ) → i < length t → Word t p i j → j ≤ length t
+  word_within : (i j : ℕ) → i < length t → ByteRun t p i j → j ≤ length t
   word_within i zero inside w = omega arith
   word_within i (suc m) inside w =
       let last : i ≤ m → m < length t = λ l. has_inside p t m (w.each m l (omega arith)) in

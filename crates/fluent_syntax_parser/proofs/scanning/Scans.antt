@@ -6,7 +6,7 @@ use Rattle.std.proofs.lemmas.Bool.{cases_lt, not_from_false, not_from_true, fals
 use Rattle.std.proofs.lemmas.List.{get_or-take, length-take}
 use Rattle.std.proofs.lemmas.Option.{slice_get-get_or, slice_get_past}
 use Rattle.memchr.specs.Find.{Passes, NoneBefore, Nowhere, IsFirstByte}
-use Rattle.fluent_syntax_grammar.specs.Places.{has, Word}
+use Rattle.fluent_syntax_grammar.specs.Places.{has, ByteRun}
 
 module _ (t : List ℕ) (test : ℕ → Bool) (i : ℕ) (within : i ≤ length t) where
   -- the text from i on
@@ -43,7 +43,7 @@ module _ (t : List ℕ) (test : ℕ → Bool) (i : ℕ) (within : i ≤ length t
   ends_text = rw (slice_get_past t (length t) (omega arith)) refl
 
   -- the search has found nothing
-  scanned_all : Nowhere (Passes test rest) 0 (length rest) → Word t (λ b. not (test b)) i (length t)
+  scanned_all : Nowhere (Passes test rest) 0 (length rest) → ByteRun t (λ b. not (test b)) i (length t)
   scanned_all none =
       let e = length_rest in
       record {
@@ -54,7 +54,7 @@ module _ (t : List ℕ) (test : ℕ → Bool) (i : ℕ) (within : i ≤ length t
 
   -- the search has found a byte
   scanned_to : (len : ℕ) → NoneBefore (Passes test rest) 0 (length rest) len → Passes test rest len →
-      Word t (λ b. not (test b)) i (i + len)
+      ByteRun t (λ b. not (test b)) i (i + len)
   scanned_to len before here =
       let e = length_rest in
       let h = before.high in
@@ -64,16 +64,17 @@ module _ (t : List ℕ) (test : ℕ → Bool) (i : ℕ) (within : i ≤ length t
         longest = passes_at (i + len) (omega arith) (ap test (sym (at_rest len (omega arith))) ∙ here);
       }
 
-  pub scanned : (r : Option ℕ) → IsFirstByte test rest r → Word t (λ b. not (test b)) i (i + unwrap_or r (length rest))
+  pub scanned : (r : Option ℕ) → IsFirstByte test rest r
+      → ByteRun t (λ b. not (test b)) i (i + unwrap_or r (length rest))
   scanned None h =
       let e : length t ≡ i + length rest = omega (arith, length_rest) in
-      let P = λ (n : ℕ). Word t (λ b. not (test b)) i n in
+      let P = λ (n : ℕ). ByteRun t (λ b. not (test b)) i n in
       subst P e (scanned_all h)
   scanned (Some len) h = scanned_to len h.0 h.1
 
 -- A run that begins where all before passed begins with that.
 pub run_behind : (t : List ℕ) (test : ℕ → Bool) (i j m : ℕ) → i ≤ j →
-    ((k : ℕ) → i ≤ k → k < j → has t test k ≡ true) → Word t test j m → Word t test i m
+    ((k : ℕ) → i ≤ k → k < j → has t test k ≡ true) → ByteRun t test j m → ByteRun t test i m
 run_behind t test i j m ordered passed word = record {
   forward = omega (arith, ordered, word.forward);
   each = λ k from to. elim (cases_lt k j) [

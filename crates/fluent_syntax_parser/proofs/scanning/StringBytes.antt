@@ -7,7 +7,7 @@ use Rattle.std.proofs.lemmas.Fmt.{decimal_step, decimal_digit}
 use Rattle.std.proofs.lemmas.Bool.Decides.{nat_tests}
 use Rattle.fluent_syntax_grammar.specs.Bytes.{lf, backslash, double_quote, left_brace}
 use Rattle.fluent_syntax_grammar.specs.Construct.{Outcome, Read, passed, second}
-use Rattle.fluent_syntax_grammar.specs.Places.{holds, has, Word}
+use Rattle.fluent_syntax_grammar.specs.Places.{holds, has, ByteRun}
 use Rattle.fluent_syntax_grammar.specs.Strings.{string_unit, string_units, unit_and_more}
 use Rattle.fluent_syntax_parser.specs.Strings.{is_plain}
 
@@ -54,7 +54,8 @@ module _ (t : List ℕ) where
       unit_and_more (plain_no_quote (slice_get t i) here) (plain_is_unit i (slice_get t i) here)
       (plain_steps n (i + 1) j o (omega arith) (λ k l r. plain k (omega arith) r) rest)
 
-  pub plain_units : (i j : ℕ) (o : Outcome (Unit {0})) → Word t is_plain i j → string_units t j o → string_units t i o
+  pub plain_units : (i j : ℕ) (o : Outcome (Unit {0})) → ByteRun t is_plain i j → string_units t j o
+      → string_units t i o
   plain_units i j o w rest = plain_steps (j - i) i j o (omega (arith, w.forward)) w.each rest
 
   plain_stop : (b : ℕ) → is_plain b ≡ false → (b ≡ double_quote → ⊥) → (b ≡ backslash → ⊥) → b ≡ lf

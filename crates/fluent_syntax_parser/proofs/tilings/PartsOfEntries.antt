@@ -31,7 +31,7 @@ module _ (t : List ℕ) (edition : Edition) where
     record {
       tiles = some.0;
       tiled = some.1;
-      gives = refl;
+      yields = refl;
       errors_are =
           refl;
     },
@@ -42,7 +42,7 @@ module _ (t : List ℕ) (edition : Edition) where
     record {
       tiles = some.0;
       tiled = some.1;
-      gives = refl;
+      yields = refl;
       errors_are =
           refl;
     },
@@ -60,4 +60,4 @@ module _ (t : List ℕ) (edition : Edition) where
       entry_every (IsPart t) e
   parts_of_entry comments before e after errors utf8 rest =
       behind (IsPart t) before e after
-      (subst (body_every (IsPart t)) rest.gives (body_parts comments rest.tiles utf8 rest.tiled))
+      (subst (body_every (IsPart t)) rest.yields (body_parts comments rest.tiles utf8 rest.tiled))

@@ -7,7 +7,7 @@ use Rattle.fluent_syntax_tree.specs.Entry.{BodyTree, EntryTree, message, term, c
 use Rattle.fluent_syntax_tree.specs.declared.edition.Edition.{Edition}
 use Rattle.fluent_syntax_tree.specs.declared.errors.ParserError.{ParserError}
 use Rattle.fluent_syntax_tree.specs.declared.spans.Span.{Span}
-use Rattle.fluent_syntax_grammar.specs.Body.{alone, body, faults, attaches}
+use Rattle.fluent_syntax_grammar.specs.Body.{alone, body, faults, attached_entry}
 use Rattle.fluent_syntax_grammar.specs.Bytes.{hash}
 use Rattle.fluent_syntax_grammar.specs.Construct.{Outcome, Read}
 use Rattle.fluent_syntax_grammar.specs.Places.{BlankBlock, has_byte}
@@ -29,7 +29,7 @@ use Rattle.fluent_syntax_parser.specs.declared.options.Comments.TheVariants.{Kep
 
 -- ---- what a tile gives before others
 
-attaches_none : (x y : Tile) (e : EntryTree Span) → alone x ≡ e ∷ [] → may_attach e ≡ false → attaches x y ≡ None
+attaches_none : (x y : Tile) (e : EntryTree Span) → alone x ≡ e ∷ [] → may_attach e ≡ false → attached_entry x y ≡ None
 attaches_none (entry s (comment regular c)) y e same other =
     let is_comment : comment regular c ≡ e = cc in
     let may = ap may_attach is_comment in
@@ -66,14 +66,14 @@ module _ (t : List ℕ) (at : (i j : ℕ) → Tile → Type 0) where
 
 module _ (comments : Comments) (edition : Edition) (t : List ℕ) where
   pub none_left : (i : ℕ) → i ≡ length t → RestAt comments edition t i [] []
-  none_left i end = record { tiles = []; tiled_here = at_end end; gives = refl; errors_are = refl }
+  none_left i end = record { tiles = []; tiled_here = at_end end; yields = refl; errors_are = refl }
 
   pub rest_behind : (i j : ℕ) (entries : BodyTree Span) (errors : List (Option Fault)) → BlankBlock t i j →
       RestAt comments edition t j entries errors → Rest comments edition t i entries errors
   rest_behind i j entries errors block rest = record {
     tiles = rest.tiles;
     tiled = behind_block t (TileIn comments edition t (family edition t)) i j rest.tiles block rest.tiled_here;
-    gives = rest.gives;
+    yields = rest.yields;
     errors_are = rest.errors_are;
   }
 
@@ -101,7 +101,7 @@ module _ (edition : Edition) (t : List ℕ) (i j : ℕ) (inside : i < length t) 
   rest_dropped Dropped drop there line entries errors rest = record {
     tiles = dropped ∷ rest.tiles;
     tiled_here = at_tile inside (drops there line) rest.tiled;
-    gives = dropped_then rest.tiles ∙ rest.gives;
+    yields = dropped_then rest.tiles ∙ rest.yields;
     errors_are = rest.errors_are;
   }
 
@@ -114,7 +114,7 @@ module _ (edition : Edition) (t : List ℕ) (i j : ℕ) (inside : i < length t) 
       tiles = tile.tile ∷ rest.tiles;
       tiled_here = at_tile inside (in_mode comments edition t (family edition t) i j tile.tile none
           (at_any_depth edition t n i j tile.tile tile.stands)) rest.tiled;
-      gives = body_then tile.tile rest.tiles e tile.entry other ∙ ap (λ b. e ∷ b) rest.gives;
+      yields = body_then tile.tile rest.tiles e tile.entry other ∙ ap (λ b. e ∷ b) rest.yields;
       errors_are = rw (faults_then tile.tile rest.tiles, tile.errors, rest.errors_are) refl;
     }
 
@@ -129,7 +129,7 @@ module _ (edition : Edition) (t : List ℕ) (i j : ℕ) (inside : i < length t) 
           tiles = tile ∷ rest.tiles;
           tiled_here = at_tile inside
               (in_mode comments edition t (family edition t) i j tile none (reads read)) rest.tiled;
-          gives = body_then tile rest.tiles e refl other ∙ ap (λ b. e ∷ b) rest.gives;
+          yields = body_then tile rest.tiles e refl other ∙ ap (λ b. e ∷ b) rest.yields;
           errors_are = rest.errors_are;
         }
 
@@ -165,7 +165,7 @@ module _ (edition : Edition) (t : List ℕ) (n i j : ℕ) (inside : i < length t
       record {
         tiles = tile.tile ∷ behind.0;
         tiled_here = at_tile inside stands_there behind.1;
-        gives = ap (λ x. body (x ∷ behind.0)) is_comment ∙ behind.2;
+        yields = ap (λ x. body (x ∷ behind.0)) is_comment ∙ behind.2;
         errors_are = rw (faults_then tile.tile behind.0, tile.errors, behind.3) refl;
       }
   rest_comment Dropped none with_comment k after entries errors rest = absurd (is_no_bare_comment (none refl))

@@ -1,27 +1,30 @@
 //! Argument lists.
-ghost use Rattle.std.specs.Prelude.{◌≡◌, ◌-◌, ◌<◌, ◌≤◌, ◌++◌, ◌∷◌, [], length, IfOk, OnOk};
+ghost use Rattle.std.specs.Prelude.{◌≡◌, ◌-◌, ◌<◌, ◌≤◌, ◌++◌, ◌∷◌, [], List, length, IfOk, OnOk};
 ghost use Rattle.fluent_syntax_tree.specs.Spans.{bytes_at};
-ghost use Rattle.fluent_syntax_tree.specs.Tree.{arguments_map, inline, maybe_map};
+ghost use Rattle.fluent_syntax_tree.specs.Tree.{InlineTree, arguments_map, inline, maybe_map};
 ghost use Rattle.fluent_syntax_tree.specs.View.{arguments_view, inline_view};
 ghost use Rattle.fluent_syntax_tree.specs.declared.ast.InlineExpression.{InlineExpression};
 ghost use Rattle.fluent_syntax_tree.specs.declared.ast.NamedArgument.{NamedArgument};
+ghost use Rattle.fluent_syntax_tree.specs.declared.ast.PatternElement.{PatternElement};
 ghost use Rattle.fluent_syntax_grammar.specs.Arguments.{argument_value, is_used, more_arguments, separator};
-ghost use Rattle.fluent_syntax_grammar.specs.Construct.{Read, at_each};
+ghost use Rattle.fluent_syntax_grammar.specs.Construct.{Read, peek};
 ghost use Rattle.fluent_syntax_grammar.specs.Family.{call_arguments};
 ghost use Rattle.fluent_syntax_grammar.specs.Grammar.{within};
 ghost use Rattle.fluent_syntax_grammar.specs.Starts.{start};
-ghost use Rattle.fluent_syntax_parser.specs.Boxed.{boxed_expression_view, mapped_inline, IsInline};
+ghost use Rattle.fluent_syntax_parser.specs.Boxed.{mapped_inline};
 ghost use Rattle.fluent_syntax_parser.specs.Gathered.{maybe_view, names_in_order};
+ghost use Rattle.fluent_syntax_parser.specs.Last.{AddsPlaced, EndsInline, Pushes};
 ghost use Rattle.fluent_syntax_parser.specs.Made.{Parses};
 
 use crate::expression::argument_names::SeenNames;
+use crate::expression::last::{last_inline, take_inline};
 use crate::expression::starts::Start;
 use crate::fault::{Fault, ReadFault, Refusal};
 use crate::lists::add;
 use crate::reader::Reader;
 use crate::source::Source;
 use crate::texts::MakeTexts;
-use fluent_syntax_tree::ast::{CallArguments, Expression, InlineExpression, NamedArgument};
+use fluent_syntax_tree::ast::{CallArguments, InlineExpression, NamedArgument, PatternElement};
 use fluent_syntax_tree::spans::Span;
 use std::alloc::AllocError;
 
@@ -52,59 +55,61 @@ impl<'s> Source<'s> {
 }
 
 impl<'s, 't, M: MakeTexts> Reader<'s, 't, M> {
-    /// Adds a positional argument.
+    /// Takes off the inline expression that was read last, and adds it as a positional argument.
     #[inline(never)]
     fn add_positional(
         &self,
-        expression: Box<Expression<M::Text>>,
+        elements: &mut Vec<PatternElement<M::Text>>,
         positional: &mut Vec<InlineExpression<M::Text>>,
     ) -> Result<(), AllocError>
-        requires { IsInline M.made expression.value }
+        requires { EndsInline M.made elements.old.items }
         ensures { OnOk result ((argument : InlineExpression M.Text)
             × (positional.new.items ≡ positional.old.items ++ argument ∷ [])
-            × (boxed_expression_view M.made expression ≡ inline (inline_view M.made argument))) }
+            × ((old : List (PatternElement M.Text)) (tree : InlineTree _) →
+            AddsPlaced M.made old elements.old.items (inline tree) → inline_view M.made argument ≡ tree)) }
     {
-        add(positional, self.inline_of(expression))?;
-        Ok(())
+        add(positional, take_inline::<M>(elements))
     }
 
-    /// Adds a named argument.
+    /// Takes off the inline expression that was read last, and adds it as the value of a named argument.
     #[inline(never)]
     fn add_named(
         &self,
         name: Span,
-        value: Box<Expression<M::Text>>,
+        elements: &mut Vec<PatternElement<M::Text>>,
         named: &mut Vec<NamedArgument<M::Text>>,
     ) -> Result<(), AllocError>
-        requires { IsInline M.made value.value }
+        requires { EndsInline M.made elements.old.items }
         ensures { let f = M.source self.now.texts.now in OnOk result ((argument : NamedArgument M.Text)
             × (named.new.items ≡ named.old.items ++ argument ∷ []) × (M.made argument.name.name ≡ f name)
-            × (boxed_expression_view M.made value ≡ inline (inline_view M.made argument.value))) }
+            × ((old : List (PatternElement M.Text)) (tree : InlineTree _) →
+            AddsPlaced M.made old elements.old.items (inline tree) → inline_view M.made argument.value ≡ tree)) }
     {
         let name = self.identifier(name)?;
-        let value = self.inline_of(value);
-        add(named, NamedArgument { name, value })?;
-        Ok(())
+        let value = take_inline::<M>(elements);
+        add(named, NamedArgument { name, value })
     }
 
-    /// Reads the value of a named argument: a string, a number without `-`, a function or a message reference.
+    /// Reads the value of a named argument, and adds it: a string, a number without `-`, a function or a message
+    /// reference.
     #[cycle(readers)]
-    fn get_argument_value(
+    fn add_argument_value(
         &self,
         nesting: usize,
         ptr: usize,
-    ) -> Result<(Box<Expression<M::Text>>, usize), ReadFault>
+        elements: &mut Vec<PatternElement<M::Text>>,
+    ) -> Result<usize, ReadFault>
         requires { ptr ≤ length self.now.source.bytes.now }
         ensures parses { let t = self.now.source.bytes.now in
-            Parses t (mapped_inline (M.source self.now.texts.now))
-            (at_each (start t) (argument_value t (within self.now.edition t nesting))) (boxed_expression_view M.made)
-            ptr result }
-        ensures within { IfOk result (λ read. (ptr < read.1) × (read.1 ≤ length self.now.source.bytes.now)) }
+            Pushes M.made t (mapped_inline (M.source self.now.texts.now))
+            (peek (start t) (argument_value t (within self.now.edition t nesting))) elements.old.items
+            elements.new.items ptr result }
+        ensures within { IfOk result (λ end. (ptr < end) × (end ≤ length self.now.source.bytes.now)) }
     {
         match self.source.start(ptr) {
             Start::Quote | Start::Digit | Start::Letter => {
-                let (value, end) = self.get_inline_expression(nesting, ptr)?;
-                Ok((value, end))
+                let end = self.add_inline_expression(nesting, ptr, elements)?;
+                Ok(end)
             }
             _ => Err(ReadFault::Refused {
                 fault: Fault::Literal,
@@ -128,6 +133,7 @@ impl<'s, 't, M: MakeTexts> Reader<'s, 't, M> {
             (more_arguments t (within self.now.edition t nesting) []) (arguments_view M.made) ptr result }
         ensures within { IfOk result (λ read. (ptr < read.1) × (read.1 ≤ length self.now.source.bytes.now)) }
     {
+        let mut elements = Vec::new(self.alloc);
         let mut positional = Vec::new(self.alloc);
         let mut named = Vec::new(self.alloc);
         let mut noted = SeenNames::new(self.alloc);
@@ -140,8 +146,9 @@ impl<'s, 't, M: MakeTexts> Reader<'s, 't, M> {
                     place,
                 });
             }
-            let (expression, next) = self.get_inline_expression(nesting, place)?;
-            match self.argument_name(self.inline_in(&expression), place) {
+            elements.clear();
+            let next = self.add_inline_expression(nesting, place, &mut elements)?;
+            match self.argument_name(last_inline::<M>(&elements), place) {
                 Some(name) if self.source.is_byte_at(b':', next) => {
                     let is_new = noted.note_new(&self.source, name)?;
                     if !is_new {
@@ -152,8 +159,8 @@ impl<'s, 't, M: MakeTexts> Reader<'s, 't, M> {
                         });
                     }
                     let start = self.source.skip_blank(next + 1);
-                    let (value, end) = self.get_argument_value(nesting, start)?;
-                    self.add_named(name, value, &mut named)?;
+                    let end = self.add_argument_value(nesting, start, &mut elements)?;
+                    self.add_named(name, &mut elements, &mut named)?;
                     place = self.source.skip_separator(end);
                 }
                 _ => {
@@ -164,7 +171,7 @@ impl<'s, 't, M: MakeTexts> Reader<'s, 't, M> {
                             place: next,
                         });
                     }
-                    self.add_positional(expression, &mut positional)?;
+                    self.add_positional(&mut elements, &mut positional)?;
                     place = self.source.skip_separator(next);
                 }
             }

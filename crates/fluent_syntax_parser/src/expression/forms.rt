@@ -1,14 +1,13 @@
 //! What is asked of an inline expression that was read.
 ghost use Rattle.std.specs.Prelude.{◌≡◌, ◌≤◌, ℕ, List, length};
 ghost use Rattle.fluent_syntax_tree.specs.Tree.{InlineTree, inline, inline_map};
-ghost use Rattle.fluent_syntax_tree.specs.View.{expression_view, inline_view};
+ghost use Rattle.fluent_syntax_tree.specs.View.{inline_view};
 ghost use Rattle.fluent_syntax_tree.specs.declared.spans.Span.{Span};
 ghost use Rattle.fluent_syntax_grammar.specs.Arguments.{argument_name};
 ghost use Rattle.fluent_syntax_grammar.specs.Construct.{Read};
 ghost use Rattle.fluent_syntax_grammar.specs.Grammar.{within};
 ghost use Rattle.fluent_syntax_grammar.specs.Inline.{inline_expression};
-ghost use Rattle.fluent_syntax_grammar.specs.Placeables.{is_term_attribute, selector_fault};
-ghost use Rattle.fluent_syntax_parser.specs.Boxed.{boxed_expression_view, IsInline};
+ghost use Rattle.fluent_syntax_grammar.specs.Expressions.{is_term_attribute, selector_fault};
 ghost use Rattle.fluent_syntax_parser.specs.Outcomes.{FaultIs};
 
 use crate::fault::Fault;
@@ -18,34 +17,6 @@ use fluent_syntax_tree::ast::{Expression, InlineExpression};
 use fluent_syntax_tree::spans::Span;
 
 impl<'s, 't, M: MakeTexts> Reader<'s, 't, M> {
-    /// The inline expression that an expression is.
-    pub(crate) fn inline_in<'e>(
-        &self,
-        expression: &'e Expression<M::Text>,
-    ) -> &'e InlineExpression<M::Text>
-        requires { IsInline M.made expression.now }
-        ensures { expression_view M.made expression.now ≡ inline (inline_view M.made result.now) }
-    {
-        match expression {
-            Expression::Inline(expression) => expression,
-            Expression::Select { .. } => unreachable!(),
-        }
-    }
-
-    /// The same, out of its box.
-    pub(crate) fn inline_of(
-        &self,
-        expression: Box<Expression<M::Text>>,
-    ) -> InlineExpression<M::Text>
-        requires { IsInline M.made expression.value }
-        ensures { boxed_expression_view M.made expression ≡ inline (inline_view M.made result) }
-    {
-        match Box::into_inner(expression) {
-            Expression::Inline(expression) => expression,
-            Expression::Select { .. } => unreachable!(),
-        }
-    }
-
     /// The name of an argument that is a message reference without attribute, and begins at the place.
     pub(crate) fn argument_name(
         &self,

@@ -1,5 +1,5 @@
 //! References: the attribute that one may name, and what a name with its arguments is.
-ghost use Rattle.std.specs.Prelude.{◌≡◌, ◌≤◌, length, option_map, IfOk};
+ghost use Rattle.std.specs.Prelude.{◌≡◌, ◌≤◌, length, option_map, IfOk, OnOk};
 ghost use Rattle.std.specs.List.{list_all};
 ghost use Rattle.fluent_syntax_tree.specs.Spans.{bytes_at};
 ghost use Rattle.fluent_syntax_tree.specs.Tree.{MaybeArguments, inline, maybe_map, option_texts, term_reference};
@@ -7,16 +7,17 @@ ghost use Rattle.fluent_syntax_tree.specs.View.{identifier_view};
 ghost use Rattle.fluent_syntax_tree.specs.declared.spans.Span.{Span};
 ghost use Rattle.fluent_syntax_grammar.specs.Arguments.{accessor};
 ghost use Rattle.fluent_syntax_grammar.specs.Inline.{is_callee_byte, named_reference};
-ghost use Rattle.fluent_syntax_parser.specs.Boxed.{boxed_expression_view, mapped_inline};
+ghost use Rattle.fluent_syntax_parser.specs.Boxed.{mapped_inline};
 ghost use Rattle.fluent_syntax_parser.specs.Gathered.{maybe_view};
-ghost use Rattle.fluent_syntax_parser.specs.Made.{Parses};
+ghost use Rattle.fluent_syntax_parser.specs.Last.{AddsPlaced, Pushes};
 ghost use Rattle.fluent_syntax_parser.specs.Outcomes.{Answers};
 
+use crate::expression::last::add_inline;
 use crate::fault::{Fault, ReadFault, Refusal};
 use crate::reader::Reader;
 use crate::source::Source;
 use crate::texts::MakeTexts;
-use fluent_syntax_tree::ast::{CallArguments, Expression, Identifier, InlineExpression};
+use fluent_syntax_tree::ast::{CallArguments, Identifier, InlineExpression, PatternElement};
 use fluent_syntax_tree::spans::Span;
 use std::alloc::AllocError;
 
@@ -53,20 +54,22 @@ impl<'s> Source<'s> {
 }
 
 impl<'s, 't, M: MakeTexts> Reader<'s, 't, M> {
-    /// The reference that a name with its arguments is: of a function with arguments, and without of a message, perhaps
-    /// with an attribute.
+    /// Adds the reference that a name with its arguments is: of a function with arguments, and without of a message,
+    /// perhaps with an attribute.
     #[inline(never)]
-    pub(crate) fn get_named_reference(
+    pub(crate) fn add_named_reference(
         &self,
         name: Span,
         arguments: Option<CallArguments<M::Text>>,
         ptr: usize,
-    ) -> Result<(Box<Expression<M::Text>>, usize), ReadFault>
+        elements: &mut Vec<PatternElement<M::Text>>,
+    ) -> Result<usize, ReadFault>
         requires { ptr ≤ length self.now.source.bytes.now }
         ensures parses { let t = self.now.source.bytes.now in let f = M.source self.now.texts.now in
             (given : MaybeArguments Span) → maybe_view M.made arguments ≡ maybe_map f given →
-            Parses t (mapped_inline f) (named_reference t name given) (boxed_expression_view M.made) ptr result }
-        ensures within { IfOk result (λ read. (ptr ≤ read.1) × (read.1 ≤ length self.now.source.bytes.now)) }
+            Pushes M.made t (mapped_inline f) (named_reference t name given) elements.old.items
+            elements.new.items ptr result }
+        ensures within { IfOk result (λ end. (ptr ≤ end) × (end ≤ length self.now.source.bytes.now)) }
     {
         match arguments {
             Some(arguments) => {
@@ -79,31 +82,33 @@ impl<'s, 't, M: MakeTexts> Reader<'s, 't, M> {
                 }
                 let id = self.identifier(name)?;
                 let reference = InlineExpression::FunctionReference { id, arguments };
-                let expression = Box::new(self.alloc, Expression::Inline(reference))?;
-                Ok((expression, ptr))
+                add_inline(reference, elements)?;
+                Ok(ptr)
             }
             None => {
                 let (attribute, ptr) = self.source.get_attribute_accessor(ptr)?;
                 let id = self.identifier(name)?;
                 let attribute = self.attribute(attribute)?;
                 let reference = InlineExpression::MessageReference { id, attribute };
-                let expression = Box::new(self.alloc, Expression::Inline(reference))?;
-                Ok((expression, ptr))
+                add_inline(reference, elements)?;
+                Ok(ptr)
             }
         }
     }
 
-    /// A box with the reference to a term of that name.
+    /// Adds the reference to a term of that name.
     #[inline(never)]
-    pub(crate) fn boxed_term(
+    pub(crate) fn add_term_named(
         &self,
         name: Span,
         attribute: Option<Identifier<Span>>,
         arguments: Option<CallArguments<M::Text>>,
-    ) -> Result<Box<Expression<M::Text>>, AllocError>
-        ensures { let f = M.source self.now.texts.now in IfOk result (λ boxed. boxed_expression_view M.made boxed
-            ≡ inline (term_reference (f name) (option_texts f (option_map (identifier_view (λ s. s)) attribute))
-            (maybe_view M.made arguments))) }
+        elements: &mut Vec<PatternElement<M::Text>>,
+    ) -> Result<(), AllocError>
+        ensures { let f = M.source self.now.texts.now in OnOk result (AddsPlaced M.made elements.old.items
+            elements.new.items
+            (inline (term_reference (f name) (option_texts f (option_map (identifier_view (λ s. s)) attribute))
+            (maybe_view M.made arguments)))) }
     {
         let id = self.identifier(name)?;
         let attribute = self.attribute(attribute)?;
@@ -112,7 +117,6 @@ impl<'s, 't, M: MakeTexts> Reader<'s, 't, M> {
             attribute,
             arguments,
         };
-        let boxed = Box::new(self.alloc, Expression::Inline(reference))?;
-        Ok(boxed)
+        add_inline(reference, elements)
     }
 }

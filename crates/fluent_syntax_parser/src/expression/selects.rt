@@ -1,20 +1,23 @@
 //! Selects, from the arrow on.
-ghost use Rattle.std.specs.Prelude.{◌≡◌, ◌<◌, ◌≤◌, [], length, true, IfOk};
-ghost use Rattle.fluent_syntax_tree.specs.Tree.{InlineTree, expression_map, inline, select, variants_map};
+ghost use Rattle.std.specs.Prelude.{◌≡◌, ◌<◌, ◌≤◌, List, length, true, IfOk, OnOk};
+ghost use Rattle.fluent_syntax_tree.specs.Tree.{InlineTree, expression_map, inline, select};
 ghost use Rattle.fluent_syntax_tree.specs.View.{inline_view};
+ghost use Rattle.fluent_syntax_tree.specs.declared.ast.PatternElement.{PatternElement};
 ghost use Rattle.fluent_syntax_tree.specs.declared.spans.Span.{Span};
 ghost use Rattle.fluent_syntax_grammar.specs.Grammar.{within};
-ghost use Rattle.fluent_syntax_grammar.specs.Placeables.{has_arrow, select_with, selector_fault};
-ghost use Rattle.fluent_syntax_parser.specs.Boxed.{boxed_expression_view, mapped_inline, IsInline};
+ghost use Rattle.fluent_syntax_grammar.specs.Expressions.{has_arrow, select_with, selector_fault};
+ghost use Rattle.fluent_syntax_parser.specs.Boxed.{mapped_inline};
 ghost use Rattle.fluent_syntax_parser.specs.Gathered.{variants_view};
-ghost use Rattle.fluent_syntax_parser.specs.Made.{Fills, Parses};
+ghost use Rattle.fluent_syntax_parser.specs.Last.{AddsPlaced, EndsInline, Pushes};
 ghost use Rattle.fluent_syntax_parser.specs.Outcomes.{ParsesEnd};
-ghost use Rattle.fluent_syntax_parser.specs.Selects.{arrow_variants, select_start};
+ghost use Rattle.fluent_syntax_parser.specs.Selects.{select_start};
 
+use crate::expression::last::{last_inline, take_inline};
 use crate::fault::{ReadFault, Refusal};
+use crate::lists::add;
 use crate::reader::Reader;
 use crate::texts::MakeTexts;
-use fluent_syntax_tree::ast::{Expression, InlineExpression, Variant};
+use fluent_syntax_tree::ast::{Expression, InlineExpression, PatternElement, Variant};
 use std::alloc::AllocError;
 
 impl<'s, 't, M: MakeTexts> Reader<'s, 't, M> {
@@ -45,68 +48,47 @@ impl<'s, 't, M: MakeTexts> Reader<'s, 't, M> {
         }
     }
 
-    /// A box with the select of variants.
+    /// Makes the inline expression that was added last the selector of a select.
     #[inline(never)]
-    fn boxed_select(
+    fn add_variants(
         &self,
-        selector: Box<Expression<M::Text>>,
         variants: Vec<Variant<M::Text>>,
-    ) -> Result<Box<Expression<M::Text>>, AllocError>
-        requires { IsInline M.made selector.value }
-        ensures { IfOk result (λ boxed. (e : InlineTree _) → boxed_expression_view M.made selector ≡ inline e →
-            boxed_expression_view M.made boxed ≡ select e (variants_view M.made variants.items)) }
+        elements: &mut Vec<PatternElement<M::Text>>,
+    ) -> Result<(), AllocError>
+        requires { EndsInline M.made elements.old.items }
+        ensures { OnOk result ((old : List (PatternElement M.Text)) (tree : InlineTree _) →
+            AddsPlaced M.made old elements.old.items (inline tree) →
+            AddsPlaced M.made old elements.new.items (select tree (variants_view M.made variants.items))) }
     {
-        let selector = self.inline_of(selector);
-        let boxed = Box::new(self.alloc, Expression::Select { selector, variants })?;
-        Ok(boxed)
+        let selector = take_inline::<M>(elements);
+        let expression = Expression::Select { selector, variants };
+        add(elements, PatternElement::Placeable { expression })
     }
 
-    /// Gathers the variants of a select, whose arrow stands at the place, in an empty list.
+    /// Reads a select from its arrow on, whose selector was added last, and adds it in place of that.
     #[cycle(readers)]
-    #[inline(always)]
-    fn gather_from_arrow(
+    #[inline(never)]
+    pub(crate) fn end_select(
         &self,
         nesting: usize,
-        selector: &InlineExpression<M::Text>,
         ptr: usize,
-        variants: &mut Vec<Variant<M::Text>>,
+        elements: &mut Vec<PatternElement<M::Text>>,
     ) -> Result<usize, ReadFault>
         requires within { ptr ≤ length self.now.source.bytes.now }
         requires arrow { has_arrow self.now.source.bytes.now ptr ≡ true }
-        requires empty { variants.old.items ≡ [] }
-        ensures parses { let t = self.now.source.bytes.now in let R = within self.now.edition t nesting in
-            Fills t (variants_map (M.source self.now.texts.now))
-            (arrow_variants self.now.edition t R (selector_fault (inline_view M.made selector.now)))
-            (variants_view M.made) variants.new.items ptr result }
+        requires selector { EndsInline M.made elements.old.items }
+        ensures parses { let t = self.now.source.bytes.now in let f = M.source self.now.texts.now in
+            (old : List (PatternElement M.Text)) (e : InlineTree Span) →
+            AddsPlaced M.made old elements.old.items (mapped_inline f e) →
+            Pushes M.made t (expression_map f)
+            (select_with self.now.edition t (within self.now.edition t nesting) e (selector_fault e)) old
+            elements.new.items ptr result }
         ensures within { IfOk result (λ end. (ptr < end) × (end ≤ length self.now.source.bytes.now)) }
     {
-        let start = self.variants_start(selector, ptr)?;
-        let end = self.gather_variants(nesting, start, variants)?;
-        Ok(end)
-    }
-
-    /// Reads a select by what was read before its arrow, from the arrow on.
-    #[cycle(readers)]
-    #[inline(never)]
-    pub(crate) fn get_select(
-        &self,
-        nesting: usize,
-        selector: Box<Expression<M::Text>>,
-        ptr: usize,
-    ) -> Result<(Box<Expression<M::Text>>, usize), ReadFault>
-        requires within { ptr ≤ length self.now.source.bytes.now }
-        requires arrow { has_arrow self.now.source.bytes.now ptr ≡ true }
-        requires selector { IsInline M.made selector.value }
-        ensures parses { let t = self.now.source.bytes.now in let f = M.source self.now.texts.now in
-            (e : InlineTree Span) → boxed_expression_view M.made selector ≡ mapped_inline f e →
-            Parses t (expression_map f)
-            (select_with self.now.edition t (within self.now.edition t nesting) e (selector_fault e))
-            (boxed_expression_view M.made) ptr result }
-        ensures within { IfOk result (λ read. (ptr < read.1) × (read.1 ≤ length self.now.source.bytes.now)) }
-    {
+        let start = self.variants_start(last_inline::<M>(elements), ptr)?;
         let mut variants = Vec::new(self.alloc);
-        let end = self.gather_from_arrow(nesting, self.inline_in(&selector), ptr, &mut variants)?;
-        let expression = self.boxed_select(selector, variants)?;
-        Ok((expression, end))
+        let end = self.gather_variants(nesting, start, &mut variants)?;
+        self.add_variants(variants, elements)?;
+        Ok(end)
     }
 }

@@ -2,12 +2,12 @@
 ghost use Rattle.std.specs.Prelude.{◌≡◌, ◌+◌, ◌<◌, ◌^◌, ◌++◌, [], map, OnOk};
 ghost use Rattle.std.specs.List.{flat_map};
 ghost use Rattle.fluent_syntax_parser.specs.Elements.{bare_items, flushed, indent_of, item_shape, kept_place, leading};
-ghost use Rattle.fluent_syntax_parser.specs.Elements.{pending_run};
+ghost use Rattle.fluent_syntax_parser.specs.Elements.{pending_run, rest_items};
 ghost use Rattle.fluent_syntax_grammar.specs.Elements.{line_items, with_ending};
 ghost use Rattle.fluent_syntax_parser.specs.Endings.{EndsWithin};
 ghost use Rattle.fluent_syntax_parser.specs.Lines.{ending_view, line_shape, piece_shape};
 
-use crate::pattern::line::{Ending, Line, Piece};
+use crate::pattern::line::{Ending, Line, OpeningEnd, Piece};
 use fluent_syntax_tree::edition::Edition;
 use std::alloc::AllocError;
 
@@ -176,22 +176,18 @@ fn add_line<T: Drop>(
     add_pieces(Some(kept), pieces, ending, items)
 }
 
-/// Ends the line on which a pattern opens: its pieces are items then. An LF belongs to the text before it.
-pub(crate) fn end_opening<T: Drop>(
-    ending: Ending,
-    pieces: &mut Vec<Piece<T>>,
+/// Adds the run that is left of the line on which a pattern opens, and that line's ending.
+pub(crate) fn add_opening_end<T: Drop>(
+    opening: OpeningEnd,
+    items: &mut Vec<Piece<T>>,
 ) -> Result<(), AllocError>
-    requires { EndsWithin ending }
-    ensures { OnOk result (map item_shape pieces.new.items
-        ≡ with_ending (map piece_shape pieces.old.items) (ending_view ending)) }
+    ensures { OnOk result (map item_shape items.new.items ≡ map item_shape items.old.items ++ rest_items opening) }
 {
-    match pieces.pop() {
-        Some(Piece::Run { from, to }) => add_ending(Some((from, to)), ending, pieces),
-        Some(Piece::Placed { expression }) => {
-            pieces.push(Piece::Placed { expression })?;
-            add_ending(None, ending, pieces)
-        }
-        None => add_ending(None, ending, pieces),
+    let OpeningEnd { run, ending } = opening;
+    if run.start < run.end {
+        add_ending(Some((run.start, run.end)), ending, items)
+    } else {
+        add_ending(None, ending, items)
     }
 }
 

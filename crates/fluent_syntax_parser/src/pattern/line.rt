@@ -3,6 +3,7 @@ ghost use Rattle.std.specs.Prelude.{◌+◌, ◌<◌, ◌^◌};
 ghost use Rattle.fluent_syntax_parser.specs.Endings.{EndsWithin};
 
 use fluent_syntax_tree::ast::Expression;
+use fluent_syntax_tree::spans::Span;
 
 /// A run of text, or a placeable.
 #[derive(Drop)]
@@ -17,6 +18,15 @@ pub(crate) enum Ending {
     Lf(usize),
     Crlf(usize),
     TextEnd,
+}
+
+/// What is left of the line on which a pattern opens, behind its last placeable: a run, which may be empty, and the
+/// line's ending.
+#[derive(Clone, Copy, Debug)]
+pub(crate) struct OpeningEnd {
+    pub(crate) run: Span,
+    pub(crate) ending: Ending,
+    ghost ends: { EndsWithin ending },
 }
 
 /// A line of a pattern: its leading spaces, what follows them, and its ending.

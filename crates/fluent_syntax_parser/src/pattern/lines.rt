@@ -1,19 +1,24 @@
 //! The lines of a pattern.
 ghost use Rattle.std.specs.Prelude.{◌≡◌, ◌+◌, ◌-◌, ◌<◌, ◌≤◌, length, map, slice_get, IfOk, None, Some, false};
-ghost use Rattle.std.specs.Prelude.{◌==◌, ◌++◌, ◌∷◌, ◌^◌, [], true, if◌then◌else◌, IfErr, OnOk};
+ghost use Rattle.std.specs.Prelude.{List, ◌==◌, ◌++◌, ◌∷◌, ◌^◌, [], true, if◌then◌else◌, IfErr, OnOk};
+ghost use Rattle.fluent_syntax_tree.specs.Tree.{ExpressionTree};
+ghost use Rattle.fluent_syntax_tree.specs.declared.ast.PatternElement.{PatternElement};
 ghost use Rattle.fluent_syntax_grammar.specs.Construct.{Read};
 ghost use Rattle.fluent_syntax_grammar.specs.Grammar.{within};
-ghost use Rattle.fluent_syntax_grammar.specs.Layout.{crlf_at, lf_at};
+ghost use Rattle.fluent_syntax_grammar.specs.Layout.{crlf_at, lf_at, placed};
 ghost use Rattle.fluent_syntax_grammar.specs.Lines.{belongs, ending, is_run_place, line, more_lines, more_pieces};
-ghost use Rattle.fluent_syntax_grammar.specs.Places.{BlankBlock, has_eol, InlineBlank, Stretch, Word};
+ghost use Rattle.fluent_syntax_grammar.specs.Places.{BlankBlock, has_eol, InlineBlank, LongestRun, ByteRun};
+ghost use Rattle.fluent_syntax_parser.specs.Last.{AddsPlaced, EndsPlaced};
 ghost use Rattle.fluent_syntax_parser.specs.Made.{AddsParsed, Fills};
 ghost use Rattle.fluent_syntax_parser.specs.Endings.{EndsWithin};
 ghost use Rattle.fluent_syntax_grammar.specs.Lanes.{is_passed};
 ghost use Rattle.fluent_syntax_parser.specs.Layouts.{line_of, piece_of};
 ghost use Rattle.fluent_syntax_parser.specs.Lines.{ending_view, line_view, piece_view};
 ghost use Rattle.fluent_syntax_parser.specs.declared.pattern.line.Line.{Line};
-ghost use Rattle.fluent_syntax_parser.specs.declared.pattern.line.Piece.TheVariants.{Placed, Run};
+ghost use Rattle.fluent_syntax_parser.specs.declared.pattern.line.Piece.{Piece};
+ghost use Rattle.fluent_syntax_parser.specs.declared.pattern.line.Piece.TheVariants.{Run};
 
+use crate::expression::last::take_expression;
 use crate::fault::{Fault, ReadFault, Refusal};
 use crate::lists::add;
 use crate::pattern::line::{Ending, Line, Piece};
@@ -21,9 +26,9 @@ use crate::reader::Reader;
 use crate::source::Source;
 use crate::texts::MakeTexts;
 use fluent_syntax_grammar::lanes::{LANES, text_run};
-use fluent_syntax_tree::ast::Expression;
+use fluent_syntax_tree::ast::PatternElement;
 use memchr::memchr3;
-use std::alloc::AllocError;
+use std::alloc::{AllocError, Global};
 
 /// The ending at a place, by where it ends.
 fn ending_at(place: usize, next: usize) -> Ending
@@ -45,7 +50,7 @@ impl<'s> Source<'s> {
     /// The place of the next LF or brace, or the text's end.
     fn text_end(&self, ptr: usize) -> usize
         requires { ptr ≤ length self.now.bytes.now }
-        ensures text { Word self.now.bytes.now is_passed ptr result }
+        ensures text { ByteRun self.now.bytes.now is_passed ptr result }
         ensures within { result ≤ length self.now.bytes.now }
     {
         let mut end = ptr;
@@ -66,7 +71,7 @@ impl<'s> Source<'s> {
     #[inline(always)]
     pub(crate) fn run_end(&self, ptr: usize) -> usize
         requires { ptr ≤ length self.now.bytes.now }
-        ensures run { Stretch (is_run_place self.now.bytes.now) ptr result }
+        ensures run { LongestRun (is_run_place self.now.bytes.now) ptr result }
         ensures within { result ≤ length self.now.bytes.now }
     {
         let end = self.text_end(ptr);
@@ -116,14 +121,19 @@ fn add_run<T: Drop>(from: usize, to: usize, pieces: &mut Vec<Piece<T>>) -> Resul
     add(pieces, Piece::Run { from, to })
 }
 
-/// Adds the placeable of an expression to the pieces of a line.
+/// Takes off the placeable that was read last, and adds it to the pieces of a line.
 #[inline(never)]
-fn add_placed<T: Drop>(
-    expression: Box<Expression<T>>,
-    pieces: &mut Vec<Piece<T>>,
+fn add_placed<M: MakeTexts>(
+    alloc: Global,
+    elements: &mut Vec<PatternElement<M::Text>>,
+    pieces: &mut Vec<Piece<M::Text>>,
 ) -> Result<(), AllocError>
-    ensures { OnOk result (pieces.new.items ≡ pieces.old.items ++ Placed expression ∷ []) }
+    requires { EndsPlaced M.made elements.old.items }
+    ensures { OnOk result ((piece : Piece M.Text) × (pieces.new.items ≡ pieces.old.items ++ piece ∷ [])
+        × ((old : List (PatternElement M.Text)) (tree : ExpressionTree _) →
+        AddsPlaced M.made old elements.old.items tree → piece_view M.made piece ≡ placed tree)) }
 {
+    let expression = Box::new(alloc, take_expression::<M>(elements))?;
     add(pieces, Piece::Placed { expression })
 }
 
@@ -146,6 +156,7 @@ impl<'s, 't, M: MakeTexts> Reader<'s, 't, M> {
         ensures stops { let t = self.now.source.bytes.now in
             IfOk result (λ end. has_eol t end ≡ false → slice_get t end ≡ None) }
     {
+        let mut elements = Vec::new(self.alloc);
         let mut place = ptr;
         loop {
             match self.source.byte_at(place) {
@@ -162,9 +173,8 @@ impl<'s, 't, M: MakeTexts> Reader<'s, 't, M> {
                         });
                     }
                     if byte == b'{' {
-                        let (expression, next) = self.get_placeable(nesting, place)?;
-                        add_placed(expression, pieces)?;
-                        place = next;
+                        place = self.add_placeable(nesting, place, &mut elements)?;
+                        add_placed::<M>(self.alloc, &mut elements, pieces)?;
                     } else {
                         let to = self.source.run_end(place);
                         add_run(place, to, pieces)?;

@@ -2,7 +2,7 @@
 ghost use Rattle.std.specs.Prelude.{◌≡◌, ◌<◌, ◌≤◌, length, true};
 ghost use Rattle.fluent_syntax_grammar.specs.Bytes.{hash};
 ghost use Rattle.fluent_syntax_grammar.specs.Construct.{Read};
-ghost use Rattle.fluent_syntax_grammar.specs.Places.{has_byte, is_line_place, Stretch, Word};
+ghost use Rattle.fluent_syntax_grammar.specs.Places.{has_byte, is_line_place, LongestRun, ByteRun};
 ghost use Rattle.fluent_syntax_grammar.specs.Tiling.{whole_line};
 ghost use Rattle.fluent_syntax_grammar.specs.Tokens.{optional_eol};
 ghost use Rattle.fluent_syntax_parser.specs.CommentLines.{is_not_lf};
@@ -14,7 +14,7 @@ impl<'s> Source<'s> {
     /// The place of the next LF, or the text's end.
     pub(crate) fn next_lf(&self, ptr: usize) -> usize
         requires { ptr ≤ length self.now.bytes.now }
-        ensures line { Word self.now.bytes.now is_not_lf ptr result }
+        ensures line { ByteRun self.now.bytes.now is_not_lf ptr result }
         ensures within { result ≤ length self.now.bytes.now }
     {
         let rest = &self.bytes[ptr..];
@@ -24,7 +24,7 @@ impl<'s> Source<'s> {
     /// The place of the next LF or CRLF, or the text's end.
     pub(crate) fn line_end(&self, ptr: usize) -> usize
         requires { ptr ≤ length self.now.bytes.now }
-        ensures line { Stretch (is_line_place self.now.bytes.now) ptr result }
+        ensures line { LongestRun (is_line_place self.now.bytes.now) ptr result }
         ensures within { result ≤ length self.now.bytes.now }
     {
         let end = self.next_lf(ptr);

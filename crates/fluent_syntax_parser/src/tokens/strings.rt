@@ -1,6 +1,6 @@
 //! String literals.
 ghost use Rattle.std.specs.Prelude.{◌<◌, ◌≤◌, length, IfOk};
-ghost use Rattle.fluent_syntax_grammar.specs.Places.{Word};
+ghost use Rattle.fluent_syntax_grammar.specs.Places.{ByteRun};
 ghost use Rattle.fluent_syntax_grammar.specs.Strings.{hex_digits, HexDigits, string_literal, string_units};
 ghost use Rattle.fluent_syntax_parser.specs.Outcomes.{Answers, ParsesEnd};
 ghost use Rattle.fluent_syntax_parser.specs.Strings.{escape, is_plain};
@@ -67,7 +67,7 @@ impl<'s> Source<'s> {
     /// The end of the bytes that stand for themselves.
     fn plain_end(&self, ptr: usize) -> usize
         requires { ptr ≤ length self.now.bytes.now }
-        ensures text { Word self.now.bytes.now is_plain ptr result }
+        ensures text { ByteRun self.now.bytes.now is_plain ptr result }
         ensures within { result ≤ length self.now.bytes.now }
     {
         let rest = &self.bytes[ptr..];

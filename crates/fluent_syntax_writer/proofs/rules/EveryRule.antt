@@ -9,7 +9,7 @@ use Rattle.fluent_syntax_tree.specs.Tree.{text_element, placeable, PatternTree}
 use Rattle.fluent_syntax_tree.specs.Tree.{no_elements, elements}
 use Rattle.fluent_syntax_tree.specs.Entry.{EntryTree}
 use Rattle.fluent_syntax_tree.specs.declared.edition.Edition.{Edition}
-use Rattle.fluent_syntax_grammar.specs.Placeables.{selector_fault}
+use Rattle.fluent_syntax_grammar.specs.Expressions.{selector_fault}
 use Rattle.fluent_syntax_grammar.specs.Elements.{is_nonblank, without_last_lf}
 use Rattle.fluent_syntax_grammar.specs.Written.{Text, has_lf, is_multiline, begins_with_mark}
 use Rattle.fluent_syntax_grammar.specs.Spellings.{is_name, is_number, is_string}

@@ -2,7 +2,7 @@
 use Rattle.std.proofs.Common.{◌≡◌, false, Option, ℕ, Box, Global, refl, sym, ◌∙◌, subst}
 use Rattle.std.specs.Prelude.{is_some, is_none}
 use Rattle.std.proofs.Common.{Some, None, option_map, Bool, true, ◌+◌, ◌&&◌, ap, arith, if◌then◌else◌}
-use Rattle.fluent_syntax_grammar.specs.Placeables.{selector_fault, is_term_attribute}
+use Rattle.fluent_syntax_grammar.specs.Expressions.{selector_fault, is_term_attribute}
 use Rattle.fluent_syntax_tree.specs.Tree.{InlineTree, string_literal, number_literal, function_reference}
 use Rattle.fluent_syntax_tree.specs.Tree.{message_reference, term_reference, variable_reference, ArgumentsTree}
 use Rattle.fluent_syntax_tree.specs.Tree.{MaybeArguments, KeyTree, PatternTree, VariantTrees, variants, variant}

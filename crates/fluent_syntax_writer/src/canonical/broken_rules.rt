@@ -3,8 +3,7 @@ ghost use Rattle.std.specs.Prelude.{◌≡◌, map};
 ghost use Rattle.fluent_syntax_tree.specs.View.{entry_view};
 ghost use Rattle.fluent_syntax_writer.specs.Uncanonical.{first_of, broken_rule, first_uncanonical};
 
-use crate::canonical::check_options::CheckOptions;
-use crate::canonical::rule_set::RuleSet;
+use crate::canonical::rule_set::{RuleCheck, RuleSet};
 use crate::canonical::rules::{RULES, Rule};
 use crate::canonical::walk::entry_obeys;
 use fluent_syntax_tree::ast::Entry;
@@ -45,7 +44,7 @@ pub fn broken_rule<X, T: ReadTexts<X>>(
     ensures { result ≡ broken_rule edition (entry_view T.text entry.now) }
 {
     let rule_set = RuleSet::Canonical(edition);
-    if entry_obeys::<X, T>(CheckOptions { rule_set, alloc }, entry) {
+    if entry_obeys::<X, T>(RuleCheck { rule_set, alloc }, entry) {
         None
     } else {
         first_broken::<X, T>(alloc, edition, entry)
@@ -73,7 +72,7 @@ fn first_of<X, T: ReadTexts<X>>(
 {
     for rule in rules {
         let rule_set = RuleSet::Alone(edition, *rule);
-        if !entry_obeys::<X, T>(CheckOptions { rule_set, alloc }, entry) {
+        if !entry_obeys::<X, T>(RuleCheck { rule_set, alloc }, entry) {
             return Some(*rule);
         }
     }

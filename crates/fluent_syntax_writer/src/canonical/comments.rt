@@ -5,7 +5,7 @@ ghost use Rattle.fluent_syntax_grammar.specs.Canonical.{is_plain_comment, is_pla
 ghost use Rattle.fluent_syntax_grammar.specs.Readable.{are_lines};
 ghost use Rattle.fluent_syntax_grammar.specs.Written.{has_lf};
 
-use crate::canonical::texts::{has_lf, is_shown};
+use crate::canonical::texts::{has_lf, is_nonblank_line};
 use fluent_syntax_tree::texts::ReadTexts;
 
 /// Whether no line holds an LF.
@@ -38,5 +38,5 @@ pub fn are_plain_lines<X, T: ReadTexts<X>>(content: &[X]) -> bool
 fn is_plain_line(line: &str) -> bool
     ensures { result ≡ is_plain_line line.now }
 {
-    line.is_empty() || is_shown(line)
+    line.is_empty() || is_nonblank_line(line)
 }

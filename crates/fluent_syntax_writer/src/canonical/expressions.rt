@@ -2,7 +2,7 @@
 ghost use Rattle.std.specs.Prelude.{◌≡◌, is_none, map};
 ghost use Rattle.fluent_syntax_tree.specs.Tree.{variants_of};
 ghost use Rattle.fluent_syntax_tree.specs.View.{expression_view, inline_view, variant_view};
-ghost use Rattle.fluent_syntax_grammar.specs.Placeables.{selector_fault, is_term_attribute};
+ghost use Rattle.fluent_syntax_grammar.specs.Expressions.{selector_fault, is_term_attribute};
 ghost use Rattle.fluent_syntax_grammar.specs.Readable.{is_expression, defaults};
 ghost use Rattle.fluent_syntax_grammar.specs.Canonical.{has_one_default};
 

@@ -5,7 +5,6 @@ ghost use Rattle.fluent_syntax_tree.specs.View.{arguments_view};
 ghost use Rattle.fluent_syntax_writer.specs.RuleSets.{rules_of};
 
 use crate::canonical::arguments::are_arguments;
-use crate::canonical::check_options::CheckOptions;
 use crate::canonical::comments::{are_lines, is_plain_comment};
 use crate::canonical::elements::is_pattern;
 use crate::canonical::entries::is_message;
@@ -19,6 +18,7 @@ use crate::canonical::spellings::{is_callee, is_name, is_number, is_string};
 use fluent_syntax_tree::ast::*;
 use fluent_syntax_tree::edition::Edition;
 use fluent_syntax_tree::texts::ReadTexts;
+use std::alloc::Global;
 
 /// The rules that a tree is to obey, in an edition.
 #[derive(Clone, Copy)]
@@ -27,6 +27,13 @@ pub enum RuleSet {
     Canonical(Edition),
     /// One rule of canonical trees by itself.
     Alone(Edition, Rule),
+}
+
+/// The rules that a tree is to obey, and memory for finding that out, where it may be taken.
+#[derive(Clone, Copy)]
+pub struct RuleCheck {
+    pub rule_set: RuleSet,
+    pub alloc: Option<Global>,
 }
 
 /// Whether there may be junk.
@@ -96,12 +103,12 @@ pub fn is_callee_by(rule_set: RuleSet, text: &str) -> bool
 }
 
 pub fn are_arguments_by<X, T: ReadTexts<X>>(
-    options: CheckOptions,
+    options: RuleCheck,
     arguments: &CallArguments<X>,
 ) -> bool
     ensures { result ≡ (rules_of options.rule_set).arguments (arguments_view T.text arguments.now) }
 {
-    let CheckOptions { rule_set, alloc } = options;
+    let RuleCheck { rule_set, alloc } = options;
     match rule_set {
         RuleSet::Readable(_) | RuleSet::Canonical(_) => are_arguments::<X, T>(alloc, arguments),
         RuleSet::Alone(_, rule) => arguments_keep::<X, T>(alloc, rule, arguments),

@@ -7,7 +7,7 @@ ghost use Rattle.fluent_syntax_grammar.specs.Lanes.{is_passed};
 ghost use Rattle.fluent_syntax_grammar.specs.PatternTexts.{is_brace, has_crlf, is_spaces, begins_with_space};
 ghost use Rattle.fluent_syntax_grammar.specs.PatternTexts.{leading_spaces, after_spaces, ends_plainly};
 ghost use Rattle.fluent_syntax_grammar.specs.Readable.{is_text};
-ghost use Rattle.fluent_syntax_grammar.specs.Written.{has_lf, is_last, is_shown, last_of, begins_with_mark};
+ghost use Rattle.fluent_syntax_grammar.specs.Written.{has_lf, is_last, is_nonblank_line, last_of, begins_with_mark};
 ghost use Rattle.fluent_syntax_grammar.specs.Written.{is_leading_mark};
 ghost use Rattle.fluent_syntax_writer.specs.Texts.{ends_in_crlf};
 
@@ -160,8 +160,8 @@ pub(crate) fn ends_plainly(text: &str) -> bool
 }
 
 /// Whether the line holds a byte other than space, CR and LF.
-pub fn is_shown(line: &str) -> bool
-    ensures { result ≡ is_shown line.now }
+pub fn is_nonblank_line(line: &str) -> bool
+    ensures { result ≡ is_nonblank_line line.now }
 {
     line.as_bytes().iter().any(|byte| !is_trimmed(*byte))
 }

@@ -12,12 +12,11 @@ ghost use Rattle.fluent_syntax_grammar.specs.Rules.{variants_obey, variant_obeys
 ghost use Rattle.fluent_syntax_grammar.specs.Rules.{term_obeys, entry_obeys, body_obeys};
 ghost use Rattle.fluent_syntax_writer.specs.RuleSets.{rules_of, parts_obey};
 
-use crate::canonical::check_options::CheckOptions;
 use crate::canonical::rule_set::*;
 use fluent_syntax_tree::ast::*;
 use fluent_syntax_tree::texts::ReadTexts;
 
-pub fn body_obeys<X, T: ReadTexts<X>>(options: CheckOptions, entries: &[Entry<X>]) -> bool
+pub fn body_obeys<X, T: ReadTexts<X>>(options: RuleCheck, entries: &[Entry<X>]) -> bool
     ensures { result ≡ body_obeys (rules_of options.rule_set) (map (entry_view T.text) entries.now) }
 {
     for entry in entries {
@@ -28,7 +27,7 @@ pub fn body_obeys<X, T: ReadTexts<X>>(options: CheckOptions, entries: &[Entry<X>
     true
 }
 
-pub fn entry_obeys<X, T: ReadTexts<X>>(options: CheckOptions, entry: &Entry<X>) -> bool
+pub fn entry_obeys<X, T: ReadTexts<X>>(options: RuleCheck, entry: &Entry<X>) -> bool
     ensures { result ≡ entry_obeys (rules_of options.rule_set) (entry_view T.text entry.now) }
 {
     match entry {
@@ -41,7 +40,7 @@ pub fn entry_obeys<X, T: ReadTexts<X>>(options: CheckOptions, entry: &Entry<X>) 
     }
 }
 
-fn message_obeys<X, T: ReadTexts<X>>(options: CheckOptions, message: &Message<X>) -> bool
+fn message_obeys<X, T: ReadTexts<X>>(options: RuleCheck, message: &Message<X>) -> bool
     ensures { result ≡ message_obeys (rules_of options.rule_set) (message_view T.text message.now) }
 {
     is_message_by::<X, T>(options.rule_set, message)
@@ -51,7 +50,7 @@ fn message_obeys<X, T: ReadTexts<X>>(options: CheckOptions, message: &Message<X>
         && attributes_obey::<X, T>(options, &message.attributes)
 }
 
-fn term_obeys<X, T: ReadTexts<X>>(options: CheckOptions, term: &Term<X>) -> bool
+fn term_obeys<X, T: ReadTexts<X>>(options: RuleCheck, term: &Term<X>) -> bool
     ensures { result ≡ term_obeys (rules_of options.rule_set) (term_view T.text term.now) }
 {
     comment_obeys::<X, T>(options.rule_set, &term.comment)
@@ -69,7 +68,7 @@ fn comment_obeys<X, T: ReadTexts<X>>(rule_set: RuleSet, comment: &Option<Comment
     }
 }
 
-fn value_obeys<X, T: ReadTexts<X>>(options: CheckOptions, value: &Option<Pattern<X>>) -> bool
+fn value_obeys<X, T: ReadTexts<X>>(options: RuleCheck, value: &Option<Pattern<X>>) -> bool
     ensures { result ≡ option_obeys (pattern_obeys (rules_of options.rule_set))
         (option_map (pattern_view T.text) value.now) }
 {
@@ -79,7 +78,7 @@ fn value_obeys<X, T: ReadTexts<X>>(options: CheckOptions, value: &Option<Pattern
     }
 }
 
-fn attributes_obey<X, T: ReadTexts<X>>(options: CheckOptions, attributes: &[Attribute<X>]) -> bool
+fn attributes_obey<X, T: ReadTexts<X>>(options: RuleCheck, attributes: &[Attribute<X>]) -> bool
     ensures { result ≡ list_all (attribute_obeys (rules_of options.rule_set))
         (map (attribute_view T.text) attributes.now) }
 {
@@ -91,7 +90,7 @@ fn attributes_obey<X, T: ReadTexts<X>>(options: CheckOptions, attributes: &[Attr
     true
 }
 
-fn attribute_obeys<X, T: ReadTexts<X>>(options: CheckOptions, attribute: &Attribute<X>) -> bool
+fn attribute_obeys<X, T: ReadTexts<X>>(options: RuleCheck, attribute: &Attribute<X>) -> bool
     ensures { result ≡ attribute_obeys (rules_of options.rule_set) (attribute_view T.text attribute.now) }
 {
     is_name_by(options.rule_set, T::as_str(&attribute.id.name))
@@ -99,7 +98,7 @@ fn attribute_obeys<X, T: ReadTexts<X>>(options: CheckOptions, attribute: &Attrib
 }
 
 #[cycle(obeys)]
-fn pattern_obeys<X, T: ReadTexts<X>>(options: CheckOptions, pattern: &Pattern<X>) -> bool
+fn pattern_obeys<X, T: ReadTexts<X>>(options: RuleCheck, pattern: &Pattern<X>) -> bool
     ensures { result ≡ pattern_obeys (rules_of options.rule_set) (pattern_view T.text pattern.now) }
 {
     is_pattern_by::<X, T>(options.rule_set, pattern)
@@ -107,7 +106,7 @@ fn pattern_obeys<X, T: ReadTexts<X>>(options: CheckOptions, pattern: &Pattern<X>
 }
 
 #[cycle(obeys)]
-fn elements_obey<X, T: ReadTexts<X>>(options: CheckOptions, elements: &[PatternElement<X>]) -> bool
+fn elements_obey<X, T: ReadTexts<X>>(options: RuleCheck, elements: &[PatternElement<X>]) -> bool
     ensures { result ≡ elements_obey (rules_of options.rule_set)
         (elements_of (map (element_view T.text) elements.now)) }
 {
@@ -120,7 +119,7 @@ fn elements_obey<X, T: ReadTexts<X>>(options: CheckOptions, elements: &[PatternE
 }
 
 #[cycle(obeys)]
-fn element_obeys<X, T: ReadTexts<X>>(options: CheckOptions, element: &PatternElement<X>) -> bool
+fn element_obeys<X, T: ReadTexts<X>>(options: RuleCheck, element: &PatternElement<X>) -> bool
     ensures { result ≡ element_obeys (rules_of options.rule_set) (element_view T.text element.now) }
 {
     match element {
@@ -132,7 +131,7 @@ fn element_obeys<X, T: ReadTexts<X>>(options: CheckOptions, element: &PatternEle
 }
 
 #[cycle(obeys)]
-fn expression_obeys<X, T: ReadTexts<X>>(options: CheckOptions, expression: &Expression<X>) -> bool
+fn expression_obeys<X, T: ReadTexts<X>>(options: RuleCheck, expression: &Expression<X>) -> bool
     ensures { result ≡ expression_obeys (rules_of options.rule_set) (expression_view T.text expression.now) }
 {
     is_expression_by::<X, T>(options.rule_set, expression)
@@ -141,7 +140,7 @@ fn expression_obeys<X, T: ReadTexts<X>>(options: CheckOptions, expression: &Expr
 
 /// Whether all that the expression holds obeys.
 #[cycle(obeys)]
-fn parts_obey<X, T: ReadTexts<X>>(options: CheckOptions, expression: &Expression<X>) -> bool
+fn parts_obey<X, T: ReadTexts<X>>(options: RuleCheck, expression: &Expression<X>) -> bool
     ensures { result ≡ parts_obey (rules_of options.rule_set) (expression_view T.text expression.now) }
 {
     match expression {
@@ -153,7 +152,7 @@ fn parts_obey<X, T: ReadTexts<X>>(options: CheckOptions, expression: &Expression
 }
 
 #[cycle(obeys)]
-fn variants_obey<X, T: ReadTexts<X>>(options: CheckOptions, variants: &[Variant<X>]) -> bool
+fn variants_obey<X, T: ReadTexts<X>>(options: RuleCheck, variants: &[Variant<X>]) -> bool
     ensures { result ≡ variants_obey (rules_of options.rule_set)
         (variants_of (map (variant_view T.text) variants.now)) }
 {
@@ -166,7 +165,7 @@ fn variants_obey<X, T: ReadTexts<X>>(options: CheckOptions, variants: &[Variant<
 }
 
 #[cycle(obeys)]
-fn variant_obeys<X, T: ReadTexts<X>>(options: CheckOptions, variant: &Variant<X>) -> bool
+fn variant_obeys<X, T: ReadTexts<X>>(options: RuleCheck, variant: &Variant<X>) -> bool
     ensures { result ≡ variant_obeys (rules_of options.rule_set) (variant_view T.text variant.now) }
 {
     key_obeys::<X, T>(options.rule_set, &variant.key)
@@ -183,7 +182,7 @@ fn key_obeys<X, T: ReadTexts<X>>(rule_set: RuleSet, key: &VariantKey<X>) -> bool
 }
 
 #[cycle(obeys)]
-fn inline_obeys<X, T: ReadTexts<X>>(options: CheckOptions, inline: &InlineExpression<X>) -> bool
+fn inline_obeys<X, T: ReadTexts<X>>(options: RuleCheck, inline: &InlineExpression<X>) -> bool
     ensures { result ≡ inline_obeys (rules_of options.rule_set) (inline_view T.text inline.now) }
 {
     match inline {
@@ -251,10 +250,7 @@ fn attribute_name_obeys<X, T: ReadTexts<X>>(
 }
 
 #[cycle(obeys)]
-fn maybe_obeys<X, T: ReadTexts<X>>(
-    options: CheckOptions,
-    arguments: &Option<CallArguments<X>>,
-) -> bool
+fn maybe_obeys<X, T: ReadTexts<X>>(options: RuleCheck, arguments: &Option<CallArguments<X>>) -> bool
     ensures { result ≡ maybe_obeys (rules_of options.rule_set)
         (arguments_of (option_map (arguments_view T.text) arguments.now)) }
 {
@@ -265,7 +261,7 @@ fn maybe_obeys<X, T: ReadTexts<X>>(
 }
 
 #[cycle(obeys)]
-fn arguments_obey<X, T: ReadTexts<X>>(options: CheckOptions, arguments: &CallArguments<X>) -> bool
+fn arguments_obey<X, T: ReadTexts<X>>(options: RuleCheck, arguments: &CallArguments<X>) -> bool
     ensures { result ≡ arguments_obey (rules_of options.rule_set) (arguments_view T.text arguments.now) }
 {
     if !are_arguments_by::<X, T>(options, arguments) {
@@ -276,7 +272,7 @@ fn arguments_obey<X, T: ReadTexts<X>>(options: CheckOptions, arguments: &CallArg
 }
 
 #[cycle(obeys)]
-fn inlines_obey<X, T: ReadTexts<X>>(options: CheckOptions, inlines: &[InlineExpression<X>]) -> bool
+fn inlines_obey<X, T: ReadTexts<X>>(options: RuleCheck, inlines: &[InlineExpression<X>]) -> bool
     ensures { result ≡ inlines_obey (rules_of options.rule_set) (inlines_of (map (inline_view T.text) inlines.now)) }
 {
     for inline in inlines {
@@ -288,7 +284,7 @@ fn inlines_obey<X, T: ReadTexts<X>>(options: CheckOptions, inlines: &[InlineExpr
 }
 
 #[cycle(obeys)]
-fn nameds_obey<X, T: ReadTexts<X>>(options: CheckOptions, nameds: &[NamedArgument<X>]) -> bool
+fn nameds_obey<X, T: ReadTexts<X>>(options: RuleCheck, nameds: &[NamedArgument<X>]) -> bool
     ensures { result ≡ nameds_obey (rules_of options.rule_set) (nameds_of (map (named_view T.text) nameds.now)) }
 {
     for named in nameds {
@@ -300,7 +296,7 @@ fn nameds_obey<X, T: ReadTexts<X>>(options: CheckOptions, nameds: &[NamedArgumen
 }
 
 #[cycle(obeys)]
-fn named_obeys<X, T: ReadTexts<X>>(options: CheckOptions, named: &NamedArgument<X>) -> bool
+fn named_obeys<X, T: ReadTexts<X>>(options: RuleCheck, named: &NamedArgument<X>) -> bool
     ensures { result ≡ named_obeys (rules_of options.rule_set) (named_view T.text named.now) }
 {
     is_name_by(options.rule_set, T::as_str(&named.name.name))

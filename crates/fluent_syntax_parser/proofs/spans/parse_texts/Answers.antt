@@ -17,7 +17,7 @@ returns-in-Ok-clause-tiling g c =
       read.rest.tiles,
       read.rest.tiled,
       answers_of g.M.MakeTexts.made (body_map (g.M.MakeTexts.source c.args.texts.now)) read.rest.tiles _ _
-          c.answer_of.result answer.clean answer.syntax (rw read.rest.gives read.same) read.rest.errors_are,
+          c.answer_of.result answer.clean answer.syntax (rw read.rest.yields read.same) read.rest.errors_are,
     )
 
 pub returns-in-Ok-clause-places : goal.returns-in-Ok-clause-places

@@ -1,5 +1,5 @@
 use Rattle.std.proofs.Common.{arith, subst, Some, None, List, ℕ}
-use Rattle.ftl_lsp.specs.Breaks.{HeaderOf}
+use Rattle.ftl_lsp.specs.HeaderEnds.{HeaderOf}
 use Rattle.ftl_lsp.specs.Fields.{HasLength}
 use Rattle.ftl_lsp.specs.Frames.IsFraming.{frame, partial_header, partial_body, long_header, no_length}
 use Rattle.ftl_lsp.specs.Frames.IsFraming.{long_body}

@@ -12,129 +12,123 @@ use Rattle.fluent_syntax_parser.proofs.reader.Reader.+readers.Answers.Patterns a
 
 -- ---- inline expressions
 
-pub get_term_reference-returns-in_err-start-clause-parses : goal.get_term_reference-returns-in_err-start-clause-parses
-get_term_reference-returns-in_err-start-clause-parses = inlines.get_term_reference-returns-in_err-start-clause-parses
+pub add_term_reference-returns-in_err-start-clause-parses : goal.add_term_reference-returns-in_err-start-clause-parses
+add_term_reference-returns-in_err-start-clause-parses = inlines.add_term_reference-returns-in_err-start-clause-parses
 
-pub get_term_reference-returns-in_err-end-clause-parses : goal.get_term_reference-returns-in_err-end-clause-parses
-get_term_reference-returns-in_err-end-clause-parses = inlines.get_term_reference-returns-in_err-end-clause-parses
+pub add_term_reference-returns-in_err-end-clause-parses : goal.add_term_reference-returns-in_err-end-clause-parses
+add_term_reference-returns-in_err-end-clause-parses = inlines.add_term_reference-returns-in_err-end-clause-parses
 
-pub get_term_reference-returns-in_err-attribute-clause-parses :
-    goal.get_term_reference-returns-in_err-attribute-clause-parses
-get_term_reference-returns-in_err-attribute-clause-parses =
-    inlines.get_term_reference-returns-in_err-attribute-clause-parses
+pub add_term_reference-returns-in_err-attribute-clause-parses :
+    goal.add_term_reference-returns-in_err-attribute-clause-parses
+add_term_reference-returns-in_err-attribute-clause-parses =
+    inlines.add_term_reference-returns-in_err-attribute-clause-parses
 
-pub get_term_reference-returns-in_err-arguments-clause-parses :
-    goal.get_term_reference-returns-in_err-arguments-clause-parses
-get_term_reference-returns-in_err-arguments-clause-parses =
-    inlines.get_term_reference-returns-in_err-arguments-clause-parses
+pub add_term_reference-returns-in_err-arguments-clause-parses :
+    goal.add_term_reference-returns-in_err-arguments-clause-parses
+add_term_reference-returns-in_err-arguments-clause-parses =
+    inlines.add_term_reference-returns-in_err-arguments-clause-parses
 
-pub get_term_reference-returns-clause-parses : goal.get_term_reference-returns-clause-parses
-get_term_reference-returns-clause-parses = inlines.get_term_reference-returns-clause-parses
+pub add_term_reference-returns-clause-parses : goal.add_term_reference-returns-clause-parses
+add_term_reference-returns-clause-parses = inlines.add_term_reference-returns-clause-parses
 
-pub get_term_reference-returns-in_err-expression-clause-parses :
-    goal.get_term_reference-returns-in_err-expression-clause-parses
-get_term_reference-returns-in_err-expression-clause-parses =
-    inlines.get_term_reference-returns-in_err-expression-clause-parses
+pub add_term_reference-returns-in_err-add_term_named-clause-parses :
+    goal.add_term_reference-returns-in_err-add_term_named-clause-parses
+add_term_reference-returns-in_err-add_term_named-clause-parses =
+    inlines.add_term_reference-returns-in_err-add_term_named-clause-parses
 
-pub get_reference-returns-in_err-end-clause-parses : goal.get_reference-returns-in_err-end-clause-parses
-get_reference-returns-in_err-end-clause-parses = inlines.get_reference-returns-in_err-end-clause-parses
+pub add_reference-returns-in_err-end-clause-parses : goal.add_reference-returns-in_err-end-clause-parses
+add_reference-returns-in_err-end-clause-parses = inlines.add_reference-returns-in_err-end-clause-parses
 
-pub get_reference-returns-in_err-arguments-clause-parses : goal.get_reference-returns-in_err-arguments-clause-parses
-get_reference-returns-in_err-arguments-clause-parses = inlines.get_reference-returns-in_err-arguments-clause-parses
+pub add_reference-returns-in_err-arguments-clause-parses : goal.add_reference-returns-in_err-arguments-clause-parses
+add_reference-returns-in_err-arguments-clause-parses = inlines.add_reference-returns-in_err-arguments-clause-parses
 
-pub get_reference-returns-clause-parses : goal.get_reference-returns-clause-parses
-get_reference-returns-clause-parses = inlines.get_reference-returns-clause-parses
+pub add_reference-returns-clause-parses : goal.add_reference-returns-clause-parses
+add_reference-returns-clause-parses = inlines.add_reference-returns-clause-parses
 
-pub get_inner_placeable-returns-in_err-expression-clause-parses :
-    goal.get_inner_placeable-returns-in_err-expression-clause-parses
-get_inner_placeable-returns-in_err-expression-clause-parses =
-    inlines.get_inner_placeable-returns-in_err-expression-clause-parses
+pub add_inner_placeable-wrap_last-requires : goal.add_inner_placeable-wrap_last-requires
+add_inner_placeable-wrap_last-requires = inlines.add_inner_placeable-wrap_last-requires
 
-pub get_inner_placeable-returns-in_err-expression-2-clause-parses :
-    goal.get_inner_placeable-returns-in_err-expression-2-clause-parses
-get_inner_placeable-returns-in_err-expression-2-clause-parses =
-    inlines.get_inner_placeable-returns-in_err-expression-2-clause-parses
+pub add_inner_placeable-returns-in_err-end-clause-parses : goal.add_inner_placeable-returns-in_err-end-clause-parses
+add_inner_placeable-returns-in_err-end-clause-parses = inlines.add_inner_placeable-returns-in_err-end-clause-parses
 
-pub get_inner_placeable-returns-clause-parses : goal.get_inner_placeable-returns-clause-parses
-get_inner_placeable-returns-clause-parses = inlines.get_inner_placeable-returns-clause-parses
+pub add_inner_placeable-returns-in_err-wrap_last-clause-parses :
+    goal.add_inner_placeable-returns-in_err-wrap_last-clause-parses
+add_inner_placeable-returns-in_err-wrap_last-clause-parses =
+    inlines.add_inner_placeable-returns-in_err-wrap_last-clause-parses
 
-pub get_inline_expression-get_number-requires-clause-starts :
-    goal.get_inline_expression-get_number-requires-clause-starts
-get_inline_expression-get_number-requires-clause-starts =
-    inlines.get_inline_expression-get_number-requires-clause-starts
+pub add_inner_placeable-returns-clause-parses : goal.add_inner_placeable-returns-clause-parses
+add_inner_placeable-returns-clause-parses = inlines.add_inner_placeable-returns-clause-parses
 
-pub get_inline_expression-returns-in-Quote-clause-parses : goal.get_inline_expression-returns-in-Quote-clause-parses
-get_inline_expression-returns-in-Quote-clause-parses = inlines.get_inline_expression-returns-in-Quote-clause-parses
+pub add_inline_expression-add_number-requires-clause-starts :
+    goal.add_inline_expression-add_number-requires-clause-starts
+add_inline_expression-add_number-requires-clause-starts =
+    inlines.add_inline_expression-add_number-requires-clause-starts
 
-pub get_inline_expression-returns-in-Digit-clause-parses : goal.get_inline_expression-returns-in-Digit-clause-parses
-get_inline_expression-returns-in-Digit-clause-parses = inlines.get_inline_expression-returns-in-Digit-clause-parses
+pub add_inline_expression-returns-in-Quote-clause-parses : goal.add_inline_expression-returns-in-Quote-clause-parses
+add_inline_expression-returns-in-Quote-clause-parses = inlines.add_inline_expression-returns-in-Quote-clause-parses
 
-pub get_inline_expression-returns-in-Dollar-clause-parses : goal.get_inline_expression-returns-in-Dollar-clause-parses
-get_inline_expression-returns-in-Dollar-clause-parses = inlines.get_inline_expression-returns-in-Dollar-clause-parses
+pub add_inline_expression-returns-in-Digit-clause-parses : goal.add_inline_expression-returns-in-Digit-clause-parses
+add_inline_expression-returns-in-Digit-clause-parses = inlines.add_inline_expression-returns-in-Digit-clause-parses
 
-pub get_inline_expression-returns-in-Other-clause-parses : goal.get_inline_expression-returns-in-Other-clause-parses
-get_inline_expression-returns-in-Other-clause-parses = inlines.get_inline_expression-returns-in-Other-clause-parses
+pub add_inline_expression-returns-in-Dollar-clause-parses : goal.add_inline_expression-returns-in-Dollar-clause-parses
+add_inline_expression-returns-in-Dollar-clause-parses = inlines.add_inline_expression-returns-in-Dollar-clause-parses
+
+pub add_inline_expression-returns-in-Other-clause-parses : goal.add_inline_expression-returns-in-Other-clause-parses
+add_inline_expression-returns-in-Other-clause-parses = inlines.add_inline_expression-returns-in-Other-clause-parses
 
 -- ---- placeables and what stands in them
 
-pub get_placeable-returns-in_err-start-clause-parses : goal.get_placeable-returns-in_err-start-clause-parses
-get_placeable-returns-in_err-start-clause-parses = placeables.get_placeable-returns-in_err-start-clause-parses
+pub add_placeable-returns-in_err-start-clause-parses : goal.add_placeable-returns-in_err-start-clause-parses
+add_placeable-returns-in_err-start-clause-parses = placeables.add_placeable-returns-in_err-start-clause-parses
 
-pub get_placeable-returns-then-nesting-eq0-clause-parses : goal.get_placeable-returns-then-nesting-eq0-clause-parses
-get_placeable-returns-then-nesting-eq0-clause-parses = placeables.get_placeable-returns-then-nesting-eq0-clause-parses
+pub add_placeable-returns-then-nesting-eq0-clause-parses : goal.add_placeable-returns-then-nesting-eq0-clause-parses
+add_placeable-returns-then-nesting-eq0-clause-parses = placeables.add_placeable-returns-then-nesting-eq0-clause-parses
 
-pub get_placeable-returns-in_err-expression-clause-parses : goal.get_placeable-returns-in_err-expression-clause-parses
-get_placeable-returns-in_err-expression-clause-parses = placeables.get_placeable-returns-in_err-expression-clause-parses
+pub add_placeable-returns-in_err-ptr-clause-parses : goal.add_placeable-returns-in_err-ptr-clause-parses
+add_placeable-returns-in_err-ptr-clause-parses = placeables.add_placeable-returns-in_err-ptr-clause-parses
 
-pub get_placeable-returns-in_err-ptr-clause-parses : goal.get_placeable-returns-in_err-ptr-clause-parses
-get_placeable-returns-in_err-ptr-clause-parses = placeables.get_placeable-returns-in_err-ptr-clause-parses
+pub add_placeable-returns-in_err-end-clause-parses : goal.add_placeable-returns-in_err-end-clause-parses
+add_placeable-returns-in_err-end-clause-parses = placeables.add_placeable-returns-in_err-end-clause-parses
 
-pub get_placeable-returns-clause-parses : goal.get_placeable-returns-clause-parses
-get_placeable-returns-clause-parses = placeables.get_placeable-returns-clause-parses
+pub add_placeable-returns-clause-parses : goal.add_placeable-returns-clause-parses
+add_placeable-returns-clause-parses = placeables.add_placeable-returns-clause-parses
 
-pub get_expression-returns-in_err-expression-clause-parses : goal.get_expression-returns-in_err-expression-clause-parses
-get_expression-returns-in_err-expression-clause-parses =
-    placeables.get_expression-returns-in_err-expression-clause-parses
+pub add_expression-returns-in_err-ptr-clause-parses : goal.add_expression-returns-in_err-ptr-clause-parses
+add_expression-returns-in_err-ptr-clause-parses = placeables.add_expression-returns-in_err-ptr-clause-parses
 
-pub get_expression-returns-then-is_arrow-clause-parses : goal.get_expression-returns-then-is_arrow-clause-parses
-get_expression-returns-then-is_arrow-clause-parses = placeables.get_expression-returns-then-is_arrow-clause-parses
+pub add_expression-returns-then-is_arrow-clause-parses : goal.add_expression-returns-then-is_arrow-clause-parses
+add_expression-returns-then-is_arrow-clause-parses = placeables.add_expression-returns-then-is_arrow-clause-parses
 
-pub get_expression-returns-then-is_term_attribute-clause-parses :
-    goal.get_expression-returns-then-is_term_attribute-clause-parses
-get_expression-returns-then-is_term_attribute-clause-parses =
-    placeables.get_expression-returns-then-is_term_attribute-clause-parses
+pub add_expression-returns-then-is_term_attribute-clause-parses :
+    goal.add_expression-returns-then-is_term_attribute-clause-parses
+add_expression-returns-then-is_term_attribute-clause-parses =
+    placeables.add_expression-returns-then-is_term_attribute-clause-parses
 
-pub get_expression-returns-clause-parses : goal.get_expression-returns-clause-parses
-get_expression-returns-clause-parses = placeables.get_expression-returns-clause-parses
+pub add_expression-returns-clause-parses : goal.add_expression-returns-clause-parses
+add_expression-returns-clause-parses = placeables.add_expression-returns-clause-parses
 
-pub get_expression-inline_in-requires : goal.get_expression-inline_in-requires
-get_expression-inline_in-requires = placeables.get_expression-inline_in-requires
+pub add_expression-last_inline-requires : goal.add_expression-last_inline-requires
+add_expression-last_inline-requires = placeables.add_expression-last_inline-requires
 
-pub get_expression-get_select-requires : goal.get_expression-get_select-requires
-get_expression-get_select-requires = placeables.get_expression-get_select-requires
+pub add_expression-end_select-requires : goal.add_expression-end_select-requires
+add_expression-end_select-requires = placeables.add_expression-end_select-requires
 
 -- ---- selects and their variants
 
-pub get_select-inline_in-requires : goal.get_select-inline_in-requires
-get_select-inline_in-requires = selects.get_select-inline_in-requires
+pub end_select-last_inline-requires : goal.end_select-last_inline-requires
+end_select-last_inline-requires = selects.end_select-last_inline-requires
 
-pub get_select-returns-in_err-end-clause-parses : goal.get_select-returns-in_err-end-clause-parses
-get_select-returns-in_err-end-clause-parses = selects.get_select-returns-in_err-end-clause-parses
+pub end_select-returns-in_err-start-clause-parses : goal.end_select-returns-in_err-start-clause-parses
+end_select-returns-in_err-start-clause-parses = selects.end_select-returns-in_err-start-clause-parses
 
-pub get_select-returns-in_err-expression-clause-parses : goal.get_select-returns-in_err-expression-clause-parses
-get_select-returns-in_err-expression-clause-parses = selects.get_select-returns-in_err-expression-clause-parses
+pub end_select-returns-in_err-end-clause-parses : goal.end_select-returns-in_err-end-clause-parses
+end_select-returns-in_err-end-clause-parses = selects.end_select-returns-in_err-end-clause-parses
 
-pub get_select-returns-clause-parses : goal.get_select-returns-clause-parses
-get_select-returns-clause-parses = selects.get_select-returns-clause-parses
+pub end_select-returns-in_err-add_variants-clause-parses : goal.end_select-returns-in_err-add_variants-clause-parses
+end_select-returns-in_err-add_variants-clause-parses = selects.end_select-returns-in_err-add_variants-clause-parses
 
-pub gather_from_arrow-returns-in_err-start-clause-parses : goal.gather_from_arrow-returns-in_err-start-clause-parses
-gather_from_arrow-returns-in_err-start-clause-parses = selects.gather_from_arrow-returns-in_err-start-clause-parses
-
-pub gather_from_arrow-returns-in_err-end-clause-parses : goal.gather_from_arrow-returns-in_err-end-clause-parses
-gather_from_arrow-returns-in_err-end-clause-parses = selects.gather_from_arrow-returns-in_err-end-clause-parses
-
-pub gather_from_arrow-returns-clause-parses : goal.gather_from_arrow-returns-clause-parses
-gather_from_arrow-returns-clause-parses = selects.gather_from_arrow-returns-clause-parses
+pub end_select-returns-clause-parses : goal.end_select-returns-clause-parses
+end_select-returns-clause-parses = selects.end_select-returns-clause-parses
 
 pub gather_variants-returns-then-star-clause-parses : goal.gather_variants-returns-then-star-clause-parses
 gather_variants-returns-then-star-clause-parses = selects.gather_variants-returns-then-star-clause-parses
@@ -188,21 +182,21 @@ get_call_arguments-returns-in_err-arguments-clause-parses =
 pub get_call_arguments-returns-clause-parses : goal.get_call_arguments-returns-clause-parses
 get_call_arguments-returns-clause-parses = arguments.get_call_arguments-returns-clause-parses
 
-pub get_argument_value-returns-in_err-value-in-Quote-clause-parses :
-    goal.get_argument_value-returns-in_err-value-in-Quote-clause-parses
-get_argument_value-returns-in_err-value-in-Quote-clause-parses =
-    arguments.get_argument_value-returns-in_err-value-in-Quote-clause-parses
+pub add_argument_value-returns-in_err-end-in-Quote-clause-parses :
+    goal.add_argument_value-returns-in_err-end-in-Quote-clause-parses
+add_argument_value-returns-in_err-end-in-Quote-clause-parses =
+    arguments.add_argument_value-returns-in_err-end-in-Quote-clause-parses
 
-pub get_argument_value-returns-in_ok-value-in-Quote-clause-parses :
-    goal.get_argument_value-returns-in_ok-value-in-Quote-clause-parses
-get_argument_value-returns-in_ok-value-in-Quote-clause-parses =
-    arguments.get_argument_value-returns-in_ok-value-in-Quote-clause-parses
+pub add_argument_value-returns-in_ok-end-in-Quote-clause-parses :
+    goal.add_argument_value-returns-in_ok-end-in-Quote-clause-parses
+add_argument_value-returns-in_ok-end-in-Quote-clause-parses =
+    arguments.add_argument_value-returns-in_ok-end-in-Quote-clause-parses
 
-pub get_argument_value-returns-in_default : goal.get_argument_value-returns-in_default
-get_argument_value-returns-in_default = arguments.get_argument_value-returns-in_default
+pub add_argument_value-returns-in_default : goal.add_argument_value-returns-in_default
+add_argument_value-returns-in_default = arguments.add_argument_value-returns-in_default
 
-pub get_arguments-inline_in-requires : goal.get_arguments-inline_in-requires
-get_arguments-inline_in-requires = arguments.get_arguments-inline_in-requires
+pub get_arguments-last_inline-requires : goal.get_arguments-last_inline-requires
+get_arguments-last_inline-requires = arguments.get_arguments-last_inline-requires
 
 pub get_arguments-add_named-requires : goal.get_arguments-add_named-requires
 get_arguments-add_named-requires = arguments.get_arguments-add_named-requires
@@ -213,8 +207,8 @@ get_arguments-add_positional-requires = arguments.get_arguments-add_positional-r
 pub get_arguments-returns-then-place-self-clause-parses : goal.get_arguments-returns-then-place-self-clause-parses
 get_arguments-returns-then-place-self-clause-parses = arguments.get_arguments-returns-then-place-self-clause-parses
 
-pub get_arguments-returns-in_err-expression-clause-parses : goal.get_arguments-returns-in_err-expression-clause-parses
-get_arguments-returns-in_err-expression-clause-parses = arguments.get_arguments-returns-in_err-expression-clause-parses
+pub get_arguments-returns-in_err-next-clause-parses : goal.get_arguments-returns-in_err-next-clause-parses
+get_arguments-returns-in_err-next-clause-parses = arguments.get_arguments-returns-in_err-next-clause-parses
 
 pub get_arguments-returns-then-not-is_new-clause-parses : goal.get_arguments-returns-then-not-is_new-clause-parses
 get_arguments-returns-then-not-is_new-clause-parses = arguments.get_arguments-returns-then-not-is_new-clause-parses
@@ -222,10 +216,9 @@ get_arguments-returns-then-not-is_new-clause-parses = arguments.get_arguments-re
 pub get_arguments-skip_blank-start-requires : goal.get_arguments-skip_blank-start-requires
 get_arguments-skip_blank-start-requires = arguments.get_arguments-skip_blank-start-requires
 
-pub get_arguments-returns-in_err-value-in-Some-clause-parses :
-    goal.get_arguments-returns-in_err-value-in-Some-clause-parses
-get_arguments-returns-in_err-value-in-Some-clause-parses =
-    arguments.get_arguments-returns-in_err-value-in-Some-clause-parses
+pub get_arguments-returns-in_err-end-in-Some-clause-parses : goal.get_arguments-returns-in_err-end-in-Some-clause-parses
+get_arguments-returns-in_err-end-in-Some-clause-parses =
+    arguments.get_arguments-returns-in_err-end-in-Some-clause-parses
 
 pub get_arguments-returns-clause-parses : goal.get_arguments-returns-clause-parses
 get_arguments-returns-clause-parses = arguments.get_arguments-returns-clause-parses
@@ -262,37 +255,50 @@ get_arguments-loop-noted-init = arguments.get_arguments-loop-noted-init
 
 -- ---- patterns: their pieces, lines and layout
 
-pub gather_opening-returns-in-Some-clause-opens : goal.gather_opening-returns-in-Some-clause-opens
-gather_opening-returns-in-Some-clause-opens = patterns.gather_opening-returns-in-Some-clause-opens
+pub add_opening-returns-in-Some-clause-opens : goal.add_opening-returns-in-Some-clause-opens
+add_opening-returns-in-Some-clause-opens = patterns.add_opening-returns-in-Some-clause-opens
 
-pub gather_opening-returns-in_err-end-in-None-clause-opens : goal.gather_opening-returns-in_err-end-in-None-clause-opens
-gather_opening-returns-in_err-end-in-None-clause-opens = patterns.gather_opening-returns-in_err-end-in-None-clause-opens
+pub add_opening-loop-elements-init : goal.add_opening-loop-elements-init
+add_opening-loop-elements-init = patterns.add_opening-loop-elements-init
 
-pub gather_opening-returns-in_ok-next-in-None-clause-opens : goal.gather_opening-returns-in_ok-next-in-None-clause-opens
-gather_opening-returns-in_ok-next-in-None-clause-opens = patterns.gather_opening-returns-in_ok-next-in-None-clause-opens
+pub add_opening-loop-elements-preserved : goal.add_opening-loop-elements-preserved
+add_opening-loop-elements-preserved = patterns.add_opening-loop-elements-preserved
 
-pub gather_opening-returns-in_err-next-in-None-clause-opens :
-    goal.gather_opening-returns-in_err-next-in-None-clause-opens
-gather_opening-returns-in_err-next-in-None-clause-opens =
-    patterns.gather_opening-returns-in_err-next-in-None-clause-opens
+pub add_opening-returns-in-Some-eq125-clause-opens : goal.add_opening-returns-in-Some-eq125-clause-opens
+add_opening-returns-in-Some-eq125-clause-opens = patterns.add_opening-returns-in-Some-eq125-clause-opens
 
-pub gather_layout-returns-in_err-next-clause-parses : goal.gather_layout-returns-in_err-next-clause-parses
-gather_layout-returns-in_err-next-clause-parses = patterns.gather_layout-returns-in_err-next-clause-parses
+pub add_opening-returns-in_err-place-in-Some-eq123-clause-opens :
+    goal.add_opening-returns-in_err-place-in-Some-eq123-clause-opens
+add_opening-returns-in_err-place-in-Some-eq123-clause-opens =
+    patterns.add_opening-returns-in_err-place-in-Some-eq123-clause-opens
 
-pub gather_layout-returns-in_err-end-clause-parses : goal.gather_layout-returns-in_err-end-clause-parses
-gather_layout-returns-in_err-end-clause-parses = patterns.gather_layout-returns-in_err-end-clause-parses
+pub add_opening-returns-in_err-add_text_run-in-Some-eq123-clause-opens :
+    goal.add_opening-returns-in_err-add_text_run-in-Some-eq123-clause-opens
+add_opening-returns-in_err-add_text_run-in-Some-eq123-clause-opens =
+    patterns.add_opening-returns-in_err-add_text_run-in-Some-eq123-clause-opens
 
-pub gather_layout-returns-clause-parses : goal.gather_layout-returns-clause-parses
-gather_layout-returns-clause-parses = patterns.gather_layout-returns-clause-parses
+pub add_opening-returns-in_default-byte_at-clause-opens : goal.add_opening-returns-in_default-byte_at-clause-opens
+add_opening-returns-in_default-byte_at-clause-opens = patterns.add_opening-returns-in_default-byte_at-clause-opens
+
+pub add_opening-returns-in_default-byte_at-clause-rest : goal.add_opening-returns-in_default-byte_at-clause-rest
+add_opening-returns-in_default-byte_at-clause-rest = patterns.add_opening-returns-in_default-byte_at-clause-rest
+
+pub get_long_pattern-returns-in_err-opening-clause-parses : goal.get_long_pattern-returns-in_err-opening-clause-parses
+get_long_pattern-returns-in_err-opening-clause-parses = patterns.get_long_pattern-returns-in_err-opening-clause-parses
 
 pub get_long_pattern-returns-in_err-end-clause-parses : goal.get_long_pattern-returns-in_err-end-clause-parses
 get_long_pattern-returns-in_err-end-clause-parses = patterns.get_long_pattern-returns-in_err-end-clause-parses
 
-pub get_long_pattern-returns-clause-parses : goal.get_long_pattern-returns-clause-parses
-get_long_pattern-returns-clause-parses = patterns.get_long_pattern-returns-clause-parses
+pub get_long_pattern-returns-in_err-end_elements-clause-parses :
+    goal.get_long_pattern-returns-in_err-end_elements-clause-parses
+get_long_pattern-returns-in_err-end_elements-clause-parses =
+    patterns.get_long_pattern-returns-in_err-end_elements-clause-parses
 
-pub get_long_pattern-returns-in_err-pattern-clause-parses : goal.get_long_pattern-returns-in_err-pattern-clause-parses
-get_long_pattern-returns-in_err-pattern-clause-parses = patterns.get_long_pattern-returns-in_err-pattern-clause-parses
+pub get_long_pattern-returns-then-is_empty-clause-parses : goal.get_long_pattern-returns-then-is_empty-clause-parses
+get_long_pattern-returns-then-is_empty-clause-parses = patterns.get_long_pattern-returns-then-is_empty-clause-parses
+
+pub get_long_pattern-returns-else-is_empty-clause-parses : goal.get_long_pattern-returns-else-is_empty-clause-parses
+get_long_pattern-returns-else-is_empty-clause-parses = patterns.get_long_pattern-returns-else-is_empty-clause-parses
 
 pub get_pattern-returns-in_ok-pattern-in-Some-clause-parses :
     goal.get_pattern-returns-in_ok-pattern-in-Some-clause-parses
@@ -316,16 +322,21 @@ gather_pieces-returns-then-is_eol_at-clause-parses = patterns.gather_pieces-retu
 pub gather_pieces-returns-then-byte-eq125-clause-parses : goal.gather_pieces-returns-then-byte-eq125-clause-parses
 gather_pieces-returns-then-byte-eq125-clause-parses = patterns.gather_pieces-returns-then-byte-eq125-clause-parses
 
-pub gather_pieces-returns-in_err-expression-in-Some-clause-parses :
-    goal.gather_pieces-returns-in_err-expression-in-Some-clause-parses
-gather_pieces-returns-in_err-expression-in-Some-clause-parses =
-    patterns.gather_pieces-returns-in_err-expression-in-Some-clause-parses
+pub gather_pieces-returns-in_err-place-in-Some-clause-parses :
+    goal.gather_pieces-returns-in_err-place-in-Some-clause-parses
+gather_pieces-returns-in_err-place-in-Some-clause-parses =
+    patterns.gather_pieces-returns-in_err-place-in-Some-clause-parses
 
-pub gather_pieces-loop-byte-preserved-then-byte-eq123 : goal.gather_pieces-loop-byte-preserved-then-byte-eq123
-gather_pieces-loop-byte-preserved-then-byte-eq123 = patterns.gather_pieces-loop-byte-preserved-then-byte-eq123
+pub gather_pieces-loop-elements-preserved-in-Continue-branch-2 :
+    goal.gather_pieces-loop-elements-preserved-in-Continue-branch-2
+gather_pieces-loop-elements-preserved-in-Continue-branch-2 =
+    patterns.gather_pieces-loop-elements-preserved-in-Continue-branch-2
 
-pub gather_pieces-loop-byte-preserved : goal.gather_pieces-loop-byte-preserved
-gather_pieces-loop-byte-preserved = patterns.gather_pieces-loop-byte-preserved
+pub gather_pieces-add_placed-requires : goal.gather_pieces-add_placed-requires
+gather_pieces-add_placed-requires = patterns.gather_pieces-add_placed-requires
+
+pub gather_pieces-loop-elements-preserved : goal.gather_pieces-loop-elements-preserved
+gather_pieces-loop-elements-preserved = patterns.gather_pieces-loop-elements-preserved
 
 pub gather_pieces-returns-in_err-add_placed-in-Some-clause-parses :
     goal.gather_pieces-returns-in_err-add_placed-in-Some-clause-parses
@@ -337,11 +348,11 @@ pub gather_pieces-returns-in_err-add_run-in-Some-clause-parses :
 gather_pieces-returns-in_err-add_run-in-Some-clause-parses =
     patterns.gather_pieces-returns-in_err-add_run-in-Some-clause-parses
 
-pub gather_pieces-loop-byte-init : goal.gather_pieces-loop-byte-init
-gather_pieces-loop-byte-init = patterns.gather_pieces-loop-byte-init
+pub gather_pieces-loop-elements-init : goal.gather_pieces-loop-elements-init
+gather_pieces-loop-elements-init = patterns.gather_pieces-loop-elements-init
 
-pub gather_pieces-loop-byte-smaller : goal.gather_pieces-loop-byte-smaller
-gather_pieces-loop-byte-smaller = patterns.gather_pieces-loop-byte-smaller
+pub gather_pieces-loop-elements-smaller : goal.gather_pieces-loop-elements-smaller
+gather_pieces-loop-elements-smaller = patterns.gather_pieces-loop-elements-smaller
 
 pub gather_line-returns-in_err-end-clause-adds : goal.gather_line-returns-in_err-end-clause-adds
 gather_line-returns-in_err-end-clause-adds = patterns.gather_line-returns-in_err-end-clause-adds

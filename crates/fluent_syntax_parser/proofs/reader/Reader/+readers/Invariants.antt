@@ -1,35 +1,37 @@
-use Rattle.std.proofs.Common.{◌+◌, ◌*◌, length, ◌-◌, ◌≤◌}
+use Rattle.std.proofs.Common.{◌≡◌, None, ◌+◌, ◌*◌, length, ◌-◌, ◌≤◌}
 use Rattle.fluent_syntax_grammar.specs.Grammar as grammar
 use Rattle.fluent_syntax_grammar.specs.Lines.{next_line, next_piece}
+use Rattle.fluent_syntax_grammar.specs.Places.{after_eol}
 use Rattle.fluent_syntax_grammar.specs.Variants.{next_variant}
 use Rattle.fluent_syntax_parser.specs.Layouts.{line_of, piece_of}
 use Rattle.fluent_syntax_parser.specs.Lines.{line_view, piece_view}
 use Rattle.fluent_syntax_parser.specs.Gathered.{names_in, names_in_order}
 use Rattle.fluent_syntax_parser.specs.Noted.{Notes}
 use Rattle.fluent_syntax_parser.proofs.expressions.ArgumentLists.{MadeArguments}
-use Rattle.fluent_syntax_parser.proofs.readers.Behind.{MadeItems}
+use Rattle.fluent_syntax_parser.proofs.patterns.Opening.{MadeOpening}
+use Rattle.fluent_syntax_parser.proofs.readers.ContinuesFrom.{MadeItems}
 use Rattle.fluent_syntax_parser.proofs.expressions.GatheredVariants.{MadeVariants}
 use Rattle.fluent_syntax_parser.proofs.reader.Reader.+readers.Given as goal
 
 -- how much deeper it may nest, times the number of ranks, and the reader's rank
 
-abbrev pub decreases-get_placeable : goal.decreases-get_placeable
-decreases-get_placeable g l = 12 * l.nesting
+abbrev pub decreases-add_placeable : goal.decreases-add_placeable
+decreases-add_placeable g l = 12 * l.nesting
 
 abbrev pub decreases-get_call_arguments : goal.decreases-get_call_arguments
 decreases-get_call_arguments g l = 12 * l.nesting
 
-abbrev pub decreases-get_inline_expression : goal.decreases-get_inline_expression
-decreases-get_inline_expression g l = 12 * l.nesting + 2
+abbrev pub decreases-add_inline_expression : goal.decreases-add_inline_expression
+decreases-add_inline_expression g l = 12 * l.nesting + 2
 
-abbrev pub decreases-get_term_reference : goal.decreases-get_term_reference
-decreases-get_term_reference g l = 12 * l.nesting + 1
+abbrev pub decreases-add_term_reference : goal.decreases-add_term_reference
+decreases-add_term_reference g l = 12 * l.nesting + 1
 
-abbrev pub decreases-get_reference : goal.decreases-get_reference
-decreases-get_reference g l = 12 * l.nesting + 1
+abbrev pub decreases-add_reference : goal.decreases-add_reference
+decreases-add_reference g l = 12 * l.nesting + 1
 
-abbrev pub decreases-get_argument_value : goal.decreases-get_argument_value
-decreases-get_argument_value g l = 12 * l.nesting + 3
+abbrev pub decreases-add_argument_value : goal.decreases-add_argument_value
+decreases-add_argument_value g l = 12 * l.nesting + 3
 
 abbrev pub decreases-get_arguments : goal.decreases-get_arguments
 decreases-get_arguments g l = 12 * l.nesting + 4
@@ -43,17 +45,11 @@ decreases-gather_lines g l = 12 * l.nesting + 3
 abbrev pub decreases-gather_line : goal.decreases-gather_line
 decreases-gather_line g l = 12 * l.nesting + 2
 
-abbrev pub decreases-gather_opening : goal.decreases-gather_opening
-decreases-gather_opening g l = 12 * l.nesting + 2
+abbrev pub decreases-add_opening : goal.decreases-add_opening
+decreases-add_opening g l = 12 * l.nesting + 2
 
 abbrev pub decreases-get_pattern : goal.decreases-get_pattern
 decreases-get_pattern g l = 12 * l.nesting + 6
-
-abbrev pub decreases-gather_layout : goal.decreases-gather_layout
-decreases-gather_layout g l = 12 * l.nesting + 4
-
-abbrev pub decreases-gather_from_arrow : goal.decreases-gather_from_arrow
-decreases-gather_from_arrow g l = 12 * l.nesting + 8
 
 abbrev pub decreases-get_long_pattern : goal.decreases-get_long_pattern
 decreases-get_long_pattern g l = 12 * l.nesting + 5
@@ -61,14 +57,14 @@ decreases-get_long_pattern g l = 12 * l.nesting + 5
 abbrev pub decreases-gather_variants : goal.decreases-gather_variants
 decreases-gather_variants g l = 12 * l.nesting + 7
 
-abbrev pub decreases-get_expression : goal.decreases-get_expression
-decreases-get_expression g l = 12 * l.nesting + 10
+abbrev pub decreases-add_expression : goal.decreases-add_expression
+decreases-add_expression g l = 12 * l.nesting + 10
 
-abbrev pub decreases-get_select : goal.decreases-get_select
-decreases-get_select g l = 12 * l.nesting + 9
+abbrev pub decreases-end_select : goal.decreases-end_select
+decreases-end_select g l = 12 * l.nesting + 9
 
-abbrev pub decreases-get_inner_placeable : goal.decreases-get_inner_placeable
-decreases-get_inner_placeable g l = 12 * l.nesting + 1
+abbrev pub decreases-add_inner_placeable : goal.decreases-add_inner_placeable
+decreases-add_inner_placeable g l = 12 * l.nesting + 1
 
 -- ---- loops
 
@@ -101,8 +97,8 @@ invariant-gather_variants-loop-starred g l =
 abbrev pub decreases-gather_variants-loop-starred : goal.decreases-gather_variants-loop-starred
 decreases-gather_variants-loop-starred g l = length l.self.source.bytes.now - l.place
 
-abbrev pub invariant-gather_pieces-loop-byte : goal.invariant-gather_pieces-loop-byte
-invariant-gather_pieces-loop-byte g l =
+abbrev pub invariant-gather_pieces-loop-elements : goal.invariant-gather_pieces-loop-elements
+invariant-gather_pieces-loop-elements g l =
     let t = l.self.source.bytes.now in
     record {
       forward : l.ptr ≤ l.place;
@@ -113,8 +109,23 @@ invariant-gather_pieces-loop-byte g l =
           l.place;
     }
 
-abbrev pub decreases-gather_pieces-loop-byte : goal.decreases-gather_pieces-loop-byte
-decreases-gather_pieces-loop-byte g l = length l.self.source.bytes.now - l.place
+abbrev pub decreases-gather_pieces-loop-elements : goal.decreases-gather_pieces-loop-elements
+decreases-gather_pieces-loop-elements g l = length l.self.source.bytes.now - l.place
+
+abbrev pub invariant-add_opening-loop-elements : goal.invariant-add_opening-loop-elements
+invariant-add_opening-loop-elements g l =
+    let t = l.self.source.bytes.now in
+    record {
+      forward : l.ptr ≤ l.place;
+      within : l.place ≤ length t;
+      unended : after_eol t l.ptr ≡ None;
+      gathered :
+          MadeOpening t (grammar.within l.self.edition t l.nesting) (g.M.MakeTexts.source l.self.texts.now)
+          g.M.MakeTexts.made l.ptr l.elements.items l.place;
+    }
+
+abbrev pub decreases-add_opening-loop-elements : goal.decreases-add_opening-loop-elements
+decreases-add_opening-loop-elements g l = length l.self.source.bytes.now - l.place
 
 abbrev pub invariant-gather_lines-loop-byte : goal.invariant-gather_lines-loop-byte
 invariant-gather_lines-loop-byte g l =

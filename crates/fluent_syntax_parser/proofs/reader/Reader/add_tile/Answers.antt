@@ -23,7 +23,7 @@ returns-in-Ok-clause-adds g c =
       errors_are = sym (append-nil c.args.errors.now.items);
       tile = record {
         tree = tree;
-        gives = gives_entry c.args.self.now.edition c.args.self.now.source.bytes.now c.args.start _ c.requires _ tree
+        yields = gives_entry c.args.self.now.edition c.args.self.now.source.bytes.now c.args.start _ c.requires _ tree
             there;
         same = same;
       };
@@ -41,7 +41,7 @@ returns-in_ok-end-in-Err-Refused-clause-adds g c =
       errors_are = put.errors_are;
       tile = record {
         tree = _;
-        gives = gives_junk c.args.self.now.edition c.args.self.now.source.bytes.now c.args.start _ c.requires _ _
+        yields = gives_junk c.args.self.now.edition c.args.self.now.source.bytes.now c.args.start _ c.requires _ _
             (refuses_there found.0) _ read.ends put.fault;
         same = put.same;
       };
@@ -51,8 +51,8 @@ pub returns-in_ok-end-in-Err-Refused-clause-within : goal.returns-in_ok-end-in-E
 returns-in_ok-end-in-Err-Refused-clause-within g c =
     let t = c.args.self.now.source.bytes.now in
     let made = (returns-in_ok-end-in-Err-Refused-clause-adds g c).tile in
-    tile_within c.args.self.now.edition t c.args.start _ c.requires made.gives.tile
-    (at_any_depth c.args.self.now.edition t _ _ _ made.gives.tile made.gives.stands)
+    tile_within c.args.self.now.edition t c.args.start _ c.requires made.yields.tile
+    (at_any_depth c.args.self.now.edition t _ _ _ made.yields.tile made.yields.stands)
 
 pub returns-in-Err-TooDeep-clause-deeper : goal.returns-in-Err-TooDeep-clause-deeper
 returns-in-Err-TooDeep-clause-deeper g c = λ e.

@@ -1,7 +1,7 @@
 use Rattle.std.proofs.Common.{◌∙◌, refl}
 use Rattle.std.proofs.lemmas.Result.{err_from_is_err_and}
 use Rattle.fluent_syntax_grammar.specs.Construct.{stops, goes_on, passed}
-use Rattle.fluent_syntax_parser.proofs.expressions.Selects.{no_select_start, some_select_start}
+use Rattle.fluent_syntax_parser.proofs.expressions.Selects.{non_selector_refused, some_select_start}
 use Rattle.fluent_syntax_parser.proofs.reader.Reader.variants_start.Goals as goal
 
 pub returns-in_err-ptr-in-None-clause-parses : goal.returns-in_err-ptr-in-None-clause-parses
@@ -18,7 +18,7 @@ pub returns-in-Some-clause-parses : goal.returns-in-Some-clause-parses
 returns-in-Some-clause-parses g c =
     let t = c.args.self.now.source.bytes.now in
     let is = c.in-Some.ensures t c.args.ptr in
-    λ k from to (a, b, d). rw (a, b ∙ is.1, d ∙ is.2) (no_select_start t c.args.ptr _ _ is.0)
+    λ k from to (a, b, d). rw (a, b ∙ is.1, d ∙ is.2) (non_selector_refused t c.args.ptr _ _ is.0)
 
 pub returns-in_ok-ptr-in-None-clause-parses : goal.returns-in_ok-ptr-in-None-clause-parses
 returns-in_ok-ptr-in-None-clause-parses g c =

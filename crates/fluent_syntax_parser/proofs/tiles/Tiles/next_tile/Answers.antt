@@ -19,7 +19,7 @@ pub returns-clause-next : goal.returns-clause-next
 returns-clause-next c =
     let put = c.in_ok-end.ensures.adds in
     let made = put.tile in
-    let found = made.gives in
+    let found = made.yields in
     let same =
     sym c.in-Some.is
     ∙ c.only_item.ensures (Some put.entry)
@@ -33,7 +33,7 @@ returns-clause-next c =
       inside = omega (arith, c.in_ok-end.ensures.within.0, c.in_ok-end.ensures.within.1);
       stands = at_any_depth c.args.self.now.edition c.args.self.now.source.bytes.now c.args.self.now.nesting _ _
           found.tile found.stands;
-      gives = record {
+      yields = record {
         entry =
             found.entry ∙ ap (λ e. e ∷ []) (sym (made.same ∙ same_entry made.tree))
             ∙ ap (λ e. tree_of e ∷ []) (sym (same_some c.in-Some.entry put.entry same));

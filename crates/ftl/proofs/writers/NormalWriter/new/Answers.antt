@@ -3,8 +3,8 @@ use Rattle.ftl.proofs.writers.NormalWriter.new.Goals as goal
 
 pub returns : goal.returns
 returns c = record {
-  start = c.text_for.result;
-  is_empty = c.text_for.ensures;
+  start = c.string_with_room.result;
+  is_empty = c.string_with_room.ensures;
   wrote = c.new.ensures.wrote_none;
   no_junk = ap (λ options. options.with_junk) c.new.ensures.options ∙ c.default.ensures;
   by_edition = refl;

@@ -6,7 +6,6 @@ use Rattle.std.proofs.lemmas.Result.{err_from_is_err_and}
 use Rattle.fluent_syntax_tree.specs.Kind.{DuplicatedNamedArgument}
 use Rattle.fluent_syntax_tree.specs.Spans.{bytes_at}
 use Rattle.fluent_syntax_tree.specs.Tree.{some_arguments}
-use Rattle.fluent_syntax_tree.specs.View.{expression_view}
 use Rattle.fluent_syntax_tree.proofs.Views.{view-roll-CallArguments}
 use Rattle.fluent_syntax_parser.specs.Gathered.{names_in}
 use Rattle.fluent_syntax_parser.proofs.scanning.Names.{none_named, some_named, some_names, used_in_order}
@@ -24,10 +23,10 @@ use Rattle.fluent_syntax_parser.proofs.expressions.ArgumentNames.{argument_text}
 use Rattle.fluent_syntax_parser.proofs.expressions.ArgumentLists.{all_arguments, inline_fails, late, list_closed}
 use Rattle.fluent_syntax_parser.proofs.expressions.ArgumentLists.{list_open, named, no_arguments_yet, named_fails}
 use Rattle.fluent_syntax_parser.proofs.expressions.ArgumentLists.{one_named, one_positional, positional, token_there}
-use Rattle.fluent_syntax_parser.proofs.readers.Behind.{item_fails}
+use Rattle.fluent_syntax_parser.proofs.readers.ContinuesFrom.{item_fails}
 use Rattle.fluent_syntax_parser.proofs.readers.Fails.{fails_first, fails_list, fails_next, fails_no, fails_yes, list}
 use Rattle.fluent_syntax_parser.proofs.readers.Fails.{no_call, out_of_memory}
-use Rattle.fluent_syntax_parser.proofs.expressions.Inlines.{inline_seen}
+use Rattle.fluent_syntax_parser.proofs.expressions.LastPlaced.{placed_in}
 use Rattle.fluent_syntax_parser.proofs.expressions.InlineStarts.{by_value, no_value, value_fails}
 use Rattle.fluent_syntax_parser.proofs.readers.Made.{on_made}
 use Rattle.fluent_syntax_parser.proofs.reader.Reader.+readers.Goals as goal
@@ -75,23 +74,23 @@ get_call_arguments-returns-clause-parses g m c =
     given))))
     (ap some_arguments same))
 
-pub get_argument_value-returns-in_err-value-in-Quote-clause-parses :
-    goal.get_argument_value-returns-in_err-value-in-Quote-clause-parses
-get_argument_value-returns-in_err-value-in-Quote-clause-parses g m c =
+pub add_argument_value-returns-in_err-end-in-Quote-clause-parses :
+    goal.add_argument_value-returns-in_err-end-in-Quote-clause-parses
+add_argument_value-returns-in_err-end-in-Quote-clause-parses g m c =
     let t = c.args.self.now.source.bytes.now in
     let p = err_from_is_err_and c.from_residual.result c.from_residual.ensures.1 in
     rw (p.1, p.2)
-    (value_fails t _ c.args.ptr c.start.result c.in-Quote.is c.start.ensures c.in_err-value-in-Quote.ensures.parses)
+    (value_fails t _ c.args.ptr c.start.result c.in-Quote.is c.start.ensures c.in_err-end-in-Quote.ensures.parses)
 
-pub get_argument_value-returns-in_ok-value-in-Quote-clause-parses :
-    goal.get_argument_value-returns-in_ok-value-in-Quote-clause-parses
-get_argument_value-returns-in_ok-value-in-Quote-clause-parses g m c =
-    on_made c.in_ok-value-in-Quote.ensures.parses (λ e read same. made
-    (by_value c.args.self.now.source.bytes.now _ c.args.ptr c.start.result _ c.in-Quote.is c.start.ensures read)
-    same)
+pub add_argument_value-returns-in_ok-end-in-Quote-clause-parses :
+    goal.add_argument_value-returns-in_ok-end-in-Quote-clause-parses
+add_argument_value-returns-in_ok-end-in-Quote-clause-parses g m c =
+    let t = c.args.self.now.source.bytes.now in
+    let (e, read, added) = c.in_ok-end-in-Quote.ensures.parses in
+    (e, by_value t _ c.args.ptr c.start.result _ c.in-Quote.is c.start.ensures read, added)
 
-pub get_argument_value-returns-in_default : goal.get_argument_value-returns-in_default
-get_argument_value-returns-in_default g m c = record {
+pub add_argument_value-returns-in_default : goal.add_argument_value-returns-in_default
+add_argument_value-returns-in_default g m c = record {
   parses = refused (λ k from to (a, b, d).
       let arm = c.in_default in
       rw (a, b, d)
@@ -100,33 +99,33 @@ get_argument_value-returns-in_default g m c = record {
   within = tt;
 }
 
-pub get_arguments-inline_in-requires : goal.get_arguments-inline_in-requires
-get_arguments-inline_in-requires g m c =
-    on_made c.in_ok-expression.ensures.parses (λ e read same.
-    (_, ap (expression_view g.M.MakeTexts.made) c.deref.ensures ∙ same))
+pub get_arguments-last_inline-requires : goal.get_arguments-last_inline-requires
+get_arguments-last_inline-requires g m c =
+    let (e, read, added) = c.in_ok-next.ensures.parses in
+    (_, _, placed_in g.M.MakeTexts.made _ _ c.deref.ensures.value added)
 
 pub get_arguments-add_named-requires : goal.get_arguments-add_named-requires
 get_arguments-add_named-requires g m c =
-    on_made c.in_ok-value-in-Some.ensures.parses (λ e read same. (_, same))
+    let (e, read, added) = c.in_ok-end-in-Some.ensures.parses in (_, _, added)
 
 pub get_arguments-add_positional-requires : goal.get_arguments-add_positional-requires
 get_arguments-add_positional-requires g m c =
-    on_made c.in_ok-expression.ensures.parses (λ e read same. (_, same))
+    let (e, read, added) = c.in_ok-next.ensures.parses in (_, _, added)
 
 pub get_arguments-returns-then-place-self-clause-parses : goal.get_arguments-returns-then-place-self-clause-parses
 get_arguments-returns-then-place-self-clause-parses g m c =
     item_fails c.loop-noted.invariant.gathered.behind (refused (λ k from to (a, b, d). rw (a, b, d)
     (list_open c.args.self.now.source.bytes.now _ _ _ (omega (arith, c.if-place-self.true)))))
 
-pub get_arguments-returns-in_err-expression-clause-parses :
-    goal.get_arguments-returns-in_err-expression-clause-parses
-get_arguments-returns-in_err-expression-clause-parses g m c =
+pub get_arguments-returns-in_err-next-clause-parses :
+    goal.get_arguments-returns-in_err-next-clause-parses
+get_arguments-returns-in_err-next-clause-parses g m c =
     let t = c.args.self.now.source.bytes.now in
     let p = err_from_is_err_and c.from_residual.result c.from_residual.ensures.1 in
     rw (p.1, p.2)
     (item_fails c.loop-noted.invariant.gathered.behind
     (inline_fails t _ _ _ (omega (arith, c.if-place-self.false, c.loop-noted.invariant.within))
-    (sym c.loop-noted-test.ensures) c.in_err-expression.ensures.parses))
+    (sym c.loop-noted-test.ensures) c.in_err-next.ensures.parses))
 
 pub get_arguments-returns-then-not-is_new-clause-parses : goal.get_arguments-returns-then-not-is_new-clause-parses
 get_arguments-returns-then-not-is_new-clause-parses g m c =
@@ -134,36 +133,36 @@ get_arguments-returns-then-not-is_new-clause-parses g m c =
     let names = c.loop-noted.noted.names.items in
     let used = used_in_order t (bytes_at t c.in-Some.name) names ∙ c.in_ok-is_new-in-Some.ensures.new
     ∙ ap not c.if-not-is_new.true in
-    on_made c.in_ok-expression.ensures.parses (λ e read same.
-    let there = inline_seen _ _ c.deref.ensures c.inline_in.ensures same in
+    let (e, read, added) = c.in_ok-next.ensures.parses in
+    let there = c.last_inline.ensures _ _ (placed_in g.M.MakeTexts.made _ _ c.deref.ensures.value added) in
     let is = sym (c.in-Some.ensures c.args.nesting _ e read there) in
     let text = sym (argument_text t _ _ e _ read c.in-Some.name is) in
-    let next = c.in_ok-expression.next in
+    let next = c.in_ok-next.next in
     item_fails c.loop-noted.invariant.gathered.behind
     (refused {f = fault.Duplicated} {from = c.loop-noted.place} {place = next} (λ k from to (a, b, d).
     rw (a ∙ ap DuplicatedNamedArgument text, b, d)
     (named t _ (names_in t names) _
     (omega (arith, c.if-place-self.false, c.loop-noted.invariant.within)) (sym c.loop-noted-test.ensures) e _
     read c.in-Some.name is (sym c.if-is_byte_at.ensures) _
-    (first used (failed refl))))))
+    (first used (failed refl)))))
 
 pub get_arguments-skip_blank-start-requires : goal.get_arguments-skip_blank-start-requires
 get_arguments-skip_blank-start-requires g m c = grind (arith, gets)
 
-pub get_arguments-returns-in_err-value-in-Some-clause-parses :
-    goal.get_arguments-returns-in_err-value-in-Some-clause-parses
-get_arguments-returns-in_err-value-in-Some-clause-parses g m c =
+pub get_arguments-returns-in_err-end-in-Some-clause-parses :
+    goal.get_arguments-returns-in_err-end-in-Some-clause-parses
+get_arguments-returns-in_err-end-in-Some-clause-parses g m c =
     let t = c.args.self.now.source.bytes.now in
     let names = c.loop-noted.noted.names.items in
     let new = used_in_order t (bytes_at t c.in-Some.name) names ∙ c.in_ok-is_new-in-Some.ensures.new
     ∙ ap not c.if-not-is_new.false in
     let mark = sym c.if-is_byte_at.ensures in
-    let p = err_from_is_err_and c.from_residual-in_err-value-in-Some.result
-    c.from_residual-in_err-value-in-Some.ensures.1 in
+    let (e, read, added) = c.in_ok-next.ensures.parses in
+    let there = c.last_inline.ensures _ _ (placed_in g.M.MakeTexts.made _ _ c.deref.ensures.value added) in
+    let p = err_from_is_err_and c.from_residual-in_err-end-in-Some.result
+    c.from_residual-in_err-end-in-Some.ensures.1 in
     rw (p.1, p.2)
-    (on_made c.in_ok-expression.ensures.parses (λ e read same.
-    let there = inline_seen _ _ c.deref.ensures c.inline_in.ensures same in
-    item_fails c.loop-noted.invariant.gathered.behind
+    (item_fails c.loop-noted.invariant.gathered.behind
     (named_fails t _ (names_in t names) _
     (omega (arith, c.if-place-self.false, c.loop-noted.invariant.within)) (sym c.loop-noted-test.ensures) e _
     read (functional_within c.args.self.now.edition t _) c.in-Some.name
@@ -171,7 +170,7 @@ get_arguments-returns-in_err-value-in-Some-clause-parses g m c =
     (fails_no new
     (fails_next (functional_token t colon) (token_there t colon _ mark)
     (fails_next (functional_blank t) (passed c.skip_blank-start.ensures.blank)
-    (fails_first c.in_err-value-in-Some.ensures.parses)))))))
+    (fails_first c.in_err-end-in-Some.ensures.parses))))))
 
 pub get_arguments-returns-clause-parses : goal.get_arguments-returns-clause-parses
 get_arguments-returns-clause-parses g m c =
@@ -191,16 +190,17 @@ get_arguments-loop-noted-preserved-then-is_byte_at g m c =
     ∙ ap not c.if-not-is_new.false in
     let noted = c.in_ok-is_new-in-Some.ensures.noted c.if-not-is_new.false in
     let named = c.in_ok-add_named-in-Some.ensures in
-    on_made c.in_ok-expression.ensures.parses (λ e read same.
-    let there = inline_seen _ _ c.deref.ensures c.inline_in.ensures same in
-    on_made c.in_ok-value-in-Some.ensures.parses (λ value read_value same_value. record {
+    let (e, read, added) = c.in_ok-next.ensures.parses in
+    let there = c.last_inline.ensures _ _ (placed_in g.M.MakeTexts.made _ _ c.deref.ensures.value added) in
+    let (value, read_value, added_value) = c.in_ok-end-in-Some.ensures.parses in
+    record {
       forward =
           omega (
             arith,
             old.invariant.forward,
-            c.in_ok-expression.ensures.within.0,
+            c.in_ok-next.ensures.within.0,
             c.skip_blank-start.ensures.blank.forward,
-            c.in_ok-value-in-Some.ensures.within.0,
+            c.in_ok-end-in-Some.ensures.within.0,
             c.skip_separator-place.ensures.within.0,
           );
       within = c.skip_separator-place.ensures.within.1;
@@ -211,19 +211,19 @@ get_arguments-loop-noted-preserved-then-is_byte_at g m c =
           (sym c.loop-noted-test.ensures) e _ read named.0 c.in-Some.name
           (sym (c.in-Some.ensures c.args.nesting _ e read there)) (sym c.if-is_byte_at.ensures) new
           named.2 _ named.1 _ noted.0 _ _ _
-          c.skip_blank-start.ensures.blank value read_value (inline_seen _ _ refl named.3 same_value)
+          c.skip_blank-start.ensures.blank value read_value (named.3 _ _ added_value)
           c.skip_separator-place.ensures.parses;
       noted = noted.1;
-    }))
+    }
 
 pub get_arguments-returns-then-not-is_empty-clause-parses : goal.get_arguments-returns-then-not-is_empty-clause-parses
 get_arguments-returns-then-not-is_empty-clause-parses g m c =
     let t = c.args.self.now.source.bytes.now in
     let old = c.loop-noted in
     let some = some_named old.noted.names.items c.if-not-is_empty.ensures in
-    on_made c.in_ok-expression.ensures.parses (λ e read same.
-    let there = inline_seen _ _ c.deref.ensures c.inline_in.ensures same in
-    let is : (argument_name e ≡ None) ⊎ (has_byte t colon c.in_ok-expression.next ≡ false) =
+    let (e, read, added) = c.in_ok-next.ensures.parses in
+    let there = c.last_inline.ensures _ _ (placed_in g.M.MakeTexts.made _ _ c.deref.ensures.value added) in
+    let is : (argument_name e ≡ None) ⊎ (has_byte t colon c.in_ok-next.next ≡ false) =
     elim c.in_default.branch [
       | get_arguments-in_default-via-in-Some+else-is_byte_at w ↦ inr (sym w.if-is_byte_at.ensures)
       | get_arguments-in_default-via-in_default w ↦ inl (sym (w.in_default.ensures c.args.nesting _ e read there))
@@ -233,17 +233,17 @@ get_arguments-returns-then-not-is_empty-clause-parses g m c =
     (omega (arith, c.if-place-self.false, old.invariant.within)) (sym c.loop-noted-test.ensures) e _
     read is _
     (late t (within c.args.self.now.edition t c.args.nesting) (names_in t old.noted.names.items) e _
-    (some_names t old.noted.names.items some))))))
+    (some_names t old.noted.names.items some)))))
 
 pub get_arguments-loop-noted-preserved : goal.get_arguments-loop-noted-preserved
 get_arguments-loop-noted-preserved g m c =
     let t = c.args.self.now.source.bytes.now in
     let old = c.loop-noted in
     let none = none_named old.noted.names.items c.if-not-is_empty.ensures in
-    let added = c.in_ok-add_positional-in_default.ensures in
-    on_made c.in_ok-expression.ensures.parses (λ e read same.
-    let there = inline_seen _ _ c.deref.ensures c.inline_in.ensures same in
-    let is : (argument_name e ≡ None) ⊎ (has_byte t colon c.in_ok-expression.next ≡ false) =
+    let argument = c.in_ok-add_positional-in_default.ensures in
+    let (e, read, added) = c.in_ok-next.ensures.parses in
+    let there = c.last_inline.ensures _ _ (placed_in g.M.MakeTexts.made _ _ c.deref.ensures.value added) in
+    let is : (argument_name e ≡ None) ⊎ (has_byte t colon c.in_ok-next.next ≡ false) =
     elim c.in_default.branch [
       | get_arguments-in_default-via-in-Some+else-is_byte_at w ↦ inr (sym w.if-is_byte_at.ensures)
       | get_arguments-in_default-via-in_default w ↦ inl (sym (w.in_default.ensures c.args.nesting _ e read there))
@@ -253,7 +253,7 @@ get_arguments-loop-noted-preserved g m c =
           omega (
             arith,
             old.invariant.forward,
-            c.in_ok-expression.ensures.within.0,
+            c.in_ok-next.ensures.within.0,
             c.skip_separator-place-in_default.ensures.within.0,
           );
       within = c.skip_separator-place-in_default.ensures.within.1;
@@ -261,10 +261,10 @@ get_arguments-loop-noted-preserved g m c =
           one_positional t _ _ g.M.MakeTexts.made _ (functional_within c.args.self.now.edition t _) _ _ _
           old.noted.names.items
           old.invariant.gathered (omega (arith, c.if-place-self.false, old.invariant.within))
-          (sym c.loop-noted-test.ensures) e _ read is none added.0 (inline_seen _ _ refl added.2 same) _ added.1 _
+          (sym c.loop-noted-test.ensures) e _ read is none argument.0 (argument.2 _ _ added) _ argument.1 _
           c.skip_separator-place-in_default.ensures.parses;
       noted = old.invariant.noted;
-    })
+    }
 
 pub get_arguments-returns-clause-within : goal.get_arguments-returns-clause-within
 get_arguments-returns-clause-within g m c = grind (arith, gets)

@@ -1,7 +1,7 @@
 -- The answers of the readers of inline expressions.
-use Rattle.std.proofs.Common.{◌∙◌, refl, ap}
+use Rattle.std.proofs.Common.{◌≡◌, Option, ap, refl}
 use Rattle.std.proofs.lemmas.Result.{err_from_is_err_and}
-use Rattle.fluent_syntax_tree.specs.Tree.{inline, inline_placeable}
+use Rattle.fluent_syntax_tree.specs.Tree.{MaybeArguments, inline, term_reference}
 use Rattle.fluent_syntax_grammar.specs.Starts as starts
 use Rattle.fluent_syntax_grammar.specs.Bytes.{hyphen}
 use Rattle.fluent_syntax_grammar.specs.Construct.{stops, goes_on, given, failed}
@@ -9,25 +9,30 @@ use Rattle.fluent_syntax_grammar.specs.Inline.{inline_of}
 use Rattle.fluent_syntax_grammar.proofs.FunctionalRules.{functional_accessor}
 use Rattle.fluent_syntax_grammar.proofs.FunctionalWords.{functional_identifier, functional_token}
 use Rattle.fluent_syntax_grammar.proofs.Nesting.{functional_within}
-use Rattle.fluent_syntax_parser.specs.Made.{made}
 use Rattle.fluent_syntax_parser.specs.Outcomes.{no_memory, refused}
 use Rattle.fluent_syntax_parser.proofs.readers.Fails.{fails_first, fails_next, fails_seen, out_of_memory}
 use Rattle.fluent_syntax_parser.proofs.expressions.InlineStarts.{by_start, number_starts, referred}
+use Rattle.fluent_syntax_parser.proofs.expressions.LastPlaced.{placed_as}
 use Rattle.fluent_syntax_parser.proofs.readers.Made.{on_made}
 use Rattle.fluent_syntax_parser.proofs.reader.Reader.+readers.Goals as goal
 
-pub get_term_reference-returns-in_err-start-clause-parses :
-    goal.get_term_reference-returns-in_err-start-clause-parses
-get_term_reference-returns-in_err-start-clause-parses g m c =
+-- a reference to a term whose arguments are the same
+same_reference : {X : Type 0} (name : X) (attribute : Option X) {a b : MaybeArguments X} → a ≡ b →
+    inline (term_reference name attribute a) ≡ inline (term_reference name attribute b)
+same_reference name attribute same = ap (λ x. inline (term_reference name attribute x)) same
+
+pub add_term_reference-returns-in_err-start-clause-parses :
+    goal.add_term_reference-returns-in_err-start-clause-parses
+add_term_reference-returns-in_err-start-clause-parses g m c =
     let p = err_from_is_err_and c.from_residual.result
     c.from_residual.ensures.1 in
     rw (p.1, p.2) (refused (λ k from to h.
     by_start c.args.self.now.source.bytes.now _ _ starts.term _ c.requires.starts
     (stops (c.in_err-start.ensures.parses k from to h))))
 
-pub get_term_reference-returns-in_err-end-clause-parses :
-    goal.get_term_reference-returns-in_err-end-clause-parses
-get_term_reference-returns-in_err-end-clause-parses g m c =
+pub add_term_reference-returns-in_err-end-clause-parses :
+    goal.add_term_reference-returns-in_err-end-clause-parses
+add_term_reference-returns-in_err-end-clause-parses g m c =
     let p = err_from_is_err_and c.from_residual-in_err-end.result c.from_residual-in_err-end.ensures.1
     in
     rw (p.1, p.2) (refused (λ k from to h.
@@ -35,9 +40,9 @@ get_term_reference-returns-in_err-end-clause-parses g m c =
     (goes_on c.in_ok-start.ensures.parses
     (stops (c.in_err-end.ensures.parses k from to h)))))
 
-pub get_term_reference-returns-in_err-attribute-clause-parses :
-    goal.get_term_reference-returns-in_err-attribute-clause-parses
-get_term_reference-returns-in_err-attribute-clause-parses g m c =
+pub add_term_reference-returns-in_err-attribute-clause-parses :
+    goal.add_term_reference-returns-in_err-attribute-clause-parses
+add_term_reference-returns-in_err-attribute-clause-parses g m c =
     let p = err_from_is_err_and c.from_residual-in_err-attribute.result
     c.from_residual-in_err-attribute.ensures.1 in
     rw (p.1, p.2) (refused (λ k from to h.
@@ -46,9 +51,9 @@ get_term_reference-returns-in_err-attribute-clause-parses g m c =
     (goes_on c.in_ok-end.ensures.parses
     (stops (c.in_err-attribute.ensures.parses k from to h))))))
 
-pub get_term_reference-returns-in_err-arguments-clause-parses :
-    goal.get_term_reference-returns-in_err-arguments-clause-parses
-get_term_reference-returns-in_err-arguments-clause-parses g m c =
+pub add_term_reference-returns-in_err-arguments-clause-parses :
+    goal.add_term_reference-returns-in_err-arguments-clause-parses
+add_term_reference-returns-in_err-arguments-clause-parses g m c =
     let t = c.args.self.now.source.bytes.now in
     let p = err_from_is_err_and c.from_residual-in_err-arguments.result c.from_residual-in_err-arguments.ensures.1 in
     rw (p.1, p.2)
@@ -58,35 +63,38 @@ get_term_reference-returns-in_err-arguments-clause-parses g m c =
     (fails_next (functional_accessor t) c.in_ok-attribute.ensures.parses
     (fails_first c.in_err-arguments.ensures.parses)))))
 
-pub get_term_reference-returns-clause-parses : goal.get_term_reference-returns-clause-parses
-get_term_reference-returns-clause-parses g m c =
-    on_made c.in_ok-arguments.ensures.parses (λ a read same. made
-    (by_start c.args.self.now.source.bytes.now _ _ starts.term _ c.requires.starts
-    (goes_on c.in_ok-start.ensures.parses
-    (goes_on c.in_ok-end.ensures.parses
-    (goes_on c.in_ok-attribute.ensures.parses
-    (goes_on read
-    given)))))
-    (c.in_ok-expression.ensures ∙ rw same refl))
+pub add_term_reference-returns-clause-parses : goal.add_term_reference-returns-clause-parses
+add_term_reference-returns-clause-parses g m c =
+    on_made c.in_ok-arguments.ensures.parses (λ a read same. (
+      _,
+      by_start c.args.self.now.source.bytes.now _ _ starts.term _ c.requires.starts
+          (goes_on c.in_ok-start.ensures.parses
+          (goes_on c.in_ok-end.ensures.parses
+          (goes_on c.in_ok-attribute.ensures.parses
+          (goes_on read
+          given)))),
+      placed_as g.M.MakeTexts.made _ _ _ c.in_ok-add_term_named.ensures
+          (same_reference _ _ same),
+    ))
 
-pub get_term_reference-returns-in_err-expression-clause-parses :
-    goal.get_term_reference-returns-in_err-expression-clause-parses
-get_term_reference-returns-in_err-expression-clause-parses g m c =
-    rw (out_of_memory c.from_residual-in_err-expression.result
-    c.from_residual-in_err-expression.ensures.1) no_memory
+pub add_term_reference-returns-in_err-add_term_named-clause-parses :
+    goal.add_term_reference-returns-in_err-add_term_named-clause-parses
+add_term_reference-returns-in_err-add_term_named-clause-parses g m c =
+    rw (out_of_memory c.from_residual-in_err-add_term_named.result
+    c.from_residual-in_err-add_term_named.ensures.1) no_memory
 
-pub get_reference-returns-in_err-end-clause-parses :
-    goal.get_reference-returns-in_err-end-clause-parses
-get_reference-returns-in_err-end-clause-parses g m c =
+pub add_reference-returns-in_err-end-clause-parses :
+    goal.add_reference-returns-in_err-end-clause-parses
+add_reference-returns-in_err-end-clause-parses g m c =
     let p = err_from_is_err_and c.from_residual.result
     c.from_residual.ensures.1 in
     rw (p.1, p.2) (refused (λ k from to h.
     by_start c.args.self.now.source.bytes.now _ _ starts.letter _ c.requires.starts
     (stops (c.in_err-end.ensures.parses k from to h))))
 
-pub get_reference-returns-in_err-arguments-clause-parses :
-    goal.get_reference-returns-in_err-arguments-clause-parses
-get_reference-returns-in_err-arguments-clause-parses g m c =
+pub add_reference-returns-in_err-arguments-clause-parses :
+    goal.add_reference-returns-in_err-arguments-clause-parses
+add_reference-returns-in_err-arguments-clause-parses g m c =
     let t = c.args.self.now.source.bytes.now in
     let p = err_from_is_err_and c.from_residual-in_err-arguments.result c.from_residual-in_err-arguments.ensures.1 in
     rw (p.1, p.2)
@@ -94,51 +102,54 @@ get_reference-returns-in_err-arguments-clause-parses g m c =
     (fails_next (functional_identifier t) c.in_ok-end.ensures.parses
     (fails_first c.in_err-arguments.ensures.parses)))
 
-pub get_reference-returns-clause-parses : goal.get_reference-returns-clause-parses
-get_reference-returns-clause-parses g m c =
+pub add_reference-returns-clause-parses : goal.add_reference-returns-clause-parses
+add_reference-returns-clause-parses g m c =
+    let t = c.args.self.now.source.bytes.now in
     on_made c.in_ok-arguments.ensures.parses (λ a read same.
-    referred c.args.self.now.source.bytes.now _ _ _ _ _ (c.get_named_reference.ensures.parses a same) c.requires.starts
-    c.in_ok-end.ensures.parses read (functional_within c.args.self.now.edition c.args.self.now.source.bytes.now _))
+    referred g.M.MakeTexts.made t _ _ _ _ _ _ (c.add_named_reference.ensures.parses a same) c.requires.starts
+    c.in_ok-end.ensures.parses read (functional_within c.args.self.now.edition t _))
 
-pub get_inner_placeable-returns-in_err-expression-clause-parses :
-    goal.get_inner_placeable-returns-in_err-expression-clause-parses
-get_inner_placeable-returns-in_err-expression-clause-parses g m c =
+pub add_inner_placeable-wrap_last-requires : goal.add_inner_placeable-wrap_last-requires
+add_inner_placeable-wrap_last-requires g m c = (_, _, c.in_ok-end.ensures.parses.2)
+
+pub add_inner_placeable-returns-in_err-end-clause-parses : goal.add_inner_placeable-returns-in_err-end-clause-parses
+add_inner_placeable-returns-in_err-end-clause-parses g m c =
     let t = c.args.self.now.source.bytes.now in
     let p = err_from_is_err_and c.from_residual.result c.from_residual.ensures.1 in
     rw (p.1, p.2)
     (fails_seen (inline_of t _) starts.brace c.requires.starts
-    (fails_first c.in_err-expression.ensures.parses))
+    (fails_first c.in_err-end.ensures.parses))
 
-pub get_inner_placeable-returns-in_err-expression-2-clause-parses :
-    goal.get_inner_placeable-returns-in_err-expression-2-clause-parses
-get_inner_placeable-returns-in_err-expression-2-clause-parses g m c =
-    rw (out_of_memory c.from_residual-in_err-expression-2.result
-    c.from_residual-in_err-expression-2.ensures.1) no_memory
+pub add_inner_placeable-returns-in_err-wrap_last-clause-parses :
+    goal.add_inner_placeable-returns-in_err-wrap_last-clause-parses
+add_inner_placeable-returns-in_err-wrap_last-clause-parses g m c =
+    rw (out_of_memory c.from_residual-in_err-wrap_last.result
+    c.from_residual-in_err-wrap_last.ensures.1) no_memory
 
-pub get_inner_placeable-returns-clause-parses : goal.get_inner_placeable-returns-clause-parses
-get_inner_placeable-returns-clause-parses g m c =
-    on_made c.in_ok-expression.ensures.parses (λ a read same. made
-    (by_start c.args.self.now.source.bytes.now _ _ starts.brace _ c.requires.starts
-    (goes_on read
-    given))
-    (c.in_ok-expression-2.ensures ∙ ap (λ e. inline (inline_placeable e)) same))
+pub add_inner_placeable-returns-clause-parses : goal.add_inner_placeable-returns-clause-parses
+add_inner_placeable-returns-clause-parses g m c =
+    let (a, read, added) = c.in_ok-end.ensures.parses in (
+      _,
+      by_start c.args.self.now.source.bytes.now _ _ starts.brace _ c.requires.starts (goes_on read given),
+      c.in_ok-wrap_last.ensures _ _ added,
+    )
 
-pub get_inline_expression-get_number-requires-clause-starts :
-    goal.get_inline_expression-get_number-requires-clause-starts
-get_inline_expression-get_number-requires-clause-starts g m c =
+pub add_inline_expression-add_number-requires-clause-starts :
+    goal.add_inline_expression-add_number-requires-clause-starts
+add_inline_expression-add_number-requires-clause-starts g m c =
     number_starts c.args.self.now.source.bytes.now _ c.start.result c.in-Digit.is c.start.ensures
 
-pub get_inline_expression-returns-in-Quote-clause-parses : goal.get_inline_expression-returns-in-Quote-clause-parses
-get_inline_expression-returns-in-Quote-clause-parses g m c = c.get_string.ensures.parses _
+pub add_inline_expression-returns-in-Quote-clause-parses : goal.add_inline_expression-returns-in-Quote-clause-parses
+add_inline_expression-returns-in-Quote-clause-parses g m c = c.add_string.ensures.parses _
 
-pub get_inline_expression-returns-in-Digit-clause-parses : goal.get_inline_expression-returns-in-Digit-clause-parses
-get_inline_expression-returns-in-Digit-clause-parses g m c = c.get_number.ensures.parses _
+pub add_inline_expression-returns-in-Digit-clause-parses : goal.add_inline_expression-returns-in-Digit-clause-parses
+add_inline_expression-returns-in-Digit-clause-parses g m c = c.add_number.ensures.parses _
 
-pub get_inline_expression-returns-in-Dollar-clause-parses : goal.get_inline_expression-returns-in-Dollar-clause-parses
-get_inline_expression-returns-in-Dollar-clause-parses g m c = c.get_variable.ensures.parses _
+pub add_inline_expression-returns-in-Dollar-clause-parses : goal.add_inline_expression-returns-in-Dollar-clause-parses
+add_inline_expression-returns-in-Dollar-clause-parses g m c = c.add_variable.ensures.parses _
 
-pub get_inline_expression-returns-in-Other-clause-parses : goal.get_inline_expression-returns-in-Other-clause-parses
-get_inline_expression-returns-in-Other-clause-parses g m c =
+pub add_inline_expression-returns-in-Other-clause-parses : goal.add_inline_expression-returns-in-Other-clause-parses
+add_inline_expression-returns-in-Other-clause-parses g m c =
     refused (λ k from to (a, b, d). rw (a, b, d)
     (by_start c.args.self.now.source.bytes.now _ _ starts.other _ c.in-Other.ensures
     (failed refl)))

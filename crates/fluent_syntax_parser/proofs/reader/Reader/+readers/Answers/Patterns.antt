@@ -1,7 +1,9 @@
 -- The answers of the readers of patterns: their pieces, lines and layout.
-use Rattle.std.proofs.Common.{◌∙◌, refl, sym, ap, arith, None, Some}
+use Rattle.std.proofs.Common.{◌≡◌, ◌∙◌, List, [], ◌++◌, length, map, refl, sym, ap, arith, None, Some}
+use Rattle.std.specs.Prelude.{slice_get, vec_len}
 use Rattle.std.proofs.lemmas.Result.{err_from_is_err_and}
 use Rattle.fluent_syntax_parser.proofs.patterns.LineEndings.{by_eol}
+use Rattle.fluent_syntax_grammar.specs.Bytes.{left_brace, right_brace}
 use Rattle.fluent_syntax_grammar.specs.Construct.{goes_on, given, passed, at_place}
 use Rattle.fluent_syntax_grammar.specs.Grammar.{within}
 use Rattle.fluent_syntax_grammar.specs.Lines.{is_run_place, no_byte, other_line, own_line}
@@ -10,27 +12,45 @@ use Rattle.fluent_syntax_grammar.proofs.FunctionalRules.{functional_ending, func
 use Rattle.fluent_syntax_grammar.proofs.FunctionalRules.{functional_pieces}
 use Rattle.fluent_syntax_grammar.proofs.FunctionalWords.{functional_blank_block, functional_inline_blank}
 use Rattle.fluent_syntax_grammar.proofs.Nesting.{functional_within}
-use Rattle.fluent_syntax_grammar.specs.Elements.{with_ending}
-use Rattle.fluent_syntax_grammar.specs.Layout.{placed}
-use Rattle.fluent_syntax_parser.specs.Lines.{line_view, piece_view}
+use Rattle.fluent_syntax_parser.specs.Elements.{run_of}
+use Rattle.fluent_syntax_parser.specs.Layouts.{piece_of}
+use Rattle.fluent_syntax_parser.specs.Lines.{ending_view, line_view, piece_view}
 use Rattle.fluent_syntax_parser.specs.Made.{made}
+use Rattle.fluent_syntax_parser.specs.Opened.{none}
 use Rattle.fluent_syntax_parser.specs.Outcomes.{no_memory, refused}
-use Rattle.fluent_syntax_parser.proofs.readers.Behind.{all_made, item_fails, item_made, no_items}
+use Rattle.fluent_syntax_parser.proofs.entry_forms.FieldForms.{no_items as no_elements, some_items}
+use Rattle.fluent_syntax_parser.proofs.readers.ContinuesFrom.{all_made, item_fails, item_made, no_items}
 use Rattle.fluent_syntax_parser.proofs.readers.Fails.{fails_first, fails_next, fails_seen, functional_here}
 use Rattle.fluent_syntax_parser.proofs.readers.Fails.{functional_reaches, out_of_memory}
 use Rattle.fluent_syntax_parser.proofs.readers.Made.{on_made}
 use Rattle.fluent_syntax_parser.proofs.patterns.BlankLines.{none_at_end, none_before_other}
+use Rattle.fluent_syntax_parser.proofs.patterns.Opening.{as_elements, ends_at, line_ends, no_opening, opening_ending}
+use Rattle.fluent_syntax_parser.proofs.patterns.Opening.{no_byte_there, other_byte}
+use Rattle.fluent_syntax_parser.proofs.patterns.Opening.{opening_fails, opening_placed, opening_read, opening_settled}
+use Rattle.fluent_syntax_parser.proofs.patterns.Rest.{nothing_left}
+use Rattle.fluent_syntax_parser.proofs.patterns.Spelled.{layout_spelled, none_spelled, some_spelled}
 use Rattle.fluent_syntax_parser.proofs.patterns.Pieces.{bare_brace, end_pieces, line_read, no_pieces, line_onward}
 use Rattle.fluent_syntax_parser.proofs.patterns.Pieces.{own_line_fails, further, placed_fails, placed_piece, run_piece}
 use Rattle.fluent_syntax_parser.proofs.patterns.Pieces.{run_there}
 use Rattle.fluent_syntax_parser.proofs.reader.Reader.+readers.Goals as goal
+use Rattle.fluent_syntax_parser.proofs.reader.Reader.+readers.Goals.{add_opening-in_default-byte_at-via-in-Some+in_default}
+use Rattle.fluent_syntax_parser.proofs.reader.Reader.+readers.Goals.{add_opening-in_default-byte_at-via-in_default}
 
-pub gather_opening-returns-in-Some-clause-opens : goal.gather_opening-returns-in-Some-clause-opens
-gather_opening-returns-in-Some-clause-opens g m c =
+-- what is added to a list that is known
+added_as : {A : Type 0} {new old seen all : List A} (rest : List A) → new ≡ old ++ rest → old ≡ seen →
+    seen ++ rest ≡ all → new ≡ all
+added_as rest added same is = added ∙ ap (λ xs. xs ++ rest) same ∙ is
+
+pub add_opening-returns-in-Some-clause-opens : goal.add_opening-returns-in-Some-clause-opens
+add_opening-returns-in-Some-clause-opens g m c =
     let t = c.args.self.now.source.bytes.now in
-    let blank = c.skip_blank_block.ensures.blank in record {
+    let blank = c.skip_blank_block-line.ensures.blank in
+    record {
       opening = None;
-      same = rw c.requires.empty refl;
+      pieces = [];
+      settled = none;
+      made = rw c.requires.empty refl;
+      same = sym (nothing_left c.args.ptr);
       read = λ ls end h. by_eol t _ _ _ _ c.in-Some.ensures.eol
           (goes_on (passed (record { there = refl })) (goes_on (passed blank) (goes_on h given)));
       fails = λ e h.
@@ -39,75 +59,172 @@ gather_opening-returns-in-Some-clause-opens g m c =
           (fails_next (functional_blank_block t) (passed blank) (fails_first h)));
     }
 
-pub gather_opening-returns-in_err-end-in-None-clause-opens : goal.gather_opening-returns-in_err-end-in-None-clause-opens
-gather_opening-returns-in_err-end-in-None-clause-opens g m c =
+pub add_opening-loop-elements-init : goal.add_opening-loop-elements-init
+add_opening-loop-elements-init g m c = record {
+  forward = omega arith;
+  within = c.requires.within;
+  unended = sym c.eol_end.ensures.eol ∙ c.in_default.is;
+  gathered =
+      rw c.requires.empty
+      (no_opening c.args.self.now.source.bytes.now _ _ g.M.MakeTexts.made c.args.ptr);
+}
+
+pub add_opening-loop-elements-preserved : goal.add_opening-loop-elements-preserved
+add_opening-loop-elements-preserved g m c =
+    let t = c.args.self.now.source.bytes.now in
+    let R = within c.args.self.now.edition t c.args.nesting in
+    let f = g.M.MakeTexts.source c.args.self.now.texts.now in
+    let old = c.loop-elements.invariant in
+    let found = sym (rw c.in-Some-eq123.field-0-test at c.in-Some-eq123.ensures) in
+    let run = c.run_end-to.ensures.run in
+    let read = c.in_ok-place-in-Some-eq123.ensures in
+    let (e, there, added) = read.parses in
+    let (x, pushed, seen) = added in
+    record {
+      forward = omega (arith, old.forward, run.forward, read.within.0);
+      within = read.within.1;
+      unended = old.unended;
+      gathered =
+          opening_placed t R f g.M.MakeTexts.made _
+          (functional_next_piece t R (functional_within c.args.self.now.edition t _)) _ _ run _ old.gathered.behind
+          old.gathered.settled _ _ x _ old.gathered.same c.in_ok-add_text_run-in-Some-eq123.ensures pushed e seen _
+          (placed_piece t R _ _ found (rw found refl) refl _ (goes_on there given));
+    }
+
+pub add_opening-returns-in-Some-eq125-clause-opens : goal.add_opening-returns-in-Some-eq125-clause-opens
+add_opening-returns-in-Some-eq125-clause-opens g m c =
+    let t = c.args.self.now.source.bytes.now in
+    let R = within c.args.self.now.edition t c.args.nesting in
+    let f = g.M.MakeTexts.source c.args.self.now.texts.now in
+    let old = c.loop-elements.invariant in
+    let found = sym (rw c.in-Some-eq125.field-0-test at c.in-Some-eq125.ensures) in
+    fails_seen (layout_at t R) _ (sym old.unended)
+    (fails_next functional_here at_place
+    (fails_first (opening_fails t R f g.M.MakeTexts.made _
+    (functional_next_piece t R (functional_within c.args.self.now.edition t _)) _ _ c.run_end-to.ensures.run _
+    old.gathered.behind (refused (λ k from to (a, b, d). rw (a, b, d)
+    (bare_brace t R _ _ found (rw found refl) refl))))))
+
+pub add_opening-returns-in_err-place-in-Some-eq123-clause-opens :
+    goal.add_opening-returns-in_err-place-in-Some-eq123-clause-opens
+add_opening-returns-in_err-place-in-Some-eq123-clause-opens g m c =
+    let t = c.args.self.now.source.bytes.now in
+    let R = within c.args.self.now.edition t c.args.nesting in
+    let f = g.M.MakeTexts.source c.args.self.now.texts.now in
+    let old = c.loop-elements.invariant in
+    let found = sym (rw c.in-Some-eq123.field-0-test at c.in-Some-eq123.ensures) in
+    let p = err_from_is_err_and c.from_residual-in_err-place-in-Some-eq123.result
+    c.from_residual-in_err-place-in-Some-eq123.ensures.1 in
+    rw (p.1, p.2)
+    (fails_seen (layout_at t R) _ (sym old.unended)
+    (fails_next functional_here at_place
+    (fails_first (opening_fails t R f g.M.MakeTexts.made _
+    (functional_next_piece t R (functional_within c.args.self.now.edition t _)) _ _ c.run_end-to.ensures.run _
+    old.gathered.behind
+    (placed_fails t R _ _ found (rw found refl) refl (fails_first c.in_err-place-in-Some-eq123.ensures.parses))))))
+
+pub add_opening-returns-in_err-add_text_run-in-Some-eq123-clause-opens :
+    goal.add_opening-returns-in_err-add_text_run-in-Some-eq123-clause-opens
+add_opening-returns-in_err-add_text_run-in-Some-eq123-clause-opens g m c =
+    rw (out_of_memory c.from_residual.result c.from_residual.ensures.1) no_memory
+
+pub add_opening-returns-in_default-byte_at-clause-opens : goal.add_opening-returns-in_default-byte_at-clause-opens
+add_opening-returns-in_default-byte_at-clause-opens g m c =
+    let t = c.args.self.now.source.bytes.now in
+    let R = within c.args.self.now.edition t c.args.nesting in
+    let f = g.M.MakeTexts.source c.args.self.now.texts.now in
+    let old = c.loop-elements.invariant in
+    let functional = functional_within c.args.self.now.edition t c.args.nesting in
+    let run = c.run_end-to.ensures.run in
+    let ends = c.get_ending-ending.ensures.parses in
+    let apart : (slice_get t c.run_end-to.result ≡ Some left_brace → ⊥)
+    × (slice_get t c.run_end-to.result ≡ Some right_brace → ⊥) =
+    elim c.in_default-byte_at.branch [
+      | add_opening-in_default-byte_at-via-in-Some+in_default w ↦
+          let test = w.in_default-byte_at.field-0-test in
+          let is = sym w.in_default-byte_at.ensures in (other_byte _ _ is test.0.1, other_byte _ _ is test.1)
+      | add_opening-in_default-byte_at-via-in_default w ↦
+          let none = sym c.byte_at.ensures ∙ w.in_default-byte_at.is in (no_byte_there none, no_byte_there none)
+    ] in
+    let there = opening_read t R f g.M.MakeTexts.made _ (functional_next_piece t R functional) _ _ run _
+    old.gathered.behind (line_ends t R _ _ run apart.0 apart.1) in
+    record {
+      opening =
+          Some (record {
+            start = c.args.ptr;
+            spaces = 0;
+            pieces = old.gathered.pieces ++ run_of (record { start = c.loop-elements.place; end = c.run_end-to.result });
+            ending = ending_view c.get_ending-ending.result.0;
+          });
+      pieces = map (piece_of f) old.gathered.pieces;
+      settled = opening_settled f old.gathered.settled;
+      made = old.gathered.same ∙ as_elements f old.gathered.pieces;
+      same = opening_ending f old.gathered.settled _ _;
+      read = λ ls last h. by_eol t _ _ _ _ (sym old.unended)
+          (goes_on at_place (goes_on there (goes_on ends (goes_on h given))));
+      fails = λ e h.
+          fails_seen (layout_at t R) _ (sym old.unended)
+          (fails_next functional_here at_place
+          (fails_next (functional_pieces t R functional) there
+          (fails_next (functional_ending t) ends (fails_first h))));
+    }
+
+pub add_opening-returns-in_default-byte_at-clause-rest : goal.add_opening-returns-in_default-byte_at-clause-rest
+add_opening-returns-in_default-byte_at-clause-rest g m c = (
+  c.run_end-to.ensures.run.forward,
+  ends_at c.args.self.now.source.bytes.now _ _ _ c.get_ending-ending.ensures.parses,
+)
+
+pub get_long_pattern-returns-in_err-opening-clause-parses : goal.get_long_pattern-returns-in_err-opening-clause-parses
+get_long_pattern-returns-in_err-opening-clause-parses g m c =
     let t = c.args.self.now.source.bytes.now in
     let p = err_from_is_err_and c.from_residual.result c.from_residual.ensures.1 in
     rw (p.1, p.2)
-    (fails_seen (layout_at t _) _ c.in-None.ensures.eol
-    (fails_next functional_here at_place (fails_first c.in_err-end-in-None.ensures.parses)))
-
-pub gather_opening-returns-in_ok-next-in-None-clause-opens : goal.gather_opening-returns-in_ok-next-in-None-clause-opens
-gather_opening-returns-in_ok-next-in-None-clause-opens g m c =
-    let t = c.args.self.now.source.bytes.now in
-    let R = within c.args.self.now.edition t c.args.nesting in
-    let (end, opening, ends) = c.in_ok-next-in-None.ensures.ends in
-    on_made c.in_ok-end-in-None.ensures.parses (λ ps there same. record {
-      opening = Some (record { start = c.args.ptr; spaces = 0; pieces = ps; ending = end });
-      same = opening ∙ ap (λ xs. with_ending xs end) same;
-      read = λ ls last h. by_eol t _ _ _ _ c.in-None.ensures.eol
-          (goes_on at_place (goes_on there (goes_on ends (goes_on h given))));
-      fails = λ e h.
-          fails_seen (layout_at t _) _ c.in-None.ensures.eol
-          (fails_next functional_here at_place
-          (fails_next (functional_pieces t R (functional_within c.args.self.now.edition t _)) there
-          (fails_next (functional_ending t) ends (fails_first h))));
-    })
-
-pub gather_opening-returns-in_err-next-in-None-clause-opens :
-    goal.gather_opening-returns-in_err-next-in-None-clause-opens
-gather_opening-returns-in_err-next-in-None-clause-opens g m c =
-    rw (out_of_memory c.from_residual-in_err-next-in-None.result
-    c.from_residual-in_err-next-in-None.ensures.1) no_memory
-
-pub gather_layout-returns-in_err-next-clause-parses : goal.gather_layout-returns-in_err-next-clause-parses
-gather_layout-returns-in_err-next-clause-parses g m c =
-    let p = err_from_is_err_and c.from_residual.result c.from_residual.ensures.1 in
-    rw (p.1, p.2) c.in_err-next.ensures.opens
-
-pub gather_layout-returns-in_err-end-clause-parses : goal.gather_layout-returns-in_err-end-clause-parses
-gather_layout-returns-in_err-end-clause-parses g m c =
-    let p = err_from_is_err_and c.from_residual-in_err-end.result c.from_residual-in_err-end.ensures.1 in
-    rw (p.1, p.2) (c.in_ok-next.ensures.opens.fails _ c.in_err-end.ensures.parses)
-
-pub gather_layout-returns-clause-parses : goal.gather_layout-returns-clause-parses
-gather_layout-returns-clause-parses g m c =
-    let opened = c.in_ok-next.ensures.opens in
-    on_made c.in_ok-end.ensures.parses (λ ls there same. record {
-      layout = record { opening = opened.opening; lines = ls };
-      read = opened.read ls _ there;
-      same_opening = opened.same;
-      same_lines = same;
-    })
+    (fails_first (fails_next (functional_inline_blank t) (passed c.requires.blank) c.in_err-opening.ensures.opens))
 
 pub get_long_pattern-returns-in_err-end-clause-parses : goal.get_long_pattern-returns-in_err-end-clause-parses
 get_long_pattern-returns-in_err-end-clause-parses g m c =
     let t = c.args.self.now.source.bytes.now in
-    let p = err_from_is_err_and c.from_residual.result c.from_residual.ensures.1 in
+    let p = err_from_is_err_and c.from_residual-in_err-end.result c.from_residual-in_err-end.ensures.1 in
     rw (p.1, p.2)
-    (fails_first (fails_next (functional_inline_blank t) (passed c.requires.blank) c.in_err-end.ensures.parses))
+    (fails_first (fails_next (functional_inline_blank t) (passed c.requires.blank)
+    (c.in_ok-opening.ensures.opens.fails _ c.in_err-end.ensures.parses)))
 
-pub get_long_pattern-returns-clause-parses : goal.get_long_pattern-returns-clause-parses
-get_long_pattern-returns-clause-parses g m c =
-    let laid = c.in_ok-end.ensures.parses in
-    made (goes_on (goes_on (passed c.requires.blank) laid.read) given)
-    (c.in_ok-pattern.ensures laid.layout laid.same_opening laid.same_lines)
+pub get_long_pattern-returns-in_err-end_elements-clause-parses :
+    goal.get_long_pattern-returns-in_err-end_elements-clause-parses
+get_long_pattern-returns-in_err-end_elements-clause-parses g m c =
+    rw (out_of_memory c.from_residual-in_err-end_elements.result
+    c.from_residual-in_err-end_elements.ensures.1) no_memory
 
-pub get_long_pattern-returns-in_err-pattern-clause-parses :
-    goal.get_long_pattern-returns-in_err-pattern-clause-parses
-get_long_pattern-returns-in_err-pattern-clause-parses g m c =
-    rw (out_of_memory c.from_residual-in_err-pattern.result
-    c.from_residual-in_err-pattern.ensures.1) no_memory
+pub get_long_pattern-returns-then-is_empty-clause-parses : goal.get_long_pattern-returns-then-is_empty-clause-parses
+get_long_pattern-returns-then-is_empty-clause-parses g m c =
+    let t = c.args.self.now.source.bytes.now in
+    let f = g.M.MakeTexts.source c.args.self.now.texts.now in
+    let opened = c.in_ok-opening.ensures.opens in
+    let elements = c.end_elements.new.elements in
+    let size : length elements.items ≡ vec_len elements = omega (arith, elements.ok.0) in
+    let none = no_elements elements.items _ size c.if-is_empty.ensures in
+    on_made c.in_ok-end.ensures.parses (λ ls there same.
+    let made_of = added_as _ c.in_ok-end_elements.ensures opened.made
+    (layout_spelled f t c.args.self.now.edition (record { opening = opened.opening; lines = ls }) opened.settled _
+    opened.same _ same) in
+    made (goes_on (goes_on (passed c.requires.blank) (opened.read ls _ there)) given)
+    (none_spelled f g.M.MakeTexts.made _ elements.items made_of none))
+
+pub get_long_pattern-returns-else-is_empty-clause-parses : goal.get_long_pattern-returns-else-is_empty-clause-parses
+get_long_pattern-returns-else-is_empty-clause-parses g m c =
+    let t = c.args.self.now.source.bytes.now in
+    let f = g.M.MakeTexts.source c.args.self.now.texts.now in
+    let opened = c.in_ok-opening.ensures.opens in
+    let elements = c.end_elements.new.elements in
+    let size : length elements.items ≡ vec_len elements = omega (arith, elements.ok.0) in
+    on_made c.in_ok-end.ensures.parses (λ ls there same.
+    let made_of = added_as _ c.in_ok-end_elements.ensures opened.made
+    (layout_spelled f t c.args.self.now.edition (record { opening = opened.opening; lines = ls }) opened.settled _
+    opened.same _ same) in
+    made (goes_on (goes_on (passed c.requires.blank) (opened.read ls _ there)) given)
+    (some_spelled f g.M.MakeTexts.made _ (record { elements = elements }) made_of
+    (some_items elements.items _ size c.if-is_empty.ensures)))
 
 pub get_pattern-returns-in_ok-pattern-in-Some-clause-parses :
     goal.get_pattern-returns-in_ok-pattern-in-Some-clause-parses
@@ -125,63 +242,67 @@ get_pattern-returns-in_err-pattern-in-Some-clause-parses g m c =
 
 pub gather_pieces-returns-in-None-clause-parses : goal.gather_pieces-returns-in-None-clause-parses
 gather_pieces-returns-in-None-clause-parses g m c =
-    all_made (piece_view g.M.MakeTexts.made) _ c.loop-byte.invariant.gathered (end_pieces
+    all_made (piece_view g.M.MakeTexts.made) _ c.loop-elements.invariant.gathered (end_pieces
     c.args.self.now.source.bytes.now
     (within c.args.self.now.edition c.args.self.now.source.bytes.now c.args.nesting) _ (sym c.in-None.ensures))
 
 pub gather_pieces-returns-then-is_eol_at-clause-parses : goal.gather_pieces-returns-then-is_eol_at-clause-parses
 gather_pieces-returns-then-is_eol_at-clause-parses g m c =
-    all_made (piece_view g.M.MakeTexts.made) _ c.loop-byte.invariant.gathered
+    all_made (piece_view g.M.MakeTexts.made) _ c.loop-elements.invariant.gathered
     (no_pieces c.args.self.now.source.bytes.now (within c.args.self.now.edition c.args.self.now.source.bytes.now
     c.args.nesting) _ _
     (sym c.in-Some.ensures) (λ e. cc) (sym c.if-is_eol_at.ensures))
 
 pub gather_pieces-returns-then-byte-eq125-clause-parses : goal.gather_pieces-returns-then-byte-eq125-clause-parses
 gather_pieces-returns-then-byte-eq125-clause-parses g m c =
-    item_fails c.loop-byte.invariant.gathered.behind (refused (λ k from to (a, b, d). rw (a, b, d)
+    item_fails c.loop-elements.invariant.gathered.behind (refused (λ k from to (a, b, d). rw (a, b, d)
     (bare_brace c.args.self.now.source.bytes.now (within c.args.self.now.edition c.args.self.now.source.bytes.now
     c.args.nesting) _ _
     (sym c.in-Some.ensures) (sym c.if-is_eol_at.ensures)
     c.if-byte-eq125.true)))
 
-pub gather_pieces-returns-in_err-expression-in-Some-clause-parses :
-    goal.gather_pieces-returns-in_err-expression-in-Some-clause-parses
-gather_pieces-returns-in_err-expression-in-Some-clause-parses g m c =
+pub gather_pieces-returns-in_err-place-in-Some-clause-parses : goal.gather_pieces-returns-in_err-place-in-Some-clause-parses
+gather_pieces-returns-in_err-place-in-Some-clause-parses g m c =
     let p = err_from_is_err_and c.from_residual.result c.from_residual.ensures.1 in
     rw (p.1, p.2)
-    (item_fails c.loop-byte.invariant.gathered.behind
+    (item_fails c.loop-elements.invariant.gathered.behind
     (placed_fails c.args.self.now.source.bytes.now (within c.args.self.now.edition c.args.self.now.source.bytes.now
     c.args.nesting) _ _
     (sym c.in-Some.ensures) (sym c.if-is_eol_at.ensures)
-    c.if-byte-eq123.true (fails_first c.in_err-expression-in-Some.ensures.parses)))
+    c.if-byte-eq123.true (fails_first c.in_err-place-in-Some.ensures.parses)))
 
-pub gather_pieces-loop-byte-preserved-then-byte-eq123 : goal.gather_pieces-loop-byte-preserved-then-byte-eq123
-gather_pieces-loop-byte-preserved-then-byte-eq123 g m c =
+pub gather_pieces-loop-elements-preserved-in-Continue-branch-2 : goal.gather_pieces-loop-elements-preserved-in-Continue-branch-2
+gather_pieces-loop-elements-preserved-in-Continue-branch-2 g m c =
     let t = c.args.self.now.source.bytes.now in
-    let read = c.in_ok-expression-in-Some.ensures in
-    on_made read.parses (λ e there same. record {
-      forward = omega (arith, c.loop-byte.invariant.forward, read.within.0);
+    let read = c.in_ok-place-in-Some.ensures in
+    let (e, there, added) = read.parses in
+    let piece = c.in_ok-add_placed-in-Some.ensures in
+    record {
+      forward = omega (arith, c.loop-elements.invariant.forward, read.within.0);
       within = read.within.1;
       gathered =
-          item_made (piece_view g.M.MakeTexts.made) _ _ _ c.in_ok-add_placed-in-Some.ensures
-          c.loop-byte.invariant.gathered
+          item_made (piece_view g.M.MakeTexts.made) _ _ _ piece.1 c.loop-elements.invariant.gathered
           (functional_next_piece t (within c.args.self.now.edition t c.args.nesting)
           (functional_within c.args.self.now.edition t _)) _
           (placed_piece t (within c.args.self.now.edition t c.args.nesting) _ _ (sym c.in-Some.ensures)
           (sym c.if-is_eol_at.ensures) c.if-byte-eq123.true _
-          (goes_on there given)) (ap placed same);
-    })
+          (goes_on there given)) (piece.2 _ _ added);
+    }
 
-pub gather_pieces-loop-byte-preserved : goal.gather_pieces-loop-byte-preserved
-gather_pieces-loop-byte-preserved g m c =
+pub gather_pieces-add_placed-requires : goal.gather_pieces-add_placed-requires
+gather_pieces-add_placed-requires g m c =
+    let (e, there, added) = c.in_ok-place-in-Some.ensures.parses in (_, _, added)
+
+pub gather_pieces-loop-elements-preserved : goal.gather_pieces-loop-elements-preserved
+gather_pieces-loop-elements-preserved g m c =
     let t = c.args.self.now.source.bytes.now in
     let run = c.run_end-to.ensures.run in
     record {
-      forward = omega (arith, c.loop-byte.invariant.forward, run.forward);
+      forward = omega (arith, c.loop-elements.invariant.forward, run.forward);
       within = c.run_end-to.ensures.within;
       gathered =
           item_made (piece_view g.M.MakeTexts.made) _ _ _ c.in_ok-add_run-in-Some.ensures
-          c.loop-byte.invariant.gathered
+          c.loop-elements.invariant.gathered
           (functional_next_piece t (within c.args.self.now.edition t c.args.nesting)
           (functional_within c.args.self.now.edition t _)) _
           (run_piece t (within c.args.self.now.edition t c.args.nesting) _ _ (sym c.in-Some.ensures)
@@ -201,20 +322,20 @@ gather_pieces-returns-in_err-add_run-in-Some-clause-parses g m c =
     rw (out_of_memory c.from_residual-in_err-add_run-in-Some.result
     c.from_residual-in_err-add_run-in-Some.ensures.1) no_memory
 
-pub gather_pieces-loop-byte-init : goal.gather_pieces-loop-byte-init
-gather_pieces-loop-byte-init g m c = record {
+pub gather_pieces-loop-elements-init : goal.gather_pieces-loop-elements-init
+gather_pieces-loop-elements-init g m c = record {
   forward = omega arith;
   within = c.requires.within;
   gathered = rw c.requires.empty (no_items (piece_view g.M.MakeTexts.made));
 }
 
-pub gather_pieces-loop-byte-smaller : goal.gather_pieces-loop-byte-smaller
-gather_pieces-loop-byte-smaller g m c =
+pub gather_pieces-loop-elements-smaller : goal.gather_pieces-loop-elements-smaller
+gather_pieces-loop-elements-smaller g m c =
     let t = c.args.self.now.source.bytes.now in
     let run = c.run_end-to.ensures.run in
     let there = run_there t (within c.args.self.now.edition t c.args.nesting) _ _ (sym c.in-Some.ensures)
     (sym c.if-is_eol_at.ensures) c.if-byte-eq125.false c.if-byte-eq123.false in
-    let longer = further (is_run_place t) c.loop-byte.place c.run_end-to.result run there in
+    let longer = further (is_run_place t) c.loop-elements.place c.run_end-to.result run there in
     omega (arith, longer, c.run_end-to.ensures.within)
 
 pub gather_line-returns-in_err-end-clause-adds : goal.gather_line-returns-in_err-end-clause-adds

@@ -1,106 +1,110 @@
 -- The answers of the readers of placeables and what stands in them.
 use Rattle.std.proofs.Common.{◌∙◌, refl, sym, ap, rules}
 use Rattle.std.proofs.lemmas.Result.{err_from_is_err_and}
-use Rattle.fluent_syntax_tree.specs.View.{expression_view}
 use Rattle.fluent_syntax_grammar.specs.Bytes.{left_brace}
 use Rattle.fluent_syntax_grammar.specs.Construct.{stops, goes_on, given, failed, passed, chosen, first, second}
-use Rattle.fluent_syntax_grammar.specs.Placeables.{is_term_attribute}
+use Rattle.fluent_syntax_grammar.specs.Expressions.{is_term_attribute}
 use Rattle.fluent_syntax_grammar.proofs.FunctionalWords.{functional_blank, functional_token}
 use Rattle.fluent_syntax_grammar.proofs.Nesting.{functional_within}
-use Rattle.fluent_syntax_parser.specs.Made.{made}
 use Rattle.fluent_syntax_parser.specs.Outcomes.{refused, too_deep}
 use Rattle.fluent_syntax_parser.proofs.readers.Fails.{braces, fails_braces, fails_first, fails_next, no_placeable}
-use Rattle.fluent_syntax_parser.proofs.expressions.Inlines.{inline_seen}
-use Rattle.fluent_syntax_parser.proofs.readers.Made.{on_made, same_term_attribute}
+use Rattle.fluent_syntax_parser.proofs.expressions.LastPlaced.{placed_in}
+use Rattle.fluent_syntax_parser.proofs.readers.Made.{same_term_attribute}
 use Rattle.fluent_syntax_parser.proofs.expressions.Selects.{behind_blank}
 use Rattle.fluent_syntax_parser.proofs.reader.Reader.+readers.Goals as goal
 
-pub get_placeable-returns-in_err-start-clause-parses : goal.get_placeable-returns-in_err-start-clause-parses
-get_placeable-returns-in_err-start-clause-parses g m c =
+pub add_placeable-returns-in_err-start-clause-parses : goal.add_placeable-returns-in_err-start-clause-parses
+add_placeable-returns-in_err-start-clause-parses g m c =
     let p = err_from_is_err_and c.from_residual.result c.from_residual.ensures.1 in
     rw (p.1, p.2) (refused (λ k from to h.
     stops (c.in_err-start.ensures.parses k from to h)))
 
-pub get_placeable-returns-then-nesting-eq0-clause-parses : goal.get_placeable-returns-then-nesting-eq0-clause-parses
-get_placeable-returns-then-nesting-eq0-clause-parses g m c =
+pub add_placeable-returns-then-nesting-eq0-clause-parses : goal.add_placeable-returns-then-nesting-eq0-clause-parses
+add_placeable-returns-then-nesting-eq0-clause-parses g m c =
     too_deep (no_placeable _ _ _ _ _ c.if-nesting-eq0.true c.in_ok-start.ensures.parses)
 
-pub get_placeable-returns-in_err-expression-clause-parses :
-    goal.get_placeable-returns-in_err-expression-clause-parses
-get_placeable-returns-in_err-expression-clause-parses g m c =
+pub add_placeable-returns-in_err-ptr-clause-parses : goal.add_placeable-returns-in_err-ptr-clause-parses
+add_placeable-returns-in_err-ptr-clause-parses g m c =
     let t = c.args.self.now.source.bytes.now in
-    let p = err_from_is_err_and c.from_residual-in_err-expression.result c.from_residual-in_err-expression.ensures.1 in
+    let p = err_from_is_err_and c.from_residual-in_err-ptr.result c.from_residual-in_err-ptr.ensures.1 in
     rw (p.1, p.2)
     (fails_next (functional_token t left_brace) c.in_ok-start.ensures.parses
     (fails_next (functional_blank t) (passed c.skip_blank-start.ensures.blank)
-    (fails_first (fails_braces c.args.self.now.edition t c.if-nesting-eq0.false c.in_err-expression.ensures.parses))))
+    (fails_first (fails_braces c.args.self.now.edition t c.if-nesting-eq0.false c.in_err-ptr.ensures.parses))))
 
-pub get_placeable-returns-in_err-ptr-clause-parses : goal.get_placeable-returns-in_err-ptr-clause-parses
-get_placeable-returns-in_err-ptr-clause-parses g m c =
-    let p = err_from_is_err_and c.from_residual-in_err-ptr.result c.from_residual-in_err-ptr.ensures.1 in
-    rw (p.1, p.2) (on_made c.in_ok-expression.ensures.parses (λ a read same. refused (λ k from to h.
+pub add_placeable-returns-in_err-end-clause-parses : goal.add_placeable-returns-in_err-end-clause-parses
+add_placeable-returns-in_err-end-clause-parses g m c =
+    let (a, read, added) = c.in_ok-ptr.ensures.parses in
+    let p = err_from_is_err_and c.from_residual-in_err-end.result c.from_residual-in_err-end.ensures.1 in
+    rw (p.1, p.2) (refused (λ k from to h.
     goes_on c.in_ok-start.ensures.parses
     (goes_on (passed c.skip_blank-start.ensures.blank)
     (goes_on (braces c.args.self.now.edition c.args.self.now.source.bytes.now _ _ _ c.if-nesting-eq0.false read)
     (goes_on (passed c.skip_blank_inline-ptr.ensures.blank)
-    (stops (c.in_err-ptr.ensures.parses k from to h))))))))
+    (stops (c.in_err-end.ensures.parses k from to h)))))))
 
-pub get_placeable-returns-clause-parses : goal.get_placeable-returns-clause-parses
-get_placeable-returns-clause-parses g m c =
-    on_made c.in_ok-expression.ensures.parses (λ a read same. made
-    (goes_on c.in_ok-start.ensures.parses
-    (goes_on (passed c.skip_blank-start.ensures.blank)
-    (goes_on (braces c.args.self.now.edition c.args.self.now.source.bytes.now _ _ _ c.if-nesting-eq0.false read)
-    (goes_on (passed c.skip_blank_inline-ptr.ensures.blank)
-    (goes_on c.in_ok-ptr.ensures.parses
-    given)))))
-    same)
+pub add_placeable-returns-clause-parses : goal.add_placeable-returns-clause-parses
+add_placeable-returns-clause-parses g m c =
+    let (a, read, added) = c.in_ok-ptr.ensures.parses in (
+      a,
+      goes_on c.in_ok-start.ensures.parses
+          (goes_on (passed c.skip_blank-start.ensures.blank)
+          (goes_on (braces c.args.self.now.edition c.args.self.now.source.bytes.now _ _ _ c.if-nesting-eq0.false read)
+          (goes_on (passed c.skip_blank_inline-ptr.ensures.blank)
+          (goes_on c.in_ok-end.ensures.parses
+          given)))),
+      added,
+    )
 
-pub get_expression-returns-in_err-expression-clause-parses :
-    goal.get_expression-returns-in_err-expression-clause-parses
-get_expression-returns-in_err-expression-clause-parses g m c =
+pub add_expression-returns-in_err-ptr-clause-parses : goal.add_expression-returns-in_err-ptr-clause-parses
+add_expression-returns-in_err-ptr-clause-parses g m c =
     let p = err_from_is_err_and c.from_residual.result c.from_residual.ensures.1 in
-    rw (p.1, p.2) (fails_first c.in_err-expression.ensures.parses)
+    rw (p.1, p.2) (fails_first c.in_err-ptr.ensures.parses)
 
-pub get_expression-returns-then-is_arrow-clause-parses : goal.get_expression-returns-then-is_arrow-clause-parses
-get_expression-returns-then-is_arrow-clause-parses g m c =
+pub add_expression-returns-then-is_arrow-clause-parses : goal.add_expression-returns-then-is_arrow-clause-parses
+add_expression-returns-then-is_arrow-clause-parses g m c =
     let t = c.args.self.now.source.bytes.now in
-    on_made c.in_ok-expression.ensures.parses (λ e read same.
-    behind_blank c.args.self.now.edition t _ _ _ _ read c.skip_blank-ptr.ensures.blank (sym c.if-is_arrow.ensures)
-    (functional_within c.args.self.now.edition t _) (c.get_select.ensures.parses e same))
+    let (e, read, added) = c.in_ok-ptr.ensures.parses in
+    behind_blank g.M.MakeTexts.made c.args.self.now.edition t _ _ _ _ _ read c.skip_blank-ptr.ensures.blank
+    (sym c.if-is_arrow.ensures) (functional_within c.args.self.now.edition t _)
+    (c.end_select.ensures.parses _ e added)
 
-pub get_expression-returns-then-is_term_attribute-clause-parses :
-    goal.get_expression-returns-then-is_term_attribute-clause-parses
-get_expression-returns-then-is_term_attribute-clause-parses g m c =
-    on_made c.in_ok-expression.ensures.parses (λ e read same.
-    let there = inline_seen _ _ c.deref.ensures c.inline_in.ensures same in
+pub add_expression-returns-then-is_term_attribute-clause-parses :
+    goal.add_expression-returns-then-is_term_attribute-clause-parses
+add_expression-returns-then-is_term_attribute-clause-parses g m c =
+    let v = g.M.MakeTexts.made in
+    let (e, read, added) = c.in_ok-ptr.ensures.parses in
+    let there = c.last_inline.ensures _ _ (placed_in v _ _ c.deref.ensures.value added) in
     refused (λ k from to (a, b, d). rw (a, b, d)
     (goes_on read
     (goes_on (passed c.skip_blank-ptr.ensures.blank)
     (goes_on (chosen given)
     (second (sym c.if-is_arrow.ensures)
     (first (sym (same_term_attribute _ e) ∙ ap is_term_attribute (sym there) ∙ sym c.if-is_term_attribute.ensures)
-    (failed refl))))))))
+    (failed refl)))))))
 
-pub get_expression-returns-clause-parses : goal.get_expression-returns-clause-parses
-get_expression-returns-clause-parses g m c =
-    on_made c.in_ok-expression.ensures.parses (λ e read same.
-    let there = inline_seen _ _ c.deref.ensures c.inline_in.ensures same in
-    made
-    (goes_on read
-    (goes_on (passed c.skip_blank-ptr.ensures.blank)
-    (goes_on (chosen given)
-    (second (sym c.if-is_arrow.ensures)
-    (second (sym (same_term_attribute _ e) ∙ ap is_term_attribute (sym there) ∙ sym c.if-is_term_attribute.ensures)
-    given)))))
-    same)
+pub add_expression-returns-clause-parses : goal.add_expression-returns-clause-parses
+add_expression-returns-clause-parses g m c =
+    let v = g.M.MakeTexts.made in
+    let (e, read, added) = c.in_ok-ptr.ensures.parses in
+    let there = c.last_inline.ensures _ _ (placed_in v _ _ c.deref.ensures.value added) in (
+      _,
+      goes_on read
+          (goes_on (passed c.skip_blank-ptr.ensures.blank)
+          (goes_on (chosen given)
+          (second (sym c.if-is_arrow.ensures)
+          (second
+          (sym (same_term_attribute _ e) ∙ ap is_term_attribute (sym there) ∙ sym c.if-is_term_attribute.ensures)
+          given)))),
+      added,
+    )
 
-pub get_expression-inline_in-requires : goal.get_expression-inline_in-requires
-get_expression-inline_in-requires g m c =
-    on_made c.in_ok-expression.ensures.parses (λ e read same.
-    (_, ap (expression_view g.M.MakeTexts.made) c.deref.ensures ∙ same))
+pub add_expression-last_inline-requires : goal.add_expression-last_inline-requires
+add_expression-last_inline-requires g m c =
+    let (e, read, added) = c.in_ok-ptr.ensures.parses in
+    (_, _, placed_in g.M.MakeTexts.made _ _ c.deref.ensures.value added)
 
-pub get_expression-get_select-requires : goal.get_expression-get_select-requires
-get_expression-get_select-requires g m c = λ κs le.
-    on_made c.in_ok-expression.ensures.parses (λ e read same.
-    (search rules, (le.0, (le.1, (c.skip_blank-ptr.ensures.within, (sym c.if-is_arrow.ensures, (_, same)))))))
+pub add_expression-end_select-requires : goal.add_expression-end_select-requires
+add_expression-end_select-requires g m c = λ κs le.
+    let (e, read, added) = c.in_ok-ptr.ensures.parses in
+    (search rules, (le.0, (le.1, (c.skip_blank-ptr.ensures.within, (sym c.if-is_arrow.ensures, (_, _, added))))))

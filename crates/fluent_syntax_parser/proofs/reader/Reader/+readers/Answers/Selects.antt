@@ -1,8 +1,8 @@
 -- The answers of the readers of selects and their variants.
 use Rattle.std.proofs.Common.{◌∙◌, refl, sym, ap, arith}
 use Rattle.std.proofs.lemmas.Result.{err_from_is_err_and}
-use Rattle.fluent_syntax_tree.specs.Tree.{pattern_map, variant}
-use Rattle.fluent_syntax_tree.specs.View.{expression_view, key_view}
+use Rattle.fluent_syntax_tree.specs.Tree.{inline_map, pattern_map, select, variant}
+use Rattle.fluent_syntax_tree.specs.View.{key_view}
 use Rattle.fluent_syntax_grammar.proofs.Tests.{both}
 use Rattle.fluent_syntax_parser.proofs.expressions.Stars.{one_false}
 use Rattle.fluent_syntax_grammar.specs.Bytes.{asterisk, left_bracket, right_bracket}
@@ -12,56 +12,55 @@ use Rattle.fluent_syntax_grammar.specs.Patterns.{pattern}
 use Rattle.fluent_syntax_grammar.proofs.FunctionalRules.{functional_key, functional_next_variant}
 use Rattle.fluent_syntax_grammar.proofs.FunctionalWords.{functional_blank, functional_optional, functional_token}
 use Rattle.fluent_syntax_grammar.proofs.Nesting.{functional_within}
-use Rattle.fluent_syntax_parser.specs.Made.{made}
 use Rattle.fluent_syntax_parser.specs.Outcomes.{no_memory, refused}
-use Rattle.fluent_syntax_parser.proofs.readers.Behind.{item_fails}
+use Rattle.fluent_syntax_parser.proofs.readers.ContinuesFrom.{item_fails}
 use Rattle.fluent_syntax_parser.proofs.readers.Fails.{fails_first, fails_next, fails_yes, functional_star}
 use Rattle.fluent_syntax_parser.proofs.readers.Fails.{out_of_memory}
 use Rattle.fluent_syntax_parser.proofs.expressions.GatheredVariants.{all_variants, no_variant, variant_made}
-use Rattle.fluent_syntax_parser.proofs.expressions.Inlines.{inline_seen}
+use Rattle.fluent_syntax_parser.proofs.expressions.LastPlaced.{placed_as, placed_in}
 use Rattle.fluent_syntax_parser.proofs.readers.Made.{no_value_read, on_made, on_value}
 use Rattle.fluent_syntax_parser.proofs.expressions.Selects.{functional_start, same_fault, select_fails, select_read}
 use Rattle.fluent_syntax_parser.proofs.reader.Reader.+readers.Goals as goal
 
-pub get_select-inline_in-requires : goal.get_select-inline_in-requires
-get_select-inline_in-requires g m c =
-    (c.requires.selector.0, ap (expression_view g.M.MakeTexts.made) c.deref.ensures ∙ c.requires.selector.1)
+pub end_select-last_inline-requires : goal.end_select-last_inline-requires
+end_select-last_inline-requires g m c =
+    let (old, tree, added) = c.requires.selector in
+    (old, tree, placed_in g.M.MakeTexts.made _ _ c.deref.ensures.value added)
 
-pub get_select-returns-in_err-end-clause-parses : goal.get_select-returns-in_err-end-clause-parses
-get_select-returns-in_err-end-clause-parses g m c = λ e same.
+pub end_select-returns-in_err-start-clause-parses : goal.end_select-returns-in_err-start-clause-parses
+end_select-returns-in_err-start-clause-parses g m c = λ old e added.
     let t = c.args.self.now.source.bytes.now in
-    let is = same_fault _ _ e (inline_seen _ _ c.deref.ensures c.inline_in.ensures same) in
+    let there = c.last_inline.ensures old _ (placed_in g.M.MakeTexts.made _ _ c.deref.ensures.value added) in
     let p = err_from_is_err_and c.from_residual.result c.from_residual.ensures.1 in
-    rw (p.1, p.2) (select_fails c.args.self.now.edition t _ e _ is c.in_err-end.ensures.parses)
+    rw (p.1, p.2)
+    (select_fails c.args.self.now.edition t _ e _ (same_fault _ _ e there)
+    (refused (λ k from to h. stops (c.in_err-start.ensures.parses k from to h))))
 
-pub get_select-returns-in_err-expression-clause-parses : goal.get_select-returns-in_err-expression-clause-parses
-get_select-returns-in_err-expression-clause-parses g m c = λ e same.
-    rw (out_of_memory c.from_residual-in_err-expression.result
-    c.from_residual-in_err-expression.ensures.1) no_memory
-
-pub get_select-returns-clause-parses : goal.get_select-returns-clause-parses
-get_select-returns-clause-parses g m c = λ e same.
+pub end_select-returns-in_err-end-clause-parses : goal.end_select-returns-in_err-end-clause-parses
+end_select-returns-in_err-end-clause-parses g m c = λ old e added.
     let t = c.args.self.now.source.bytes.now in
-    let is = same_fault _ _ e (inline_seen _ _ c.deref.ensures c.inline_in.ensures same) in
-    on_made c.in_ok-end.ensures.parses (λ vs read same_variants. made
-    (select_read c.args.self.now.edition t _ e _ is read)
-    (c.in_ok-expression.ensures _ same ∙ rw same_variants refl))
-
-pub gather_from_arrow-returns-in_err-start-clause-parses : goal.gather_from_arrow-returns-in_err-start-clause-parses
-gather_from_arrow-returns-in_err-start-clause-parses g m c =
-    let p = err_from_is_err_and c.from_residual.result c.from_residual.ensures.1 in
-    rw (p.1, p.2) (refused (λ k from to h. stops (c.in_err-start.ensures.parses k from to h)))
-
-pub gather_from_arrow-returns-in_err-end-clause-parses : goal.gather_from_arrow-returns-in_err-end-clause-parses
-gather_from_arrow-returns-in_err-end-clause-parses g m c =
-    let t = c.args.self.now.source.bytes.now in
+    let there = c.last_inline.ensures old _ (placed_in g.M.MakeTexts.made _ _ c.deref.ensures.value added) in
     let p = err_from_is_err_and c.from_residual-in_err-end.result c.from_residual-in_err-end.ensures.1 in
     rw (p.1, p.2)
-    (fails_next (functional_start t _) c.in_ok-start.ensures.parses c.in_err-end.ensures.parses)
+    (select_fails c.args.self.now.edition t _ e _ (same_fault _ _ e there)
+    (fails_next (functional_start t _) c.in_ok-start.ensures.parses c.in_err-end.ensures.parses))
 
-pub gather_from_arrow-returns-clause-parses : goal.gather_from_arrow-returns-clause-parses
-gather_from_arrow-returns-clause-parses g m c =
-    on_made c.in_ok-end.ensures.parses (λ vs read same. made (goes_on c.in_ok-start.ensures.parses read) same)
+pub end_select-returns-in_err-add_variants-clause-parses : goal.end_select-returns-in_err-add_variants-clause-parses
+end_select-returns-in_err-add_variants-clause-parses g m c = λ old e added.
+    rw (out_of_memory c.from_residual-in_err-add_variants.result
+    c.from_residual-in_err-add_variants.ensures.1) no_memory
+
+pub end_select-returns-clause-parses : goal.end_select-returns-clause-parses
+end_select-returns-clause-parses g m c = λ old e added.
+    let t = c.args.self.now.source.bytes.now in
+    let v = g.M.MakeTexts.made in
+    let there = c.last_inline.ensures old _ (placed_in v _ _ c.deref.ensures.value added) in
+    on_made c.in_ok-end.ensures.parses (λ vs read same. (
+      _,
+      select_read c.args.self.now.edition t _ e _ (same_fault _ _ e there)
+          (goes_on c.in_ok-start.ensures.parses read),
+      placed_as v _ _ _ (c.in_ok-add_variants.ensures old _ added) (ap (select (inline_map (g.M.MakeTexts.source c.args.self.now.texts.now) e)) same),
+    ))
 
 pub gather_variants-returns-then-star-clause-parses : goal.gather_variants-returns-then-star-clause-parses
 gather_variants-returns-then-star-clause-parses g m c =

@@ -1,6 +1,0 @@
--- What was formatted is formatted again.
-use Rattle.fluent_syntax_grammar.proofs.marks.Again.{written_again}
-use Rattle.fluent_syntax_grammar.proofs.formatting.formatting_is_idempotent.Goals as goal
-
-pub returns : goal.returns
-returns c = written_again c.args.text.now

@@ -1,0 +1,198 @@
+-- The line on which a pattern opens, up to where its reader is.
+use Rattle.std.proofs.Common.{◌≡◌, ℕ, ◌+◌, ◌<◌, ◌≤◌, List, [], ◌∷◌, ◌++◌, append_assoc, map, Option, Some, None, Bool}
+use Rattle.std.proofs.Common.{true, false, true≢false, refl, sym, ap, ◌∙◌, subst, arith}
+use Rattle.std.specs.Prelude.{◌==◌, if◌then◌else◌, nat_lt, slice_get}
+use Rattle.std.proofs.lemmas.Bool.Decides.{nat_tests}
+use Rattle.std.proofs.lemmas.List.{append-nil, map-append}
+use Rattle.fluent_syntax_tree.specs.Tree.{ExpressionTree, expression_map, placeable, text_element}
+use Rattle.fluent_syntax_tree.specs.View.{element_view}
+use Rattle.fluent_syntax_tree.specs.declared.ast.PatternElement.{PatternElement}
+use Rattle.fluent_syntax_tree.specs.declared.spans.Span.{Span}
+use Rattle.fluent_syntax_grammar.specs.Bytes.{lf, cr, left_brace, right_brace}
+use Rattle.fluent_syntax_grammar.specs.Construct.{Outcome, Read, Refused, item, list_of, no_item}
+use Rattle.fluent_syntax_grammar.specs.Elements.{with_ending}
+use Rattle.fluent_syntax_grammar.specs.Family.{Family}
+use Rattle.fluent_syntax_grammar.specs.Laws.{IsFunctional}
+use Rattle.fluent_syntax_grammar.specs.Layout.{Ending, Piece, crlf_at, lf_at, placed, run, text_end}
+use Rattle.fluent_syntax_grammar.specs.Lines.{ending, is_run_place, next_piece}
+use Rattle.fluent_syntax_grammar.specs.Places.{LongestRun, after_eol, has_byte, has_eol}
+use Rattle.fluent_syntax_parser.specs.Elements.{EndsAt, element_of, run_of}
+use Rattle.fluent_syntax_parser.specs.Layouts.{piece_of}
+use Rattle.fluent_syntax_parser.specs.Opened.{Settled, as_item, none, piece_element}
+use Rattle.fluent_syntax_parser.specs.Outcomes.{Fails}
+use Rattle.fluent_syntax_parser.specs.declared.fault.ReadFault.{ReadFault}
+use Rattle.fluent_syntax_parser.proofs.patterns.BlankLines.{crlf_byte, lf_blank}
+use Rattle.fluent_syntax_grammar.proofs.FunctionalRules.{functional_ending}
+use Rattle.fluent_syntax_parser.proofs.patterns.LineEndings.{ends_line, ends_text}
+use Rattle.fluent_syntax_parser.proofs.patterns.OneLine.{run_item}
+use Rattle.fluent_syntax_parser.proofs.patterns.Pieces.{end_pieces, no_pieces, run_there}
+use Rattle.fluent_syntax_parser.proofs.patterns.Rest.{run_mapped}
+use Rattle.fluent_syntax_parser.proofs.patterns.Settled.{placed_behind, run_behind, settled_ending, settled_mapped}
+use Rattle.fluent_syntax_parser.proofs.readers.ContinuesFrom.{ContinuesFrom, item_fails, list_read, one_behind}
+
+-- The elements are those of pieces up to a placeable, and what stands at the place stands behind them.
+pub record MadeOpening {S X : Type 0} (t : List ℕ) (R : Family) (f : Span → X) (v : S → X) (i : ℕ)
+    (elements : List (PatternElement S)) (j : ℕ) : Type 0 where
+  pub pieces : List Piece
+  pub settled : Settled pieces
+  pub same : map (element_view v) elements ≡ map (piece_element f) pieces
+  pub behind : ContinuesFrom t (λ u. next_piece t R) (λ a rest. a ∷ rest) [] tt i (λ more. pieces ++ more) tt j
+
+module _ {S X : Type 0} (t : List ℕ) (R : Family) (f : Span → X) (v : S → X) (i : ℕ) where
+  pub no_opening : MadeOpening t R f v i [] i
+  no_opening =
+      record { pieces = []; settled = none; same = refl; behind = record { read = λ b end h. h; fails = λ e h. h } }
+
+  module _ (h : IsFunctional (next_piece t R)) (place to : ℕ) (w : LongestRun (is_run_place t) place to) where
+    abbrev span : Span
+    span = record { start = place; end = to }
+
+    -- with the run that stands there, if it holds a byte
+    module _ (pieces : List Piece)
+        (g : ContinuesFrom t (λ u. next_piece t R) (λ a rest. a ∷ rest) [] tt i (λ more. pieces ++ more) tt place) where
+      behind_run : ContinuesFrom t (λ u. next_piece t R) (λ a rest. a ∷ rest) [] tt i
+          (λ more. (pieces ++ run_of span) ++ more) tt
+          to
+      behind_run = by (nat_lt place to) refl
+        where
+          by : (b : Bool) → nat_lt place to ≡ b →
+              ContinuesFrom t (λ u. next_piece t R) (λ a rest. a ∷ rest) [] tt i
+              (λ more. (pieces ++ (if b then run place to ∷ [] else [])) ++ more) tt to
+          by true e =
+              one_behind (λ more. (pieces ++ run place to ∷ []) ++ more) (run place to) tt to g h
+              (λ more. append_assoc pieces (run place to ∷ []) more)
+              (run_item t R place to w (grind (arith, nat_tests)))
+          by false e =
+              let here : place ≡ to = let l = w.forward in grind (arith, nat_tests) in
+              subst (λ k. ContinuesFrom t (λ u. next_piece t R) (λ a rest. a ∷ rest) [] tt i
+              (λ more. (pieces ++ []) ++ more) tt k)
+              here
+              (subst (λ ps. ContinuesFrom t (λ u. next_piece t R) (λ a rest. a ∷ rest) [] tt i
+              (λ more. ps ++ more) tt place)
+              (sym (append-nil pieces)) g)
+
+      pub opening_fails : {fault : ReadFault} → Fails t (next_piece t R) to fault →
+          Fails t (list_of (next_piece t R)) i fault
+      opening_fails x = item_fails behind_run x
+
+      pub opening_read : next_piece t R to (Read no_item to) →
+          list_of (next_piece t R) i (Read (pieces ++ run_of span) to)
+      opening_read x = list_read (pieces ++ run_of span) to behind_run (append-nil (pieces ++ run_of span)) x
+
+      -- one more placeable
+      placed_settled : (e : ExpressionTree Span) (b : Bool) → Settled pieces →
+          Settled ((pieces ++ (if b then run place to ∷ [] else [])) ++ placed e ∷ [])
+      placed_settled e true s =
+          subst Settled (sym (append_assoc pieces (run place to ∷ []) (placed e ∷ []))) (run_behind place to e s)
+      placed_settled e false s = subst (λ ps. Settled (ps ++ placed e ∷ [])) (sym (append-nil pieces)) (placed_behind e s)
+
+      pub opening_placed : Settled pieces → (xs ys : List (PatternElement S)) (x : PatternElement S)
+          (zs : List (PatternElement S)) → map (element_view v) xs ≡ map (piece_element f) pieces →
+          map (element_view v) ys ≡ map (element_view v) xs ++ map (piece_element f) (run_of span) → zs ≡ ys ++ x ∷ [] →
+          (e : ExpressionTree Span) → element_view v x ≡ placeable (expression_map f e) → (next : ℕ) →
+          next_piece t R to (Read (item (placed e) tt) next) → MadeOpening t R f v i zs next
+      opening_placed settled xs ys x zs same added pushed e seen next read = record {
+        pieces = (pieces ++ run_of span) ++ placed e ∷ [];
+        settled = placed_settled e (nat_lt place to) settled;
+        same =
+            ap (map (element_view v)) pushed ∙ map-append (element_view v) ys (x ∷ [])
+            ∙ ap (λ es. es ++ element_view v x ∷ [])
+            (added ∙ ap (λ es. es ++ map (piece_element f) (run_of span)) same
+            ∙ sym (map-append (piece_element f) pieces (run_of span)))
+            ∙ ap (λ z. map (piece_element f) (pieces ++ run_of span) ++ z ∷ []) seen
+            ∙ sym (map-append (piece_element f) (pieces ++ run_of span) (placed e ∷ []));
+        behind =
+            one_behind (λ more. ((pieces ++ run_of span) ++ placed e ∷ []) ++ more) (placed e) tt next behind_run h
+            (λ more. append_assoc (pieces ++ run_of span) (placed e ∷ []) more) read;
+      }
+
+-- ---- the run before a placeable
+
+module _ {S X : Type 0} (f : Span → X) (v : S → X) (place to : ℕ) (xs ys : List (PatternElement S)) where
+  abbrev AddsRun : Bool → Type 0
+  AddsRun b =
+      map (element_view v) ys
+      ≡ map (element_view v) xs ++ map (piece_element f) (if b then run place to ∷ [] else [])
+
+  -- it was added
+  pub run_added : place < to →
+      map (element_view v) ys ≡ map (element_view v) xs ++ text_element (f (record { start = place; end = to })) ∷ [] →
+      AddsRun (nat_lt place to)
+  run_added before added = by (nat_lt place to) refl
+    where
+      by : (b : Bool) → nat_lt place to ≡ b → AddsRun b
+      by true e = added
+      by false e = absurd (grind (arith, nat_tests))
+
+  -- there is none
+  pub no_run_added : to ≤ place → ys ≡ xs → AddsRun (nat_lt place to)
+  no_run_added behind same = by (nat_lt place to) refl
+    where
+      by : (b : Bool) → nat_lt place to ≡ b → AddsRun b
+      by true e = absurd (grind (arith, nat_tests))
+      by false e = ap (map (element_view v)) same ∙ sym (append-nil (map (element_view v) xs))
+
+-- ---- where the line ends
+
+abbrev byte_or : Option ℕ → ℕ
+byte_or None = 0
+byte_or (Some b) = b
+
+pub other_byte : {o : Option ℕ} (b n : ℕ) → o ≡ Some b → (b ≡ n → ⊥) → o ≡ Some n → ⊥
+other_byte b n is other e = other (ap byte_or (sym is ∙ e))
+
+pub no_byte_there : {o : Option ℕ} {n : ℕ} → o ≡ None → o ≡ Some n → ⊥
+no_byte_there is e = let f = sym is ∙ e in cc
+
+-- what neither continues a run nor is a brace
+pub line_ends : (t : List ℕ) (R : Family) (place to : ℕ) → LongestRun (is_run_place t) place to →
+    (slice_get t to ≡ Some left_brace → ⊥) → (slice_get t to ≡ Some right_brace → ⊥) →
+    next_piece t R to (Read no_item to)
+line_ends t R place to w opening close = by (slice_get t to) refl (has_eol t to) refl
+  where
+    by : (o : Option ℕ) → slice_get t to ≡ o → (eol : Bool) → has_eol t to ≡ eol → next_piece t R to (Read no_item to)
+    by None e eol f = end_pieces t R to e
+    by (Some b) e true f = no_pieces t R to (Some b) e (λ g. cc) f
+    by (Some b) e false f =
+        let there = run_there t R to b e f (λ is. close (e ∙ ap Some is)) (λ is. opening (e ∙ ap Some is)) in
+        absurd (true≢false (sym there ∙ w.longest))
+
+abbrev ending_or : Ending → Outcome Ending → Ending
+ending_or e (Read d j) = d
+ending_or e (Refused k from to) = e
+
+pub ends_at : (t : List ℕ) (to : ℕ) (e : Ending) (next : ℕ) → ending t to (Read e next) → EndsAt t to e
+ends_at t to e next read = by (after_eol t to) refl
+  where
+    test : (k : ℕ) → after_eol t to ≡ Some k → (b : Bool) → (k == to + 1) ≡ b →
+        EndsAt t to (if b then lf_at to else crlf_at to)
+    test k eol true same = refl
+    test k eol false other =
+        lf_blank t (to + 1) (to + 2) (omega arith)
+        (crlf_byte (has_byte t lf to) (has_byte t cr to) _ to k eol (grind (arith, nat_tests)))
+
+    same : (d : Ending) (j : ℕ) → ending t to (Read d j) → d ≡ e
+    same d j other = ap (ending_or d) ((functional_ending t).same to (Read d j) (Read e next) other read)
+
+    by : (o : Option ℕ) → after_eol t to ≡ o → EndsAt t to e
+    by None eol = subst (λ x. EndsAt t to x) (same text_end to (ends_text t to eol)) tt
+    by (Some k) eol =
+        subst (λ x. EndsAt t to x) (same (if k == to + 1 then lf_at to else crlf_at to) k (ends_line t to k eol))
+        (test k eol (k == to + 1) refl)
+
+-- ---- with f of each text in its place
+
+module _ {X : Type 0} (f : Span → X) where
+  pub as_elements : (ps : List Piece) → map (piece_element f) ps ≡ map (element_of f) (map as_item (map (piece_of f) ps))
+  as_elements [] = refl
+  as_elements (p ∷ ps) = ap (λ es. piece_element f p ∷ es) (as_elements ps)
+
+  pub opening_settled : {ps : List Piece} → Settled ps → Settled (map (piece_of f) ps)
+  opening_settled s = settled_mapped (expression_map f) s
+
+  pub opening_ending : {ps : List Piece} → Settled ps → (s : Span) (end : Ending) →
+      with_ending (map (piece_of f) (ps ++ run_of s)) end ≡ map as_item (map (piece_of f) ps) ++ with_ending (run_of s) end
+  opening_ending {ps = ps} settled s end =
+      ap (λ qs. with_ending qs end)
+      (map-append (piece_of f) ps (run_of s) ∙ ap (λ qs. map (piece_of f) ps ++ qs) (run_mapped (expression_map f) s))
+      ∙ settled_ending (opening_settled settled) (run_of s) end

@@ -1,0 +1,51 @@
+-- Pieces behind each run of which stands a placeable: what they spell doesn't hang on what follows.
+use Rattle.std.proofs.Common.{◌≡◌, ℕ, List, [], ◌∷◌, ◌++◌, map, refl, sym, ap, ◌∙◌}
+use Rattle.fluent_syntax_tree.specs.Tree.{ExpressionTree, placeable, text_element}
+use Rattle.fluent_syntax_tree.specs.declared.spans.Span.{Span}
+use Rattle.fluent_syntax_grammar.specs.Elements.{ItemOf, cut, cut_before, filled, text, with_ending}
+use Rattle.fluent_syntax_grammar.specs.Layout.{Ending, PieceOf, placed, run}
+use Rattle.fluent_syntax_parser.specs.Elements.{element_of, spelled}
+use Rattle.fluent_syntax_parser.specs.Layouts.{piece_map}
+use Rattle.fluent_syntax_parser.specs.Opened.{Settled, as_item, none, by_placeable, by_run}
+
+module _ {E : Type 0} where
+  -- one more placeable, and one behind a run
+  pub placed_behind : {ps : List (PieceOf E)} (e : E) → Settled ps → Settled (ps ++ placed e ∷ [])
+  placed_behind e none = by_placeable none
+  placed_behind e (by_placeable s) = by_placeable (placed_behind e s)
+  placed_behind e (by_run s) = by_run (placed_behind e s)
+
+  pub run_behind : {ps : List (PieceOf E)} (from to : ℕ) (e : E) → Settled ps →
+      Settled (ps ++ run from to ∷ placed e ∷ [])
+  run_behind from to e none = by_run (by_placeable none)
+  run_behind from to e (by_placeable s) = by_placeable (run_behind from to e s)
+  run_behind from to e (by_run s) = by_run (run_behind from to e s)
+
+  -- they are items, before those of what follows them
+  pub settled_ending : {ps : List (PieceOf E)} → Settled ps → (qs : List (PieceOf E)) (end : Ending) →
+      with_ending (ps ++ qs) end ≡ map as_item ps ++ with_ending qs end
+  settled_ending none qs end = refl
+  settled_ending (by_placeable {e = e} s) qs end = ap (λ xs. filled e ∷ xs) (settled_ending s qs end)
+  settled_ending (by_run {from = from} {to = to} s) qs end = ap (λ xs. text from to ∷ xs) (settled_ending s qs end)
+
+  cut_filled : (t : List ℕ) (e : E) (xs : List (ItemOf E)) → cut_before t (filled e) xs ≡ filled e ∷ xs
+  cut_filled t e [] = refl
+  cut_filled t e (x ∷ xs) = refl
+
+pub settled_mapped : {E F : Type 0} (h : E → F) {ps : List (PieceOf E)} → Settled ps → Settled (map (piece_map h) ps)
+settled_mapped h none = none
+settled_mapped h (by_placeable s) = by_placeable (settled_mapped h s)
+settled_mapped h (by_run s) = by_run (settled_mapped h s)
+
+-- they are elements, before those of what follows them
+module _ {X : Type 0} (f : Span → X) (t : List ℕ) where
+  pub settled_spelled : {ps : List (PieceOf (ExpressionTree X))} → Settled ps → (ys : List (ItemOf (ExpressionTree X))) →
+      spelled f t (cut t (map as_item ps ++ ys)) ≡ map (element_of f) (map as_item ps) ++ spelled f t (cut t ys)
+  settled_spelled none ys = refl
+  settled_spelled (by_placeable {e = e} {ps = ps} s) ys =
+      ap (spelled f t) (cut_filled t e (cut t (map as_item ps ++ ys))) ∙ ap (λ xs. placeable e ∷ xs) (settled_spelled s ys)
+  settled_spelled (by_run {from = from} {to = to} {e = e} {ps = ps} s) ys =
+      let behind = cut t (map as_item ps ++ ys) in
+      ap (λ xs. spelled f t (cut_before t (text from to) xs)) (cut_filled t e behind)
+      ∙ ap (λ xs. text_element (f (record { start = from; end = to })) ∷ xs)
+      (ap (spelled f t) (sym (cut_filled t e behind)) ∙ settled_spelled s ys)

@@ -1,0 +1,8 @@
+use Rattle.std.proofs.lemmas.Result.{IfOk-weaker}
+use Rattle.fluent_syntax_parser.proofs.reader.Reader.add_named.Goals as goal
+
+pub returns : goal.returns
+returns g c =
+    IfOk-weaker c.add.result _ _ (λ done pushed.
+    (_, pushed, c.in_ok-name.ensures, λ old tree added. (c.take_inline-value.ensures old tree added).1))
+    c.add.ensures.added

@@ -1,0 +1,46 @@
+use Rattle.std.proofs.Common.{◌∙◌, ap}
+use Rattle.std.proofs.lemmas.Result.{err_from_is_err_and}
+use Rattle.fluent_syntax_tree.specs.Tree.{variable_reference}
+use Rattle.fluent_syntax_tree.proofs.Views.{view-VariableReference}
+use Rattle.fluent_syntax_grammar.specs.Construct.{stops, goes_on, given}
+use Rattle.fluent_syntax_grammar.specs.Starts as starts
+use Rattle.fluent_syntax_parser.specs.Outcomes.{no_memory, refused}
+use Rattle.fluent_syntax_parser.proofs.expressions.InlineStarts.{by_start}
+use Rattle.fluent_syntax_parser.proofs.expressions.LastPlaced.{inline_added}
+use Rattle.fluent_syntax_parser.proofs.readers.Fails.{out_of_memory}
+use Rattle.fluent_syntax_parser.proofs.reader.Reader.add_variable.Goals as goal
+
+pub returns-in_err-start-clause-parses : goal.returns-in_err-start-clause-parses
+returns-in_err-start-clause-parses g c = λ n.
+    let p = err_from_is_err_and c.from_residual.result c.from_residual.ensures.1 in
+    rw (p.1, p.2) (refused (λ k from to h.
+    by_start c.args.self.now.source.bytes.now _ _ starts.dollar _ c.requires.starts
+    (stops (c.in_err-start.ensures.parses k from to h))))
+
+pub returns-in_err-end-clause-parses : goal.returns-in_err-end-clause-parses
+returns-in_err-end-clause-parses g c = λ n.
+    let p = err_from_is_err_and c.from_residual-in_err-end.result c.from_residual-in_err-end.ensures.1 in
+    rw (p.1, p.2) (refused (λ k from to h.
+    by_start c.args.self.now.source.bytes.now _ _ starts.dollar _ c.requires.starts
+    (goes_on c.in_ok-start.ensures.parses
+    (stops (c.in_err-end.ensures.parses k from to h)))))
+
+pub returns-in_err-id-clause-parses : goal.returns-in_err-id-clause-parses
+returns-in_err-id-clause-parses g c = λ n.
+    rw (out_of_memory c.from_residual-in_err-id.result c.from_residual-in_err-id.ensures.1) no_memory
+
+pub returns-in_err-add_inline-clause-parses : goal.returns-in_err-add_inline-clause-parses
+returns-in_err-add_inline-clause-parses g c = λ n.
+    rw (out_of_memory c.from_residual-in_err-add_inline.result c.from_residual-in_err-add_inline.ensures.1) no_memory
+
+pub returns-clause-parses : goal.returns-clause-parses
+returns-clause-parses g c = λ n.
+    let v = g.M.MakeTexts.made in (
+      _,
+      by_start c.args.self.now.source.bytes.now _ _ starts.dollar _ c.requires.starts
+          (goes_on c.in_ok-start.ensures.parses
+          (goes_on c.in_ok-end.ensures.parses
+          given)),
+      inline_added v _ _ _ c.in_ok-add_inline.ensures
+          (view-VariableReference v c.in_ok-id.id ∙ ap variable_reference c.in_ok-id.ensures),
+    )
