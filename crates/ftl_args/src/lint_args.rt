@@ -1,10 +1,9 @@
 //! The word `lint`.
 
-use crate::commands::{color, paths_of};
+use crate::commands::{color, exclude, texts_of};
 use crate::options::Options;
 use clap::{Arg, ArgAction, ArgMatches, Command, value_parser};
-use fluent_syntax_names::Kind;
-use ftl_files::kind_of_name;
+use ftl_files::{ReportedKind, reported_kind_of_name};
 use std::alloc::{AllocError, Global};
 
 /// Files to search for mistakes between names.
@@ -13,7 +12,9 @@ pub struct Lint<'a> {
     /// How a text is read, and how a finding is told.
     pub options: Options,
     /// Kinds that are not told.
-    pub ignored: Vec<Kind>,
+    pub ignored: Vec<ReportedKind>,
+    /// What is passed over in folders.
+    pub excluded: Vec<&'a str>,
     /// Files and folders, which are one set.
     pub paths: Vec<&'a str>,
 }
@@ -41,18 +42,20 @@ pub(crate) fn lint_command<'a>(alloc: Global) -> Result<Command<'a>, AllocError>
         )
         .arg(form(alloc))?
         .arg(color(alloc))?
-        .arg(ignore(alloc))?
+        .arg(ignore(alloc, KIND_NAMES.as_slice()))?
+        .arg(exclude(alloc))?
         .arg(nesting(alloc))?
         .arg(paths(alloc))
 }
 
-fn ignore<'a>(alloc: Global) -> Arg<'a> {
+/// The option for the kinds that are not told, which are among these.
+pub(crate) fn ignore<'a>(alloc: Global, kinds: &'a [&'a str]) -> Arg<'a> {
     Arg::new(alloc, "ignore")
         .long("ignore")
         .value_name("KIND")
-        .help("A kind of finding that is not told; may be given again")
+        .help("A kind that is not told; may be given again")
         .action(ArgAction::Append)
-        .value_parser(KIND_NAMES.as_slice())
+        .value_parser(kinds)
 }
 
 /// The option for the form.
@@ -92,15 +95,24 @@ pub(crate) fn lint_of<'a>(
     said: Options,
     options: &ArgMatches<'a>,
 ) -> Result<Lint<'a>, AllocError> {
+    Ok(Lint {
+        options: said,
+        ignored: ignored_of(alloc, options)?,
+        excluded: texts_of(alloc, options, "exclude")?,
+        paths: texts_of(alloc, options, "paths")?,
+    })
+}
+
+/// The kinds that the options name.
+pub(crate) fn ignored_of(
+    alloc: Global,
+    options: &ArgMatches<'_>,
+) -> Result<Vec<ReportedKind>, AllocError> {
     let mut ignored = Vec::new(alloc);
     for name in options.get_strs("ignore").unwrap_or(&[]) {
-        if let Some(kind) = kind_of_name(*name) {
+        if let Some(kind) = reported_kind_of_name(*name) {
             ignored.push(kind)?;
         }
     }
-    Ok(Lint {
-        options: said,
-        ignored,
-        paths: paths_of(alloc, options)?,
-    })
+    Ok(ignored)
 }

@@ -17,7 +17,7 @@ const HELP: &str = "\
     \x20   ftl check < menu.ftl        standard input: line:column, place, entry left out, kind of error\n\
     \x20   ftl check-two, format-two   check and format by edition two of the grammar, as --edition 2 does\n\
     \x20   ftl lsp                     a language server, for editors: the program ftl-lsp\n\
-    \x20   ftl help                    this page (also --help and -h); ftl WORD --help has the options of a word\n\
+    \x20   ftl help                    this page (also --help and -h); ftl help WORD has the options of a word\n\
     \x20   ftl --version               the version\n\
     \n\
     Never write onto the file that is read: `ftl format menu.ftl > menu.ftl` empties it. That is what --write is for.\n\

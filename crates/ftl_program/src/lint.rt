@@ -1,24 +1,25 @@
 //! Files and folders, searched for mistakes between names.
 
 use crate::colors::form_over_paths;
+use crate::listed::NamedFiles;
 use crate::messages::{end_run, refuse_run};
-use crate::project::project_settings;
+use crate::project::{Project, project_of};
 use fluent_syntax_names::Kind;
 use ftl::{RunFault, Watched};
-use ftl_args::{Lint, Options};
-use ftl_files::{Disk, list};
-use ftl_project::{Fault, LintOptions, Streams, Tally, check_summary, lint_files, report_fault};
+use ftl_args::Lint;
+use ftl_files::{Disk, ReportedKind};
+use ftl_project::{LintOptions, Streams, Tally, check_summary, lint_files};
+use std::alloc::AllocError;
 use std::io;
 
 /// Searches all files that the paths name, as one set; the exit status. Kinds that the project ignores are not told.
 pub(crate) fn lint_paths(rt: &HostRuntime, lint: &Lint<'_>) -> u8 {
-    let settings = match project_settings(rt) {
-        Ok(settings) => settings,
+    let project = match project_of(rt, &lint.excluded) {
+        Ok(project) => project,
         Err(status) => return status,
     };
-    let options = lint.options.or(&settings);
     let mut tally = Tally::new();
-    match lint_all(rt, lint, options, settings.ignored, &mut tally) {
+    match lint_all(rt, lint, &project, &mut tally) {
         Ok(()) => end_run(rt, &tally, check_summary(rt.alloc(), &tally)),
         Err(fault) => refuse_run(rt, fault),
     }
@@ -27,14 +28,14 @@ pub(crate) fn lint_paths(rt: &HostRuntime, lint: &Lint<'_>) -> u8 {
 fn lint_all(
     rt: &HostRuntime,
     lint: &Lint<'_>,
-    options: Options,
-    mut ignored: Vec<Kind>,
+    project: &Project,
     tally: &mut Tally,
 ) -> Result<(), RunFault> {
-    if ignored.extend_from_slice(&lint.ignored).is_err() {
+    let options = lint.options.or(&project.settings);
+    let Ok(ignored) = ignored_of(rt, lint, project) else {
         return Err(RunFault::Memory);
-    }
-    let files = files_of(rt, lint, tally)?;
+    };
+    let files = files_of(rt, lint, project, tally)?;
     let lint_options = LintOptions {
         form: form_over_paths(rt, options),
         ignored: &ignored,
@@ -54,40 +55,37 @@ fn lint_all(
     )
 }
 
-/// The files that the paths name. What can't be listed is told.
-fn files_of(rt: &HostRuntime, lint: &Lint<'_>, tally: &mut Tally) -> Result<Vec<String>, RunFault> {
+/// The kinds of findings that are not told.
+fn ignored_of(
+    rt: &HostRuntime,
+    lint: &Lint<'_>,
+    project: &Project,
+) -> Result<Vec<Kind>, AllocError> {
+    let mut ignored = Vec::new(rt.alloc());
+    for kind in project.settings.ignored.iter().chain(&lint.ignored) {
+        if let ReportedKind::Finding(kind) = kind {
+            ignored.push(*kind)?;
+        }
+    }
+    Ok(ignored)
+}
+
+/// The files that the paths name, each once. What can't be listed is told.
+fn files_of(
+    rt: &HostRuntime,
+    lint: &Lint<'_>,
+    project: &Project,
+    tally: &mut Tally,
+) -> Result<Vec<String>, RunFault> {
+    let mut named = NamedFiles::new(rt, project);
     let mut files = Vec::new(rt.alloc());
     for path in &lint.paths {
-        for file in files_at(rt, *path, tally)? {
-            if files.push(file).is_err() {
-                return Err(RunFault::Memory);
-            }
+        if files
+            .append(&mut named.files_at(rt, *path, tally)?)
+            .is_err()
+        {
+            return Err(RunFault::Memory);
         }
     }
     Ok(files)
-}
-
-/// The files that the path names. What can't be listed is told.
-pub(crate) fn files_at(
-    rt: &HostRuntime,
-    path: &str,
-    tally: &mut Tally,
-) -> Result<Vec<String>, RunFault> {
-    let Ok(listing) = list(rt, path) else {
-        return Err(RunFault::Memory);
-    };
-    for (path, error) in listing.faults {
-        let mut streams = Streams {
-            out: &mut Watched::new(io::writer(rt)),
-            err: &mut Watched::new(rt.stderr()),
-        };
-        report_fault(
-            rt.alloc(),
-            tally,
-            path.as_str(),
-            &Fault::Read(error),
-            &mut streams,
-        )?;
-    }
-    Ok(listing.files)
 }
