@@ -2,7 +2,7 @@
 
 /// The words and statuses. The file `help.txt` of this crate has the same text, for where the program isn't built.
 const HELP: &str = "\
-    ftl 0.12.0\n\
+    ftl 2.4.0\n\
     Checks, formats and converts Fluent files (.ftl): files, folders (every .ftl file below), or standard input.\n\
     \n\
     \x20   ftl check menu.ftl          the syntax errors, with their lines\n\
@@ -26,8 +26,8 @@ const HELP: &str = "\
     wrong words, 3 for input that can't be read or is not UTF-8, 4 where memory runs out, 5 where the output can't be\n\
     written, 6 for a text that nests too deep. On 2 to 6 a line on standard error says which.\n";
 
-/// The version, which is that of the Rust crate whose grammar it reads.
-const VERSION: &str = "ftl 0.12.0\n";
+/// The version, which is that of all that belongs to it: see CHANGELOG.md.
+const VERSION: &str = "ftl 2.4.0\n";
 
 /// The page that the words ask for, the program's own name first.
 pub(crate) fn page_of(words: &[String]) -> Option<&'static str> {
