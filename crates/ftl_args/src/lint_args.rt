@@ -15,7 +15,9 @@ pub struct Lint<'a> {
     pub ignored: Vec<ReportedKind>,
     /// What is passed over in folders.
     pub excluded: Vec<&'a str>,
-    /// Files and folders, which are one set.
+    /// Whether each folder directly below a path is a set of its own.
+    pub each: bool,
+    /// Files and folders, which are one set, or one for each language of the project.
     pub paths: Vec<&'a str>,
 }
 
@@ -37,13 +39,15 @@ pub(crate) fn lint_command<'a>(alloc: Global) -> Result<Command<'a>, AllocError>
         .about("Tells names that are given twice, and references to what no file defines")
         .after_help(
             "Examples:
-  ftl lint .                                every .ftl file below this folder, as one set
+  ftl lint .                                every .ftl file below this folder
+  ftl lint --each locales                   the same, each folder in locales as a set of its own
   ftl lint --ignore undefined-message menu.ftl",
         )
         .arg(form(alloc))?
         .arg(color(alloc))?
         .arg(ignore(alloc, KIND_NAMES.as_slice()))?
         .arg(exclude(alloc))?
+        .arg(each(alloc))?
         .arg(nesting(alloc))?
         .arg(paths(alloc))
 }
@@ -56,6 +60,13 @@ pub(crate) fn ignore<'a>(alloc: Global, kinds: &'a [&'a str]) -> Arg<'a> {
         .help("A kind that is not told; may be given again")
         .action(ArgAction::Append)
         .value_parser(kinds)
+}
+
+fn each<'a>(alloc: Global) -> Arg<'a> {
+    Arg::new(alloc, "each")
+        .long("each")
+        .help("Each folder directly below a PATH is a set of its own, as a language is")
+        .action(ArgAction::SetTrue)
 }
 
 /// The option for the form.
@@ -99,6 +110,7 @@ pub(crate) fn lint_of<'a>(
         options: said,
         ignored: ignored_of(alloc, options)?,
         excluded: texts_of(alloc, options, "exclude")?,
+        each: options.get_flag("each"),
         paths: texts_of(alloc, options, "paths")?,
     })
 }

@@ -1,18 +1,19 @@
 //! Files and folders, searched for mistakes between names.
 
 use crate::colors::form_over_paths;
+use crate::file_sets::{FileSet, add_files, folder_of_languages};
 use crate::listed::NamedFiles;
 use crate::messages::{end_run, refuse_run};
 use crate::project::{Project, project_of};
 use fluent_syntax_names::Kind;
 use ftl::{RunFault, Watched};
 use ftl_args::Lint;
-use ftl_files::{Disk, ReportedKind};
+use ftl_files::{Disk, ReportedKind, absolute_path};
 use ftl_project::{LintOptions, Streams, Tally, check_summary, lint_files};
-use std::alloc::AllocError;
+use std::alloc::{AllocError, Global};
 use std::io;
 
-/// Searches all files that the paths name, as one set; the exit status. Kinds that the project ignores are not told.
+/// Searches all files that the paths name, each language as a set of its own; the exit status. Kinds that the project ignores are not told.
 pub(crate) fn lint_paths(rt: &HostRuntime, lint: &Lint<'_>) -> u8 {
     let project = match project_of(rt, &lint.excluded) {
         Ok(project) => project,
@@ -35,7 +36,7 @@ fn lint_all(
     let Ok(ignored) = ignored_of(rt, lint, project) else {
         return Err(RunFault::Memory);
     };
-    let files = files_of(rt, lint, project, tally)?;
+    let sets = sets_of(rt, lint, project, tally)?;
     let lint_options = LintOptions {
         form: form_over_paths(rt, options),
         ignored: &ignored,
@@ -44,15 +45,18 @@ fn lint_all(
         out: &mut Watched::new(io::writer(rt)),
         err: &mut Watched::new(rt.stderr()),
     };
-    lint_files(
-        rt.alloc(),
-        &mut Disk::new(rt),
-        &files,
-        options.reading(),
-        lint_options,
-        tally,
-        &mut streams,
-    )
+    for set in &sets {
+        lint_files(
+            rt.alloc(),
+            &mut Disk::new(rt),
+            &set.files,
+            options.reading(),
+            lint_options,
+            tally,
+            &mut streams,
+        )?;
+    }
+    Ok(())
 }
 
 /// The kinds of findings that are not told.
@@ -70,22 +74,39 @@ fn ignored_of(
     Ok(ignored)
 }
 
-/// The files that the paths name, each once. What can't be listed is told.
-fn files_of(
+/// The files that the paths name, each once, by language. What can't be listed is told.
+fn sets_of(
     rt: &HostRuntime,
     lint: &Lint<'_>,
     project: &Project,
     tally: &mut Tally,
-) -> Result<Vec<String>, RunFault> {
+) -> Result<Vec<FileSet>, RunFault> {
+    let alloc = rt.alloc();
     let mut named = NamedFiles::new(rt, project);
-    let mut files = Vec::new(rt.alloc());
+    let mut sets = Vec::new(alloc);
     for path in &lint.paths {
-        if files
-            .append(&mut named.files_at(rt, *path, tally)?)
-            .is_err()
-        {
+        let files = named.files_at(rt, *path, tally)?;
+        let Ok(languages) = languages_at(alloc, lint, project, *path) else {
             return Err(RunFault::Memory);
-        }
+        };
+        let languages = languages.as_ref().map(|folder| folder.as_str());
+        let Ok(()) = add_files(alloc, &mut sets, project, languages, files) else {
+            return Err(RunFault::Memory);
+        };
     }
-    Ok(files)
+    Ok(sets)
+}
+
+/// The folder whose folders are languages: the path itself, if the words say so, or else that of the project.
+fn languages_at(
+    alloc: Global,
+    lint: &Lint<'_>,
+    project: &Project,
+    path: &str,
+) -> Result<Option<String>, AllocError> {
+    if lint.each {
+        Ok(Some(absolute_path(alloc, project.current.as_str(), path)?))
+    } else {
+        folder_of_languages(alloc, project)
+    }
 }

@@ -4,6 +4,7 @@
 mod args;
 mod colors;
 mod compare;
+mod file_sets;
 mod help;
 mod lint;
 mod listed;
