@@ -39,7 +39,7 @@ pub(crate) fn lint_command<'a>(alloc: Global) -> Result<Command<'a>, AllocError>
         .about("Tells names that are given twice, and references to what no file defines")
         .after_help(
             "Examples:
-  ftl lint .                                every .ftl file below this folder
+  ftl lint .                                every .ftl file below this folder, the project's languages by themselves
   ftl lint --each locales                   the same, each folder in locales as a set of its own
   ftl lint --ignore undefined-message menu.ftl",
         )

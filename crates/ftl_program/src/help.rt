@@ -13,6 +13,7 @@ const HELP: &str = "\
     \x20   ftl json menu.ftl           the file's tree as JSON, on one line\n\
     \x20   ftl from-json menu.json     the text of such a tree\n\
     \x20   ftl lint .                  names given twice, and references to what no file defines\n\
+    \x20   ftl lint --each locales     the same, each folder in locales by itself, as each language should be\n\
     \x20   ftl compare en de           what the files of de lack of those of en, and what is obsolete there\n\
     \x20   ftl check < menu.ftl        standard input: line:column, place, entry left out, kind of error\n\
     \x20   ftl check-two, format-two   check and format by edition two of the grammar, as --edition 2 does\n\
