@@ -40,13 +40,15 @@ fn add_file(
 ) -> Result<(), AllocError> {
     for set in sets.iter_mut() {
         if set.language.as_str() == language {
-            return set.files.push(file);
+            set.files.push(file)?;
+            return Ok(());
         }
     }
     sets.push(FileSet {
         language: String::from_str(alloc, language)?,
         files: vec![in alloc; file]?,
-    })
+    })?;
+    Ok(())
 }
 
 /// The part of the path that is a folder directly below the folder; empty where it is in none.
