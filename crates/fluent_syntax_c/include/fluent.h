@@ -12,8 +12,8 @@
 
 /* The version. Of a later one with the same first number each call and number of this one is as it is here. */
 #define FTL_VERSION_MAJOR 2
-#define FTL_VERSION_MINOR 3
-#define FTL_VERSION "2.3"
+#define FTL_VERSION_MINOR 4
+#define FTL_VERSION "2.4.0"
 
 #include <stddef.h>
 #include <stdint.h>

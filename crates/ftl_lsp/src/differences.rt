@@ -36,14 +36,13 @@ fn missing_of<'u>(
 ) -> Result<Vec<LintDiagnostic<'u>>, AllocError> {
     let theirs = &original.name_index;
     let entries = MatchedEntries::new(alloc, document, theirs)?;
-    let mut positions = Positions::new(document.text);
     let mut their_positions = Positions::new(theirs.text);
     let mut diagnostics = Vec::new(alloc);
     for missing in missing_parts(alloc, theirs, document)?.iter() {
         if let Some(difference) = Side::Reference.difference(missing.part) {
             let there = their_positions.range(missing.name);
             let said = difference.sentence(alloc, bytes_of(theirs.text, missing.name))?;
-            let (range, is_junk) = entries.range_in_document(&mut positions, theirs.text, missing);
+            let (range, is_junk) = entries.range_in_document(theirs.text, missing);
             diagnostics.push(LintDiagnostic {
                 range,
                 kind: LintDiagnosticKind::Difference(difference),
@@ -100,7 +99,7 @@ struct MatchedEntries<'d> {
     /// Those of the original, in order: where its name begins, and the name, a term's with its `-`.
     original: Vec<(usize, &'d str)>,
     /// Where the document defines each name first.
-    document: BTreeMap<&'d str, Span>,
+    document: BTreeMap<&'d str, PositionRange>,
     /// The names with which junk of the document begins.
     refused: RefusedNames<PositionRange>,
 }
@@ -117,39 +116,28 @@ impl<'d> MatchedEntries<'d> {
                 theirs.push((name.start, bytes_of(original.text, name)))?;
             }
         }
-        let mut own = BTreeMap::new(alloc);
-        for mention in document.mentions.iter().rev() {
-            if let Some(name) = entry_name(mention) {
-                drop(own.insert(bytes_of(document.text, name), name)?);
-            }
-        }
         Ok(MatchedEntries {
             original: theirs,
-            document: own,
+            document: first_ranges(alloc, document)?,
             refused: refused_ranges(alloc, document)?,
         })
     }
 
     /// Where the document has the entry in which the original has what the document lacks, and whether it is junk
     /// there; its begin, where it lacks that. `text` is that of the original.
-    fn range_in_document(
-        &self,
-        positions: &mut Positions<'_>,
-        text: &str,
-        missing: &MissingPart,
-    ) -> (PositionRange, bool) {
+    fn range_in_document(&self, text: &str, missing: &MissingPart) -> (PositionRange, bool) {
         let junk = match missing.part {
             Part::Entry => self.refused.place_of(text, missing.name),
             _ => None,
         };
         match junk {
             Some(range) => (range, true),
-            None => (self.range_defined(positions, missing.name), false),
+            None => (self.range_defined(missing.name), false),
         }
     }
 
     /// Where the document defines the entry in which the original has the name; its begin, where it lacks that.
-    fn range_defined(&self, positions: &mut Positions<'_>, name: Span) -> PositionRange {
+    fn range_defined(&self, name: Span) -> PositionRange {
         let behind = self
             .original
             .partition_point(|(start, _)| *start <= name.start);
@@ -160,14 +148,30 @@ impl<'d> MatchedEntries<'d> {
             Some((_, entry)) => self.document.get(entry).copied(),
             None => None,
         };
-        match own {
-            Some(span) => positions.range(span),
-            None => PositionRange {
-                start: START,
-                end: START,
-            },
+        own.unwrap_or(PositionRange {
+            start: START,
+            end: START,
+        })
+    }
+}
+
+/// Where the document defines each name first. Its places are asked for in the order of the text, which that of the
+/// original need not be.
+fn first_ranges<'d>(
+    alloc: Global,
+    document: &NameIndex<'d>,
+) -> Result<BTreeMap<&'d str, PositionRange>, AllocError> {
+    let mut positions = Positions::new(document.text);
+    let mut ranges = BTreeMap::new(alloc);
+    for mention in &document.mentions {
+        if let Some(name) = entry_name(mention) {
+            let shown = bytes_of(document.text, name);
+            if !ranges.contains_key(shown) {
+                drop(ranges.insert(shown, positions.range(name))?);
+            }
         }
     }
+    Ok(ranges)
 }
 
 /// The names with which junk of the document begins, each with its range where it does first.

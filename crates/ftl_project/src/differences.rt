@@ -1,8 +1,10 @@
-//! Whether what is told is an error.
+//! What is told of a part that one of two files lacks, and whether it is an error.
 ghost use Rattle.std.specs.Prelude.{◌≡◌};
-ghost use Rattle.ftl_project.specs.Differences.{is_error_severity, counts_as_error};
+ghost use Rattle.ftl_project.specs.Differences.{counts_as_error, is_error_severity, is_part_told, is_told};
 
-use fluent_syntax_names::{Part, Severity, Side};
+use fluent_syntax_names::{Difference, Part, Severity, Side};
+use ftl_files::ReportedKind;
+use std::alloc::{AllocError, Global};
 
 /// Whether a part that the file of this side has and the other one lacks is told as an error.
 pub(crate) fn counts_as_error(side: Side, part: Part) -> bool
@@ -14,6 +16,23 @@ pub(crate) fn counts_as_error(side: Side, part: Part) -> bool
     }
 }
 
+/// Whether a part that the file of this side has and the other one lacks is told, where these kinds are not.
+pub(crate) fn is_part_told(ignored: &[ReportedKind], side: Side, part: Part) -> bool
+    ensures { result ≡ is_part_told ignored.now side part }
+{
+    match side.difference(part) {
+        Some(difference) => is_told(ignored, difference.name()),
+        None => true,
+    }
+}
+
+/// Whether the kind of that name is told, where these are not.
+pub(crate) fn is_told(ignored: &[ReportedKind], name: &str) -> bool
+    ensures { result ≡ is_told ignored.now name.now }
+{
+    !ignored.iter().any(|kind| kind.name() == name)
+}
+
 /// Whether it is an error.
 pub(crate) fn is_error_severity(severity: Severity) -> bool
     ensures { result ≡ is_error_severity severity }
@@ -21,5 +40,29 @@ pub(crate) fn is_error_severity(severity: Severity) -> bool
     match severity {
         Severity::Error => true,
         Severity::Warning => false,
+    }
+}
+
+/// A sentence on the difference: `entry` is the name of the message or term, and `name` that of what one file has in
+/// it, or the same.
+pub(crate) fn difference_sentence(
+    alloc: Global,
+    difference: Difference,
+    entry: &str,
+    name: &str,
+) -> Result<String, AllocError> {
+    match difference {
+        Difference::Missing => format!(in alloc; "`{entry}` is missing"),
+        Difference::MissingValue => format!(in alloc; "the value of `{entry}` is missing"),
+        Difference::MissingAttribute => format!(in alloc;
+            "the attribute `{name}` of `{entry}` is missing"
+        ),
+        Difference::MissingReference => format!(in alloc; "`{entry}` does not refer to `{name}`"),
+        Difference::Obsolete => format!(in alloc; "the reference does not define `{entry}`"),
+        Difference::ObsoleteValue => format!(in alloc; "the reference gives `{entry}` no value"),
+        Difference::ObsoleteAttribute => format!(in alloc;
+            "the reference does not define the attribute `{name}` of `{entry}`"
+        ),
+        Difference::UnknownVariable => format!(in alloc; "the reference does not use `${name}`"),
     }
 }

@@ -17,7 +17,7 @@ from ._library import NESTING, Text
 from .errors import Error, Finding, FluentError, NoTree, Place, SyntaxErrors, TooDeep
 from .visitor import Transformer, Visitor, joined
 
-__version__ = "1.2.0"
+__version__ = "2.4.0"
 
 __all__ = [
     "Error", "Finding", "FluentError", "NESTING", "NoTree", "Place", "SyntaxErrors", "Text", "TooDeep", "Transformer",
