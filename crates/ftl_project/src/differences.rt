@@ -1,6 +1,6 @@
 //! What is told of a part that one of two files lacks, and whether it is an error.
 ghost use Rattle.std.specs.Prelude.{◌≡◌};
-ghost use Rattle.ftl_project.specs.Differences.{counts_as_error, is_error_severity, is_part_told, is_told};
+ghost use Rattle.ftl_project.specs.Differences.{counts_as_error, is_error_severity, is_part_reported, is_reported};
 
 use fluent_syntax_names::{Difference, Part, Severity, Side};
 use ftl_files::ReportedKind;
@@ -17,18 +17,18 @@ pub(crate) fn counts_as_error(side: Side, part: Part) -> bool
 }
 
 /// Whether a part that the file of this side has and the other one lacks is told, where these kinds are not.
-pub(crate) fn is_part_told(ignored: &[ReportedKind], side: Side, part: Part) -> bool
-    ensures { result ≡ is_part_told ignored.now side part }
+pub(crate) fn is_part_reported(ignored: &[ReportedKind], side: Side, part: Part) -> bool
+    ensures { result ≡ is_part_reported ignored.now side part }
 {
     match side.difference(part) {
-        Some(difference) => is_told(ignored, difference.name()),
+        Some(difference) => is_reported(ignored, difference.name()),
         None => true,
     }
 }
 
 /// Whether the kind of that name is told, where these are not.
-pub(crate) fn is_told(ignored: &[ReportedKind], name: &str) -> bool
-    ensures { result ≡ is_told ignored.now name.now }
+pub(crate) fn is_reported(ignored: &[ReportedKind], name: &str) -> bool
+    ensures { result ≡ is_reported ignored.now name.now }
 {
     !ignored.iter().any(|kind| kind.name() == name)
 }

@@ -15,8 +15,8 @@ returns-clause-compared c =
       c.in_ok-reference.ensures.name_index,
       record {
         report_text = subst (λ told. IsFileReport self.options.form c.args.pair.now told report_text)
-            c.is_told-is_told.ensures c.in_ok-report_text.ensures;
-        errors_are = rw (c.from.ensures, c.is_told-is_told.ensures) (one_if _);
+            c.is_reported-is_reported.ensures c.in_ok-report_text.ensures;
+        errors_are = rw (c.from.ensures, c.is_reported-is_reported.ensures) (one_if _);
         share_is = rw c.entry_count-wanted.ensures refl;
       },
     )
