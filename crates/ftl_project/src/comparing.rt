@@ -8,12 +8,11 @@ ghost use Rattle.ftl_project.specs.Comparing.{errors_of, missing_entries, with_s
 ghost use Rattle.ftl.specs.Watched.{has_failed, inner_of};
 ghost use Rattle.ftl_project.specs.Faults.{IsTooDeep, IsUnparsed};
 ghost use Rattle.ftl_project.specs.NameIndexes.{IsNameIndex, IsShort};
-ghost use Rattle.ftl_project.specs.Differences.{reported_parts};
 ghost use Rattle.ftl_project.specs.Summaries.{share_line_of};
 
 use crate::comparison_report::PairReporter;
 use crate::diagnostics::{Diagnostic, diagnostic_text};
-use crate::differences::{counts_as_error, is_part_reported, is_reported};
+use crate::differences::{counts_as_error, is_reported, reported_parts};
 use crate::entry_names::EntryNames;
 use crate::fault::Fault;
 use crate::name_indexes::{entry_count, name_index};
@@ -244,7 +243,7 @@ impl Comparing<'_> {
             form: self.options.form,
         };
         let missing = missing_parts(self.alloc, reference, other)?;
-        let reported = self.reported_parts(Side::Reference, &missing)?;
+        let reported = reported_parts(self.alloc, self.options.ignored, Side::Reference, &missing)?;
         let names = EntryNames::new(self.alloc, reference)?;
         let mut report_text = pair_reporter.report_of(
             Side::Reference,
@@ -253,7 +252,7 @@ impl Comparing<'_> {
             &reported,
         )?;
         let extra = missing_parts(self.alloc, other, reference)?;
-        let extra = self.reported_parts(Side::Other, &extra)?;
+        let extra = reported_parts(self.alloc, self.options.ignored, Side::Other, &extra)?;
         let own_names = EntryNames::new(self.alloc, other)?;
         let behind = pair_reporter.report_of(Side::Other, other.text, &own_names, &extra)?;
         report_text.push_str(behind.as_str())?;
@@ -267,22 +266,6 @@ impl Comparing<'_> {
                 missing: missing_entries(&missing),
             },
         })
-    }
-
-    /// Those of the parts that are told.
-    fn reported_parts(
-        &self,
-        side: Side,
-        missing_parts: &[MissingPart],
-    ) -> Result<Vec<MissingPart>, AllocError>
-        ensures { IfOk result (λ parts. parts.items
-            ≡ reported_parts self.now.options.ignored.now side missing_parts.now) }
-    {
-        missing_parts
-            .iter()
-            .copied()
-            .filter(|missing| is_part_reported(self.options.ignored, side, missing.part))
-            .collect(self.alloc)
     }
 }
 

@@ -1,8 +1,9 @@
 //! What is told of a part that one of two files lacks, and whether it is an error.
-ghost use Rattle.std.specs.Prelude.{◌≡◌};
+ghost use Rattle.std.specs.Prelude.{◌≡◌, IfOk};
 ghost use Rattle.ftl_project.specs.Differences.{counts_as_error, is_error_severity, is_part_reported, is_reported};
+ghost use Rattle.ftl_project.specs.Differences.{reported_parts};
 
-use fluent_syntax_names::{Difference, Part, Severity, Side};
+use fluent_syntax_names::{Difference, MissingPart, Part, Severity, Side};
 use ftl_files::ReportedKind;
 use std::alloc::{AllocError, Global};
 
@@ -16,8 +17,24 @@ pub(crate) fn counts_as_error(side: Side, part: Part) -> bool
     }
 }
 
+/// Those of the parts that are told, where these kinds are not.
+pub(crate) fn reported_parts(
+    alloc: Global,
+    ignored: &[ReportedKind],
+    side: Side,
+    missing_parts: &[MissingPart],
+) -> Result<Vec<MissingPart>, AllocError>
+    ensures { IfOk result (λ parts. parts.items ≡ reported_parts ignored.now side missing_parts.now) }
+{
+    missing_parts
+        .iter()
+        .copied()
+        .filter(|missing| is_part_reported(ignored, side, missing.part))
+        .collect(alloc)
+}
+
 /// Whether a part that the file of this side has and the other one lacks is told, where these kinds are not.
-pub(crate) fn is_part_reported(ignored: &[ReportedKind], side: Side, part: Part) -> bool
+fn is_part_reported(ignored: &[ReportedKind], side: Side, part: Part) -> bool
     ensures { result ≡ is_part_reported ignored.now side part }
 {
     match side.difference(part) {
