@@ -1,4 +1,4 @@
-use Rattle.std.proofs.Common.{◌≡◌, Bool, codes, false, if◌then◌else◌, refl, string_bytes, subst, true}
+use Rattle.std.proofs.Common.{◌≡◌, Bool, false, if◌then◌else◌, refl, string_bytes, subst, true}
 use Rattle.std.specs.Int.{from_bool}
 use Rattle.ftl_project.specs.Comparing.{IsFileReport}
 use Rattle.ftl_project.proofs.comparing.Comparing.comparison_without_file.Goals as goal

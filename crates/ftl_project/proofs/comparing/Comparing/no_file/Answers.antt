@@ -1,4 +1,4 @@
-use Rattle.std.proofs.Common.{◌≡◌, ◌++◌, None, codes, false, refl, rules, string_bytes, subst, sym, true}
+use Rattle.std.proofs.Common.{◌≡◌, ◌++◌, None, codes, refl, rules, string_bytes, subst, sym, true}
 use Rattle.std.proofs.lemmas.Result.{IfOk-weaker}
 use Rattle.ftl_project.specs.Comparing.{IsFileReport}
 use Rattle.ftl_project.proofs.DiagnosticTexts.{report_as}
