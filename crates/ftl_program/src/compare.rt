@@ -109,7 +109,7 @@ impl Comparison<'_> {
         }
         if named.is_file != own.is_file {
             tally.add_fault(WRONG_ARGS);
-            return tell_kinds(rt, reference, own.is_file, other);
+            return report_other_kind(rt, reference, own.is_file, other);
         }
         let Ok(pairs) = pairs_of(rt.alloc(), reference, &own.files, other, &named.files) else {
             return Err(RunFault::Memory);
@@ -159,7 +159,7 @@ impl Comparison<'_> {
 }
 
 /// Tells that one of the two is a file and the other one a folder.
-fn tell_kinds(
+fn report_other_kind(
     rt: &HostRuntime,
     reference: &str,
     is_file: bool,

@@ -75,7 +75,7 @@ pub(crate) fn named_at(
     let is_file = listing.is_of_file(path);
     let has_failed = listing.has_failed(path);
     for (path, error) in listing.faults {
-        tell_fault(rt, path.as_str(), &Fault::Read(error), tally)?;
+        report_listing_fault(rt, path.as_str(), &Fault::Read(error), tally)?;
     }
     Ok(Named {
         files: listing.files,
@@ -85,7 +85,7 @@ pub(crate) fn named_at(
 }
 
 /// Tells why what has the path was not answered, and counts it.
-fn tell_fault(
+fn report_listing_fault(
     rt: &HostRuntime,
     path: &str,
     fault: &Fault,

@@ -17,7 +17,7 @@ use crate::args::all_args;
 use crate::compare::compare_paths;
 use crate::help::page_of;
 use crate::lint::lint_paths;
-use crate::messages::{print_page, refuse_args, refuse_serving, refuse_writing};
+use crate::messages::{print_page, refuse_args, refuse_serving, refuse_writing, run_status};
 use crate::paths::{answer_named, answer_paths};
 use crate::project::{no_project, project_of};
 use crate::standard_input::answer_input;
@@ -63,7 +63,7 @@ fn answer(rt: &HostRuntime, mut work: Work<'_>) -> u8 {
     match found {
         Ok(project) => {
             work.options = work.options.or(&project.settings);
-            answer_paths(rt, &work, &project)
+            run_status(rt, answer_paths(rt, &work, &project))
         }
         Err(status) => status,
     }
@@ -72,8 +72,8 @@ fn answer(rt: &HostRuntime, mut work: Work<'_>) -> u8 {
 /// Answers standard input; as a file of its name where a form of files is asked for.
 fn answer_alone(rt: &HostRuntime, work: &Work<'_>) -> u8 {
     match (work.task, work.options.output) {
-        (Task::Check, Some(Output::Full | Output::Json | Output::Github)) => answer_named(rt, work),
-        (Task::FromJson, _) => answer_named(rt, work),
+        (Task::Check, Some(Output::Full | Output::Json | Output::Github)) | (Task::FromJson, _) =>
+            run_status(rt, answer_named(rt, work)),
         _ => answer_input(rt, work),
     }
 }

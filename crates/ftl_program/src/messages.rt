@@ -20,6 +20,14 @@ pub(crate) fn refuse_run<R: Eprint>(rt: &R, fault: RunFault) -> u8 {
     refuse(rt, fault.line(), fault.status())
 }
 
+/// The exit status of a run; where it stopped, why is told.
+pub(crate) fn run_status<R: Eprint>(rt: &R, ended: Result<u8, RunFault>) -> u8 {
+    match ended {
+        Ok(status) => status,
+        Err(fault) => refuse_run(rt, fault),
+    }
+}
+
 /// Tells what a run met, on a line, and gives the exit status.
 pub(crate) fn end_run<R: Eprint>(rt: &R, tally: &Tally, summary: Result<String, AllocError>) -> u8 {
     match summary {

@@ -2,7 +2,7 @@
 
 use crate::colors::form_over_paths;
 use crate::listed::NamedFiles;
-use crate::messages::{end_run, refuse_run};
+use crate::messages::end_run;
 use crate::project::Project;
 use crate::standard_input::{all_input, tell_of_terminal};
 use ftl::{RunFault, Watched};
@@ -50,39 +50,29 @@ impl Met {
 }
 
 /// Answers the paths in their order, each file once; the exit status.
-pub(crate) fn answer_paths(rt: &HostRuntime, work: &Work<'_>, project: &Project) -> u8 {
-    let mut met = Met::new();
-    match answer_all(rt, work, project, &mut met) {
-        Ok(()) => met.end(rt, work),
-        Err(fault) => refuse_run(rt, fault),
-    }
-}
-
-/// Answers standard input as a file of its name; the exit status.
-pub(crate) fn answer_named(rt: &HostRuntime, work: &Work<'_>) -> u8 {
-    let mut met = Met::new();
-    match answer_named_input(rt, work, &mut met) {
-        Ok(()) => met.tally.status(),
-        Err(fault) => refuse_run(rt, fault),
-    }
-}
-
-fn answer_all(
+pub(crate) fn answer_paths(
     rt: &HostRuntime,
     work: &Work<'_>,
     project: &Project,
-    met: &mut Met,
-) -> Result<(), RunFault> {
+) -> Result<u8, RunFault> {
+    let mut met = Met::new();
     let mut named = NamedFiles::new(rt, project);
     for path in &work.paths {
         if *path == "-" {
-            answer_named_input(rt, work, met)?;
+            answer_named_input(rt, work, &mut met)?;
         } else {
             let files = named.files_at(rt, *path, &mut met.tally)?;
-            answer_files(rt, &mut Disk::new(rt), &files, work, met)?;
+            run_task(rt, &mut Disk::new(rt), &files, work, &mut met)?;
         }
     }
-    Ok(())
+    Ok(met.end(rt, work))
+}
+
+/// Answers standard input as a file of its name; the exit status.
+pub(crate) fn answer_named(rt: &HostRuntime, work: &Work<'_>) -> Result<u8, RunFault> {
+    let mut met = Met::new();
+    answer_named_input(rt, work, &mut met)?;
+    Ok(met.tally.status())
 }
 
 /// Answers standard input as a file of its name.
@@ -98,7 +88,7 @@ fn answer_named_input(rt: &HostRuntime, work: &Work<'_>, met: &mut Met) -> Resul
         work.stdin_name,
         input.as_slice(),
     ) {
-        Ok(()) => answer_files(rt, &mut memory, files.as_slice(), work, met),
+        Ok(()) => run_task(rt, &mut memory, files.as_slice(), work, met),
         Err(AllocError) => Err(RunFault::Memory),
     }
 }
@@ -115,7 +105,8 @@ fn put_named<R: AllocGlobal>(
     Ok(())
 }
 
-fn answer_files<S: Store>(
+/// Does with the files what is asked.
+fn run_task<S: Store>(
     rt: &HostRuntime,
     store: &mut S,
     files: &[String],

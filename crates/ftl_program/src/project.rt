@@ -31,7 +31,7 @@ pub(crate) struct Project {
 pub(crate) fn project_of(rt: &HostRuntime, excluded: &[&str]) -> Result<Project, u8> {
     match project_of_file(rt, excluded) {
         Ok(project) => Ok(project),
-        Err(Refusal::Told(status)) => Err(status),
+        Err(Refusal::Reported(status)) => Err(status),
         Err(Refusal::Memory) => Err(refuse_run(rt, RunFault::Memory)),
     }
 }
@@ -53,8 +53,8 @@ pub(crate) fn no_project(rt: &HostRuntime) -> Result<Project, u8> {
 enum Refusal {
     /// A growth was refused.
     Memory,
-    /// What was told, with this exit status.
-    Told(u8),
+    /// What was reported, with this exit status.
+    Reported(u8),
 }
 
 impl From<AllocError> for Refusal {
@@ -143,7 +143,7 @@ fn refuse_settings<D: Display>(rt: &HostRuntime, path: &str, fault: &D, status: 
     match note_line(rt.alloc(), path, fault) {
         Ok(line) => {
             let _ = rt.eprint(line.as_str());
-            Refusal::Told(status)
+            Refusal::Reported(status)
         }
         Err(AllocError) => Refusal::Memory,
     }

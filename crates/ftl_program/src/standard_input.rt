@@ -52,7 +52,7 @@ fn answer_reader<R: Print + Eprint + AllocGlobal, I: Read + Drop>(
     match ended {
         Ok(Ok(outcome)) => {
             if command == Command::Runtime {
-                tell_of_loss(rt, work, outcome);
+                warn_of_errors(rt, work, outcome);
             }
             outcome.status()
         }
@@ -91,12 +91,12 @@ fn put_formatted<R: Print + Eprint + AllocGlobal>(
     if formatted.outcome == Outcome::Clean && !formatted.is_canonical {
         warn(rt, text, work);
     }
-    tell_of_loss(rt, work, formatted.outcome);
+    warn_of_errors(rt, work, formatted.outcome);
     formatted.outcome.status()
 }
 
 /// Tells that entries with errors were left out, if some were. Of memory it says nothing: the text was written.
-fn tell_of_loss<R: Eprint + AllocGlobal>(rt: &R, work: &Work<'_>, outcome: Outcome) {
+fn warn_of_errors<R: Eprint + AllocGlobal>(rt: &R, work: &Work<'_>, outcome: Outcome) {
     if outcome == Outcome::SyntaxErrors {
         if let Ok(line) = note_line(rt.alloc(), work.stdin_name, &"has syntax errors") {
             let _ = rt.eprint(line.as_str());

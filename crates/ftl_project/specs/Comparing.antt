@@ -8,7 +8,7 @@ use Rattle.fluent_syntax_names.specs.declared.missing_part.Part.{Part}
 use Rattle.fluent_syntax_names.specs.declared.missing_part.Part.TheVariants as part
 use Rattle.fluent_syntax_names.specs.declared.name_index.NameIndex.{NameIndex}
 use Rattle.fluent_syntax_names.specs.Differences.{difference_name, side_difference}
-use Rattle.ftl_project.specs.Differences.{counts_as_error, is_told, told_parts}
+use Rattle.ftl_project.specs.Differences.{counts_as_error, is_reported, reported_parts}
 use Rattle.ftl_project.specs.Faults.{Failing, Fails, IsFault, IsRead, IsTooDeep, IsUnparsed}
 use Rattle.ftl_project.specs.NameIndexes.{IsNameIndex, entry_count}
 use Rattle.ftl_project.specs.Junk.{missing_part_junk}
@@ -80,7 +80,7 @@ with_share share (Some part) = record {
 -- ---- a pair
 
 -- This is told of a file that is not there, if that is told.
-abbrev pub IsFileReport : Form → Pair → (is_told : Bool) → (report_text : List ℕ) → Type 0
+abbrev pub IsFileReport : Form → Pair → (is_reported : Bool) → (report_text : List ℕ) → Type 0
 IsFileReport form pair false report_text = report_text ≡ []
 IsFileReport form pair true report_text =
     IsDiagnostic form (string_bytes pair.other) None (codes "missing-file")
@@ -89,17 +89,17 @@ IsFileReport form pair true report_text =
 -- The other file is not there: that is the one error, if it is told, and all of the reference is missing.
 pub record IsFileMissing (options : CompareOptions) (pair : Pair) (reference : NameIndex) (errors : ℕ) (share : Share)
     (text : List ℕ) : Type 0 where
-  pub report_text : IsFileReport options.form pair (is_told options.ignored.now (codes "missing-file")) text
-  pub errors_are : errors ≡ (if is_told options.ignored.now (codes "missing-file") then 1 else 0)
+  pub report_text : IsFileReport options.form pair (is_reported options.ignored.now (codes "missing-file")) text
+  pub errors_are : errors ≡ (if is_reported options.ignored.now (codes "missing-file") then 1 else 0)
   pub share_is : share ≡ record { wanted = entry_count reference; missing = entry_count reference }
 
 -- what is told of that which the reference has and the other lacks, and the other way round
-abbrev pub told_missing : CompareOptions → (reference other : NameIndex) → List MissingPart
-told_missing options reference other =
-    told_parts options.ignored.now Reference (all_missing_parts reference other)
+abbrev pub reported_missing : CompareOptions → (reference other : NameIndex) → List MissingPart
+reported_missing options reference other =
+    reported_parts options.ignored.now Reference (all_missing_parts reference other)
 
-abbrev pub told_extra : CompareOptions → (reference other : NameIndex) → List MissingPart
-told_extra options reference other = told_parts options.ignored.now Other (all_missing_parts other reference)
+abbrev pub reported_extra : CompareOptions → (reference other : NameIndex) → List MissingPart
+reported_extra options reference other = reported_parts options.ignored.now Other (all_missing_parts other reference)
 
 -- What the reference has and the other lacks is told, in the order of the reference, and behind it what the other has
 -- and the reference lacks, in the order of the other. All that is missing counts for the share.
@@ -107,14 +107,14 @@ pub record IsPairCompared (options : CompareOptions) (pair : Pair) (reference ot
     (share : Share) (text : List ℕ) : Type 0 where
   pub missing : List ℕ
   pub reports_missing : ReportsEach (IsMissingReport options.form pair reference.text.now other)
-      (told_missing options reference other) missing
+      (reported_missing options reference other) missing
   pub more : List ℕ
-  pub reports_extra : ReportsEach (IsExtraReport options.form pair other.text.now) (told_extra options reference other)
-      more
+  pub reports_extra : ReportsEach (IsExtraReport options.form pair other.text.now)
+      (reported_extra options reference other) more
   pub text_is : text ≡ missing ++ more
   pub errors_are : errors
-      ≡ min (errors_of Reference (told_missing options reference other) + errors_of Other
-      (told_extra options reference other)) (2 ^ 64 - 1)
+      ≡ min (errors_of Reference (reported_missing options reference other) + errors_of Other
+      (reported_extra options reference other)) (2 ^ 64 - 1)
   pub share_is : share
       ≡ record { wanted = entry_count reference; missing = missing_entries (all_missing_parts reference other) }
 

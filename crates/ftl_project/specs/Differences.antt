@@ -26,18 +26,18 @@ abbrev pub counts_as_error : Side → Part → Bool
 counts_as_error side part = is_error_difference (side_difference side part)
 
 -- whether the kind of that name is none of those that are left out
-abbrev pub is_told : (ignored : List ReportedKind) → (name : List ℕ) → Bool
-is_told ignored name = not (list_any (λ kind. bytes_eq (reported_name kind) name) ignored)
+abbrev pub is_reported : (ignored : List ReportedKind) → (name : List ℕ) → Bool
+is_reported ignored name = not (list_any (λ kind. bytes_eq (reported_name kind) name) ignored)
 
-abbrev pub is_difference_told : (ignored : List ReportedKind) → Option Difference → Bool
-is_difference_told ignored None = true
-is_difference_told ignored (Some difference) = is_told ignored (difference_name difference)
+abbrev pub is_difference_reported : (ignored : List ReportedKind) → Option Difference → Bool
+is_difference_reported ignored None = true
+is_difference_reported ignored (Some difference) = is_reported ignored (difference_name difference)
 
 -- whether a part that this file has and the other one lacks is told
-abbrev pub is_part_told : (ignored : List ReportedKind) → Side → Part → Bool
-is_part_told ignored side part = is_difference_told ignored (side_difference side part)
+abbrev pub is_part_reported : (ignored : List ReportedKind) → Side → Part → Bool
+is_part_reported ignored side part = is_difference_reported ignored (side_difference side part)
 
 -- those of the parts that are told
-abbrev pub told_parts : (ignored : List ReportedKind) → Side → List MissingPart → List MissingPart
-told_parts ignored side missing_parts =
-    filter (λ (missing : MissingPart). is_part_told ignored side missing.part) missing_parts
+abbrev pub reported_parts : (ignored : List ReportedKind) → Side → List MissingPart → List MissingPart
+reported_parts ignored side missing_parts =
+    filter (λ (missing : MissingPart). is_part_reported ignored side missing.part) missing_parts

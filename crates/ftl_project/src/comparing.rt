@@ -8,12 +8,11 @@ ghost use Rattle.ftl_project.specs.Comparing.{errors_of, missing_entries, with_s
 ghost use Rattle.ftl.specs.Watched.{has_failed, inner_of};
 ghost use Rattle.ftl_project.specs.Faults.{IsTooDeep, IsUnparsed};
 ghost use Rattle.ftl_project.specs.NameIndexes.{IsNameIndex, IsShort};
-ghost use Rattle.ftl_project.specs.Differences.{told_parts};
 ghost use Rattle.ftl_project.specs.Summaries.{share_line_of};
 
 use crate::comparison_report::PairReporter;
 use crate::diagnostics::{Diagnostic, diagnostic_text};
-use crate::differences::{counts_as_error, is_part_told, is_told};
+use crate::differences::{counts_as_error, is_reported, reported_parts};
 use crate::entry_names::EntryNames;
 use crate::fault::Fault;
 use crate::name_indexes::{entry_count, name_index};
@@ -87,7 +86,8 @@ pub fn compare_files<S: Store, O: Write, E: Write>(
 ) -> Result<(), RunFault>
     ensures stand { AllUnchanged (S.bytes_at store.old) (S.bytes_at store.new) }
     ensures each { OnOk result (ComparesEach S.fails reading options.entry (S.bytes_at store.old) pairs.now tally.old
-        tally.new share.old share.new (O.contents (inner_of streams.old.out.now)) (O.contents (inner_of streams.new.out.now))) }
+        tally.new share.old share.new (O.contents (inner_of streams.old.out.now))
+        (O.contents (inner_of streams.new.out.now))) }
     ensures input { result ≢ Err RunFault.Input }
     ensures output { result ≡ Err RunFault.Output → (has_failed streams.new.out.now ≡ true)
         ⊎ (has_failed streams.new.err.now ≡ true) }
@@ -165,11 +165,11 @@ impl Comparing<'_> {
     {
         let reference = name_index(self.alloc, reference, self.reading)?;
         let wanted = entry_count(&reference);
-        let is_told = is_told(self.options.ignored, "missing-file");
-        let report_text = self.no_file(pair, is_told)?;
+        let is_reported = is_reported(self.options.ignored, "missing-file");
+        let report_text = self.no_file(pair, is_reported)?;
         Ok(PairComparison {
             report_text,
-            errors: usize::from(is_told),
+            errors: usize::from(is_reported),
             share: Share {
                 wanted,
                 missing: wanted,
@@ -178,11 +178,11 @@ impl Comparing<'_> {
     }
 
     /// What is told of a pair whose other file is not there, if that is told.
-    fn no_file(&self, pair: &Pair, is_told: bool) -> Result<String, AllocError>
-        ensures { IfOk result (λ report_text. IsFileReport self.now.options.form pair.now is_told
+    fn no_file(&self, pair: &Pair, is_reported: bool) -> Result<String, AllocError>
+        ensures { IfOk result (λ report_text. IsFileReport self.now.options.form pair.now is_reported
             (string_bytes report_text)) }
     {
-        if !is_told {
+        if !is_reported {
             return Ok(String::new(self.alloc));
         }
         let reference = pair.reference.as_str();
@@ -243,21 +243,21 @@ impl Comparing<'_> {
             form: self.options.form,
         };
         let missing = missing_parts(self.alloc, reference, other)?;
-        let told = self.told_parts(Side::Reference, &missing)?;
+        let reported = reported_parts(self.alloc, self.options.ignored, Side::Reference, &missing)?;
         let names = EntryNames::new(self.alloc, reference)?;
         let mut report_text = pair_reporter.report_of(
             Side::Reference,
             reference.text,
             &names,
-            &told,
+            &reported,
         )?;
-        let more = missing_parts(self.alloc, other, reference)?;
-        let more = self.told_parts(Side::Other, &more)?;
+        let extra = missing_parts(self.alloc, other, reference)?;
+        let extra = reported_parts(self.alloc, self.options.ignored, Side::Other, &extra)?;
         let own_names = EntryNames::new(self.alloc, other)?;
-        let behind = pair_reporter.report_of(Side::Other, other.text, &own_names, &more)?;
+        let behind = pair_reporter.report_of(Side::Other, other.text, &own_names, &extra)?;
         report_text.push_str(behind.as_str())?;
-        let missed = errors_of(Side::Reference, &told);
-        let unknown = errors_of(Side::Other, &more);
+        let missed = errors_of(Side::Reference, &reported);
+        let unknown = errors_of(Side::Other, &extra);
         Ok(PairComparison {
             report_text,
             errors: missed.saturating_add(unknown),
@@ -266,21 +266,6 @@ impl Comparing<'_> {
                 missing: missing_entries(&missing),
             },
         })
-    }
-
-    /// Those of the parts that are told.
-    fn told_parts(
-        &self,
-        side: Side,
-        missing_parts: &[MissingPart],
-    ) -> Result<Vec<MissingPart>, AllocError>
-        ensures { IfOk result (λ told. told.items ≡ told_parts self.now.options.ignored.now side missing_parts.now) }
-    {
-        missing_parts
-            .iter()
-            .copied()
-            .filter(|missing| is_part_told(self.options.ignored, side, missing.part))
-            .collect(self.alloc)
     }
 }
 

@@ -1,8 +1,9 @@
 //! What is told of a part that one of two files lacks, and whether it is an error.
-ghost use Rattle.std.specs.Prelude.{◌≡◌};
-ghost use Rattle.ftl_project.specs.Differences.{counts_as_error, is_error_severity, is_part_told, is_told};
+ghost use Rattle.std.specs.Prelude.{◌≡◌, IfOk};
+ghost use Rattle.ftl_project.specs.Differences.{counts_as_error, is_error_severity, is_part_reported, is_reported};
+ghost use Rattle.ftl_project.specs.Differences.{reported_parts};
 
-use fluent_syntax_names::{Difference, Part, Severity, Side};
+use fluent_syntax_names::{Difference, MissingPart, Part, Severity, Side};
 use ftl_files::ReportedKind;
 use std::alloc::{AllocError, Global};
 
@@ -16,19 +17,35 @@ pub(crate) fn counts_as_error(side: Side, part: Part) -> bool
     }
 }
 
+/// Those of the parts that are told, where these kinds are not.
+pub(crate) fn reported_parts(
+    alloc: Global,
+    ignored: &[ReportedKind],
+    side: Side,
+    missing_parts: &[MissingPart],
+) -> Result<Vec<MissingPart>, AllocError>
+    ensures { IfOk result (λ parts. parts.items ≡ reported_parts ignored.now side missing_parts.now) }
+{
+    missing_parts
+        .iter()
+        .copied()
+        .filter(|missing| is_part_reported(ignored, side, missing.part))
+        .collect(alloc)
+}
+
 /// Whether a part that the file of this side has and the other one lacks is told, where these kinds are not.
-pub(crate) fn is_part_told(ignored: &[ReportedKind], side: Side, part: Part) -> bool
-    ensures { result ≡ is_part_told ignored.now side part }
+fn is_part_reported(ignored: &[ReportedKind], side: Side, part: Part) -> bool
+    ensures { result ≡ is_part_reported ignored.now side part }
 {
     match side.difference(part) {
-        Some(difference) => is_told(ignored, difference.name()),
+        Some(difference) => is_reported(ignored, difference.name()),
         None => true,
     }
 }
 
 /// Whether the kind of that name is told, where these are not.
-pub(crate) fn is_told(ignored: &[ReportedKind], name: &str) -> bool
-    ensures { result ≡ is_told ignored.now name.now }
+pub(crate) fn is_reported(ignored: &[ReportedKind], name: &str) -> bool
+    ensures { result ≡ is_reported ignored.now name.now }
 {
     !ignored.iter().any(|kind| kind.name() == name)
 }

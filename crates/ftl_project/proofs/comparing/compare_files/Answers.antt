@@ -22,8 +22,8 @@ loop-pair-preserved g c =
     record {
       stand = λ path. c.report_pair.ensures.stand path ∙ c.loop-pair.invariant.stand path;
       each = ComparesEach-more g.S.Store.fails c.args.reading c.args.options start c.args.pairs.now
-          c.loop-pair.pair-index c.pair-item.result c.args.tally.now c.loop-pair.tally c.report_pair.new.tally c.args.share.now
-          c.loop-pair.share c.report_pair.new.share (written (inner_of c.args.streams.now.out.now))
+          c.loop-pair.pair-index c.pair-item.result c.args.tally.now c.loop-pair.tally c.report_pair.new.tally
+          c.args.share.now c.loop-pair.share c.report_pair.new.share (written (inner_of c.args.streams.now.out.now))
           (written (inner_of c.loop-pair.streams.out.now)) (written (inner_of c.report_pair.new.streams.out.now)) (omega
           arith) c.pair-item.is
           c.loop-pair.invariant.each compares;

@@ -1,4 +1,4 @@
-use Rattle.std.proofs.Common.{◌≡◌, Bool, codes, false, if◌then◌else◌, refl, string_bytes, subst, true}
+use Rattle.std.proofs.Common.{◌≡◌, Bool, false, if◌then◌else◌, refl, string_bytes, subst, true}
 use Rattle.std.specs.Int.{from_bool}
 use Rattle.ftl_project.specs.Comparing.{IsFileReport}
 use Rattle.ftl_project.proofs.comparing.Comparing.comparison_without_file.Goals as goal
@@ -15,8 +15,8 @@ returns-clause-compared c =
       c.in_ok-reference.ensures.name_index,
       record {
         report_text = subst (λ told. IsFileReport self.options.form c.args.pair.now told report_text)
-            c.is_told-is_told.ensures c.in_ok-report_text.ensures;
-        errors_are = rw (c.from.ensures, c.is_told-is_told.ensures) (one_if _);
+            c.is_reported-is_reported.ensures c.in_ok-report_text.ensures;
+        errors_are = rw (c.from.ensures, c.is_reported-is_reported.ensures) (one_if _);
         share_is = rw c.entry_count-wanted.ensures refl;
       },
     )

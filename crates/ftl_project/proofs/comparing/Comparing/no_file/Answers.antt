@@ -1,4 +1,4 @@
-use Rattle.std.proofs.Common.{◌≡◌, ◌++◌, None, codes, false, refl, rules, string_bytes, subst, sym, true}
+use Rattle.std.proofs.Common.{◌≡◌, ◌++◌, None, codes, refl, rules, string_bytes, subst, sym, true}
 use Rattle.std.proofs.lemmas.Result.{IfOk-weaker}
 use Rattle.ftl_project.specs.Comparing.{IsFileReport}
 use Rattle.ftl_project.proofs.DiagnosticTexts.{report_as}
@@ -9,7 +9,7 @@ returns c =
     let form = c.args.self.now.options.form in
     let pair = c.args.pair.now in
     let words = codes "there is no such file; the reference has " ++ string_bytes pair.reference in
-    let told : c.args.is_told ≡ true = search (rules, c.if-not-is_told.false) in
+    let told : c.args.is_reported ≡ true = search (rules, c.if-not-is_reported.false) in
     let report = report_as c.diagnostic_text.result form c.as_str.result.now
     (string_bytes pair.other) None
     (codes "missing-file") (codes "missing-file") (string_bytes c.in_ok-message.message) words c.as_str.ensures.value

@@ -3,7 +3,7 @@ use Rattle.std.specs.Str.{bytes_eq}
 use Rattle.std.proofs.lemmas.Iterator.{YieldsList-from_slice}
 use Rattle.std.proofs.lemmas.Iterator.Search.{any_from_yields_List}
 use Rattle.ftl_files.specs.Kinds.{reported_name}
-use Rattle.ftl_project.proofs.differences.is_told.Goals as goal
+use Rattle.ftl_project.proofs.differences.is_reported.Goals as goal
 
 pub returns : goal.returns
 returns c =
