@@ -31,6 +31,8 @@ pub enum Kind {
     DefinedTwice,
     /// The entry has an attribute of this name before.
     AttributeTwice,
+    /// The select has a variant with this key before.
+    VariantTwice,
     /// No file defines the message that is referred to.
     UndefinedMessage,
     /// No file defines the term that is referred to.
@@ -62,6 +64,7 @@ impl Kind {
             Kind::UndefinedMessage | Kind::UndefinedTerm => Severity::Error,
             Kind::UndefinedAttribute | Kind::UndefinedValue => Severity::Error,
             Kind::CyclicReference => Severity::Error,
+            Kind::VariantTwice => Severity::Warning,
         }
     }
 
@@ -72,6 +75,7 @@ impl Kind {
         match self {
             Kind::DefinedTwice => "defined-twice",
             Kind::AttributeTwice => "attribute-twice",
+            Kind::VariantTwice => "variant-twice",
             Kind::UndefinedMessage => "undefined-message",
             Kind::UndefinedTerm => "undefined-term",
             Kind::UndefinedAttribute => "undefined-attribute",
@@ -86,7 +90,8 @@ impl Kind {
         ensures { result ≡ is_local self }
     {
         match self {
-            Kind::DefinedTwice | Kind::AttributeTwice | Kind::CyclicReference => true,
+            Kind::DefinedTwice | Kind::AttributeTwice | Kind::VariantTwice => true,
+            Kind::CyclicReference => true,
             Kind::UndefinedMessage | Kind::UndefinedTerm => false,
             Kind::UndefinedAttribute | Kind::UndefinedValue => false,
         }
