@@ -137,6 +137,7 @@ enum ftl_finding_kind {
     FTL_FINDING_UNDEFINED_ATTRIBUTE = 5,
     FTL_FINDING_UNDEFINED_VALUE = 6,
     FTL_FINDING_CYCLIC_REFERENCE = 7, /* since 2.2 */
+    FTL_FINDING_VARIANT_TWICE = 8,    /* since 2.4 */
     FTL_FINDING_MISSING = 101, /* between a reference and another text, by ftl_comparison: the reference has it, */
     FTL_FINDING_MISSING_VALUE = 102,
     FTL_FINDING_MISSING_ATTRIBUTE = 103,
@@ -153,7 +154,8 @@ enum ftl_severity {
     FTL_SEVERITY_WARNING = 2 /* it may be meant so */
 };
 
-/* What is found at a name, of a message, a term, an attribute or a variable, where it is defined or referred to. */
+/* What is found at a name, of a message, a term, an attribute or a variable, where it is defined or referred to, or at
+   the key of a variant. */
 struct ftl_finding {
     size_t text;              /* the number of the text that has the name, from 0; of ftl_comparison the reference's is
                                  0, and the other text's is 1 */
