@@ -165,7 +165,7 @@ struct ftl_finding {
     size_t column_characters; /* and in characters */
     size_t start;             /* the bytes of the text that spell it, without a '-', '.' or '$': from start */
     size_t end;               /* up to end */
-    size_t other_text;        /* of a name that is given twice the first one, likewise: the number of its text, */
+    size_t other_text;        /* of what is given twice the first one, likewise: the number of its text, */
     size_t other_start;       /* and its bytes; of all other kinds each of the three is 0 */
     size_t other_end;
     uint32_t kind;            /* an ftl_finding_kind */

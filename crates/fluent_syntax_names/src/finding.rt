@@ -10,13 +10,13 @@ pub struct Finding {
     pub kind: Kind,
     /// The number of the file that has it, from 0.
     pub file: usize,
-    /// The name there, as it stands in the text; `None` where the file has no place for what it lacks.
+    /// The name or the key there, as it stands in the text; `None` where the file has no place for what it lacks.
     pub place: Option<Span>,
-    /// The other place that it speaks of: of a name that is given twice the first one.
+    /// The other place that it speaks of: of a name or a key that is given twice the first one.
     pub other: Option<Place>,
 }
 
-/// A name in a file.
+/// A name or a key in a file.
 #[derive(Clone, Copy, Debug, PartialEq, Eq)]
 pub struct Place {
     /// The number of the file, from 0.
