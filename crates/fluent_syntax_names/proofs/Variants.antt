@@ -1,7 +1,7 @@
 -- The mentions of a select's variants.
-use Rattle.std.proofs.Common.{◌≡◌, List, [], ◌∷◌, map, Option, Some, refl, ap, ◌∙◌, sym}
+use Rattle.std.proofs.Common.{◌≡◌, List, [], ◌∷◌, map, Some, ap, ◌∙◌, sym}
 use Rattle.std.specs.Prelude.{slice_get}
-use Rattle.fluent_syntax_tree.specs.Tree.{VariantTrees, variants_of}
+use Rattle.fluent_syntax_tree.specs.Tree.{variants_of}
 use Rattle.fluent_syntax_tree.specs.View.{key_view, variant_view}
 use Rattle.fluent_syntax_tree.specs.declared.ast.Variant.{Variant}
 use Rattle.fluent_syntax_tree.proofs.Views.{view-Variant}

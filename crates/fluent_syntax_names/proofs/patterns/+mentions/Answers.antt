@@ -67,7 +67,7 @@ add_variants-loop-variant-preserved g t c =
     let one = λ (x : Variant g.row.X.Denot). variant_mentions first (variant_view (λ x. x) x) in
     record {
       left = leaves_next all one c.args.list.now.items c.loop-variant.list.items c.args.variants.now
-          c.loop-variant.variant-index (λ x xs tail. refl) _ variant c.loop-variant-test.true
+          c.loop-variant.variant-index (λ x xs tail. refl) c.add_pattern.new.list.items variant c.loop-variant-test.true
           c.variant-item.is c.loop-variant.invariant.left
           (rw (view-Variant (λ x. x) variant, ← c.key_text-key.ensures)
           (adds_both c.loop-variant.list.items c.push.new.self.items c.add_pattern.new.list.items
