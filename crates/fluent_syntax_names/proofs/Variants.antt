@@ -5,7 +5,7 @@ use Rattle.fluent_syntax_tree.specs.Tree.{variants_of}
 use Rattle.fluent_syntax_tree.specs.View.{key_view, variant_view}
 use Rattle.fluent_syntax_tree.specs.declared.ast.Variant.{Variant}
 use Rattle.fluent_syntax_tree.proofs.Views.{view-Variant}
-use Rattle.fluent_syntax_names.specs.Mentions.{Mentions, key_text, variant_key, variant_mentions, variants_mentions}
+use Rattle.fluent_syntax_names.specs.Mentions.{Mentions, key_text, variant_key, variants_mentions}
 use Rattle.fluent_syntax_names.specs.Mentions.{select_mentions}
 
 module _ {S X : Type 0} (f : S → X) where
