@@ -137,6 +137,7 @@ enum ftl_finding_kind {
     FTL_FINDING_UNDEFINED_ATTRIBUTE = 5,
     FTL_FINDING_UNDEFINED_VALUE = 6,
     FTL_FINDING_CYCLIC_REFERENCE = 7, /* since 2.2 */
+    FTL_FINDING_VARIANT_TWICE = 8,    /* since 2.4 */
     FTL_FINDING_MISSING = 101, /* between a reference and another text, by ftl_comparison: the reference has it, */
     FTL_FINDING_MISSING_VALUE = 102,
     FTL_FINDING_MISSING_ATTRIBUTE = 103,
@@ -153,7 +154,8 @@ enum ftl_severity {
     FTL_SEVERITY_WARNING = 2 /* it may be meant so */
 };
 
-/* What is found at a name, of a message, a term, an attribute or a variable, where it is defined or referred to. */
+/* What is found at a name, of a message, a term, an attribute or a variable, where it is defined or referred to, or at
+   the key of a variant. */
 struct ftl_finding {
     size_t text;              /* the number of the text that has the name, from 0; of ftl_comparison the reference's is
                                  0, and the other text's is 1 */
@@ -163,7 +165,7 @@ struct ftl_finding {
     size_t column_characters; /* and in characters */
     size_t start;             /* the bytes of the text that spell it, without a '-', '.' or '$': from start */
     size_t end;               /* up to end */
-    size_t other_text;        /* of a name that is given twice the first one, likewise: the number of its text, */
+    size_t other_text;        /* of what is given twice the first one, likewise: the number of its text, */
     size_t other_start;       /* and its bytes; of all other kinds each of the three is 0 */
     size_t other_end;
     uint32_t kind;            /* an ftl_finding_kind */

@@ -21,9 +21,10 @@ pub struct Lint<'a> {
     pub paths: Vec<&'a str>,
 }
 
-static KIND_NAMES: [&str; 7] = [
+static KIND_NAMES: [&str; 8] = [
     "defined-twice",
     "attribute-twice",
+    "variant-twice",
     "undefined-message",
     "undefined-term",
     "undefined-attribute",

@@ -58,6 +58,7 @@ pub fn kind_of_name(name: &str) -> Option<Kind>
     match name {
         "defined-twice" => Some(Kind::DefinedTwice),
         "attribute-twice" => Some(Kind::AttributeTwice),
+        "variant-twice" => Some(Kind::VariantTwice),
         "undefined-message" => Some(Kind::UndefinedMessage),
         "undefined-term" => Some(Kind::UndefinedTerm),
         "undefined-attribute" => Some(Kind::UndefinedAttribute),

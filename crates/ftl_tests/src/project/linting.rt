@@ -15,15 +15,21 @@ hello = Hello
 only =
     .label = L
 loop = { loop }
+many = { $n ->
+    [one] x
+    [one] y
+   *[other] z
+ }
 ";
 
-const KINDS: [Kind; 6] = [
+const KINDS: [Kind; 7] = [
     Kind::UndefinedMessage,
     Kind::UndefinedTerm,
     Kind::UndefinedAttribute,
     Kind::UndefinedValue,
     Kind::CyclicReference,
     Kind::AttributeTwice,
+    Kind::VariantTwice,
 ];
 
 const TWO: [File; 2] = [("/d/a.ftl", WRONG), ("/d/b.ftl", b"b = B\n")];
@@ -49,9 +55,9 @@ const FOUND: [Found; 5] = [
         &TWO,
         "/d/a.ftl:1:11: undefined-message\n/d/a.ftl:1:22: undefined-term\n/d/a.ftl:1:34: undefined-attribute\n\
         /d/a.ftl:1:40: undefined-value\n/d/a.ftl:2:1: defined-twice\n/d/a.ftl:4:6: attribute-twice\n\
-        /d/a.ftl:7:10: cyclic-reference\n",
-        "1 defined-twice\n1 attribute-twice\n1 undefined-message\n1 undefined-term\n1 undefined-attribute\n\
-        1 undefined-value\n1 cyclic-reference\n",
+        /d/a.ftl:7:10: cyclic-reference\n/d/a.ftl:10:6: variant-twice\n",
+        "1 defined-twice\n1 attribute-twice\n1 variant-twice\n1 undefined-message\n1 undefined-term\n\
+        1 undefined-attribute\n1 undefined-value\n1 cyclic-reference\n",
         1,
     ),
     (
