@@ -2,7 +2,7 @@
 
 use crate::diagnostic_forms::{LintDiagnostic, LintDiagnosticKind, Related};
 use crate::difference_messages::{difference_message, missing_message, names_of_part};
-use crate::entry_names::{EntryNames, entry_name};
+use crate::entry_names::{EntryNames, entry_name, name_with_hyphen};
 use crate::occurrences::{bytes_of, is_name_byte};
 use crate::originals::Original;
 use crate::positions::{PositionRange, Positions, START};
@@ -143,7 +143,7 @@ fn first_ranges<'d>(
     let mut ranges = BTreeMap::new(alloc);
     for mention in &document.mentions {
         if let Some(name) = entry_name(mention) {
-            let shown = bytes_of(document.text, name);
+            let shown = name_with_hyphen(document.text, name);
             if !ranges.contains_key(shown) {
                 drop(ranges.insert(shown, positions.range(name))?);
             }

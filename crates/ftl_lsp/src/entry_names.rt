@@ -8,7 +8,7 @@ use std::alloc::{AllocError, Global};
 /// The messages and terms that a text defines, in its order.
 #[derive(Drop)]
 pub struct EntryNames<'t> {
-    /// Where each name begins, and the name, a term's with its `-`.
+    /// Where each name begins behind the `-` of a term, and the name with it.
     names: Vec<(usize, &'t str)>,
 }
 
@@ -18,7 +18,7 @@ impl<'t> EntryNames<'t> {
         let mut names = Vec::new(alloc);
         for mention in &name_index.mentions {
             if let Some(name) = entry_name(mention) {
-                names.push((name.start, bytes_of(name_index.text, name)))?;
+                names.push((name.start, name_with_hyphen(name_index.text, name)))?;
             }
         }
         Ok(EntryNames { names })
@@ -34,14 +34,10 @@ impl<'t> EntryNames<'t> {
     }
 }
 
-/// The name of the entry that is defined there, a term's with its `-`. None where none is.
+/// The name of the entry that is defined there, a term's without its `-`. None where none is.
 pub fn entry_name(mention: &Mention<Span>) -> Option<Span> {
     match mention {
-        Mention::Message { name, .. } => Some(*name),
-        Mention::Term { name } => Some(Span {
-            start: name.start.saturating_sub(1),
-            end: name.end,
-        }),
+        Mention::Message { name, .. } | Mention::Term { name } => Some(*name),
         _ => None,
     }
 }
