@@ -9,4 +9,4 @@ pub returns-in_default-2-clause-formats : goal.returns-in_default-2-clause-forma
 returns-in_default-2-clause-formats c =
     subst (λ (here : Option OpenText). IsFormattingOf here (view c.null.result)) c.in-Some.ensures
     (subst (FormatsText (open_text c.in-Some.open.now).text) (sym c.null.ensures)
-    (leaves (rw c.in_default-2.is at c.in_ok-formatted_text.ensures)))
+    (leaves (rw c.in_default-2.is at c.in_ok-formatted.ensures)))
