@@ -5,6 +5,7 @@ ghost use Rattle.ftl_project.specs.Diagnostics.{IsName, IsDiagnostic, place_or_p
 use crate::excerpt::push_excerpt;
 use crate::github::{push_data, push_property};
 use crate::json::{push_json_text, push_junk, push_payload};
+use crate::open_brace::open_brace;
 use crate::paint::{COLORED, PLAIN, Paint};
 use crate::terminal_text::push_shown_text;
 use fluent_syntax::parser::ParserError;
@@ -143,10 +144,17 @@ fn push_in_full(
     write!(out, "{behind}: {before_kind}{severity}[{kind}]{behind}: ")?;
     push_shown_text(out, diagnostic.message.as_str())?;
     out.push('\n')?;
-    match diagnostic.place {
-        Some(location) => push_excerpt(out, diagnostic.text, location.start, caret),
-        None => Ok(()),
+    if let Some(location) = diagnostic.place {
+        push_excerpt(out, diagnostic.text, location.start, caret)?;
     }
+    if let Some(place) = diagnostic
+        .error
+        .and_then(|error| open_brace(diagnostic.text, error))
+    {
+        out.push_str("the brace that is still open:\n")?;
+        push_excerpt(out, diagnostic.text, place, caret)?;
+    }
+    Ok(())
 }
 
 /// An object. Its places are in bytes, counted from 0; the column too is in bytes, and counted from 1.

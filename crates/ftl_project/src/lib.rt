@@ -22,6 +22,7 @@ mod line_starts;
 mod linting;
 mod lossy_entry;
 mod name_indexes;
+mod open_brace;
 mod paint;
 mod printing;
 mod replacement;
