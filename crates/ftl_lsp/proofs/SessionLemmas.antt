@@ -23,14 +23,14 @@ use Rattle.ftl_lsp.specs.Diagnostics.{DiagnosesText, shown}
 use Rattle.ftl_lsp.specs.DiagnosticForms.{IsLintDiagnostic, PublishesDiagnostics, error_form}
 use Rattle.ftl_lsp.specs.declared.diagnostics.Diagnostic.{Diagnostic}
 use Rattle.ftl_lsp.specs.Sessions.{Answers, AnswersNotification, AnswersRequest, AnswersRunning, HandlesNotification}
-use Rattle.ftl_lsp.specs.Sessions.{Finds, HasResponse, RefusesFor, Republishes, fits}
+use Rattle.ftl_lsp.specs.Sessions.{Finds, RefusesFor, Republishes, fits}
 use Rattle.ftl_lsp.specs.Sessions.{IsMethod, Session, TakesRequest, concerns}
 use Rattle.ftl_lsp.specs.Asking.{IsResult, names_open}
 use Rattle.ftl_lsp.specs.Sessions.{changes, published, requested, notified, opens, passes, runs}
 use Rattle.ftl_lsp.specs.Sessions.{saves, watches}
 use Rattle.ftl_lsp.specs.declared.methods.Method.{Method}
 use Rattle.ftl_lsp.specs.declared.methods.Method.TheVariants.{DidChange, DidClose, DidOpen, DidSave}
-use Rattle.ftl_lsp.specs.declared.methods.Method.TheVariants.{Initialized, Rename}
+use Rattle.ftl_lsp.specs.declared.methods.Method.TheVariants.{Initialized}
 use Rattle.ftl_lsp.specs.declared.phases.ErrorCode.{ErrorCode}
 use Rattle.ftl_lsp.specs.declared.phases.Phase.{Phase}
 use Rattle.ftl_lsp.specs.declared.phases.Phase.TheVariants.{Running}
@@ -214,13 +214,6 @@ pub refuses_for : (method : Option Method) (fitting : Bool) (found : Result Valu
     IfErr found (RefusesFor method fitting) → found ≡ Err code → RefusesFor method fitting code
 refuses_for method fitting found code refuses is =
     subst (λ (r : Result Value ErrorCode). IfErr r (RefusesFor method fitting)) is refuses
-
--- a response, if the method is no renaming
-pub responds : (method : Option Method) (fitting found : Bool) → method ≢ Some Rename →
-    HasResponse method fitting found → found ≡ fitting
-responds None fitting found other is = is
-responds (Some Rename) fitting found other is = absurd (other refl)
-responds (Some _) fitting found other is = is
 
 -- a request that was taken behind something that changes nothing of the session
 pub takes_request : {Y : Type 0} (r : Result (Option Value) Y) (old mid new : Session) (body : List ℕ)
