@@ -14,13 +14,13 @@
 from . import ast
 from ._calls import check, check_file, compare, format, format_file, lint, parse, parse_file, serialize, serialize_entry
 from ._library import NESTING, Text
-from .errors import Error, Finding, FluentError, NoTree, Place, SyntaxErrors, TooDeep
+from .errors import Error, Finding, FluentError, NoTree, Place, ReadsOtherwise, SyntaxErrors, TooDeep
 from .visitor import Transformer, Visitor, joined
 
 __version__ = "1.2.0"
 
 __all__ = [
-    "Error", "Finding", "FluentError", "NESTING", "NoTree", "Place", "SyntaxErrors", "Text", "TooDeep", "Transformer",
-    "Visitor", "ast", "check", "check_file", "compare", "format", "format_file", "joined", "lint", "parse",
-    "parse_file", "serialize", "serialize_entry",
+    "Error", "Finding", "FluentError", "NESTING", "NoTree", "Place", "ReadsOtherwise", "SyntaxErrors", "Text", "TooDeep",
+    "Transformer", "Visitor", "ast", "check", "check_file", "compare", "format", "format_file", "joined", "lint",
+    "parse", "parse_file", "serialize", "serialize_entry",
 ]

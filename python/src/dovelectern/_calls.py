@@ -2,13 +2,13 @@
 import os
 from functools import lru_cache
 from itertools import chain
-from typing import Iterable, Iterator, List, Tuple, Union
+from typing import Iterable, Iterator, List, Optional, Tuple, Union
 
-from . import _findings, _library, _places, _reading, _writing, ast
+from . import _findings, _library, _places, _reading, _reading_back, _writing, ast
 from ._collection import no_collection
 from ._library import NESTING, Text
 from .ast import Span
-from .errors import Error, Finding, NoTree, SyntaxErrors, TooDeep
+from .errors import Error, Finding, NoTree, ReadsOtherwise, SyntaxErrors, TooDeep
 
 Path = Union[str, "os.PathLike[str]", bytes, "os.PathLike[bytes]"]
 
@@ -65,27 +65,38 @@ def _named(tree: ast.Resource) -> Iterator[Union[ast.Message, ast.Term, ast.Attr
             yield from entry.attributes
 
 
-def serialize(resource: ast.Resource) -> str:
+def serialize(resource: ast.Resource, *, strict: bool = True) -> str:
     """The text of a tree, without its junk.
 
+    `ReadsOtherwise` where `parse` would not return the tree for the text, apart from junk and from texts that follow one
+    another: a text with a brace, a name that is none. With `strict=False` that is not asked, which takes half the time.
     `TypeError` where a field holds something else than the classes of `dovelectern.ast` say, with the way to it.
     `TooDeep`: the tree nests more deeply than the library takes trees, which is some 20 selects in one another.
     """
     try:
         with no_collection():
             written = _writing.json_of(resource)
-        return _library.answer(_library.FROM_JSON, written.encode(), NESTING)[0]
+            text = _library.answer(_library.FROM_JSON, written.encode(), NESTING)[0]
+            changed = _first_changed(written, text) if strict else None
     except RecursionError:
         raise TooDeep("the tree nests more deeply than Python's recursion takes") from None
     except NoTree:
         # tells what is wrong, and where
         _writing.value_of(resource)
         raise
+    if changed is not None:
+        raise ReadsOtherwise(f"body[{changed}] would be read otherwise than as it is")
+    return text
 
 
-def serialize_entry(entry: ast.AnyEntry) -> str:
+def _first_changed(written: str, text: str) -> Optional[int]:
+    """The number of the first entry of a tree that its text is not read as."""
+    return _reading_back.first_changed(written, _library.answer(_library.JSON, text.encode(), NESTING)[0])
+
+
+def serialize_entry(entry: ast.AnyEntry, *, strict: bool = True) -> str:
     """The text of one entry, as `serialize` writes it alone."""
-    return serialize(ast.Resource([entry]))
+    return serialize(ast.Resource([entry]), strict=strict)
 
 
 def check(text: Text, *, edition: int = 1, nesting: int = NESTING) -> List[Error]:

@@ -92,3 +92,7 @@ class TooDeep(FluentError):
 
 class NoTree(FluentError):
     """What was to be written is no tree."""
+
+
+class ReadsOtherwise(FluentError):
+    """The text of a tree would be read as another tree."""
