@@ -1,11 +1,12 @@
 //! The caller's array, and the number that tells how much there is.
-ghost use Rattle.std.specs.Prelude.{◌≡◌, ◌↔◌, Err, IsOkAnd};
+ghost use Rattle.std.specs.Prelude.{◌≡◌, ◌↔◌, Ok, Err, IsOkAnd};
 ghost use Rattle.fluent_syntax_c.specs.Output.{LeavesOutput};
-ghost use Rattle.fluent_syntax_c.specs.Status.{EndsAs, refusal_number};
+ghost use Rattle.fluent_syntax_c.specs.Status.{EndsAs, edit_refusal_number, refusal_number};
+ghost use Rattle.fluent_syntax_c.specs.declared.status.EditRefusal.{EditRefusal as EditWhy};
 ghost use Rattle.fluent_syntax_c.specs.declared.status.Refusal.{Refusal as Why};
 ghost use Rattle.fluent_syntax_c.specs.declared.status.Status.TheVariants.{Refused};
 
-use crate::status::{Refusal, Status};
+use crate::status::{EditRefusal, Refusal, Status};
 use ftl::Outcome;
 
 /// Gives the caller what was answered, if there is room for all of it, and tells how much it is. Returns the number of
@@ -21,6 +22,29 @@ pub(crate) fn give<T: Copy>(
     ensures refused { (why : Why) → (result ≡ refusal_number why) ↔ (answer ≡ Err why) }
 {
     give_answer(answer, out, count).number()
+}
+
+/// Gives the caller the text that an edit made, if there is room for all of it, and tells how much it is. Returns the
+/// number of how that ended, or why the edit is not made.
+pub(crate) fn give_edited(
+    answer: Result<Result<(Vec<u8>, Outcome), EditRefusal>, Refusal>,
+    out: &mut [u8],
+    count: &mut usize,
+) -> u32
+    ensures leaves { EndsAs result (LeavesOutput
+        (λ items outcome. IsOkAnd answer (λ made. IsOkAnd made
+        (λ given. (given.0.items ≡ items) × (given.1 ≡ outcome)))) out.old out.new count.new) }
+    ensures refused { (why : Why) → (result ≡ refusal_number why) ↔ (answer ≡ Err why) }
+    ensures not_edited { (why : EditWhy) → result ≡ edit_refusal_number why → answer ≡ Ok (Err why) }
+{
+    match answer {
+        Ok(Ok(given)) => give(Ok(given), out, count),
+        Ok(Err(why)) => {
+            *count = 0;
+            Status::NotEdited(why).number()
+        }
+        Err(why) => give(Err(why), out, count),
+    }
 }
 
 /// The same, with its status.
