@@ -6,4 +6,4 @@ mod Recovered
 mod ErrorRows
 mod Commands
 mod NameIndexes
-mod Edits
+mod PartsRead
