@@ -13,7 +13,6 @@ use Rattle.fluent_syntax_grammar.specs.Tiling.{Tile, Tiling}
 use Rattle.fluent_syntax_grammar.specs.Written.{Text}
 use Rattle.fluent_syntax_edits.specs.Changes.{Change, replaces, inserts, removes, sets, scratch_message}
 use Rattle.fluent_syntax_edits.specs.Edits as edits
-use Rattle.fluent_syntax_edits.specs.declared.edited_ranges.ValueTarget.TheVariants.{Value}
 use Rattle.fluent_syntax_edits.specs.declared.fault.EditFault.{EditFault}
 use Rattle.fluent_syntax_edits.specs.declared.fault.EditFault.TheVariants as fault
 use Rattle.ftl.specs.Answer.{outcome_of}
@@ -72,11 +71,23 @@ part_source Replace part = part
 part_source Insert part = part
 part_source Remove part = part
 
+-- a message `a` with that value, and with nothing else
+abbrev pub value_message : PatternTree Text → EntryTree Text
+value_message v = message (record { id = 97 ∷ []; value = Some v; attributes = []; comment = None })
+
+-- The change is that of the value of a message or a term into the pattern: what `fluent_syntax_edits` writes of it is the
+-- value of a message.
+abbrev pub SetsValue : Change → PatternTree Text → Type 0
+SetsValue (sets target w) v = (w ≡ v) × (scratch_message target w ≡ value_message w)
+SetsValue (replaces e) v = ⊥
+SetsValue (inserts e) v = ⊥
+SetsValue removes v = ⊥
+
 -- The part spells this change: a value stands behind `a =` and is the only part of that message, and an entry is the
 -- only one that is read. There is no error.
 abbrev pub Spells : Edition → Action → (part : Text) → Change → Type 0
 Spells edition SetValue part change = (v : PatternTree Text) ×
-    ReadsAs edition (part_source SetValue part) (scratch_message Value v ∷ []) × (change ≡ sets Value v)
+    ReadsAs edition (part_source SetValue part) (value_message v ∷ []) × SetsValue change v
 Spells edition Replace part change =
     (e : EntryTree Text) × ReadsAs edition part (e ∷ []) × (change ≡ replaces e)
 Spells edition Insert part change =

@@ -6,10 +6,10 @@ ghost use Rattle.fluent_syntax_tree.specs.Tree.{PatternTree};
 ghost use Rattle.fluent_syntax_tree.specs.View.{entry_view, pattern_view, resource_view};
 ghost use Rattle.fluent_syntax_tree.specs.declared.edition.Edition.{Edition as ByEdition};
 ghost use Rattle.fluent_syntax_grammar.specs.RoundTrip.{ReadsAs};
-ghost use Rattle.fluent_syntax_edits.specs.Changes.{Change, scratch_message};
+ghost use Rattle.fluent_syntax_edits.specs.Changes.{Change};
 ghost use Rattle.fluent_syntax_edits.specs.Edits.{Answers};
-ghost use Rattle.fluent_syntax_edits.specs.declared.edited_ranges.ValueTarget.TheVariants.{Value};
 ghost use Rattle.fluent_syntax_c.specs.Edits.{IsTextTree, Spells, first_called, is_called, part_source, place_of};
+ghost use Rattle.fluent_syntax_c.specs.Edits.{value_message};
 
 use crate::text_trees::TextTree;
 use fluent_syntax::ast::{Entry, Pattern, Resource};
@@ -96,9 +96,9 @@ fn one_entry<'p, 't>(part: &'p TextTree<'t>) -> Option<&'p Entry<&'t str>>
 fn one_value<'p, 't>(part: &'p TextTree<'t>) -> Option<&'p Pattern<&'t str>>
     ensures some { (edition : ByEdition) (t : List ℕ) → IsTextTree edition t part.now →
         IfSome result (λ value.
-        ReadsAs edition t (scratch_message Value (pattern_view (λ text. text.now) value.now) ∷ [])) }
+        ReadsAs edition t (value_message (pattern_view (λ text. text.now) value.now) ∷ [])) }
     ensures none { (edition : ByEdition) (t : List ℕ) → IsTextTree edition t part.now →
-        IfNone result ((v : PatternTree (List ℕ)) → ReadsAs edition t (scratch_message Value v ∷ []) → ⊥) }
+        IfNone result ((v : PatternTree (List ℕ)) → ReadsAs edition t (value_message v ∷ []) → ⊥) }
 {
     own_value(one_entry(part)?)
 }
@@ -106,9 +106,9 @@ fn one_value<'p, 't>(part: &'p TextTree<'t>) -> Option<&'p Pattern<&'t str>>
 /// The value of a message `a` that has nothing else.
 fn own_value<'p, 't>(entry: &'p Entry<&'t str>) -> Option<&'p Pattern<&'t str>>
     ensures some { IfSome result (λ value. entry_view (λ text. text.now) entry.now
-        ≡ scratch_message Value (pattern_view (λ text. text.now) value.now)) }
+        ≡ value_message (pattern_view (λ text. text.now) value.now)) }
     ensures none { IfNone result ((v : PatternTree (List ℕ)) →
-        entry_view (λ text. text.now) entry.now ≡ scratch_message Value v → ⊥) }
+        entry_view (λ text. text.now) entry.now ≡ value_message v → ⊥) }
 {
     match entry {
         Entry::Message(message)
