@@ -93,13 +93,13 @@ module _ (edition : Edition) (t : List ℕ) where
 
     -- the texts of what was found are parts of the source
     pub parts_found : entry_every (IsPart t) (tree_of found.entry)
-    parts_found = parts_given to.tile to.stands to.gives.entry ends_there.good
+    parts_found = parts_given to.tile to.stands to.yields.entry ends_there.good
 
     -- its rows behind those before it
     pub names_on : (new : List FtlName) → new ≡ rows ++ entry_rows t (length rows) found.span (tree_of found.entry) →
         NamesTo j new
     names_on new added =
-        let own = rows_given found.span to.tile found.entry (length rows) to.stands to.gives.entry in
+        let own = rows_given found.span to.tile found.entry (length rows) to.stands to.yields.entry in
         let counted : length rows ≡ 0 + length rows = omega arith in
         record {
           boundary = subst (IsCharBoundary t) (sym to.ends) ends_there.place;

@@ -38,7 +38,7 @@ module _ (edition : Edition) (t : List ℕ) where
     whole = λ more a.
         let behind = subst (λ k. Tiled t (TileAt edition t) k more) to.ends a in
         let (tiles, tiling, same) = read.whole (to.tile ∷ more) (next to.blank to.inside to.stands behind) in
-        let place = place_given found.span to.tile found.entry found.error to.stands to.gives in
+        let place = place_given found.span to.tile found.entry found.error to.stands to.yields in
         (tiles, tiling, add to.tile more place ∙ same);
   }
 

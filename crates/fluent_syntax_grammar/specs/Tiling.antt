@@ -111,16 +111,16 @@ module _ (edition : Edition) (t : List ℕ) where
 
   -- the text has a tiling
   abbrev pub SomeTiling : Type 0
-  SomeTiling = (tiles : List Tile) × Tiling edition t tiles
+  SomeTiling = (tiles : List Tile) × Tiling tiles
 
   -- the text has a tiling without comments
   abbrev pub SomeRuntimeTiling : Type 0
-  SomeRuntimeTiling = (tiles : List Tile) × RuntimeTiling edition t tiles
+  SomeRuntimeTiling = (tiles : List Tile) × RuntimeTiling tiles
 
   -- the text has at most one tiling
   abbrev pub OneTiling : Type 0
-  OneTiling = (xs ys : List Tile) → Tiling edition t xs → Tiling edition t ys → xs ≡ ys
+  OneTiling = (xs ys : List Tile) → Tiling xs → Tiling ys → xs ≡ ys
 
   -- the text has at most one tiling without comments
   abbrev pub OneRuntimeTiling : Type 0
-  OneRuntimeTiling = (xs ys : List Tile) → RuntimeTiling edition t xs → RuntimeTiling edition t ys → xs ≡ ys
+  OneRuntimeTiling = (xs ys : List Tile) → RuntimeTiling xs → RuntimeTiling ys → xs ≡ ys

@@ -59,7 +59,7 @@ module _ (comments : Comments) (edition : Edition) (t : List ℕ) where
         (tree ≡ body_map (bytes_at t) (body tiles)) × (outcome ≡ outcome_of tiles)
     all_read none =
         let whole = before.rest [] [] none in
-        let gives = whole.gives ∙ append-nil before.spans in
+        let gives = whole.yields ∙ append-nil before.spans in
         let errors_are = whole.errors_are ∙ append-nil before.errors in (
           whole.tiles,
           whole.tiled,

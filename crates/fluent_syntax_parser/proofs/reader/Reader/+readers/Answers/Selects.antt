@@ -74,7 +74,7 @@ pub gather_variants-returns-then-has_default-clause-parses : goal.gather_variant
 gather_variants-returns-then-has_default-clause-parses g m c =
     all_variants g.M.MakeTexts.made _ c.loop-starred.invariant.gathered
     (goes_on c.take_byte_if-star.ensures.parses
-    (goes_on (second (one_false _ _ c.else-starred.branch_on) given)
+    (goes_on (second (one_false _ _ c.else-starred.either) given)
     (goes_on c.take_byte_if-bracket.ensures.parses
     (second c.if-not-bracket.true
     (first (sym c.if-has_default.ensures)
@@ -84,7 +84,7 @@ pub gather_variants-returns-then-not-bracket-clause-parses : goal.gather_variant
 gather_variants-returns-then-not-bracket-clause-parses g m c =
     item_fails c.loop-starred.invariant.gathered.behind (refused (λ k from to (a, b, d). rw (a, b, d)
     (goes_on c.take_byte_if-star.ensures.parses
-    (goes_on (second (one_false _ _ c.else-starred.branch_on) given)
+    (goes_on (second (one_false _ _ c.else-starred.either) given)
     (goes_on c.take_byte_if-bracket.ensures.parses
     (second c.if-not-bracket.true
     (second (sym c.if-has_default.ensures)
@@ -95,7 +95,7 @@ gather_variants-returns-in_err-key-clause-parses g m c =
     let p = err_from_is_err_and c.from_residual.result c.from_residual.ensures.1 in
     rw (p.1, p.2) (item_fails c.loop-starred.invariant.gathered.behind (refused (λ k from to h.
     (goes_on c.take_byte_if-star.ensures.parses
-    (goes_on (second (one_false _ _ c.else-starred.branch_on) given)
+    (goes_on (second (one_false _ _ c.else-starred.either) given)
     (goes_on c.take_byte_if-bracket.ensures.parses
     (first c.if-not-bracket.false
     (goes_on (passed c.skip_blank-start.ensures.blank)
@@ -106,7 +106,7 @@ gather_variants-returns-in_err-next-clause-parses g m c =
     let p = err_from_is_err_and c.from_residual-in_err-next.result c.from_residual-in_err-next.ensures.1 in
     rw (p.1, p.2) (item_fails c.loop-starred.invariant.gathered.behind (refused (λ k from to h.
     (goes_on c.take_byte_if-star.ensures.parses
-    (goes_on (second (one_false _ _ c.else-starred.branch_on) given)
+    (goes_on (second (one_false _ _ c.else-starred.either) given)
     (goes_on c.take_byte_if-bracket.ensures.parses
     (first c.if-not-bracket.false
     (goes_on (passed c.skip_blank-start.ensures.blank)
@@ -123,7 +123,7 @@ gather_variants-returns-in_err-value-clause-parses g m c =
     (item_fails c.loop-starred.invariant.gathered.behind
     (fails_next (functional_optional t asterisk) c.take_byte_if-star.ensures.parses
     (fails_next (functional_star c.loop-starred.starred c.take_byte_if-star.result.0)
-    (second (one_false _ _ c.else-starred.branch_on) given)
+    (second (one_false _ _ c.else-starred.either) given)
     (fails_next (functional_optional t left_bracket) c.take_byte_if-bracket.ensures.parses
     (fails_yes c.if-not-bracket.false
     (fails_next (functional_blank t) (passed c.skip_blank-start.ensures.blank)
@@ -141,7 +141,7 @@ gather_variants-returns-in_default-clause-parses g m c =
     let none = no_value_read (pattern_map (g.M.MakeTexts.source c.args.self.now.texts.now)) value_read o read same in
     item_fails c.loop-starred.invariant.gathered.behind (refused (λ k from to (a, b, d). rw (a, b, d)
     (goes_on c.take_byte_if-star.ensures.parses
-    (goes_on (second (one_false _ _ c.else-starred.branch_on) given)
+    (goes_on (second (one_false _ _ c.else-starred.either) given)
     (goes_on c.take_byte_if-bracket.ensures.parses
     (first c.if-not-bracket.false
     (goes_on (passed c.skip_blank-start.ensures.blank)
@@ -181,7 +181,7 @@ gather_variants-loop-starred-preserved g m c =
           old.starred)
           (variant (key_view (λ s. s) c.in_ok-key.key) value c.take_byte_if-star.result.0) _
           (goes_on c.take_byte_if-star.ensures.parses
-          (goes_on (second (one_false _ _ c.else-starred.branch_on) given)
+          (goes_on (second (one_false _ _ c.else-starred.either) given)
           (goes_on c.take_byte_if-bracket.ensures.parses
           (first c.if-not-bracket.false
           (goes_on (passed c.skip_blank-start.ensures.blank)
