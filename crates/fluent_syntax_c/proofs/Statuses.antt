@@ -2,7 +2,7 @@
 use Rattle.std.proofs.Common.{◌≡◌, ◌==◌, ℕ, List, Result, Ok, Err, IfOk, IsOkAnd, cond, refl, sym, ap, ◌∙◌}
 use Rattle.std.proofs.Common.{subst, inl, inr}
 use Rattle.std.specs.Global.{Global}
-use Rattle.std.specs.Prelude.{◌↔◌, ◌⊎◌, Vec}
+use Rattle.std.specs.Prelude.{◌↔◌, ◌⊎◌, IfErr, Vec}
 use Rattle.ftl.specs.declared.outcome.Outcome.{Outcome}
 use Rattle.ftl.specs.declared.outcome.Outcome.TheVariants as outcome
 use Rattle.fluent_syntax_c.specs.declared.status.Refusal.{Refusal}
@@ -180,3 +180,13 @@ gives_edited number expected AreTexts Long Deeper answer before after count stat
 pub not_edited_exactly : (number : ℕ) (status : Status) (why : EditRefusal) → number ≡ status_number status →
     number ≡ edit_refusal_number why → status ≡ NotEdited why
 not_edited_exactly number status why is told = same_status status (NotEdited why) (sym is ∙ told)
+
+-- no two refusals have one number
+pub same_refusal : (why other : Refusal) → refusal_number why ≡ refusal_number other → why ≡ other
+same_refusal why other e =
+    let same : Refused why ≡ Refused other = same_status (Refused why) (Refused other) e in cc
+
+-- what is said of an edit that was not made
+pub not_edited_of : {X : Type 0} (P : EditRefusal → Type 0) (answer : Result (Result X EditRefusal) Refusal)
+    (why : EditRefusal) → answer ≡ Ok (Err why) → IfOk answer (λ made. IfErr made P) → P why
+not_edited_of P answer why e h = subst (λ r. IfOk r (λ made. IfErr made P)) e h

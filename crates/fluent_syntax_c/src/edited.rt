@@ -79,6 +79,19 @@ pub(crate) fn place_of(action: Action, name: &str, tree: &Resource<&str>) -> Opt
     }
 }
 
+/// The only entry, if there is one alone.
+fn only_entry<'p, 't>(entries: &'p [Entry<&'t str>]) -> Option<&'p Entry<&'t str>>
+    ensures some { IfSome result (λ entry. map (entry_view (λ text. text.now)) entries.now
+        ≡ entry_view (λ text. text.now) entry.now ∷ []) }
+    ensures none { IfNone result ((e : EntryTree (List ℕ)) →
+        map (entry_view (λ text. text.now)) entries.now ≡ e ∷ [] → ⊥) }
+{
+    match entries {
+        [entry] => Some(entry),
+        _ => None,
+    }
+}
+
 /// The only entry of a text without errors.
 fn one_entry<'p, 't>(part: &'p TextTree<'t>) -> Option<&'p Entry<&'t str>>
     ensures some { (edition : ByEdition) (t : List ℕ) → IsTextTree edition t part.now →
@@ -87,8 +100,8 @@ fn one_entry<'p, 't>(part: &'p TextTree<'t>) -> Option<&'p Entry<&'t str>>
         IfNone result ((e : EntryTree (List ℕ)) → ReadsAs edition t (e ∷ []) → ⊥) }
 {
     match part.outcome {
-        Outcome::Clean if part.tree.body.len() == 1 => part.tree.body.first(),
-        _ => None,
+        Outcome::Clean => only_entry(part.tree.body.as_slice()),
+        Outcome::SyntaxErrors => None,
     }
 }
 

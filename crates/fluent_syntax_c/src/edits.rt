@@ -166,16 +166,16 @@ fn edited_text(
         (IsNotEdited (edition_number edition) t name.now action p)) }
     ensures memory { IfErr result (λ refusal. refusal ≡ Refusal.Memory) }
 {
-    let Some(index) = place_of(action, name, &source.tree) else {
-        return Ok(Err(EditRefusal::NotFound));
-    };
-    match edited(alloc, source, index, action, part) {
-        Some(Ok(text)) => Ok(Ok((text.into_bytes(), source.outcome))),
-        Some(Err(fault)) => match edit_refusal(fault) {
-            Some(refusal) => Ok(Err(refusal)),
-            None => Err(Refusal::Memory),
+    match place_of(action, name, &source.tree) {
+        Some(index) => match edited(alloc, source, index, action, part) {
+            Some(Ok(text)) => Ok(Ok((text.into_bytes(), source.outcome))),
+            Some(Err(fault)) => match edit_refusal(fault) {
+                Some(refusal) => Ok(Err(refusal)),
+                None => Err(Refusal::Memory),
+            },
+            None => Ok(Err(EditRefusal::NotOneEntry)),
         },
-        None => Ok(Err(EditRefusal::NotOneEntry)),
+        None => Ok(Err(EditRefusal::NotFound)),
     }
 }
 

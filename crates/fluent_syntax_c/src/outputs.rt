@@ -4,7 +4,7 @@ ghost use Rattle.fluent_syntax_c.specs.Output.{LeavesOutput};
 ghost use Rattle.fluent_syntax_c.specs.Status.{EndsAs, edit_refusal_number, refusal_number};
 ghost use Rattle.fluent_syntax_c.specs.declared.status.EditRefusal.{EditRefusal as EditWhy};
 ghost use Rattle.fluent_syntax_c.specs.declared.status.Refusal.{Refusal as Why};
-ghost use Rattle.fluent_syntax_c.specs.declared.status.Status.TheVariants.{Refused};
+ghost use Rattle.fluent_syntax_c.specs.declared.status.Status.TheVariants.{NotEdited, Refused};
 
 use crate::status::{EditRefusal, Refusal, Status};
 use ftl::Outcome;
@@ -20,6 +20,7 @@ pub(crate) fn give<T: Copy>(
         (LeavesOutput (λ items outcome. IsOkAnd answer (λ given. (given.0.items ≡ items) × (given.1 ≡ outcome)))
         out.old out.new count.new) }
     ensures refused { (why : Why) → (result ≡ refusal_number why) ↔ (answer ≡ Err why) }
+    ensures edited { (why : EditWhy) → ¬ (result ≡ edit_refusal_number why) }
 {
     give_answer(answer, out, count).number()
 }
@@ -57,6 +58,7 @@ fn give_answer<T: Copy>(
         (λ given. (given.0.items ≡ items) × (given.1 ≡ outcome)))
         out.old out.new count.new result }
     ensures refused { (why : Why) → (result ≡ Refused why) ↔ (answer ≡ Err why) }
+    ensures edited { (why : EditWhy) → ¬ (result ≡ NotEdited why) }
 {
     match answer {
         Ok((items, outcome)) => give_items(items.as_slice(), outcome, out, count),
@@ -71,6 +73,7 @@ fn give_items<T: Copy>(items: &[T], outcome: Outcome, out: &mut [T], count: &mut
     ensures leaves { LeavesOutput (λ given found. (given ≡ items.now)
         × (found ≡ outcome)) out.old out.new count.new result }
     ensures given { (why : Why) → ¬ (result ≡ Refused why) }
+    ensures edited { (why : EditWhy) → ¬ (result ≡ NotEdited why) }
 {
     *count = items.len();
     if items.len() > out.len() {
