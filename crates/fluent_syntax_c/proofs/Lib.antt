@@ -7,3 +7,4 @@ mod ErrorRows
 mod Commands
 mod NameIndexes
 mod PartsRead
+mod Tested

@@ -187,9 +187,9 @@ reads_both number input action source other u p one two same P call =
     subst P one.1 (call one.0 one.2 part)
 
 -- what holds anyway, where there is an answer of which something is known
-pub ok_on : {X E P : Type 0} {Q : X → Type 0} (answer : Result X E) → IfOk answer Q → P → IfOk answer (λ x. P)
-ok_on (Ok x) q p = p
-ok_on (Err e) q p = q
+pub ok_on : {X E P : Type 0} (Q : X → Type 0) (answer : Result X E) → IfOk answer Q → P → IfOk answer (λ x. P)
+ok_on Q (Ok x) q p = p
+ok_on Q (Err e) q p = q
 
 -- The edit that was made, or the reason why it was not, is given.
 pub gives_edit : (number nesting : ℕ) (t name : List ℕ) (action : Action) (part : List ℕ)

@@ -35,7 +35,7 @@ pub returns-clause-shallow : goal.returns-clause-shallow
 returns-clause-shallow c =
     let part = c.in-Ok-Ok.ensures'.cases.0 in
     let same = c.as_bytes.ensures.value ∙ c.in-Ok.ensures ∙ ap (part_source c.args.action) part in
-    ok_on c.edited_text.result (returns-clause-edited c)
+    ok_on _ c.edited_text.result (returns-clause-edited c)
     (λ deeper. either_absurd c.in_ok-source.ensures.shallow
     (λ nests. c.in_ok-part.ensures.shallow
     (subst (λ u. EditionReadsDeeper c.args.edition u c.args.nesting) (sym same) nests)) deeper)

@@ -1,4 +1,4 @@
-use Rattle.std.proofs.Common.{Some, None, refl, subst, sym, ◌∙◌}
+use Rattle.std.proofs.Common.{Some, None, ap, refl, subst, sym, ◌∙◌}
 use Rattle.fluent_syntax_edits.specs.Edits.{Answers}
 use Rattle.fluent_syntax_c.specs.Edits.{not_found, not_one_entry, refused}
 use Rattle.fluent_syntax_c.proofs.PartsRead.{place_read}
@@ -22,7 +22,7 @@ returns-in-Some-Ok-clause-edited c = λ edition t p read is.
       };
       made = c.in-Some-Ok.text;
       answers = subst (λ r. Answers edition t c.in-Some.index x.0 r) c.in-Some-Ok.field-0-is x.2;
-      text_is = c.into_bytes.ensures.value;
+      text_is = ap (λ bytes. bytes.items) c.into_bytes.ensures.value;
       outcome_is = read.outcome_is;
     }
 
