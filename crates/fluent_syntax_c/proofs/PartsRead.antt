@@ -33,7 +33,7 @@ use Rattle.fluent_syntax_c.specs.declared.status.Refusal.{Refusal}
 use Rattle.fluent_syntax_c.specs.declared.status.Refusal.TheVariants.{Argument, Input, Depth, Tree}
 use Rattle.fluent_syntax_c.proofs.Statuses.{either_absurd, gives_edited, not_edited_of}
 use Rattle.fluent_syntax_c.specs.declared.edited.Action.{Action}
-use Rattle.fluent_syntax_c.specs.declared.edited.Action.TheVariants.{SetValue, Replace, Insert, Remove}
+use Rattle.fluent_syntax_c.specs.declared.edited.Action.TheVariants.{SetValue, Replace, Insert}
 use Rattle.fluent_syntax_c.specs.declared.text_trees.TextTree.{TextTree}
 
 -- no two editions have one number

@@ -1,6 +1,6 @@
 -- Edits of a text: what is asked for, what is made of it, and why none is made.
 use Rattle.std.specs.Prelude.{◌≡◌, ◌⊎◌, ◌<◌, ◌++◌, ℕ, List, [], ◌∷◌, length, Bool, false, Option, Some, None}
-use Rattle.std.specs.Prelude.{Result, Ok, Err, String, codes, string_bytes}
+use Rattle.std.specs.Prelude.{Ok, Err, String, codes, string_bytes}
 use Rattle.std.specs.Global.{Global}
 use Rattle.std.specs.List.{position_from}
 use Rattle.std.specs.Str.{IsUtf8, bytes_eq}

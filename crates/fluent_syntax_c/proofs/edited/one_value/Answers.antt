@@ -1,4 +1,3 @@
-use Rattle.std.proofs.Common.{sym, ◌∙◌}
 use Rattle.fluent_syntax_c.specs.Edits.{value_message}
 use Rattle.fluent_syntax_c.proofs.PartsRead.{none_from, none_on, one_read}
 use Rattle.fluent_syntax_c.proofs.edited.one_value.Goals as goal
