@@ -32,7 +32,10 @@ enum ftl_status {
     FTL_NO_MEMORY = 4,      /* a request for memory was refused */
     FTL_TOO_SMALL = 5,      /* the array has no room for all that there is: call again with more */
     FTL_TOO_DEEP = 6,       /* the text nests more deeply than `nesting` allows, or JSON more than 127 deep */
-    FTL_NO_TREE = 7         /* of FTL_FROM_JSON: the text is no JSON, or JSON that spells no tree */
+    FTL_NO_TREE = 7,        /* of JSON: the text is no JSON, or JSON that spells no tree */
+    FTL_NOT_FOUND = 8,      /* of edits, since 2.4: nothing has the name, or it has no value */
+    FTL_NOT_ONE_ENTRY = 9,  /* what is new is not exactly one entry, or one value */
+    FTL_READS_OTHERWISE = 10 /* the new text would be read otherwise than as the text with the edit made */
 };
 
 /* A `nesting` that does for texts that people write: how many placeables and argument lists may be open at once. Each
@@ -218,6 +221,35 @@ uint32_t ftl_finding_kind_name(uint32_t kind, uint8_t *out, size_t out_len, size
 /* Writes the name of an ftl_error_kind, as ExpectedToken: `*needed` bytes without a 0 behind them.
    Returns FTL_CLEAN, or why nothing was written. */
 uint32_t ftl_kind_name(uint32_t kind, uint8_t *out, size_t out_len, size_t *needed);
+
+/* Edits, since 2.4: each writes the text with one message or term changed and all else as it is, byte for byte:
+   `*needed` bytes of UTF-8. `name` is that of the first message of that name, or, with its '-', of a term; comments stay
+   with their message or term. FTL_CLEAN and FTL_SYNTAX_ERRORS tell of the text, and so of the new one, which has as many
+   errors. `nesting` bounds the text, and what is new. `edition` is an ftl_edition. Each returns an ftl_status. */
+
+/* With the value, as it stands behind a '=', in place of that of the message or the term. */
+uint32_t ftl_set_value(uint32_t edition, size_t nesting, const uint8_t *text, size_t text_len,
+                       const uint8_t *name, size_t name_len, const uint8_t *value, size_t value_len,
+                       uint8_t *out, size_t out_len, size_t *needed);
+
+/* With the entry in place of the message or the term and its comment. */
+uint32_t ftl_replace(uint32_t edition, size_t nesting, const uint8_t *text, size_t text_len,
+                     const uint8_t *name, size_t name_len, const uint8_t *entry, size_t entry_len,
+                     uint8_t *out, size_t out_len, size_t *needed);
+
+/* With the entry before the message or the term and its comment; with no name, where `name_len` is 0, at the end. */
+uint32_t ftl_insert(uint32_t edition, size_t nesting, const uint8_t *text, size_t text_len,
+                    const uint8_t *name, size_t name_len, const uint8_t *entry, size_t entry_len,
+                    uint8_t *out, size_t out_len, size_t *needed);
+
+/* Without the message or the term, its comment and the blank lines behind it. */
+uint32_t ftl_remove(uint32_t edition, size_t nesting, const uint8_t *text, size_t text_len,
+                    const uint8_t *name, size_t name_len, uint8_t *out, size_t out_len, size_t *needed);
+
+/* Writes 1 to `*canonical` if the tree that the JSON spells, as FTL_JSON writes it, is canonical, and otherwise 0: the
+   text that FTL_FROM_JSON writes of a canonical tree is read as that tree. `edition` is an ftl_edition. Returns
+   FTL_CLEAN, or why nothing is known. Since 2.4. */
+uint32_t ftl_is_canonical(uint32_t edition, const uint8_t *json, size_t json_len, size_t *canonical);
 
 #ifdef __cplusplus
 }

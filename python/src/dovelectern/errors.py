@@ -92,3 +92,15 @@ class TooDeep(FluentError):
 
 class NoTree(FluentError):
     """What was to be written is no tree."""
+
+
+class ReadsOtherwise(FluentError):
+    """The text of a tree, or of an edit, would be read as another tree."""
+
+
+class NotFound(FluentError):
+    """No message or term has the name, or it has no value."""
+
+
+class NotOneEntry(FluentError):
+    """What is new is not exactly one entry, or one value, without errors."""
