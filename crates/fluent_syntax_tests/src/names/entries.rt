@@ -6,7 +6,8 @@ use fluent_syntax_names::{Mention, defined, mentions, references, variables};
 use std::alloc::Global;
 use std::test::Fail;
 
-const TEXT: &str = "a = { b } { $c }\n    .t = { -d.e ->\n       [x] { F($g, k: \"v\") }\n       *[1] { b.u }\n    }\n";
+const TEXT: &str =
+    "a = { b } { $c }\n    .t = { -d.e ->\n       [x] { F($g, k: \"v\") }\n       *[1] { b.u }\n    }\n";
 
 fn push_name(out: &mut String, before: &str, span: Span) -> Result<(), Fail> {
     out.push_str(before)?;
