@@ -1,6 +1,6 @@
 use Rattle.std.proofs.Common.{◌∙◌, ap, subst, sym}
 use Rattle.std.proofs.lemmas.Result.{IfOk-weaker}
-use Rattle.ftl_lsp.specs.DiagnosticForms.{IsLintDiagnostic, alone, diagnostic_form, severity_of, with_related}
+use Rattle.ftl_lsp.specs.DiagnosticForms.{IsLintDiagnostic, alone, code_of, diagnostic_form, severity_of, with_related}
 use Rattle.ftl_lsp.proofs.diagnostic_forms.lint_diagnostic_form.Goals as goal
 
 pub returns-in_ok-positions-in-Some : goal.returns-in_ok-positions-in-Some
