@@ -8,7 +8,7 @@ use crate::project::{Project, project_of};
 use fluent_syntax_names::Kind;
 use ftl::{RunFault, Watched};
 use ftl_args::Lint;
-use ftl_files::{Disk, ReportedKind, absolute_path};
+use ftl_files::{Disk, Reading, ReportedKind, absolute_path};
 use ftl_project::{LintOptions, Streams, Tally, check_summary, lint_files};
 use std::alloc::{AllocError, Global};
 use std::io;
@@ -41,22 +41,32 @@ fn lint_all(
         form: form_over_paths(rt, options),
         ignored: &ignored,
     };
+    for set in &sets {
+        lint_set(rt, set, options.reading(), lint_options, tally)?;
+    }
+    Ok(())
+}
+
+fn lint_set(
+    rt: &HostRuntime,
+    set: &FileSet,
+    reading: Reading,
+    lint_options: LintOptions<'_>,
+    tally: &mut Tally,
+) -> Result<(), RunFault> {
     let mut streams = Streams {
         out: &mut Watched::new(io::writer(rt)),
         err: &mut Watched::new(rt.stderr()),
     };
-    for set in &sets {
-        lint_files(
-            rt.alloc(),
-            &mut Disk::new(rt),
-            &set.files,
-            options.reading(),
-            lint_options,
-            tally,
-            &mut streams,
-        )?;
-    }
-    Ok(())
+    lint_files(
+        rt.alloc(),
+        &mut Disk::new(rt),
+        &set.files,
+        reading,
+        lint_options,
+        tally,
+        &mut streams,
+    )
 }
 
 /// The kinds of findings that are not told.

@@ -15,6 +15,10 @@ const FORMATTING: &str =
 
 const SHUTDOWN: &str = "{\"jsonrpc\":\"2.0\",\"id\":3,\"method\":\"shutdown\"}";
 
+fn occurrences(text: &str, part: &str) -> usize {
+    text.matches(part).count()
+}
+
 /// Fails unless a session shows this, and nothing else, so many times.
 fn assert_shown(
     alloc: Global,
@@ -27,13 +31,9 @@ fn assert_shown(
     let whole = format!(in alloc;
         "{{\"jsonrpc\":\"2.0\",\"method\":\"window/showMessage\",\"params\":{{{notice}}}}}"
     )?;
-    assert_same(
-        alloc,
-        notice,
-        &output.matches(whole.as_str()).count(),
-        &count,
-    )?;
-    let all = output.matches("window/showMessage").count();
+    let shown = occurrences(output.as_str(), whole.as_str());
+    let all = occurrences(output.as_str(), "window/showMessage");
+    assert_same(alloc, notice, &shown, &count)?;
     assert_same(alloc, "what is shown", &all, &count)
 }
 
