@@ -11,8 +11,9 @@ self="${BASH_SOURCE[0]}"
 [ ! -L "$self" ] || self="$(readlink -f "$self")"
 case "$self" in */*) top="${self%/*}" ;; *) top=. ;; esac
 page="$top/crates/ftl_program/help.txt"
-usage="usage: ftl check|format|runtime|json|check-two|format-two"
-words="|check|format|runtime|json|check-two|format-two|from-json|lint|compare|lsp|"
+words="check|format|runtime|json|from-json|lint|compare|lsp|help|check-two|format-two"
+usage="usage: ftl $words"
+install_usage="usage: ./ftl install FOLDER [lsp]"
 room="" job=""
 # the program's name, its crate, and where it is put once it is built
 name=ftl crate=ftl_program
@@ -106,16 +107,28 @@ refuse() {
     exit 2
 }
 
+is_word() { [[ "$1" =~ ^[a-z-]+$ && "|$words|" == *"|$1|"* ]]; }
+
+# Says how a program is installed, and ends: well where that was asked for.
+explain_install() {
+    if [[ "$1" == --help || "$1" == -h ]]; then echo "$install_usage"; exit; fi
+    echo "$install_usage" >&2
+    exit 2
+}
+
 install_to=""
-if [ "${1-}" = install ] && { [ "$#" = 2 ] || { [ "$#" = 3 ] && [ "$3" = lsp ]; }; }; then
+if [ "${1-}" = install ]; then
+    [[ "$#" = 2 || ( "$#" = 3 && "$3" = lsp ) ]] && [[ "$2" != -* && -n "$2" ]] || explain_install "${2-}"
     install_to="$2"
     shift 2
 elif [ "$#" = 1 ] && [[ "|help|--help|-h|--version|" == *"|$1|"* ]]; then
     if [ "$1" = --version ]; then head -n 1 "$page"; else cat "$page"; fi
     exit
+elif [ "${1-}" = help ]; then
+    [ "$2" != help ] && is_word "$2" || refuse "$2"
 else
     [ "$#" != 0 ] || refuse
-    [[ "$1" =~ ^[a-z-]+$ && "$words" == *"|$1|"* ]] || refuse "$1"
+    is_word "$1" || refuse "$1"
 fi
 if [ "${1-}" = lsp ]; then
     name=ftl-lsp crate=ftl_lsp_program
@@ -131,7 +144,7 @@ if [ -n "$install_to" ]; then
     exit
 fi
 # with eight times the stack, five times the nesting
-if ulimit -S -s 65536 2>/dev/null && [[ "$name" = ftl && "$1" != from-json && " $* " != *" --nesting"* ]]; then
+if ulimit -S -s 65536 2>/dev/null && [[ "$name" = ftl && "|from-json|help|" != *"|$1|"* && " $* " != *" --nesting"* ]]; then
     set -- "$1" --nesting 10000 "${@:2}"
 fi
 exec "$made/$name" "$@"

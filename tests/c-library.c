@@ -11,8 +11,8 @@
 #include <string.h>
 #include <sys/mman.h>
 
-enum { ROOM = 1 << 22, PAGE = 4096, MARK = 0xA5, CALLS = 19, ERRORS = 6, NAMES = 8, VALUES = 10, MESSAGES = 12 };
-enum { FINDINGS = 14, COMPARISON = 16, FROM_JSON = 18 };
+enum { ROOM = 1 << 22, PAGE = 4096, MARK = 0xA5, CALLS = 23, ERRORS = 6, NAMES = 8, VALUES = 10, MESSAGES = 12 };
+enum { FINDINGS = 14, COMPARISON = 16, SET_VALUE = 18, REPLACE = 19, INSERT = 20, REMOVE = 21, FROM_JSON = 22 };
 
 /* ---- memory */
 
@@ -70,7 +70,7 @@ static uint8_t *fence(void)
 
 static uint8_t *text_end, *array_end;
 static uint8_t want[ROOM], json[ROOM];
-static long faults, calls, refusals;
+static long faults, calls, refusals, edits;
 
 static void fault(int call, const char *what, size_t text_len, size_t number)
 {
@@ -79,7 +79,8 @@ static void fault(int call, const char *what, size_t text_len, size_t number)
 }
 
 /* ---- the calls: the six commands over texts; the errors, names, values and messages by either edition; the findings
-   in the text and another one, and its comparison with that, likewise; and from JSON, made over the JSON of the text */
+   in the text and another one, and its comparison with that, likewise; the edits of the text; and from JSON, made over
+   the JSON of the text */
 
 _Static_assert(sizeof(struct ftl_text) == 2 * sizeof(size_t), "a text is a pointer and a length");
 _Static_assert(sizeof(struct ftl_value) == 2 * sizeof(size_t), "a value is two places");
@@ -87,14 +88,34 @@ _Static_assert(sizeof(struct ftl_value) == 2 * sizeof(size_t), "a value is two p
 static const char other[] =
     "key = Key { foo } { $var }\n    .attr = { -term }\nfoo =\n    .attr = A\n-term = T\nkey = Key\n";
 
+/* The message that is edited, and the text to replace it; `new_len` is 0 where that is the text that is edited. */
+static const char *edited = "key", new_entry[] = "key = { $new }\n    .attr = A\n";
+static size_t new_len = sizeof new_entry - 1;
+
 static size_t size_of(int call)
 {
-    if (call < ERRORS || call == FROM_JSON || (call >= MESSAGES && call < FINDINGS))
+    if (call < ERRORS || call >= SET_VALUE || (call >= MESSAGES && call < FINDINGS))
         return 1;
     return call < NAMES      ? sizeof(struct ftl_error)
            : call < VALUES   ? sizeof(struct ftl_name)
            : call < MESSAGES ? sizeof(struct ftl_value)
                              : sizeof(struct ftl_finding);
+}
+
+static uint32_t edit(int call, uint32_t edition, size_t nesting, const uint8_t *text, size_t text_len, void *array,
+                     size_t room, size_t *count)
+{
+    const uint8_t *name = (const uint8_t *)edited, *entry = (const uint8_t *)new_entry;
+    size_t name_len = strlen(edited);
+    if (call == SET_VALUE)
+        return ftl_set_value(edition, nesting, text, text_len, name, name_len, (const uint8_t *)"{ $new }", 8, array,
+                             room, count);
+    if (call == REPLACE)
+        return ftl_replace(edition, nesting, text, text_len, name, name_len, new_len != 0 ? entry : text,
+                           new_len != 0 ? new_len : text_len, array, room, count);
+    if (call == INSERT)
+        return ftl_insert(edition, nesting, text, text_len, NULL, 0, entry, sizeof new_entry - 1, array, room, count);
+    return ftl_remove(edition, nesting, text, text_len, name, name_len, array, room, count);
 }
 
 static uint32_t made(int call, size_t nesting, const uint8_t *text, size_t text_len, void *array, size_t room,
@@ -115,8 +136,10 @@ static uint32_t made(int call, size_t nesting, const uint8_t *text, size_t text_
         return ftl_error_messages(edition, nesting, text, text_len, array, room, count);
     if (call < COMPARISON)
         return ftl_findings(edition, nesting, texts, 3, array, room, count);
-    if (call < FROM_JSON)
+    if (call < SET_VALUE)
         return ftl_comparison(edition, nesting, text, text_len, texts[2].text, texts[2].text_len, array, room, count);
+    if (call < FROM_JSON)
+        return edit(call, edition, nesting, text, text_len, array, room, count);
     return ftl_answer(FTL_FROM_JSON, nesting, text, text_len, array, room, count);
 }
 
@@ -204,7 +227,9 @@ static void call_over(int call, const uint8_t *text, size_t text_len)
         return;
     }
     uint32_t good = tried(call, text, text_len, whole, &count);
-    if (good > FTL_SYNTAX_ERRORS || (status != good && status != FTL_TOO_SMALL))
+    int is_refused = call >= SET_VALUE && call < FROM_JSON && good >= FTL_NOT_FOUND && whole == 0;
+    edits += call >= SET_VALUE && call < FROM_JSON && !is_refused;
+    if ((good > FTL_SYNTAX_ERRORS && !is_refused) || (status != good && status != FTL_TOO_SMALL))
         fault(call, "no answer", text_len, good);
     memcpy(want, array_end - whole * size_of(call), whole * size_of(call));
     for (size_t room = 0; room <= whole + 2; room++) {
@@ -243,10 +268,11 @@ static void odd_calls(void)
             fault(call, "bytes that are no text", sizeof bad, count);
         count = 99;
         /* the JSON of no entries; `key` is defined twice in the other text, whose three entries the text lacks */
-        size_t given = call == FTL_JSON ? strlen("{\"body\":[]}\n") : call < FINDINGS || call == FROM_JSON ? 0 :
-                       call < COMPARISON ? 2 : 4;
+        size_t given = call == FTL_JSON ? strlen("{\"body\":[]}\n") : call == INSERT ? sizeof new_entry - 1 :
+                       call < FINDINGS || call >= SET_VALUE ? 0 : call < COMPARISON ? 2 : 4;
         uint32_t status = tried(call, NULL, 0, 0, &count);
-        uint32_t wants = given != 0 ? FTL_TOO_SMALL : call == FROM_JSON ? FTL_NO_TREE : FTL_CLEAN;
+        uint32_t wants = given != 0 ? FTL_TOO_SMALL : call == FROM_JSON ? FTL_NO_TREE :
+                         call >= SET_VALUE ? FTL_NOT_FOUND : FTL_CLEAN;
         if (status != wants || count != given)
             fault(call, "no bytes", 0, count);
     }
@@ -348,6 +374,89 @@ static void kind_names(void)
     }
 }
 
+/* What an edit refuses of its parts, and what it makes. */
+static void odd_edits(void)
+{
+    static const char text[] = "# c\nkey = K\n    .a = A\n\n-key = T\nbro ken\nnone =\n    .a = A\nlast = L";
+    static const struct {
+        int call;
+        const char *name, *part;
+        uint32_t status;
+    } edits[] = {
+        {SET_VALUE, "key", " N", FTL_SYNTAX_ERRORS},   {SET_VALUE, "-key", "N\n  N\n", FTL_SYNTAX_ERRORS},
+        {SET_VALUE, "k", "N", FTL_NOT_FOUND},          {SET_VALUE, "none", "N", FTL_NOT_FOUND},
+        {SET_VALUE, "", "N", FTL_NOT_FOUND},           {SET_VALUE, "key.a", "N", FTL_NOT_FOUND},
+        {SET_VALUE, "key", "", FTL_NOT_ONE_ENTRY},     {SET_VALUE, "key", "N\n  .a = A", FTL_NOT_ONE_ENTRY},
+        {SET_VALUE, "key", "N\nb = B", FTL_NOT_ONE_ENTRY}, {SET_VALUE, "key", "N }", FTL_NOT_ONE_ENTRY},
+        {SET_VALUE, "\xFF", "N", FTL_NOT_UTF8},        {SET_VALUE, "key", "\xFF", FTL_NOT_UTF8},
+        {REPLACE, "key", "# d\nn = N", FTL_SYNTAX_ERRORS}, {REPLACE, "-key", "# d", FTL_SYNTAX_ERRORS},
+        {REPLACE, "key", "n", FTL_NOT_ONE_ENTRY},      {REPLACE, "key", "a = A\nb = B", FTL_NOT_ONE_ENTRY},
+        {INSERT, "-key", "n = N", FTL_SYNTAX_ERRORS},  {INSERT, "", "n = N", FTL_READS_OTHERWISE},
+        {INSERT, "k", "n = N", FTL_NOT_FOUND},         {INSERT, "key", "", FTL_NOT_ONE_ENTRY},
+        {REMOVE, "last", "", FTL_SYNTAX_ERRORS},       {REMOVE, "bro", "", FTL_NOT_FOUND},
+    };
+    for (size_t i = 0; i < sizeof edits / sizeof edits[0]; i++) {
+        const uint8_t *it = (const uint8_t *)text, *name = (const uint8_t *)edits[i].name;
+        const uint8_t *part = (const uint8_t *)edits[i].part;
+        size_t len = sizeof text - 1, name_len = strlen(edits[i].name), part_len = strlen(edits[i].part), count = 99;
+        int call = edits[i].call;
+        uint32_t status =
+            call == SET_VALUE ? ftl_set_value(1, 9, it, len, name, name_len, part, part_len, want, ROOM, &count)
+            : call == REPLACE ? ftl_replace(1, 9, it, len, name, name_len, part, part_len, want, ROOM, &count)
+            : call == INSERT  ? ftl_insert(1, 9, it, len, name, name_len, part, part_len, want, ROOM, &count)
+                              : ftl_remove(1, 9, it, len, name, name_len, want, ROOM, &count);
+        if (status != edits[i].status || (status > FTL_SYNTAX_ERRORS) != (count == 0))
+            fault(call, "another status of an edit", i, status);
+    }
+    static const char wanted[] = "# c\nkey = N { $x }\n    .a = A\n\n-key = T\nbro ken\nnone =\n    .a = A\nlast = L";
+    size_t count;
+    ftl_set_value(1, 9, (const uint8_t *)text, sizeof text - 1, (const uint8_t *)"key", 3, (const uint8_t *)"N {$x}", 6,
+                  want, ROOM, &count);
+    if (count != sizeof wanted - 1 || memcmp(want, wanted, count) != 0)
+        fault(SET_VALUE, "another text of an edit", sizeof text, count);
+}
+
+/* Whether trees are canonical: JSON of some, and JSON that is none; and each request for memory refused. */
+static void canonical(void)
+{
+    static const struct {
+        const char *json;
+        uint32_t status;
+        size_t canonical;
+    } texts[] = {
+        {"{\"body\":[]}", FTL_CLEAN, 1},
+        {"{\"body\":[{\"type\":\"Comment\",\"content\":[\"c\"]}]}", FTL_CLEAN, 1},
+        {"{\"body\":[{\"type\":\"Comment\",\"content\":[\"  \"]}]}", FTL_CLEAN, 0},
+        {"{\"body\":[{\"type\":\"Junk\",\"content\":\"c\"}]}", FTL_CLEAN, 0},
+        {"{\"body\":5}", FTL_NO_TREE, 0}, {"", FTL_NO_TREE, 0}, {"\xFF", FTL_NOT_UTF8, 0},
+    };
+    size_t told;
+    for (size_t i = 0; i < sizeof texts / sizeof texts[0]; i++) {
+        const uint8_t *json = (const uint8_t *)texts[i].json;
+        size_t len = strlen(texts[i].json);
+        for (uint32_t edition = FTL_EDITION_ONE; edition <= FTL_EDITION_TWO; edition++) {
+            told = 99;
+            if (ftl_is_canonical(edition, json, len, &told) != texts[i].status || told != texts[i].canonical)
+                fault(CALLS, "whether a tree is canonical", i, told);
+        }
+        for (long number = 0, all = 0; !all; number++) {
+            left = number;
+            told = 99;
+            uint32_t status = ftl_is_canonical(FTL_EDITION_ONE, json, len, &told);
+            all = left >= 0;
+            left = -1;
+            refusals += status == FTL_NO_MEMORY;
+            if (status == FTL_NO_MEMORY ? told != 0 : status != texts[i].status || told != texts[i].canonical)
+                fault(CALLS, "canonical without memory", i, told);
+        }
+        told = 99;
+        if (ftl_is_canonical(3, json, len, &told) != FTL_WRONG_ARGUMENT || told != 0)
+            fault(CALLS, "no edition has that number", len, told);
+    }
+    if (live != 0)
+        fault(CALLS, "a block was not given back", 0, (size_t)live);
+}
+
 /* JSON that is none, that spells no tree, and that nests as deeply as it may and one deeper. */
 static void odd_json(void)
 {
@@ -410,8 +519,8 @@ static void deep_calls(void)
                 size_t times = more < 2 ? fits + more : 20000;
                 size_t len = nested(forms[form].open, forms[form].close, times);
                 for (int call = 0; call < FROM_JSON; call++) {
-                    /* the text beside which findings are sought nests one deep */
-                    int is_within = more == 0 && (call < FINDINGS || bounds[i] > 0);
+                    /* the text beside which findings are sought, and what is new in an edit, nest one deep */
+                    int is_within = more == 0 && (call < FINDINGS || call == REPLACE || call == REMOVE || bounds[i] > 0);
                     uint32_t wants = is_within ? FTL_CLEAN : FTL_TOO_DEEP;
                     size_t bytes = ROOM / 2 / size_of(call) * size_of(call);
                     uint32_t status =
@@ -431,12 +540,16 @@ int main(int argc, char **argv)
     text_end = fence();
     array_end = fence();
     if (argc == 2 && strcmp(argv[1], "deep") == 0) {
+        edited = "k";
+        new_len = 0;
         deep_calls();
         printf("nesting: %ld calls, %ld faults\n", calls, faults);
         return faults != 0;
     }
     odd_calls();
+    odd_edits();
     odd_json();
+    canonical();
     kind_names();
     while (fread(&len, sizeof len, 1, stdin) == 1) {
         if (len > ROOM || fread(text_end - len, 1, len, stdin) != len)
@@ -452,6 +565,6 @@ int main(int argc, char **argv)
         memcpy(text_end - len, json, len);
         call_over(FROM_JSON, text_end - len, len);
     }
-    printf("%zu texts, %ld calls, %ld requests refused, %ld faults\n", texts, calls, refusals, faults);
+    printf("%zu texts, %ld calls, %ld edits, %ld requests refused, %ld faults\n", texts, calls, edits, refusals, faults);
     return faults != 0;
 }

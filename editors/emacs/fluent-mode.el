@@ -1,6 +1,6 @@
 ;;; fluent-mode.el --- Fluent files, and their language server  -*- lexical-binding: t -*-
 
-;; Version: 0.0.1
+;; Version: 2.4.0
 ;; Package-Requires: ((emacs "27.1"))
 ;; Keywords: languages
 ;; URL: https://projectfluent.org

@@ -240,6 +240,29 @@ class Trees(unittest.TestCase):
         with self.assertRaises(UnicodeEncodeError):
             dovelectern.serialize(ast.Resource([ast.Comment("\ud800")]))
 
+    def test_reads_otherwise(self) -> None:
+        def message(*elements: ast.PatternElement) -> ast.Message:
+            return ast.Message(ast.Identifier("a"), ast.Pattern([*elements]))
+
+        x = ast.Placeable(ast.VariableReference(ast.Identifier("x")))
+        for entry in (message(ast.TextElement("{")), message(ast.TextElement("b ")), message(x, ast.TextElement("\n.c = d")),
+                      message(), ast.Message(ast.Identifier("a b"), ast.Pattern([x])), ast.Message(ast.Identifier("a")),
+                      ast.Comment("  "), message(ast.TextElement("b\nc = d"))):
+            tree = ast.Resource([ast.Junk("junk"), message(x), entry, message(x)])
+            with self.subTest(entry=entry):
+                with self.assertRaisesRegex(dovelectern.ReadsOtherwise, r"^body\[2\] would be read otherwise"):
+                    dovelectern.serialize(tree)
+                written = dovelectern.serialize(tree, strict=False)
+                self.assertNotEqual(dovelectern.joined(dovelectern.parse(written)).body, tree.body[1:])
+                with self.assertRaises(dovelectern.ReadsOtherwise):
+                    dovelectern.serialize_entry(entry)
+                self.assertIn(dovelectern.serialize_entry(entry, strict=False), written)
+        for entry in (message(ast.TextElement("b\n"), ast.TextElement("c")), message(x, ast.TextElement(""), x),
+                      message(ast.TextElement("b"), ast.TextElement("c")), ast.Comment("a\n\nb"), ast.Comment("")):
+            tree = ast.Resource([entry])
+            self.assertEqual(dovelectern.serialize(tree), dovelectern.serialize(tree, strict=False))
+        self.assertEqual(dovelectern.serialize(ast.Resource([ast.Junk("a")])), "")
+
     def test_equals(self) -> None:
         one, other = dovelectern.parse("a = b\n# c\n"), dovelectern.parse("\n\na   =   b\n# c\n")
         self.assertEqual(one, other)

@@ -11,6 +11,7 @@ from texts import TOP, all_texts
 SEVERITIES = {
     "defined-twice": "error", "attribute-twice": "error", "undefined-message": "error", "undefined-term": "error",
     "undefined-attribute": "error", "undefined-value": "error", "cyclic-reference": "error",
+    "variant-twice": "warning",
     "missing": "error", "missing-value": "error",
     "missing-attribute": "error", "missing-reference": "warning", "obsolete": "warning", "obsolete-value": "warning",
     "obsolete-attribute": "warning", "unknown-variable": "error",
@@ -22,6 +23,11 @@ hello = Grüße
 only =
     .label = L
 loop = { loop }
+many = { $n ->
+    [one] x
+    [one] y
+   *[other] z
+ }
 """
 REFERENCE = """hello = Hello { $user } { -brand }
     .title = Greeting
@@ -96,12 +102,13 @@ class Findings(unittest.TestCase):
             ("defined-twice", (0, 2, 1, "hello"), (0, 1, 1, "hello")),
             ("attribute-twice", (0, 4, 6, "t"), (0, 3, 6, "t")),
             ("cyclic-reference", (0, 7, 10, "loop"), None),
+            ("variant-twice", (0, 10, 6, "one"), (0, 9, 6, "one")),
         ])
         self.assertEqual([it.message for it in findings], [
             "no text defines the message `place`", "no text defines the term `-brand`",
             "no text defines its attribute `u`", "no text gives the message `only` a value",
             "`hello` is defined twice, first on line 1", "the entry has the attribute `t` twice, first on line 3",
-            "`loop` leads back to this reference",
+            "`loop` leads back to this reference", "the select has the variant `one` twice, first on line 9",
         ])
         self.assertEqual(str(findings[1]), "1:22: error[undefined-term]: no text defines the term `-brand`")
 

@@ -15,7 +15,9 @@ LIBRARY = ctypes.CDLL(os.environ["DOVELECTERN_LIBRARY"])
 def calls_over(text: str, tree: ast.Resource) -> "list[Callable[[], Any]]":
     return [lambda: dovelectern.parse(text), lambda: dovelectern.check(text), lambda: dovelectern.serialize(tree),
             lambda: dovelectern.format(text, drop_junk=True), lambda: dovelectern.lint([text, OTHER]),
-            lambda: dovelectern.compare(OTHER, text)]
+            lambda: dovelectern.compare(OTHER, text), lambda: dovelectern.set_value(OTHER + text, "key", "{ $x }"),
+            lambda: dovelectern.replace(OTHER + text, "key", "a = b"), lambda: dovelectern.remove(OTHER + text, "key"),
+            lambda: dovelectern.insert(OTHER + text, "a = b", before="key"), lambda: dovelectern.is_canonical(tree)]
 
 
 @unittest.skipUnless(hasattr(LIBRARY, "refuse_request"), "the library refuses no request")

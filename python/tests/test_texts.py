@@ -3,7 +3,7 @@ import json
 import re
 import threading
 import unittest
-from typing import Any, Union
+from typing import Any, Optional, Union
 
 import dovelectern
 from dovelectern import _writing, ast
@@ -46,6 +46,16 @@ def without_junk(tree: ast.Resource) -> ast.Resource:
     return ast.Resource([it for it in tree.body if not isinstance(it, ast.Junk)])
 
 
+def texts_of(tree: ast.Resource) -> ast.Resource:
+    """The tree with texts that follow one another as one, and without empty texts."""
+    class Full(dovelectern.Transformer):
+        def visit_TextElement(self, node: ast.TextElement) -> Optional[ast.TextElement]:
+            return node if node.value else None
+
+    texts: ast.Resource = Full().visit(dovelectern.joined(tree))
+    return texts
+
+
 class Texts(unittest.TestCase):
     def test_there_are_texts(self) -> None:
         self.assertGreater(len(TEXTS), 2700)
@@ -81,8 +91,14 @@ class Texts(unittest.TestCase):
                 known = json.loads(wanted["json"][1])
                 lines_of_all = all(it.get("content") != [] for it in known["body"])
                 self.assertEqual(_writing.value_of(tree), with_lines(known))
+                written = dovelectern.serialize(tree, strict=False)
                 if lines_of_all:
-                    self.assertEqual(dovelectern.serialize(tree), wanted["format"][1])
+                    self.assertEqual(written, wanted["format"][1])
+                if texts_of(dovelectern.parse(written)) == texts_of(without_junk(tree)):
+                    self.assertEqual(dovelectern.serialize(tree), written)
+                else:
+                    with self.assertRaises(dovelectern.ReadsOtherwise):
+                        dovelectern.serialize(tree)
 
     def test_there_and_back(self) -> None:
         """A written tree is read as what it was read as, and is written as the library formats it."""

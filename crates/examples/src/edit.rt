@@ -1,11 +1,11 @@
 //! An editor's change: it reads a Fluent file from standard input and writes it with another text as the value of one
-//! message. All other entries stay as they are, byte for byte.
+//! message. All else stays as it is, byte for byte.
 
 ghost use Rattle.std.specs.Prelude.{◌+◌, ◌^◌, ◌<◌, length};
 
-use fluent_syntax::ast::{Entry, Pattern, PatternElement};
+use fluent_syntax::ast::{Pattern, PatternElement};
 use fluent_syntax::parser::{Edition, parse, recovered};
-use fluent_syntax_edits::{EntryName, number_of, replace};
+use fluent_syntax_edits::{EntryName, number_of, set_value};
 use std::alloc::Global;
 use std::io;
 
@@ -26,24 +26,15 @@ pub(crate) fn edit<R: Input + Print + AllocGlobal>(
 }
 
 /// The file with the text as the value of the first message of that name.
-fn text_with_value<'s>(
-    alloc: Global,
-    text: &'s str,
-    name: &str,
-    value: &'s str,
-) -> anyhow::Result<String>
+fn text_with_value(alloc: Global, text: &str, name: &str, value: &str) -> anyhow::Result<String>
     requires { length text.now + 1 < 2 ^ 64 }
 {
-    let (mut tree, _errors) = recovered(alloc, parse(alloc, text))?;
+    let (tree, _errors) = recovered(alloc, parse(alloc, text))?;
     let Some(number) = number_of(&tree, EntryName::Message(name)) else {
         anyhow::bail!("there is no message of that name");
     };
-    let Some(entry) = tree.body.get_mut(number) else {
-        anyhow::bail!("there is no entry of that number");
+    let pattern = Pattern {
+        elements: vec![in alloc; PatternElement::TextElement { value }]?,
     };
-    if let Entry::Message(message) = entry {
-        let elements = vec![in alloc; PatternElement::TextElement { value }]?;
-        message.value = Some(Pattern { elements });
-    }
-    Ok(replace(alloc, text, Edition::One, number, entry)?)
+    Ok(set_value(alloc, text, Edition::One, number, &pattern)?)
 }

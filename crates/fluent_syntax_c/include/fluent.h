@@ -12,8 +12,8 @@
 
 /* The version. Of a later one with the same first number each call and number of this one is as it is here. */
 #define FTL_VERSION_MAJOR 2
-#define FTL_VERSION_MINOR 3
-#define FTL_VERSION "2.3"
+#define FTL_VERSION_MINOR 4
+#define FTL_VERSION "2.4.0"
 
 #include <stddef.h>
 #include <stdint.h>
@@ -32,7 +32,10 @@ enum ftl_status {
     FTL_NO_MEMORY = 4,      /* a request for memory was refused */
     FTL_TOO_SMALL = 5,      /* the array has no room for all that there is: call again with more */
     FTL_TOO_DEEP = 6,       /* the text nests more deeply than `nesting` allows, or JSON more than 127 deep */
-    FTL_NO_TREE = 7         /* of FTL_FROM_JSON: the text is no JSON, or JSON that spells no tree */
+    FTL_NO_TREE = 7,        /* of JSON: the text is no JSON, or JSON that spells no tree */
+    FTL_NOT_FOUND = 8,      /* of edits, since 2.4: nothing has the name, or it has no value */
+    FTL_NOT_ONE_ENTRY = 9,  /* what is new is not exactly one entry, or one value */
+    FTL_READS_OTHERWISE = 10 /* the new text would be read otherwise than as the text with the edit made */
 };
 
 /* A `nesting` that does for texts that people write: how many placeables and argument lists may be open at once. Each
@@ -137,6 +140,7 @@ enum ftl_finding_kind {
     FTL_FINDING_UNDEFINED_ATTRIBUTE = 5,
     FTL_FINDING_UNDEFINED_VALUE = 6,
     FTL_FINDING_CYCLIC_REFERENCE = 7, /* since 2.2 */
+    FTL_FINDING_VARIANT_TWICE = 8,    /* since 2.4 */
     FTL_FINDING_MISSING = 101, /* between a reference and another text, by ftl_comparison: the reference has it, */
     FTL_FINDING_MISSING_VALUE = 102,
     FTL_FINDING_MISSING_ATTRIBUTE = 103,
@@ -153,7 +157,8 @@ enum ftl_severity {
     FTL_SEVERITY_WARNING = 2 /* it may be meant so */
 };
 
-/* What is found at a name, of a message, a term, an attribute or a variable, where it is defined or referred to. */
+/* What is found at a name, of a message, a term, an attribute or a variable, where it is defined or referred to, or at
+   the key of a variant. */
 struct ftl_finding {
     size_t text;              /* the number of the text that has the name, from 0; of ftl_comparison the reference's is
                                  0, and the other text's is 1 */
@@ -163,7 +168,7 @@ struct ftl_finding {
     size_t column_characters; /* and in characters */
     size_t start;             /* the bytes of the text that spell it, without a '-', '.' or '$': from start */
     size_t end;               /* up to end */
-    size_t other_text;        /* of a name that is given twice the first one, likewise: the number of its text, */
+    size_t other_text;        /* of what is given twice the first one, likewise: the number of its text, */
     size_t other_start;       /* and its bytes; of all other kinds each of the three is 0 */
     size_t other_end;
     uint32_t kind;            /* an ftl_finding_kind */
@@ -216,6 +221,35 @@ uint32_t ftl_finding_kind_name(uint32_t kind, uint8_t *out, size_t out_len, size
 /* Writes the name of an ftl_error_kind, as ExpectedToken: `*needed` bytes without a 0 behind them.
    Returns FTL_CLEAN, or why nothing was written. */
 uint32_t ftl_kind_name(uint32_t kind, uint8_t *out, size_t out_len, size_t *needed);
+
+/* Edits, since 2.4: each writes the text with one message or term changed and all else as it is, byte for byte:
+   `*needed` bytes of UTF-8. `name` is that of the first message of that name, or, with its '-', of a term; comments stay
+   with their message or term. FTL_CLEAN and FTL_SYNTAX_ERRORS tell of the text, and so of the new one, which has as many
+   errors. `nesting` bounds the text, and what is new. `edition` is an ftl_edition. Each returns an ftl_status. */
+
+/* With the value, as it stands behind a '=', in place of that of the message or the term. */
+uint32_t ftl_set_value(uint32_t edition, size_t nesting, const uint8_t *text, size_t text_len,
+                       const uint8_t *name, size_t name_len, const uint8_t *value, size_t value_len,
+                       uint8_t *out, size_t out_len, size_t *needed);
+
+/* With the entry in place of the message or the term and its comment. */
+uint32_t ftl_replace(uint32_t edition, size_t nesting, const uint8_t *text, size_t text_len,
+                     const uint8_t *name, size_t name_len, const uint8_t *entry, size_t entry_len,
+                     uint8_t *out, size_t out_len, size_t *needed);
+
+/* With the entry before the message or the term and its comment; with no name, where `name_len` is 0, at the end. */
+uint32_t ftl_insert(uint32_t edition, size_t nesting, const uint8_t *text, size_t text_len,
+                    const uint8_t *name, size_t name_len, const uint8_t *entry, size_t entry_len,
+                    uint8_t *out, size_t out_len, size_t *needed);
+
+/* Without the message or the term, its comment and the blank lines behind it. */
+uint32_t ftl_remove(uint32_t edition, size_t nesting, const uint8_t *text, size_t text_len,
+                    const uint8_t *name, size_t name_len, uint8_t *out, size_t out_len, size_t *needed);
+
+/* Writes 1 to `*canonical` if the tree that the JSON spells, as FTL_JSON writes it, is canonical, and otherwise 0: the
+   text that FTL_FROM_JSON writes of a canonical tree is read as that tree. `edition` is an ftl_edition. Returns
+   FTL_CLEAN, or why nothing is known. Since 2.4. */
+uint32_t ftl_is_canonical(uint32_t edition, const uint8_t *json, size_t json_len, size_t *canonical);
 
 #ifdef __cplusplus
 }

@@ -6,3 +6,5 @@ mod Recovered
 mod ErrorRows
 mod Commands
 mod NameIndexes
+mod PartsRead
+mod Tested

@@ -1,9 +1,9 @@
 -- The bytes of a line before a place, and sums over them.
-use Rattle.std.proofs.Common.{◌≡◌, ◌<◌, ◌≤◌, ◌+◌, ◌-◌, ◌*◌, ◌^◌, ◌==◌, ◌++◌, ℕ, List, length, take, drop, get_or}
-use Rattle.std.proofs.Common.{not, Bool, true, false, cond, arith, sym, ap, ◌∙◌, length-append}
+use Rattle.std.proofs.Common.{◌≡◌, ◌<◌, ◌≤◌, ◌+◌, ◌-◌, ◌*◌, ◌^◌, ◌==◌, ℕ, List, length, take, drop, get_or}
+use Rattle.std.proofs.Common.{not, Bool, true, false, cond, arith, sym, ap, ◌∙◌}
 use Rattle.std.specs.Prelude.{slice_range}
 use Rattle.std.specs.List.{sum_by}
-use Rattle.std.proofs.lemmas.List.{drop-drop, drop-take, length-take, length-take-le, take-append-drop, take_all}
+use Rattle.std.proofs.lemmas.List.{drop-drop, drop-take, length-take, length-take-le, take_all}
 use Rattle.std.proofs.lemmas.List.Sums.{suffix_len-le-length, sum_by-le, sum_by-take-drop, sum_by_more_le}
 use Rattle.fluent_syntax.specs.Lines.{column_at}
 use Rattle.fluent_syntax_c.specs.Columns.{IsOnLine, IsPositionOf, characters, line_before, utf16_units}

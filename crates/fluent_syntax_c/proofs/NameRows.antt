@@ -5,7 +5,7 @@ use Rattle.std.specs.Global.{Global}
 use Rattle.std.specs.Prelude.{Vec, Result, Ok, Err, IfOk}
 use Rattle.std.specs.Str.{IsCharBoundary, IsUtf8}
 use Rattle.std.proofs.lemmas.Str.{IsCharBoundary-start}
-use Rattle.fluent_syntax_tree.specs.Entry.{EntryTree, junk}
+use Rattle.fluent_syntax_tree.specs.Entry.{junk}
 use Rattle.fluent_syntax_tree.specs.Every.{attribute_every, entry_every, list_every}
 use Rattle.fluent_syntax_tree.specs.Spans.{IsPart}
 use Rattle.fluent_syntax_tree.specs.View.{attribute_view}

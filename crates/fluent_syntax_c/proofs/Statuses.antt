@@ -2,14 +2,16 @@
 use Rattle.std.proofs.Common.{◌≡◌, ◌==◌, ℕ, List, Result, Ok, Err, IfOk, IsOkAnd, cond, refl, sym, ap, ◌∙◌}
 use Rattle.std.proofs.Common.{subst, inl, inr}
 use Rattle.std.specs.Global.{Global}
-use Rattle.std.specs.Prelude.{◌↔◌, ◌⊎◌, Vec}
+use Rattle.std.specs.Prelude.{◌↔◌, ◌⊎◌, IfErr, Vec}
 use Rattle.ftl.specs.declared.outcome.Outcome.{Outcome}
 use Rattle.ftl.specs.declared.outcome.Outcome.TheVariants as outcome
 use Rattle.fluent_syntax_c.specs.declared.status.Refusal.{Refusal}
 use Rattle.fluent_syntax_c.specs.declared.status.Refusal.TheVariants.{Argument, Input, Memory, Depth, Tree}
+use Rattle.fluent_syntax_c.specs.declared.status.EditRefusal.{EditRefusal}
+use Rattle.fluent_syntax_c.specs.declared.status.EditRefusal.TheVariants.{NotFound, NotOneEntry, ReadsOtherwise}
 use Rattle.fluent_syntax_c.specs.declared.status.Status.{Status}
-use Rattle.fluent_syntax_c.specs.declared.status.Status.TheVariants.{Clean, SyntaxErrors, TooSmall, Refused}
-use Rattle.fluent_syntax_c.specs.Status.{EndsAs, refusal_number, status_number}
+use Rattle.fluent_syntax_c.specs.declared.status.Status.TheVariants.{Clean, SyntaxErrors, TooSmall, Refused, NotEdited}
+use Rattle.fluent_syntax_c.specs.Status.{EndsAs, edit_refusal_number, refusal_number, status_number}
 use Rattle.fluent_syntax_c.specs.Arguments.{IsNoEdition}
 use Rattle.fluent_syntax_c.specs.Output.{LeavesOutput}
 use Rattle.fluent_syntax_c.specs.Rows.{Answers, Gives}
@@ -19,7 +21,8 @@ abbrev status_at : ℕ → Status
 status_at n =
     cond (n == 0) Clean (cond (n == 1) SyntaxErrors (cond (n == 2) (Refused Argument)
     (cond (n == 3) (Refused Input) (cond (n == 4) (Refused Memory) (cond (n == 5) TooSmall
-    (cond (n == 6) (Refused Depth) (Refused Tree)))))))
+    (cond (n == 6) (Refused Depth) (cond (n == 7) (Refused Tree) (cond (n == 8) (NotEdited NotFound)
+    (cond (n == 9) (NotEdited NotOneEntry) (NotEdited ReadsOtherwise))))))))))
 
 number_back : (status : Status) → status_at (status_number status) ≡ status
 number_back Clean = refl
@@ -30,6 +33,9 @@ number_back (Refused Input) = refl
 number_back (Refused Memory) = refl
 number_back (Refused Depth) = refl
 number_back (Refused Tree) = refl
+number_back (NotEdited NotFound) = refl
+number_back (NotEdited NotOneEntry) = refl
+number_back (NotEdited ReadsOtherwise) = refl
 
 -- no two statuses have one number
 same_status : (a b : Status) → status_number a ≡ status_number b → a ≡ b
@@ -79,6 +85,7 @@ leaves_other P Q before after count Clean to h = (h.0, to h.0 outcome.Clean h.1,
 leaves_other P Q before after count SyntaxErrors to h = (h.0, to h.0 outcome.SyntaxErrors h.1, h.2)
 leaves_other P Q before after count TooSmall to h = (h.0, (h.1.0, to h.0 h.1.0 h.1.1), h.2, h.3)
 leaves_other P Q before after count (Refused why) to h = h
+leaves_other P Q before after count (NotEdited why) to h = h
 
 -- What was asked for was answered, and the answer given.
 pub leaves_answered : {A X E : Type 0} (expected : List A → Outcome → Type 0) (items_of : X → List A)
@@ -130,3 +137,56 @@ answers_ok number expected AreTexts Long Deeper rows outcome is known texts shal
 pub either_absurd : {P Q : Type 0} → (P → ⊥) → (Q → ⊥) → P ⊎ Q → ⊥
 either_absurd first second (inl p) = first p
 either_absurd first second (inr q) = second q
+
+-- what an edit made is what was asked for
+edited_is : (expected : List ℕ → Outcome → Type 0)
+    (answer : Result (Result (Vec ℕ Global × Outcome) EditRefusal) Refusal) →
+    IfOk answer (λ made. IfOk made (λ given. expected given.0.items given.1)) → (items : List ℕ) (found : Outcome) →
+    IsOkAnd answer (λ made. IsOkAnd made (λ given. (given.0.items ≡ items) × (given.1 ≡ found))) →
+    expected items found
+edited_is expected (Ok made) is items found same =
+    expected_is expected (λ given. given.0.items) (λ given. given.1) made is items found same
+edited_is expected (Err e) is items found same = absurd same
+
+-- The new text that was answered is given.
+pub gives_edited : (number : ℕ) (expected : List ℕ → Outcome → Type 0) (AreTexts Long Deeper : Type 0)
+    (answer : Result (Result (Vec ℕ Global × Outcome) EditRefusal) Refusal) (before after : List ℕ)
+    (count status : ℕ) → IfOk answer (λ made. IfOk made (λ given. expected given.0.items given.1)) →
+    ((answer ≡ Err Argument) ↔ IsNoEdition number) →
+    (¬ (IsNoEdition number) → ((answer ≡ Err Input) ↔ ¬ AreTexts)) → (answer ≡ Err Depth → Long) →
+    (answer ≡ Err Depth → Deeper) → IfOk answer (λ made. Deeper → ⊥) → (IsNoEdition number → Deeper → ⊥) →
+    (answer ≡ Err Tree → ⊥) →
+    EndsAs status
+    (LeavesOutput (λ items found. IsOkAnd answer (λ made. IsOkAnd made
+    (λ given. (given.0.items ≡ items) × (given.1 ≡ found)))) before after count) →
+    ((why : Refusal) → (status ≡ refusal_number why) ↔ (answer ≡ Err why)) →
+    Gives number expected AreTexts Long Deeper before after count status
+gives_edited number expected AreTexts Long Deeper answer before after count status made argument input deep deeper
+    shallow read tree leaves refused = record {
+      leaves = (
+        leaves.0,
+        leaves.1,
+        leaves_other _ expected before after count leaves.0 (edited_is expected answer made) leaves.2,
+      );
+      argument = status_where (refused Argument) argument;
+      input = λ known. status_where (refused Input) (input known);
+      deep = λ told. deep ((refused Depth).0 told);
+      deeper = λ told. deeper ((refused Depth).0 told);
+      shallow = λ nests.
+          refused_deeper answer status Deeper refused shallow (λ e. read (argument.0 e)) (λ e d. tree e) nests;
+    }
+
+-- An edit that is not made is told exactly as it was answered.
+pub not_edited_exactly : (number : ℕ) (status : Status) (why : EditRefusal) → number ≡ status_number status →
+    number ≡ edit_refusal_number why → status ≡ NotEdited why
+not_edited_exactly number status why is told = same_status status (NotEdited why) (sym is ∙ told)
+
+-- no two refusals have one number
+pub same_refusal : (why other : Refusal) → refusal_number why ≡ refusal_number other → why ≡ other
+same_refusal why other e =
+    let same : Refused why ≡ Refused other = same_status (Refused why) (Refused other) e in cc
+
+-- what is said of an edit that was not made
+pub not_edited_of : {X : Type 0} (P : EditRefusal → Type 0) (answer : Result (Result X EditRefusal) Refusal)
+    (why : EditRefusal) → answer ≡ Ok (Err why) → IfOk answer (λ made. IfErr made P) → P why
+not_edited_of P answer why e h = subst (λ r. IfOk r (λ made. IfErr made P)) e h

@@ -1,12 +1,8 @@
 -- Errors as rows.
 use Rattle.std.specs.Prelude.{◌≡◌, ℕ, List, map}
-use Rattle.std.specs.Str.{IsUtf8}
 use Rattle.fluent_syntax_tree.specs.declared.edition.Edition.{Edition}
 use Rattle.fluent_syntax_grammar.specs.Body.{faults}
-use Rattle.fluent_syntax_grammar.specs.Tiling.{Fault, Tile, Tiling}
-use Rattle.ftl.specs.Answer.{outcome_of}
-use Rattle.ftl.specs.declared.outcome.Outcome.{Outcome}
-use Rattle.fluent_syntax_c.specs.Arguments.{edition_number}
+use Rattle.fluent_syntax_grammar.specs.Tiling.{Fault, Tile}
 use Rattle.fluent_syntax_c.specs.Columns.{position_at}
 use Rattle.fluent_syntax_c.specs.Kinds.{kind_number}
 use Rattle.fluent_syntax_c.specs.declared.columns.Position.{Position}

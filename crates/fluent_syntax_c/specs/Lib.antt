@@ -15,3 +15,5 @@ pub mod FindingKinds
 pub mod NameIndexes
 pub mod Findings
 pub mod Comparison
+pub mod Edits
+pub mod Canonical

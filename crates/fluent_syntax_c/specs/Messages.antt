@@ -1,7 +1,6 @@
 -- What is said of errors.
 use Rattle.std.specs.Prelude.{◌≡◌, ◌++◌, ◌==◌, ◌∷◌, [], ℕ, List, codes, cond, encode_utf8}
 use Rattle.std.specs.List.{flat_map}
-use Rattle.std.specs.Str.{IsUtf8}
 use Rattle.fluent_syntax_tree.specs.Kind.{Kind, kind_name, ExpectedToken, ExpectedCharRange, ExpectedMessageField}
 use Rattle.fluent_syntax_tree.specs.Kind.{ExpectedTermField, ForbiddenCallee, MissingDefaultVariant, MissingValue}
 use Rattle.fluent_syntax_tree.specs.Kind.{MultipleDefaultVariants, MessageReferenceAsSelector, TermReferenceAsSelector}
@@ -12,11 +11,9 @@ use Rattle.fluent_syntax_tree.specs.Kind.{UnbalancedClosingBrace, ExpectedInline
 use Rattle.fluent_syntax_tree.specs.Kind.{ExpectedSimpleExpressionAsSelector, ExpectedLiteral}
 use Rattle.fluent_syntax_tree.specs.declared.edition.Edition.{Edition}
 use Rattle.fluent_syntax_grammar.specs.Body.{faults}
-use Rattle.fluent_syntax_grammar.specs.Tiling.{Fault, Tile, Tiling}
-use Rattle.ftl.specs.Answer.{outcome_of}
+use Rattle.fluent_syntax_grammar.specs.Tiling.{Tile}
 use Rattle.ftl.specs.declared.outcome.Outcome.{Outcome}
 use Rattle.ftl.specs.declared.outcome.Outcome.TheVariants.{Clean}
-use Rattle.fluent_syntax_c.specs.Arguments.{edition_number}
 use Rattle.fluent_syntax_c.specs.Kinds.{kind_number}
 
 -- a byte of what is told, with two for a line end

@@ -1,13 +1,9 @@
 -- The names of messages, terms and attributes as rows.
 use Rattle.std.specs.Prelude.{◌≡◌, ◌+◌, ◌++◌, ℕ, List, [], ◌∷◌, length, map}
-use Rattle.std.specs.Str.{IsUtf8}
 use Rattle.fluent_syntax_tree.specs.Entry.{AttributeTree, EntryTree, message, term, comment, junk}
 use Rattle.fluent_syntax_tree.specs.declared.edition.Edition.{Edition}
 use Rattle.fluent_syntax_tree.specs.declared.spans.Span.{Span}
 use Rattle.fluent_syntax_grammar.specs.Tiling.{Tile, Tiling, dropped, entry, refused}
-use Rattle.ftl.specs.Answer.{outcome_of}
-use Rattle.ftl.specs.declared.outcome.Outcome.{Outcome}
-use Rattle.fluent_syntax_c.specs.Arguments.{edition_number}
 use Rattle.fluent_syntax_c.specs.Columns.{position_at}
 use Rattle.fluent_syntax_c.specs.declared.names.FtlName.{FtlName}
 use Rattle.fluent_syntax_c.specs.declared.names.Named.{Named}

@@ -3,7 +3,7 @@ use Rattle.std.specs.Prelude.{◌≡◌, ◌<◌, ◌++◌, ℕ, List, length, d
 use Rattle.ftl.specs.declared.outcome.Outcome.{Outcome}
 use Rattle.ftl.specs.declared.outcome.Outcome.TheVariants as outcome
 use Rattle.fluent_syntax_c.specs.declared.status.Status.{Status}
-use Rattle.fluent_syntax_c.specs.declared.status.Status.TheVariants.{Clean, SyntaxErrors, TooSmall, Refused}
+use Rattle.fluent_syntax_c.specs.declared.status.Status.TheVariants.{Clean, SyntaxErrors, TooSmall, Refused, NotEdited}
 
 module _ {A : Type 0} where
   -- The array has the items at its front, and behind them what it had there; their number was told.
@@ -24,3 +24,4 @@ module _ {A : Type 0} where
       (items : List A) × ((found : Outcome) × expected items found) × (length before < length items) ×
       SetsCount before after count (length items)
   LeavesOutput expected before after count (Refused refusal) = SetsCount before after count 0
+  LeavesOutput expected before after count (NotEdited refusal) = SetsCount before after count 0

@@ -1,6 +1,5 @@
 -- Where the values of messages, terms and attributes stand, as rows.
 use Rattle.std.specs.Prelude.{◌≡◌, ◌++◌, ℕ, List, [], ◌∷◌, map, Option, Some, None}
-use Rattle.std.specs.Str.{IsUtf8}
 use Rattle.fluent_syntax_tree.specs.Entry.{EntryTree, Level, comment}
 use Rattle.fluent_syntax_tree.specs.declared.edition.Edition.{Edition}
 use Rattle.fluent_syntax_tree.specs.declared.spans.Span.{Span}
@@ -8,9 +7,6 @@ use Rattle.fluent_syntax_grammar.specs.Grammar.{family}
 use Rattle.fluent_syntax_grammar.specs.Tiling.{Fault, Tile, Tiling, entry, refused}
 use Rattle.fluent_syntax_parser.specs.PartRanges.{HasEntryParts, HasRanges}
 use Rattle.fluent_syntax_parser.specs.declared.ranges.EntryRanges.{EntryRanges}
-use Rattle.ftl.specs.Answer.{outcome_of}
-use Rattle.ftl.specs.declared.outcome.Outcome.{Outcome}
-use Rattle.fluent_syntax_c.specs.Arguments.{edition_number}
 use Rattle.fluent_syntax_c.specs.declared.values.FtlValue.{FtlValue}
 
 -- the row of a value that stands there; of none both are 0

@@ -110,7 +110,7 @@ fn from_json_bytes(alloc: Global, input: &[u8]) -> Result<(Vec<u8>, Outcome), Re
 }
 
 /// Why there is no text of a tree.
-fn refusal_of(fault: JsonFault) -> Refusal
+pub(crate) fn refusal_of(fault: JsonFault) -> Refusal
     ensures { result ≡ refusal_of fault }
 {
     match fault {

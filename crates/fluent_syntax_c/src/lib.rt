@@ -6,8 +6,11 @@
 
 mod answers;
 mod arguments;
+mod canonical;
 mod columns;
 mod comparison;
+mod edited;
+mod edits;
 mod errors;
 mod finding_kinds;
 mod findings;
@@ -19,11 +22,14 @@ mod outputs;
 mod readings;
 mod rows;
 mod status;
+mod text_trees;
 mod texts;
 mod values;
 
 pub use answers::ftl_answer;
+pub use canonical::ftl_is_canonical;
 pub use comparison::ftl_comparison;
+pub use edits::{ftl_insert, ftl_remove, ftl_replace, ftl_set_value};
 pub use errors::{FtlError, ftl_errors};
 pub use findings::{FtlFinding, ftl_finding_kind_name, ftl_findings};
 pub use messages::{ftl_error_messages, ftl_kind_name};

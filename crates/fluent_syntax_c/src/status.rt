@@ -1,6 +1,6 @@
 //! How a call ends.
 ghost use Rattle.std.specs.Prelude.{◌≡◌};
-ghost use Rattle.fluent_syntax_c.specs.Status.{status_number, refusal_number};
+ghost use Rattle.fluent_syntax_c.specs.Status.{edit_refusal_number, status_number, refusal_number};
 
 /// How a call ended: `enum ftl_status` of `include/fluent.h`.
 #[derive(Clone, Copy)]
@@ -13,6 +13,8 @@ pub enum Status {
     TooSmall,
     /// Nothing was given.
     Refused(Refusal),
+    /// Nothing was given, since the edit that was asked for is not made.
+    NotEdited(EditRefusal),
 }
 
 /// Why nothing is given.
@@ -30,6 +32,17 @@ pub enum Refusal {
     Tree,
 }
 
+/// Why an edit is not made.
+#[derive(Clone, Copy)]
+pub enum EditRefusal {
+    /// The text has no such entry, or that has no value.
+    NotFound,
+    /// What is new is not exactly one entry, or one value.
+    NotOneEntry,
+    /// The new text would be read otherwise than as the text with the edit made.
+    ReadsOtherwise,
+}
+
 impl Status {
     /// The number that the caller is told.
     pub fn number(self) -> u32
@@ -40,6 +53,7 @@ impl Status {
             Status::SyntaxErrors => 1,
             Status::TooSmall => 5,
             Status::Refused(refusal) => refusal.number(),
+            Status::NotEdited(refusal) => refusal.number(),
         }
     }
 }
@@ -54,6 +68,18 @@ impl Refusal {
             Refusal::Memory => 4,
             Refusal::Depth => 6,
             Refusal::Tree => 7,
+        }
+    }
+}
+
+impl EditRefusal {
+    fn number(self) -> u32
+        ensures { result ≡ edit_refusal_number self }
+    {
+        match self {
+            EditRefusal::NotFound => 8,
+            EditRefusal::NotOneEntry => 9,
+            EditRefusal::ReadsOtherwise => 10,
         }
     }
 }

@@ -13,7 +13,7 @@ use Rattle.fluent_syntax_grammar.specs.Tiling.{Tile, Tiled, done, next, entry_of
 use Rattle.fluent_syntax_grammar.specs.Tiling.{drops, stands}
 use Rattle.fluent_syntax_tree.specs.declared.edition.Edition.{Edition}
 use Rattle.fluent_syntax_tree.specs.declared.spans.Span.{Span}
-use Rattle.fluent_syntax_grammar.proofs.Holds.{Holds, holds_bind, holds_gives, holds_fails_from}
+use Rattle.fluent_syntax_grammar.proofs.Holds.{Holds, holds_bind, holds_yields, holds_fails_from}
 use Rattle.fluent_syntax_grammar.proofs.Runtime.{IsBare, IsBareTile}
 use Rattle.fluent_syntax_grammar.proofs.Facts.{differs}
 
@@ -36,13 +36,13 @@ module _ (edition : Edition) (t : List ℕ) where
   bare_message : (start : ℕ) (id : Span) (value : Option (PatternTree Span)) (rest : List (AttributeTree Span)) →
       Holds Anywhere (message_with t start id value rest) Bare AnyFault
   bare_message start id None [] = holds_fails_from (λ i p. tt)
-  bare_message start id None (a ∷ rest) = holds_gives (λ i p. refl)
-  bare_message start id (Some value) rest = holds_gives (λ i p. refl)
+  bare_message start id None (a ∷ rest) = holds_yields (λ i p. refl)
+  bare_message start id (Some value) rest = holds_yields (λ i p. refl)
 
   bare_term : (start : ℕ) (id : Span) (value : Option (PatternTree Span)) (rest : List (AttributeTree Span)) →
       Holds Anywhere (term_with t start id value rest) Bare AnyFault
   bare_term start id None rest = holds_fails_from (λ i p. tt)
-  bare_term start id (Some value) rest = holds_gives (λ i p. refl)
+  bare_term start id (Some value) rest = holds_yields (λ i p. refl)
 
   pub message_bare : Holds Anywhere (message_entry edition t) Bare AnyFault
   message_bare =

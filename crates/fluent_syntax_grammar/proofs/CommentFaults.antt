@@ -7,8 +7,8 @@ use Rattle.fluent_syntax_grammar.specs.Construct.{Refused, chosen}
 use Rattle.fluent_syntax_grammar.specs.Tokens.{identifier, spanned, token, past_eol, optional_eol, rest_of_line}
 use Rattle.fluent_syntax_grammar.specs.Comments.{hashes, comment_text, comment_rest, comment_lines, comment_of}
 use Rattle.fluent_syntax_grammar.specs.Comments.{comment_entry}
-use Rattle.fluent_syntax_grammar.proofs.Holds.{Holds, holds_weaker, holds_bind, holds_gives, holds_here, holds_fails}
-use Rattle.fluent_syntax_grammar.proofs.Holds.{holds_over, holds_at_each, holds_either}
+use Rattle.fluent_syntax_grammar.proofs.Holds.{Holds, holds_weaker, holds_bind, holds_yields, holds_here, holds_fails}
+use Rattle.fluent_syntax_grammar.proofs.Holds.{holds_skip, holds_peek, holds_branch_on}
 use Rattle.fluent_syntax_grammar.proofs.Sound.{IsPlain}
 
 -- refused at the place, for a kind that no message and no term lacks its field by
@@ -36,19 +36,19 @@ some_hashes true true true e = omega arith
 
 module _ (t : List ℕ) (F : Kind → ℕ → ℕ → Type 0) where
   never_spanned : (start : ℕ) → Holds Anywhere (spanned start) Anything F
-  never_spanned start = holds_bind {mid = Anything} (holds_here (λ i p. tt)) (λ end. holds_gives (λ i p. tt))
+  never_spanned start = holds_bind {mid = Anything} (holds_here (λ i p. tt)) (λ end. holds_yields (λ i p. tt))
 
   never_past : (o : Option ℕ) → Holds (λ i. Anywhere i × (after_eol t i ≡ o)) (past_eol o) Anything F
-  never_past None = holds_gives (λ i p. tt)
-  never_past (Some k) = holds_over (λ i j p w. tt)
+  never_past None = holds_yields (λ i p. tt)
+  never_past (Some k) = holds_skip (λ i j p w. tt)
 
   never_eol : Holds Anywhere (optional_eol t) Anything F
-  never_eol = holds_at_each never_past
+  never_eol = holds_peek never_past
 
   never_line : Holds Anywhere (rest_of_line t) Anything F
   never_line =
       holds_bind {mid = Anything} (holds_here (λ i p. tt))
-      (λ start. holds_bind {mid = Anything} (holds_over (λ i j p w. tt)) (λ u. never_spanned start))
+      (λ start. holds_bind {mid = Anything} (holds_skip (λ i j p w. tt)) (λ u. never_spanned start))
 
   never_lines : (level : ℕ) → Holds Anywhere (comment_lines t level) Anything F
   never_lines level =
@@ -56,31 +56,31 @@ module _ (t : List ℕ) (F : Kind → ℕ → ℕ → Type 0) where
 
 module _ (t : List ℕ) (p : ℕ) where
   token_at : (b : ℕ) → Holds (λ i. i ≡ p) (token t b) Anything (IsAt p)
-  token_at b = holds_bind {mid = λ found i. found ≡ false → i ≡ p} (holds_at_each (λ found. holds_either
-      (λ e. holds_bind {mid = Anything} (holds_over (λ i j q w. tt)) (λ u. holds_gives (λ i q no. true_false no)))
-      (λ e. holds_gives (λ i q no. q.0))))
-      (λ found. holds_either (λ e. holds_gives (λ i q. tt)) (λ e. holds_fails (λ i q. record { at = q e; plain = tt })))
+  token_at b = holds_bind {mid = λ found i. found ≡ false → i ≡ p} (holds_peek (λ found. holds_branch_on
+      (λ e. holds_bind {mid = Anything} (holds_skip (λ i j q w. tt)) (λ u. holds_yields (λ i q no. true_false no)))
+      (λ e. holds_yields (λ i q no. q.0))))
+      (λ found. holds_branch_on (λ e. holds_yields (λ i q. tt)) (λ e. holds_fails (λ i q. record { at = q e; plain = tt })))
 
   text_at : (eol : Bool) → Holds (λ i. i ≡ p) (comment_text t eol) Anything (IsAt p)
   text_at true = holds_bind {mid = Anything} (holds_here (λ i q. tt)) (λ i. never_spanned t (IsAt p) i)
   text_at false = holds_bind (token_at 32) (λ u. never_line t (IsAt p))
 
   rest_at : (o : Option ℕ) → Holds (λ i. i ≡ p) (comment_rest t o) Anything (IsAt p)
-  rest_at None = holds_gives (λ i q. tt)
+  rest_at None = holds_yields (λ i q. tt)
   rest_at (Some b) =
       holds_bind {mid = Anything}
-      (holds_at_each
+      (holds_peek
       (λ eol. holds_weaker {pre = λ i. i ≡ p} (λ i q. q.0) (λ a j x. x) (λ k from to x. x) (text_at eol)))
-      (λ content. holds_bind (never_eol t (IsAt p)) (λ u. holds_gives (λ i q. tt)))
+      (λ content. holds_bind (never_eol t (IsAt p)) (λ u. holds_yields (λ i q. tt)))
 
 module _ (t : List ℕ) where
   comment_at : (i level : ℕ) → Holds (λ j. j ≡ i) (comment_of t level) Anything (IsAt (i + level))
   comment_at i level = holds_bind {mid = Anything}
-      (holds_bind {mid = λ u j. j ≡ i + level} (holds_over (λ j m e w. let by = w.by in omega arith))
-      (λ u. holds_at_each
+      (holds_bind {mid = λ u j. j ≡ i + level} (holds_skip (λ j m e w. let by = w.by in omega arith))
+      (λ u. holds_peek
       (λ o. holds_weaker {pre = λ j. j ≡ i + level} (λ j q. q.0) (λ a j x. x) (λ k from to x. x)
       (rest_at t (i + level) o))))
-      (λ content. holds_bind (never_lines t (IsAt (i + level)) level) (λ rest. holds_gives (λ j q. tt)))
+      (λ content. holds_bind (never_lines t (IsAt (i + level)) level) (λ rest. holds_yields (λ j q. tt)))
 
   -- a comment is refused at the place after its hashes
   pub comment_fault : (i from to : ℕ) (k : Kind) → comment_entry t i (Refused k from to) →
@@ -94,9 +94,9 @@ module _ (t : List ℕ) where
   name_at : (p : ℕ) → Holds (λ i. i ≡ p) (identifier t) Anything (IsAt p)
   name_at p =
       holds_bind {mid = λ start i. i ≡ p} (holds_here (λ i q. q))
-      (λ start. holds_bind {mid = λ letter i. i ≡ p} (holds_at_each (λ letter. holds_gives (λ i q. q.0)))
-      (λ letter. holds_either
-      (λ e. holds_bind {mid = Anything} (holds_over (λ i j q w. tt)) (λ u. never_spanned t (IsAt p) start))
+      (λ start. holds_bind {mid = λ letter i. i ≡ p} (holds_peek (λ letter. holds_yields (λ i q. q.0)))
+      (λ letter. holds_branch_on
+      (λ e. holds_bind {mid = Anything} (holds_skip (λ i j q w. tt)) (λ u. never_spanned t (IsAt p) start))
       (λ e. holds_fails (λ i q. record { at = q; plain = tt }))))
 
   -- a name is refused at its place

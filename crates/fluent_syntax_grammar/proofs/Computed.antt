@@ -45,11 +45,11 @@ computed_bind {c = c} {f = f} x g =
       sound = λ i o h. then_sound c f x g i o (x.run i) refl h;
     }
 
-pub gives_sound : {A : Type 0} (a : A) (i : ℕ) (o : Outcome A) → Some (Read a i) ≡ Some o → yields a i o
-gives_sound a i o h = let same : Read a i ≡ o = cc in subst (λ o. yields a i o) same given
+pub yields_sound : {A : Type 0} (a : A) (i : ℕ) (o : Outcome A) → Some (Read a i) ≡ Some o → yields a i o
+yields_sound a i o h = let same : Read a i ≡ o = cc in subst (λ o. yields a i o) same given
 
-abbrev pub computed_gives : {A : Type 0} {a : A} → Computed (yields a)
-computed_gives {a = a} = record { run = λ i. Some (Read a i); sound = gives_sound a }
+abbrev pub computed_yields : {A : Type 0} {a : A} → Computed (yields a)
+computed_yields {a = a} = record { run = λ i. Some (Read a i); sound = yields_sound a }
 
 pub here_sound : (i : ℕ) (o : Outcome ℕ) → Some (Read i i) ≡ Some o → here i o
 here_sound i o h = let same : Read i i ≡ o = cc in subst (λ o. here i o) same at_place
@@ -70,43 +70,43 @@ from_sound k start i o h = let same : Refused k start i ≡ o = cc in subst (λ 
 abbrev pub computed_fails_from : {A : Type 0} {k : Kind} {start : ℕ} → Computed (fails_from {A = A} k start)
 computed_fails_from {k = k} {start = start} = record { run = λ i. Some (Refused k start i); sound = from_sound k start }
 
-abbrev pub over_run : Option ℕ → Option (Outcome (Unit {0}))
-over_run None = None
-over_run (Some j) = Some (Read tt j)
+abbrev pub skip_run : Option ℕ → Option (Outcome (Unit {0}))
+skip_run None = None
+skip_run (Some j) = Some (Read tt j)
 
-pub over_sound : (W : ℕ → ℕ → Type 0) (w : ComputedWord W) (i : ℕ) (o : Outcome (Unit {0})) (r : Option ℕ) →
-    w.run i ≡ r → over_run r ≡ Some o → skip W i o
-over_sound W w i o None e h = cc
-over_sound W w i o (Some j) e h = let same : Read tt j ≡ o = cc in subst (λ o. skip W i o) same (passed (w.sound i j e))
+pub skip_sound : (W : ℕ → ℕ → Type 0) (w : ComputedWord W) (i : ℕ) (o : Outcome (Unit {0})) (r : Option ℕ) →
+    w.run i ≡ r → skip_run r ≡ Some o → skip W i o
+skip_sound W w i o None e h = cc
+skip_sound W w i o (Some j) e h = let same : Read tt j ≡ o = cc in subst (λ o. skip W i o) same (passed (w.sound i j e))
 
-abbrev pub computed_over : {W : ℕ → ℕ → Type 0} → ComputedWord W → Computed (skip W)
-computed_over {W = W} w = record { run = λ i. over_run (w.run i); sound = λ i o h. over_sound W w i o (w.run i) refl h }
+abbrev pub computed_skip : {W : ℕ → ℕ → Type 0} → ComputedWord W → Computed (skip W)
+computed_skip {W = W} w = record { run = λ i. skip_run (w.run i); sound = λ i o h. skip_sound W w i o (w.run i) refl h }
 
-abbrev pub computed_at_each : {A B : Type 0} {look : ℕ → A} {part : A → Construct B} → ((a : A) → Computed (part a)) →
+abbrev pub computed_peek : {A B : Type 0} {look : ℕ → A} {part : A → Construct B} → ((a : A) → Computed (part a)) →
     Computed (peek look part)
-computed_at_each {look = look} {part = part} g =
+computed_peek {look = look} {part = part} g =
     record { run = λ i. (g (look i)).run i; sound = λ i o h. chosen ((g (look i)).sound i o h) }
 
-pub either_sound :
+pub branch_on_sound :
     {A : Type 0} (test : Bool) (c d : Construct A) (x : Computed c) (y : Computed d) (i : ℕ) (o : Outcome A) →
     choose test (λ u. x.run i) (λ u. y.run i) ≡ Some o → branch_on test c d i o
-either_sound true c d x y i o h = first refl (x.sound i o h)
-either_sound false c d x y i o h = second refl (y.sound i o h)
+branch_on_sound true c d x y i o h = first refl (x.sound i o h)
+branch_on_sound false c d x y i o h = second refl (y.sound i o h)
 
 pub none_some : {A X : Type 0} {a : A} → None ≡ Some a → X
 none_some e = cc
 
-abbrev pub computed_either : {A : Type 0} {test : Bool} {c d : Construct A} → Computed c → Computed d →
+abbrev pub computed_branch_on : {A : Type 0} {test : Bool} {c d : Construct A} → Computed c → Computed d →
     Computed (branch_on test c d)
-computed_either {test = test} {c = c} {d = d} x y =
-    record { run = λ i. choose test (λ u. x.run i) (λ u. y.run i); sound = λ i o h. either_sound test c d x y i o h }
+computed_branch_on {test = test} {c = c} {d = d} x y =
+    record { run = λ i. choose test (λ u. x.run i) (λ u. y.run i); sound = λ i o h. branch_on_sound test c d x y i o h }
 
 module _ {A S B : Type 0} (next : S → Construct (More A S)) (add : A → B → B) (none : B)
     (g : (s : S) → Computed (next s)) where
   abbrev pub computed_rest : ((s : S) → Computed (many next add none s)) → (x : More A S) →
       Computed (rest_of next add none x)
-  computed_rest h no_item = computed_gives
-  computed_rest h (item a s) = computed_bind (h s) (λ rest. computed_gives)
+  computed_rest h no_item = computed_yields
+  computed_rest h (item a s) = computed_bind (h s) (λ rest. computed_yields)
 
   -- a list of fewer items than the fuel
   abbrev pub computed_many : (fuel : ℕ) → (s : S) → Computed (many next add none s)

@@ -26,8 +26,8 @@ use Rattle.fluent_syntax_grammar.specs.Variants.{variant_key, only_star, variant
 use Rattle.fluent_syntax_grammar.specs.Variants.{next_variant, more_variants}
 use Rattle.fluent_syntax_tree.specs.declared.edition.Edition.{Edition}
 use Rattle.fluent_syntax_tree.specs.declared.spans.Span.{Span}
-use Rattle.fluent_syntax_grammar.proofs.Computed.{Computed, choose, computed_bind, computed_gives, computed_here}
-use Rattle.fluent_syntax_grammar.proofs.Computed.{computed_fails, computed_over, computed_at_each, computed_either}
+use Rattle.fluent_syntax_grammar.proofs.Computed.{Computed, choose, computed_bind, computed_yields, computed_here}
+use Rattle.fluent_syntax_grammar.proofs.Computed.{computed_fails, computed_skip, computed_peek, computed_branch_on}
 use Rattle.fluent_syntax_grammar.proofs.Computed.{computed_steps, computed_reaches, computed_stretch, find}
 use Rattle.fluent_syntax_grammar.proofs.Computed.{found_stretch, none_some, computed_many}
 use Rattle.fluent_syntax_grammar.proofs.ComputedRules.{computed_optional, computed_token, computed_inline_blank}
@@ -41,72 +41,72 @@ pub record ComputedFamily (R : Family) : Type 0 where
 
 abbrev pub computed_arrow : (o : Option ℕ) → Computed (arrow_line_end o)
 computed_arrow None = computed_fails
-computed_arrow (Some k) = computed_over computed_reaches
+computed_arrow (Some k) = computed_skip computed_reaches
 
 abbrev pub computed_only : (starred star : Bool) → Computed (only_star starred star)
-computed_only starred star = computed_either computed_fails computed_gives
+computed_only starred star = computed_branch_on computed_fails computed_yields
 
 abbrev pub computed_end : (edition : Edition) (starred star : Bool) → Computed (variants_end edition starred star)
-computed_end edition starred star = computed_either computed_gives computed_fails
+computed_end edition starred star = computed_branch_on computed_yields computed_fails
 
 module _ (t : List ℕ) (n : ℕ) where
   abbrev pub computed_accessor : Computed (accessor t)
   computed_accessor =
       computed_bind (computed_optional t n 46)
-      (λ dot. computed_either (computed_bind (computed_identifier t n) (λ a. computed_gives)) computed_gives)
+      (λ dot. computed_branch_on (computed_bind (computed_identifier t n) (λ a. computed_yields)) computed_yields)
 
   abbrev pub computed_separator : Computed (separator t)
   computed_separator =
       computed_bind (computed_blank t n) (λ u. computed_bind (computed_optional t n 44) (λ u. computed_blank t n))
 
   abbrev pub computed_named : (id : Span) (a : MaybeArguments Span) → Computed (named_reference t id a)
-  computed_named id no_arguments = computed_bind computed_accessor (λ a. computed_gives)
-  computed_named id (some_arguments a) = computed_either computed_gives computed_fails
+  computed_named id no_arguments = computed_bind computed_accessor (λ a. computed_yields)
+  computed_named id (some_arguments a) = computed_branch_on computed_yields computed_fails
 
   abbrev pub computed_ending_of : (i : ℕ) (o : Option ℕ) → Computed (ending_of t i o)
-  computed_ending_of i None = computed_gives
-  computed_ending_of i (Some k) = computed_bind (computed_over computed_reaches) (λ u. computed_gives)
+  computed_ending_of i None = computed_yields
+  computed_ending_of i (Some k) = computed_bind (computed_skip computed_reaches) (λ u. computed_yields)
 
   abbrev pub computed_ending : Computed (ending t)
-  computed_ending = computed_bind computed_here (λ i. computed_at_each (computed_ending_of i))
+  computed_ending = computed_bind computed_here (λ i. computed_peek (computed_ending_of i))
 
   abbrev pub computed_key : Computed (variant_key t)
   computed_key =
-      computed_at_each
+      computed_peek
       (λ is_number.
-      computed_either (computed_bind (computed_number t n) (λ v. computed_gives))
-      (computed_bind (computed_identifier t n) (λ v. computed_gives)))
+      computed_branch_on (computed_bind (computed_number t n) (λ v. computed_yields))
+      (computed_bind (computed_identifier t n) (λ v. computed_yields)))
 
 module _ (t : List ℕ) (n : ℕ) (R : Family) (h : ComputedFamily R) where
   abbrev pub computed_call : Computed (call_arguments t R)
   computed_call =
-      computed_bind (computed_blank t n) (λ u. computed_bind (computed_optional t n 40) (λ bracket. computed_either
-      (computed_bind (computed_bind (computed_blank t n) (λ u. h.argument_list)) (λ a. computed_gives))
-      computed_gives))
+      computed_bind (computed_blank t n) (λ u. computed_bind (computed_optional t n 40) (λ bracket. computed_branch_on
+      (computed_bind (computed_bind (computed_blank t n) (λ u. h.argument_list)) (λ a. computed_yields))
+      computed_yields))
 
   abbrev pub computed_placeable : Computed (placeable t R)
   computed_placeable =
       computed_bind (computed_token t n 123)
       (λ u. computed_bind (computed_blank t n) (λ u. computed_bind h.expression (λ e.
-      computed_bind (computed_inline_blank t n) (λ u. computed_bind (computed_token t n 125) (λ u. computed_gives)))))
+      computed_bind (computed_inline_blank t n) (λ u. computed_bind (computed_token t n 125) (λ u. computed_yields)))))
 
   abbrev pub computed_inline_of : (s : Start) → Computed (inline_of t R s)
-  computed_inline_of quote = computed_bind (computed_string t n) (λ v. computed_gives)
-  computed_inline_of digit = computed_bind (computed_number t n) (λ v. computed_gives)
-  computed_inline_of minus = computed_bind (computed_number t n) (λ v. computed_gives)
+  computed_inline_of quote = computed_bind (computed_string t n) (λ v. computed_yields)
+  computed_inline_of digit = computed_bind (computed_number t n) (λ v. computed_yields)
+  computed_inline_of minus = computed_bind (computed_number t n) (λ v. computed_yields)
   computed_inline_of term =
       computed_bind (computed_token t n 45)
       (λ u. computed_bind (computed_identifier t n)
-      (λ id. computed_bind (computed_accessor t n) (λ a. computed_bind computed_call (λ c. computed_gives))))
+      (λ id. computed_bind (computed_accessor t n) (λ a. computed_bind computed_call (λ c. computed_yields))))
   computed_inline_of dollar =
-      computed_bind (computed_token t n 36) (λ u. computed_bind (computed_identifier t n) (λ id. computed_gives))
+      computed_bind (computed_token t n 36) (λ u. computed_bind (computed_identifier t n) (λ id. computed_yields))
   computed_inline_of letter =
       computed_bind (computed_identifier t n) (λ id. computed_bind computed_call (λ a. computed_named t n id a))
-  computed_inline_of brace = computed_bind computed_placeable (λ e. computed_gives)
+  computed_inline_of brace = computed_bind computed_placeable (λ e. computed_yields)
   computed_inline_of other = computed_fails
 
   abbrev pub computed_inline : Computed (inline_expression t R)
-  computed_inline = computed_at_each computed_inline_of
+  computed_inline = computed_peek computed_inline_of
 
   abbrev pub computed_value : (s : Start) → Computed (argument_value t R s)
   computed_value quote = computed_inline
@@ -120,14 +120,14 @@ module _ (t : List ℕ) (n : ℕ) (R : Family) (h : ComputedFamily R) where
 
   abbrev pub computed_named_rest : (names : List (List ℕ)) (name : Span) → Computed (named_rest t R names name)
   computed_named_rest names name =
-      computed_either computed_fails
+      computed_branch_on computed_fails
       (computed_bind (computed_token t n 58) (λ u. computed_bind (computed_blank t n) (λ u.
-      computed_bind (computed_at_each computed_value)
-      (λ e. computed_bind (computed_separator t n) (λ u. computed_gives)))))
+      computed_bind (computed_peek computed_value)
+      (λ e. computed_bind (computed_separator t n) (λ u. computed_yields)))))
 
   abbrev pub computed_positional_rest : (names : List (List ℕ)) (e : InlineTree Span) →
       Computed (positional_rest t names e)
-  computed_positional_rest [] e = computed_bind (computed_separator t n) (λ u. computed_gives)
+  computed_positional_rest [] e = computed_bind (computed_separator t n) (λ u. computed_yields)
   computed_positional_rest (m ∷ ms) e = computed_fails
 
   abbrev pub computed_argument_rest : (names : List (List ℕ)) (e : InlineTree Span) (o : Option Span) (colon : Bool) →
@@ -138,28 +138,28 @@ module _ (t : List ℕ) (n : ℕ) (R : Family) (h : ComputedFamily R) where
 
   abbrev pub computed_argument_at : (names : List (List ℕ)) (b : Option ℕ) → Computed (next_argument_at t R names b)
   computed_argument_at names None = computed_fails
-  computed_argument_at names (Some b) = computed_either (computed_bind (computed_token t n 41) (λ u. computed_gives))
+  computed_argument_at names (Some b) = computed_branch_on (computed_bind (computed_token t n 41) (λ u. computed_yields))
       (computed_bind computed_inline
-      (λ e. computed_bind (computed_at_each (λ colon. computed_gives))
+      (λ e. computed_bind (computed_peek (λ colon. computed_yields))
       (λ colon. computed_argument_rest names e (argument_name e) colon)))
 
   abbrev pub computed_arguments : (names : List (List ℕ)) → Computed (more_arguments t R names)
   computed_arguments names =
-      computed_many (next_argument t R) _ _ (λ names. computed_at_each (computed_argument_at names)) n names
+      computed_many (next_argument t R) _ _ (λ names. computed_peek (computed_argument_at names)) n names
 
   abbrev pub computed_piece_at : (b : Option ℕ) → Computed (next_piece_at t R b)
-  computed_piece_at None = computed_gives
+  computed_piece_at None = computed_yields
   computed_piece_at (Some b) =
-      computed_at_each (λ eol. computed_either computed_gives (computed_either computed_fails (computed_either
-      (computed_bind computed_placeable (λ e. computed_gives))
+      computed_peek (λ eol. computed_branch_on computed_yields (computed_branch_on computed_fails (computed_branch_on
+      (computed_bind computed_placeable (λ e. computed_yields))
       (computed_bind
       (computed_bind computed_here
-      (λ from. computed_bind (computed_over (computed_stretch n)) (λ u. computed_bind computed_here (λ to.
-      computed_gives))))
-      (λ p. computed_gives)))))
+      (λ from. computed_bind (computed_skip (computed_stretch n)) (λ u. computed_bind computed_here (λ to.
+      computed_yields))))
+      (λ p. computed_yields)))))
 
   abbrev pub computed_pieces : Computed (more_pieces t R)
-  computed_pieces = computed_many (λ u. next_piece t R) _ _ (λ u. computed_at_each computed_piece_at) n tt
+  computed_pieces = computed_many (λ u. next_piece t R) _ _ (λ u. computed_peek computed_piece_at) n tt
 
   abbrev pub computed_own : Computed {A = More Line (Unit {0})} (line t R >>= λ l. yields (item l tt))
   computed_own =
@@ -167,8 +167,8 @@ module _ (t : List ℕ) (n : ℕ) (R : Family) (h : ComputedFamily R) where
       (computed_bind computed_here
       (λ start. computed_bind (computed_inline_blank t n)
       (λ u. computed_bind computed_here (λ first. computed_bind computed_pieces (λ ps.
-      computed_bind (computed_ending t n) (λ e. computed_gives))))))
-      (λ l. computed_gives)
+      computed_bind (computed_ending t n) (λ e. computed_yields))))))
+      (λ l. computed_yields)
 
   abbrev pub lines_at : ℕ → ℕ → Option ℕ → Option (Outcome (More Line (Unit {0})))
   lines_at i k None = Some (Read no_item k)
@@ -210,22 +210,22 @@ module _ (t : List ℕ) (n : ℕ) (R : Family) (h : ComputedFamily R) where
   computed_layout_at None =
       computed_bind computed_here
       (λ start. computed_bind computed_pieces
-      (λ ps. computed_bind (computed_ending t n) (λ e. computed_bind computed_lines (λ ls. computed_gives))))
+      (λ ps. computed_bind (computed_ending t n) (λ e. computed_bind computed_lines (λ ls. computed_yields))))
   computed_layout_at (Some k) =
-      computed_bind (computed_over computed_reaches)
-      (λ u. computed_bind (computed_blank_block t n) (λ u. computed_bind computed_lines (λ ls. computed_gives)))
+      computed_bind (computed_skip computed_reaches)
+      (λ u. computed_bind (computed_blank_block t n) (λ u. computed_bind computed_lines (λ ls. computed_yields)))
 
   abbrev pub computed_layout : Computed (layout t R)
-  computed_layout = computed_bind (computed_inline_blank t n) (λ u. computed_at_each computed_layout_at)
+  computed_layout = computed_bind (computed_inline_blank t n) (λ u. computed_peek computed_layout_at)
 
 module _ (edition : Edition) (t : List ℕ) (n : ℕ) (R : Family) (h : ComputedFamily R) where
   abbrev pub computed_pattern : Computed (pattern edition t R)
-  computed_pattern = computed_bind (computed_layout t n R h) (λ y. computed_gives)
+  computed_pattern = computed_bind (computed_layout t n R h) (λ y. computed_yields)
 
   abbrev pub computed_variant_of : (starred star : Bool) (key : KeyTree Span) (p : Option (PatternTree Span)) →
       Computed (variant_of t starred star key p)
   computed_variant_of starred star key None = computed_fails
-  computed_variant_of starred star key (Some p) = computed_bind (computed_blank t n) (λ u. computed_gives)
+  computed_variant_of starred star key (Some p) = computed_bind (computed_blank t n) (λ u. computed_yields)
 
   abbrev pub computed_after : (starred star : Bool) → Computed (variant_after edition t R starred star)
   computed_after starred star =
@@ -238,26 +238,26 @@ module _ (edition : Edition) (t : List ℕ) (n : ℕ) (R : Family) (h : Computed
   computed_next_variant starred =
       computed_bind (computed_optional t n 42)
       (λ star. computed_bind (computed_only starred star) (λ u. computed_bind (computed_optional t n 91) (λ bracket.
-      computed_either (computed_after starred star) (computed_end edition starred star))))
+      computed_branch_on (computed_after starred star) (computed_end edition starred star))))
 
   abbrev pub computed_variants : (starred : Bool) → Computed (more_variants edition t R starred)
   computed_variants starred = computed_many (next_variant edition t R) _ _ computed_next_variant n starred
 
   abbrev pub computed_variants_of_select : Computed (variants_of_select edition t R)
   computed_variants_of_select =
-      computed_bind (computed_over computed_steps)
-      (λ u. computed_bind (computed_inline_blank t n) (λ u. computed_bind (computed_at_each computed_arrow) (λ u.
+      computed_bind (computed_skip computed_steps)
+      (λ u. computed_bind (computed_inline_blank t n) (λ u. computed_bind (computed_peek computed_arrow) (λ u.
       computed_bind (computed_blank t n) (λ u. computed_variants false))))
 
   abbrev pub computed_select : (e : InlineTree Span) (o : Option Kind) → Computed (select_with edition t R e o)
-  computed_select e None = computed_bind computed_variants_of_select (λ vs. computed_gives)
+  computed_select e None = computed_bind computed_variants_of_select (λ vs. computed_yields)
   computed_select e (Some k) = computed_fails
 
   abbrev pub computed_expression : Computed (expression edition t R)
   computed_expression =
       computed_bind (computed_inline t n R h)
-      (λ e. computed_bind (computed_blank t n) (λ u. computed_bind (computed_at_each (λ a. computed_gives)) (λ arrow.
-      computed_either (computed_select e (selector_fault e)) (computed_either computed_fails computed_gives))))
+      (λ e. computed_bind (computed_blank t n) (λ u. computed_bind (computed_peek (λ a. computed_yields)) (λ arrow.
+      computed_branch_on (computed_select e (selector_fault e)) (computed_branch_on computed_fails computed_yields))))
 
 module _ (edition : Edition) (t : List ℕ) (n : ℕ) where
   -- as deep as there is fuel

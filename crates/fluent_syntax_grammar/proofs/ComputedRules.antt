@@ -13,14 +13,14 @@ use Rattle.fluent_syntax_grammar.specs.Tokens.{optional_eol, rest_of_line, digit
 use Rattle.fluent_syntax_grammar.specs.Strings.{HexDigits, hex_digits, all_there, too_few, after_character, escaped}
 use Rattle.fluent_syntax_grammar.specs.Strings.{string_unit, string_units, before_quote, unit_and_more, bad_unit}
 use Rattle.fluent_syntax_grammar.specs.Strings.{string_literal}
-use Rattle.fluent_syntax_grammar.proofs.Computed.{Computed, ComputedWord, choose, computed_bind, computed_gives}
-use Rattle.fluent_syntax_grammar.proofs.Computed.{computed_here, computed_fails, computed_over, computed_at_each}
-use Rattle.fluent_syntax_grammar.proofs.Computed.{computed_either, computed_steps, computed_reaches, computed_stretch}
+use Rattle.fluent_syntax_grammar.proofs.Computed.{Computed, ComputedWord, choose, computed_bind, computed_yields}
+use Rattle.fluent_syntax_grammar.proofs.Computed.{computed_here, computed_fails, computed_skip, computed_peek}
+use Rattle.fluent_syntax_grammar.proofs.Computed.{computed_branch_on, computed_steps, computed_reaches, computed_stretch}
 use Rattle.fluent_syntax_grammar.proofs.Computed.{find, found_stretch}
 use Rattle.fluent_syntax_grammar.proofs.Facts.{equal, here_or_on}
 
 abbrev pub computed_spanned : {start : ℕ} → Computed (spanned start)
-computed_spanned = computed_bind computed_here (λ end. computed_gives)
+computed_spanned = computed_bind computed_here (λ end. computed_yields)
 
 is_less : (a b : ℕ) → (a == b) ≡ false → a ≤ b → a < b
 is_less a b e l = grind (arith, nat_tests)
@@ -29,23 +29,23 @@ pub some_outcome : {A : Type 0} {o p : Outcome A} → Some o ≡ Some p → o �
 some_outcome e = cc
 
 abbrev pub computed_past : (o : Option ℕ) → Computed (past_eol o)
-computed_past None = computed_gives
-computed_past (Some k) = computed_over computed_reaches
+computed_past None = computed_yields
+computed_past (Some k) = computed_skip computed_reaches
 
 module _ (t : List ℕ) (n : ℕ) where
   abbrev pub computed_optional : (b : ℕ) → Computed (optional t b)
   computed_optional b =
-      computed_at_each
-      (λ found. computed_either (computed_bind (computed_over computed_steps) (λ u. computed_gives)) computed_gives)
+      computed_peek
+      (λ found. computed_branch_on (computed_bind (computed_skip computed_steps) (λ u. computed_yields)) computed_yields)
 
   abbrev pub computed_token : (b : ℕ) → Computed (token t b)
-  computed_token b = computed_bind (computed_optional b) (λ found. computed_either computed_gives computed_fails)
+  computed_token b = computed_bind (computed_optional b) (λ found. computed_branch_on computed_yields computed_fails)
 
   abbrev pub computed_inline_blank : Computed (inline_blank t)
-  computed_inline_blank = computed_over (computed_stretch n)
+  computed_inline_blank = computed_skip (computed_stretch n)
 
   abbrev pub computed_blank : Computed (blank t)
-  computed_blank = computed_over (computed_stretch n)
+  computed_blank = computed_skip (computed_stretch n)
 
   -- ---- blank blocks
 
@@ -80,29 +80,29 @@ module _ (t : List ℕ) (n : ℕ) where
   block_word = record { run = find_block n; sound = λ i j h. found_block n i j h }
 
   abbrev pub computed_blank_block : Computed (blank_block t)
-  computed_blank_block = computed_over block_word
+  computed_blank_block = computed_skip block_word
 
   abbrev pub computed_optional_eol : Computed (optional_eol t)
-  computed_optional_eol = computed_at_each computed_past
+  computed_optional_eol = computed_peek computed_past
 
   abbrev pub computed_rest_of_line : Computed (rest_of_line t)
   computed_rest_of_line =
-      computed_bind computed_here (λ start. computed_bind (computed_over (computed_stretch n)) (λ u. computed_spanned))
+      computed_bind computed_here (λ start. computed_bind (computed_skip (computed_stretch n)) (λ u. computed_spanned))
 
   abbrev pub computed_digits : Computed (digits t)
-  computed_digits = computed_at_each (λ found. computed_either (computed_over (computed_stretch n)) computed_fails)
+  computed_digits = computed_peek (λ found. computed_branch_on (computed_skip (computed_stretch n)) computed_fails)
 
   abbrev pub computed_identifier : Computed (identifier t)
   computed_identifier =
-      computed_bind computed_here (λ start. computed_bind (computed_at_each (λ letter. computed_gives)) (λ letter.
-      computed_either (computed_bind (computed_over (computed_stretch n)) (λ u. computed_spanned)) computed_fails))
+      computed_bind computed_here (λ start. computed_bind (computed_peek (λ letter. computed_yields)) (λ letter.
+      computed_branch_on (computed_bind (computed_skip (computed_stretch n)) (λ u. computed_spanned)) computed_fails))
 
   abbrev pub computed_number : Computed (number t)
   computed_number =
       computed_bind computed_here
       (λ start. computed_bind (computed_optional 45)
       (λ x. computed_bind computed_digits (λ u. computed_bind (computed_optional 46) (λ point.
-      computed_bind (computed_either computed_digits computed_gives) (λ u. computed_spanned)))))
+      computed_bind (computed_branch_on computed_digits computed_yields) (λ u. computed_spanned)))))
 
   -- ---- strings
 
@@ -163,15 +163,15 @@ module _ (t : List ℕ) (n : ℕ) where
 
   abbrev pub computed_escaped : (b : Option ℕ) → Computed (escaped t b)
   computed_escaped None = computed_fails
-  computed_escaped (Some b) = computed_either (computed_over computed_steps)
-      (computed_either (computed_bind (computed_over computed_steps) (λ u. computed_hex))
-      (computed_either (computed_bind (computed_over computed_steps) (λ u. computed_hex)) computed_fails))
+  computed_escaped (Some b) = computed_branch_on (computed_skip computed_steps)
+      (computed_branch_on (computed_bind (computed_skip computed_steps) (λ u. computed_hex))
+      (computed_branch_on (computed_bind (computed_skip computed_steps) (λ u. computed_hex)) computed_fails))
 
   abbrev pub computed_unit : (b : Option ℕ) → Computed (string_unit t b)
   computed_unit None = computed_fails
   computed_unit (Some b) =
-      computed_either computed_fails
-      (computed_either (computed_at_each computed_escaped) (computed_over computed_steps))
+      computed_branch_on computed_fails
+      (computed_branch_on (computed_peek computed_escaped) (computed_skip computed_steps))
 
   abbrev pub units_step : Option (Outcome (Unit {0})) → (ℕ → Option (Outcome (Unit {0}))) → Option (Outcome (Unit {0}))
   units_step None more = None
@@ -215,4 +215,4 @@ module _ (t : List ℕ) (n : ℕ) where
       computed_bind (computed_token 34)
       (λ u. computed_bind computed_here
       (λ start. computed_bind computed_units (λ u. computed_bind computed_spanned (λ value.
-      computed_bind (computed_token 34) (λ u. computed_gives)))))
+      computed_bind (computed_token 34) (λ u. computed_yields)))))

@@ -20,9 +20,9 @@ use Rattle.fluent_syntax_grammar.specs.Tiling.{TileAt, reads, refuses, RuntimeTi
 use Rattle.fluent_syntax_grammar.specs.Tiling.{RuntimeTiling}
 use Rattle.fluent_syntax_tree.specs.declared.edition.Edition.{Edition}
 use Rattle.fluent_syntax_tree.specs.declared.spans.Span.{Span}
-use Rattle.fluent_syntax_grammar.proofs.Computed.{Computed, choose, computed_bind, computed_gives, computed_here}
-use Rattle.fluent_syntax_grammar.proofs.Computed.{computed_fails, computed_fails_from, computed_over, computed_at_each}
-use Rattle.fluent_syntax_grammar.proofs.Computed.{computed_either, computed_steps, none_some}
+use Rattle.fluent_syntax_grammar.proofs.Computed.{Computed, choose, computed_bind, computed_yields, computed_here}
+use Rattle.fluent_syntax_grammar.proofs.Computed.{computed_fails, computed_fails_from, computed_skip, computed_peek}
+use Rattle.fluent_syntax_grammar.proofs.Computed.{computed_branch_on, computed_steps, none_some}
 use Rattle.fluent_syntax_grammar.proofs.ComputedRules.{computed_spanned, computed_token, computed_inline_blank}
 use Rattle.fluent_syntax_grammar.proofs.ComputedRules.{computed_blank_block, computed_identifier, computed_optional_eol}
 use Rattle.fluent_syntax_grammar.proofs.ComputedRules.{computed_rest_of_line, find_block, found_block}
@@ -32,20 +32,20 @@ use Rattle.fluent_syntax_grammar.proofs.Facts.{byte_found, equal, here_or_on, le
 
 abbrev pub computed_with : (id : Span) (value : Option (PatternTree Span)) → Computed (attribute_with id value)
 computed_with id None = computed_fails
-computed_with id (Some value) = computed_gives
+computed_with id (Some value) = computed_yields
 
 abbrev pub computed_message_with :
     (t : List ℕ) (start : ℕ) (id : Span) (value : Option (PatternTree Span)) (rest : List (AttributeTree Span)) →
     Computed (message_with t start id value rest)
 computed_message_with t start id None [] = computed_fails_from
-computed_message_with t start id None (a ∷ rest) = computed_gives
-computed_message_with t start id (Some value) rest = computed_gives
+computed_message_with t start id None (a ∷ rest) = computed_yields
+computed_message_with t start id (Some value) rest = computed_yields
 
 abbrev pub computed_term_with :
     (t : List ℕ) (start : ℕ) (id : Span) (value : Option (PatternTree Span)) (rest : List (AttributeTree Span)) →
     Computed (term_with t start id value rest)
 computed_term_with t start id None rest = computed_fails_from
-computed_term_with t start id (Some value) rest = computed_gives
+computed_term_with t start id (Some value) rest = computed_yields
 
 module _ (edition : Edition) (t : List ℕ) (n : ℕ) where
   abbrev pub computed_pattern : Computed (pattern edition t)
@@ -131,13 +131,13 @@ module _ (t : List ℕ) (n : ℕ) where
   computed_text false = computed_bind (computed_token t n 32) (λ u. computed_rest_of_line t n)
 
   abbrev pub computed_rest : (b : Option ℕ) → Computed (comment_rest t b)
-  computed_rest None = computed_gives
+  computed_rest None = computed_yields
   computed_rest (Some b) =
-      computed_bind (computed_at_each computed_text)
-      (λ content. computed_bind (computed_optional_eol t n) (λ u. computed_gives))
+      computed_bind (computed_peek computed_text)
+      (λ content. computed_bind (computed_optional_eol t n) (λ u. computed_yields))
 
   abbrev pub computed_line : (level : ℕ) → Computed (comment_line t level)
-  computed_line level = computed_bind (computed_over computed_steps) (λ u. computed_at_each computed_rest)
+  computed_line level = computed_bind (computed_skip computed_steps) (λ u. computed_peek computed_rest)
 
   abbrev pub add_line : List Span → Option (Outcome (List Span)) → Option (Outcome (List Span))
   add_line content None = None
@@ -150,10 +150,10 @@ module _ (t : List ℕ) (n : ℕ) where
   lines_step i (Some (Refused k from to)) more = Some (Read [] i)
   lines_step i (Some (Read content j)) more = add_line content (more j)
 
-  abbrev pub find_lines : (level fuel : ℕ) → ℕ → Option (Outcome (List Span))
-  find_lines level zero i = None
-  find_lines level (suc f) i =
-      choose (hashes t i == level) (λ u. lines_step i ((computed_line level).run i) (find_lines level f))
+  abbrev pub find_comment_lines : (level fuel : ℕ) → ℕ → Option (Outcome (List Span))
+  find_comment_lines level zero i = None
+  find_comment_lines level (suc f) i =
+      choose (hashes t i == level) (λ u. lines_step i ((computed_line level).run i) (find_comment_lines level f))
       (λ u. Some (Read [] i))
 
   lines_add : (level i j : ℕ) (content : List Span) (o : Outcome (List Span)) (r : Option (Outcome (List Span))) →
@@ -167,41 +167,41 @@ module _ (t : List ℕ) (n : ℕ) where
 
   lines_next : (level f i : ℕ) (o : Outcome (List Span)) (r : Option (Outcome (List Span))) → hashes t i ≡ level →
       (computed_line level).run i ≡ r →
-      ((j : ℕ) (p : Outcome (List Span)) → find_lines level f j ≡ Some p → comment_lines t level j p) →
-      lines_step i r (find_lines level f) ≡ Some o → comment_lines t level i o
+      ((j : ℕ) (p : Outcome (List Span)) → find_comment_lines level f j ≡ Some p → comment_lines t level j p) →
+      lines_step i r (find_comment_lines level f) ≡ Some o → comment_lines t level i o
   lines_next level f i o None e g more h = cc
   lines_next level f i o (Some (Refused k from to)) e g more h = let same : Read [] i ≡ o = cc in
       subst (λ o. comment_lines t level i o) same
       (no_comment_line e ((computed_line level).sound i (Refused k from to) g))
   lines_next level f i o (Some (Read content j)) e g more h =
-      lines_add level i j content o (find_lines level f j) e ((computed_line level).sound i (Read content j) g) (more j)
+      lines_add level i j content o (find_comment_lines level f j) e ((computed_line level).sound i (Read content j) g) (more j)
       h
 
   lines_at : (level f i : ℕ) (o : Outcome (List Span)) (b : Bool) → (hashes t i == level) ≡ b →
-      ((j : ℕ) (p : Outcome (List Span)) → find_lines level f j ≡ Some p → comment_lines t level j p) →
-      choose b (λ u. lines_step i ((computed_line level).run i) (find_lines level f)) (λ u. Some (Read [] i)) ≡ Some o →
+      ((j : ℕ) (p : Outcome (List Span)) → find_comment_lines level f j ≡ Some p → comment_lines t level j p) →
+      choose b (λ u. lines_step i ((computed_line level).run i) (find_comment_lines level f)) (λ u. Some (Read [] i)) ≡ Some o →
       comment_lines t level i o
   lines_at level f i o true e more h =
       lines_next level f i o ((computed_line level).run i) (equal (hashes t i) level e) refl more h
   lines_at level f i o false e more h = let same : Read [] i ≡ o = cc in
       subst (λ o. comment_lines t level i o) same (other_level (unequal (hashes t i) level e))
 
-  pub found_lines : (level fuel i : ℕ) (o : Outcome (List Span)) → find_lines level fuel i ≡ Some o →
+  pub find_comment_lines_sound : (level fuel i : ℕ) (o : Outcome (List Span)) → find_comment_lines level fuel i ≡ Some o →
       comment_lines t level i o
-  found_lines level zero i o h = cc
-  found_lines level (suc f) i o h =
-      lines_at level f i o (hashes t i == level) refl (λ j p x. found_lines level f j p x) h
+  find_comment_lines_sound level zero i o h = cc
+  find_comment_lines_sound level (suc f) i o h =
+      lines_at level f i o (hashes t i == level) refl (λ j p x. find_comment_lines_sound level f j p x) h
 
   abbrev pub computed_comment_lines : {level : ℕ} → Computed (comment_lines t level)
   computed_comment_lines {level = level} =
-      record { run = find_lines level n; sound = λ i o h. found_lines level n i o h }
+      record { run = find_comment_lines level n; sound = λ i o h. find_comment_lines_sound level n i o h }
 
   abbrev pub computed_comment_of : (level : ℕ) → Computed (comment_of t level)
   computed_comment_of level =
-      computed_bind (computed_line level) (λ first. computed_bind computed_comment_lines (λ rest. computed_gives))
+      computed_bind (computed_line level) (λ first. computed_bind computed_comment_lines (λ rest. computed_yields))
 
   abbrev pub computed_comment : Computed (comment_entry t)
-  computed_comment = computed_at_each computed_comment_of
+  computed_comment = computed_peek computed_comment_of
 
   abbrev pub computed_whole_line : Computed (whole_line t)
   computed_whole_line = computed_bind (computed_rest_of_line t n) (λ s. computed_optional_eol t n)
@@ -352,11 +352,11 @@ module _ (edition : Edition) (t : List ℕ) (n : ℕ) where
   abbrev pub computed_entry_of : (b : Option ℕ) → Computed (entry_of edition t (family edition t) b)
   computed_entry_of None = computed_message edition t n
   computed_entry_of (Some b) =
-      computed_either (computed_comment t n)
-      (computed_either (computed_term edition t n) (computed_message edition t n))
+      computed_branch_on (computed_comment t n)
+      (computed_branch_on (computed_term edition t n) (computed_message edition t n))
 
   abbrev pub computed_entry : Computed (entry_at edition t)
-  computed_entry = computed_at_each computed_entry_of
+  computed_entry = computed_peek computed_entry_of
 
   abbrev pub junk_tile : (i : ℕ) → Kind → (from to : ℕ) → Option ℕ → Option Placed
   junk_tile i k from to None = None

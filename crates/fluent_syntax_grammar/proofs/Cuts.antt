@@ -75,14 +75,14 @@ eol_text t i k e = elim (eol_cases t i k e) [
   | inr x ↦ (let l = has_inside (λ b. b == lf) t (i + 1) x.1 in let f = x.2 in omega arith)
 ]
 
-either_true : (a b c : Bool) → (a || b && c) ≡ true → (a ≡ true) ⊎ (b ≡ true)
-either_true true b c e = inl refl
-either_true false true c e = inr refl
-either_true false false c e = cc
+branch_on_true : (a b c : Bool) → (a || b && c) ≡ true → (a ≡ true) ⊎ (b ≡ true)
+branch_on_true true b c e = inl refl
+branch_on_true false true c e = inr refl
+branch_on_true false false c e = cc
 
 ascii_eol : (t : List ℕ) (i : ℕ) → has_eol t i ≡ true → AsciiAt t i
 ascii_eol t i e =
-    elim (either_true (has_byte t lf i) (has_byte t cr i) (has_byte t lf (i + 1)) e)
+    elim (branch_on_true (has_byte t lf i) (has_byte t cr i) (has_byte t lf (i + 1)) e)
     [ inl x ↦ ascii_byte t lf i (omega arith) x | inr x ↦ ascii_byte t cr i (omega arith) x ]
 
 pub ascii_blank : (t : List ℕ) (i : ℕ) → is_blank_place t i ≡ true → AsciiAt t i

@@ -19,7 +19,7 @@ use Rattle.fluent_syntax_grammar.proofs.Functional.{functional_here}
 use Rattle.fluent_syntax_grammar.proofs.FunctionalWords.{functional_inline_blank, functional_token}
 use Rattle.fluent_syntax_grammar.specs.Tokens.{identifier, optional, token}
 use Rattle.fluent_syntax_grammar.proofs.ComputedFamily.{computed_within, computed_placeable}
-use Rattle.fluent_syntax_grammar.proofs.Deeper.{deeper_first, deeper_next, deeper_at_each, deeper_no, deeper_item}
+use Rattle.fluent_syntax_grammar.proofs.Deeper.{deeper_first, deeper_next, deeper_peek, deeper_no, deeper_item}
 use Rattle.fluent_syntax_grammar.proofs.Deeper.{none_inside, no_list_inside, one_inside, one_list_inside}
 use Rattle.fluent_syntax_grammar.proofs.Deeper.{deeper_placeable}
 use Rattle.fluent_syntax_grammar.proofs.Deeper.{deeper_call}
@@ -61,10 +61,10 @@ three_braces : TooDeep (placeable braces (within One braces 2)) 0
 three_braces =
     deeper_placeable braces (within One braces 2) (mark braces left_brace 0 refl)
     (none_there (is_blank_place braces) 1 refl)
-    (one_inside One braces 1 1 (deeper_first (deeper_at_each (deeper_first
+    (one_inside One braces 1 1 (deeper_first (deeper_peek (deeper_first
     (deeper_placeable braces (within One braces 1) (mark braces left_brace 1 refl)
     (none_there (is_blank_place braces) 2 refl)
-    (one_inside One braces 0 2 (deeper_first (deeper_at_each (deeper_first
+    (one_inside One braces 0 2 (deeper_first (deeper_peek (deeper_first
     (deeper_placeable braces (within One braces 0) (mark braces left_brace 2 refl)
     (none_there (is_blank_place braces) 3 refl)
     (none_inside One braces 3)))))))))))
@@ -82,12 +82,12 @@ two_lists : TooDeep (placeable calls (within One calls 2)) 0
 two_lists =
     deeper_placeable calls (within One calls 2) (mark calls left_brace 0 refl)
     (none_there (is_blank_place calls) 1 refl)
-    (one_inside One calls 1 1 (deeper_first (deeper_at_each
+    (one_inside One calls 1 1 (deeper_first (deeper_peek
     (deeper_next (functional_identifier calls) _ 2 (name calls 1 refl refl refl) (deeper_first
     (deeper_call calls (within One calls 1) (none_there (is_blank_place calls) 2 refl)
     (byte calls left_parenthesis 2 refl)
     (none_there (is_blank_place calls) 3 refl)
-    (one_list_inside One calls 0 3 (deeper_item (deeper_at_each (deeper_no refl (deeper_first (deeper_at_each
+    (one_list_inside One calls 0 3 (deeper_item (deeper_peek (deeper_no refl (deeper_first (deeper_peek
     (deeper_next (functional_identifier calls) _ 4 (name calls 3 refl refl refl) (deeper_first
     (deeper_call calls (within One calls 0) (none_there (is_blank_place calls) 4 refl)
     (byte calls left_parenthesis 4 refl)
@@ -101,20 +101,20 @@ junk = codes "a = {{{{"
 its_pattern : TooDeep (pattern One junk (within One junk 3)) 3
 its_pattern =
     deeper_first (deeper_next (functional_inline_blank junk) tt 4 (passed (one_there (has junk is_space) 3 refl refl))
-    (deeper_at_each (deeper_next functional_here 4 4 at_place (deeper_first (deeper_item (deeper_at_each
-    (deeper_at_each (deeper_no refl (deeper_no refl (deeper_yes refl (deeper_first
+    (deeper_peek (deeper_next functional_here 4 4 at_place (deeper_first (deeper_item (deeper_peek
+    (deeper_peek (deeper_no refl (deeper_no refl (deeper_yes refl (deeper_first
     (deeper_placeable junk (within One junk 3) (mark junk left_brace 4 refl) (none_there (is_blank_place junk) 5 refl)
-    (one_inside One junk 2 5 (deeper_first (deeper_at_each (deeper_first
+    (one_inside One junk 2 5 (deeper_first (deeper_peek (deeper_first
     (deeper_placeable junk (within One junk 2) (mark junk left_brace 5 refl) (none_there (is_blank_place junk) 6 refl)
-    (one_inside One junk 1 6 (deeper_first (deeper_at_each (deeper_first
+    (one_inside One junk 1 6 (deeper_first (deeper_peek (deeper_first
     (deeper_placeable junk (within One junk 1) (mark junk left_brace 6 refl) (none_there (is_blank_place junk) 7 refl)
-    (one_inside One junk 0 7 (deeper_first (deeper_at_each (deeper_first
+    (one_inside One junk 0 7 (deeper_first (deeper_peek (deeper_first
     (deeper_placeable junk (within One junk 0) (mark junk left_brace 7 refl) (none_there (is_blank_place junk) 8 refl)
     (none_inside One junk 8))))))))))))))))))))))))))))
 
 its_entry : TooDeep (entry_in One junk (within One junk 3)) 0
 its_entry =
-    deeper_at_each (deeper_no refl (deeper_no refl
+    deeper_peek (deeper_no refl (deeper_no refl
     (deeper_next functional_here 0 0 at_place
     (deeper_next (functional_identifier junk) _ 1 (name junk 0 refl refl refl)
     (deeper_next (functional_inline_blank junk) tt 2 (passed (one_there (has junk is_space) 1 refl refl))

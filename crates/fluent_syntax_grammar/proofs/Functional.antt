@@ -29,11 +29,11 @@ pub functional_bind : {A B : Type 0} {c : Construct A} {f : A → Construct B} �
     ((a : A) → IsFunctional (f a)) → IsFunctional (c >>= f)
 functional_bind {c = c} {f = f} cf ff = record { same = bind_same c f cf ff }
 
-gives_same : {A : Type 0} (a : A) (i : ℕ) (o p : Outcome A) → yields a i o → yields a i p → o ≡ p
-gives_same a i o p given given = refl
+yields_same : {A : Type 0} (a : A) (i : ℕ) (o p : Outcome A) → yields a i o → yields a i p → o ≡ p
+yields_same a i o p given given = refl
 
-pub functional_gives : {A : Type 0} {a : A} → IsFunctional (yields a)
-functional_gives {a = a} = record { same = gives_same a }
+pub functional_yields : {A : Type 0} {a : A} → IsFunctional (yields a)
+functional_yields {a = a} = record { same = yields_same a }
 
 here_same : (i : ℕ) (o p : Outcome ℕ) → here i o → here i p → o ≡ p
 here_same i o p at_place at_place = refl
@@ -54,30 +54,30 @@ fails_from_same k from i o p failed_from failed_from = refl
 pub functional_fails_from : {A : Type 0} {k : Kind} {from : ℕ} → IsFunctional (fails_from {A = A} k from)
 functional_fails_from {k = k} {from = from} = record { same = fails_from_same k from }
 
-over_same : (W : ℕ → ℕ → Type 0) → IsSingle W → (i : ℕ) (o p : Outcome (Unit {0})) → skip W i o → skip W i p → o ≡ p
-over_same W single i o p (passed x) (passed y) = let e = single.same i _ _ x y in cc
+skip_same : (W : ℕ → ℕ → Type 0) → IsSingle W → (i : ℕ) (o p : Outcome (Unit {0})) → skip W i o → skip W i p → o ≡ p
+skip_same W single i o p (passed x) (passed y) = let e = single.same i _ _ x y in cc
 
-pub functional_over : {W : ℕ → ℕ → Type 0} → IsSingle W → IsFunctional (skip W)
-functional_over {W = W} single = record { same = over_same W single }
+pub functional_skip : {W : ℕ → ℕ → Type 0} → IsSingle W → IsFunctional (skip W)
+functional_skip {W = W} single = record { same = skip_same W single }
 
-at_each_same : {A B : Type 0} (look : ℕ → A) (part : A → Construct B) → ((a : A) → IsFunctional (part a)) →
+peek_same : {A B : Type 0} (look : ℕ → A) (part : A → Construct B) → ((a : A) → IsFunctional (part a)) →
     (i : ℕ) (o p : Outcome B) → peek look part i o → peek look part i p → o ≡ p
-at_each_same look part f i o p (chosen x) (chosen y) = (f (look i)).same i o p x y
+peek_same look part f i o p (chosen x) (chosen y) = (f (look i)).same i o p x y
 
-pub functional_at_each : {A B : Type 0} {look : ℕ → A} {part : A → Construct B} → ((a : A) → IsFunctional (part a)) →
+pub functional_peek : {A B : Type 0} {look : ℕ → A} {part : A → Construct B} → ((a : A) → IsFunctional (part a)) →
     IsFunctional (peek look part)
-functional_at_each {look = look} {part = part} f = record { same = at_each_same look part f }
+functional_peek {look = look} {part = part} f = record { same = peek_same look part f }
 
-either_same : {A : Type 0} (b : Bool) (c d : Construct A) → IsFunctional c → IsFunctional d →
+branch_on_same : {A : Type 0} (b : Bool) (c d : Construct A) → IsFunctional c → IsFunctional d →
     (i : ℕ) (o p : Outcome A) → branch_on b c d i o → branch_on b c d i p → o ≡ p
-either_same b c d cf df i o p (first e x) (first f y) = cf.same i o p x y
-either_same b c d cf df i o p (first e x) (second f y) = cc
-either_same b c d cf df i o p (second e x) (first f y) = cc
-either_same b c d cf df i o p (second e x) (second f y) = df.same i o p x y
+branch_on_same b c d cf df i o p (first e x) (first f y) = cf.same i o p x y
+branch_on_same b c d cf df i o p (first e x) (second f y) = cc
+branch_on_same b c d cf df i o p (second e x) (first f y) = cc
+branch_on_same b c d cf df i o p (second e x) (second f y) = df.same i o p x y
 
-pub functional_either : {A : Type 0} {b : Bool} {c d : Construct A} → IsFunctional c → IsFunctional d →
+pub functional_branch_on : {A : Type 0} {b : Bool} {c d : Construct A} → IsFunctional c → IsFunctional d →
     IsFunctional (branch_on b c d)
-functional_either {b = b} {c = c} {d = d} cf df = record { same = either_same b c d cf df }
+functional_branch_on {b = b} {c = c} {d = d} cf df = record { same = branch_on_same b c d cf df }
 
 module _ {A S B : Type 0} (next : S → Construct (More A S)) (add : A → B → B) (none : B)
     (f : (s : S) → IsFunctional (next s)) where
@@ -163,13 +163,13 @@ single_block {t = t} = record { same = block_same t }
 
 pub ruleset functional = (
   functional_bind,
-  functional_gives,
+  functional_yields,
   functional_here,
   functional_fails,
   functional_fails_from,
-  functional_over,
-  functional_at_each,
-  functional_either,
+  functional_skip,
+  functional_peek,
+  functional_branch_on,
   functional_many,
   single_stretch,
   single_steps,

@@ -128,10 +128,10 @@ module _ (P : ℕ → Type 0) where
 trimmed_small : (b : ℕ) → is_trimmed b ≡ true → b < 128
 trimmed_small b e = grind (arith, nat_tests)
 
-either_place : (P : ℕ → Type 0) (from : ℕ) (test : Bool) (m n : ℕ) → (test ≡ true → P (from + m)) → P (from + n) →
+branch_on_place : (P : ℕ → Type 0) (from : ℕ) (test : Bool) (m n : ℕ) → (test ≡ true → P (from + m)) → P (from + n) →
     P (from + (if test then m else n))
-either_place P from true m n f p = f refl
-either_place P from false m n f p = p
+branch_on_place P from true m n f p = f refl
+branch_on_place P from false m n f p = p
 
 module _ (t : List ℕ) (P : ℕ → Type 0) (cuts : IsCuts t P) where
   good_if : (b : Bool) (x : Item) → GoodItem P x → list_every (GoodItem P) (if b then x ∷ [] else [])
@@ -164,7 +164,7 @@ module _ (t : List ℕ) (P : ℕ → Type 0) (cuts : IsCuts t P) where
       let more =
       λ (e : test ≡ true). trimmed_place from to n l (omega arith) p
       (cuts.before (from + n) (trimmed_byte from to n l (omega arith) e)) in
-      either_place P from test (trimmed_len_below (slice_range t from to) n) (suc n) more q
+      branch_on_place P from test (trimmed_len_below (slice_range t from to) n) (suc n) more q
 
   good_end : (from to : ℕ) → from ≤ to → P from → P to → (from ≤ trimmed_end t from to) × P (trimmed_end t from to)
   good_end from to l p q =

@@ -42,23 +42,23 @@ pub holds_bind :
 holds_bind {pre = pre} {c = c} {f = f} {mid = mid} {read = read} {refused = refused} h g =
     record { on_read = bind_read pre c f mid read refused h g; on_refused = bind_refused pre c f mid read refused h g }
 
-gives_read : {A : Type 0} (pre : ℕ → Type 0) (a : A) (read : A → ℕ → Type 0) → ((i : ℕ) → pre i → read a i) →
+yields_read : {A : Type 0} (pre : ℕ → Type 0) (a : A) (read : A → ℕ → Type 0) → ((i : ℕ) → pre i → read a i) →
     (i j : ℕ) (b : A) → pre i → yields a i (Read b j) → read b j
-gives_read pre a read h i j b p given = h i p
+yields_read pre a read h i j b p given = h i p
 
-gives_refused : {A : Type 0} (a : A) (X : Type 0) (i from to : ℕ) (k : Kind) → yields a i (Refused k from to) → X
-gives_refused a X i from to k x = elim x [ ]
+yields_refused : {A : Type 0} (a : A) (X : Type 0) (i from to : ℕ) (k : Kind) → yields a i (Refused k from to) → X
+yields_refused a X i from to k x = elim x [ ]
 
 -- what was given is the value, at the same place
 pub gave : {A : Type 0} (a b : A) (i j : ℕ) → yields a i (Read b j) → (a ≡ b) × (i ≡ j)
 gave a b i j given = (refl, refl)
 
-pub holds_gives : {A : Type 0} {pre : ℕ → Type 0} {a : A} {read : A → ℕ → Type 0} {refused : Kind → ℕ → ℕ → Type 0} →
+pub holds_yields : {A : Type 0} {pre : ℕ → Type 0} {a : A} {read : A → ℕ → Type 0} {refused : Kind → ℕ → ℕ → Type 0} →
     ((i : ℕ) → pre i → read a i) → Holds pre (yields a) read refused
-holds_gives {pre = pre} {a = a} {read = read} {refused = refused} h =
+holds_yields {pre = pre} {a = a} {read = read} {refused = refused} h =
     record {
-      on_read = gives_read pre a read h;
-      on_refused = λ i from to k p x. gives_refused a (refused k from to) i from to k x;
+      on_read = yields_read pre a read h;
+      on_refused = λ i from to k p x. yields_refused a (refused k from to) i from to k x;
     }
 
 here_read : (pre : ℕ → Type 0) (read : ℕ → ℕ → Type 0) → ((i : ℕ) → pre i → read i i) → (i j a : ℕ) → pre i →
@@ -106,61 +106,61 @@ holds_fails_from {pre = pre} {k = k} {start = start} {read = read} {refused = re
       on_refused = from_refused pre k start refused h;
     }
 
-over_read : (pre : ℕ → Type 0) (W : ℕ → ℕ → Type 0) (read : Unit {0} → ℕ → Type 0) →
+skip_read : (pre : ℕ → Type 0) (W : ℕ → ℕ → Type 0) (read : Unit {0} → ℕ → Type 0) →
     ((i j : ℕ) → pre i → W i j → read tt j) → (i j : ℕ) (a : Unit {0}) → pre i → skip W i (Read a j) → read a j
-over_read pre W read h i j a p (passed w) = h i j p w
+skip_read pre W read h i j a p (passed w) = h i j p w
 
-over_refused : (W : ℕ → ℕ → Type 0) (X : Type 0) (i from to : ℕ) (k : Kind) → skip W i (Refused k from to) → X
-over_refused W X i from to k x = elim x [ ]
+skip_refused : (W : ℕ → ℕ → Type 0) (X : Type 0) (i from to : ℕ) (k : Kind) → skip W i (Refused k from to) → X
+skip_refused W X i from to k x = elim x [ ]
 
-pub holds_over :
+pub holds_skip :
     {pre : ℕ → Type 0} {W : ℕ → ℕ → Type 0} {read : Unit {0} → ℕ → Type 0} {refused : Kind → ℕ → ℕ → Type 0} →
     ((i j : ℕ) → pre i → W i j → read tt j) → Holds pre (skip W) read refused
-holds_over {pre = pre} {W = W} {read = read} {refused = refused} h =
+holds_skip {pre = pre} {W = W} {read = read} {refused = refused} h =
     record {
-      on_read = over_read pre W read h;
-      on_refused = λ i from to k p x. over_refused W (refused k from to) i from to k x;
+      on_read = skip_read pre W read h;
+      on_refused = λ i from to k p x. skip_refused W (refused k from to) i from to k x;
     }
 
 module _ {A B : Type 0} (pre : ℕ → Type 0) (look : ℕ → A) (part : A → Construct B) (read : B → ℕ → Type 0)
     (refused : Kind → ℕ → ℕ → Type 0) (h : (a : A) → Holds (λ i. pre i × (look i ≡ a)) (part a) read refused) where
-  at_each_read : (i j : ℕ) (b : B) → pre i → peek look part i (Read b j) → read b j
-  at_each_read i j b p (chosen x) = (h (look i)).on_read i j b (p, refl) x
+  peek_read : (i j : ℕ) (b : B) → pre i → peek look part i (Read b j) → read b j
+  peek_read i j b p (chosen x) = (h (look i)).on_read i j b (p, refl) x
 
-  at_each_refused : (i from to : ℕ) (k : Kind) → pre i → peek look part i (Refused k from to) → refused k from to
-  at_each_refused i from to k p (chosen x) = (h (look i)).on_refused i from to k (p, refl) x
+  peek_refused : (i from to : ℕ) (k : Kind) → pre i → peek look part i (Refused k from to) → refused k from to
+  peek_refused i from to k p (chosen x) = (h (look i)).on_refused i from to k (p, refl) x
 
 -- a part is read where it was chosen
-pub holds_at_each :
+pub holds_peek :
     {A B : Type 0} {pre : ℕ → Type 0} {look : ℕ → A} {part : A → Construct B} {read : B → ℕ → Type 0}
     {refused : Kind → ℕ → ℕ → Type 0} →
     ((a : A) → Holds (λ i. pre i × (look i ≡ a)) (part a) read refused) → Holds pre (peek look part) read refused
-holds_at_each {pre = pre} {look = look} {part = part} {read = read} {refused = refused} h =
+holds_peek {pre = pre} {look = look} {part = part} {read = read} {refused = refused} h =
     record {
-      on_read = at_each_read pre look part read refused h;
-      on_refused = at_each_refused pre look part read refused h;
+      on_read = peek_read pre look part read refused h;
+      on_refused = peek_refused pre look part read refused h;
     }
 
 module _ {A : Type 0} (pre : ℕ → Type 0) (test : Bool) (yes no : Construct A) (read : A → ℕ → Type 0)
     (refused : Kind → ℕ → ℕ → Type 0) (h : test ≡ true → Holds pre yes read refused)
     (g : test ≡ false → Holds pre no read refused) where
-  either_read : (i j : ℕ) (a : A) → pre i → branch_on test yes no i (Read a j) → read a j
-  either_read i j a p (first e x) = (h e).on_read i j a p x
-  either_read i j a p (second e x) = (g e).on_read i j a p x
+  branch_on_read : (i j : ℕ) (a : A) → pre i → branch_on test yes no i (Read a j) → read a j
+  branch_on_read i j a p (first e x) = (h e).on_read i j a p x
+  branch_on_read i j a p (second e x) = (g e).on_read i j a p x
 
-  either_refused : (i from to : ℕ) (k : Kind) → pre i → branch_on test yes no i (Refused k from to) → refused k from to
-  either_refused i from to k p (first e x) = (h e).on_refused i from to k p x
-  either_refused i from to k p (second e x) = (g e).on_refused i from to k p x
+  branch_on_refused : (i from to : ℕ) (k : Kind) → pre i → branch_on test yes no i (Refused k from to) → refused k from to
+  branch_on_refused i from to k p (first e x) = (h e).on_refused i from to k p x
+  branch_on_refused i from to k p (second e x) = (g e).on_refused i from to k p x
 
-pub holds_either :
+pub holds_branch_on :
     {A : Type 0} {pre : ℕ → Type 0} {test : Bool} {yes no : Construct A} {read : A → ℕ → Type 0}
     {refused : Kind → ℕ → ℕ → Type 0} →
     (test ≡ true → Holds pre yes read refused) → (test ≡ false → Holds pre no read refused) →
     Holds pre (branch_on test yes no) read refused
-holds_either {pre = pre} {test = test} {yes = c} {no = d} {read = read} {refused = refused} h g =
+holds_branch_on {pre = pre} {test = test} {yes = c} {no = d} {read = read} {refused = refused} h g =
     record {
-      on_read = either_read pre test c d read refused h g;
-      on_refused = either_refused pre test c d read refused h g;
+      on_read = branch_on_read pre test c d read refused h g;
+      on_refused = branch_on_refused pre test c d read refused h g;
     }
 
 module _ {A S B : Type 0} (next : S → Construct (More A S)) (add : A → B → B) (none : B) (pre : S → ℕ → Type 0)

@@ -39,22 +39,22 @@ pub included_bind : {A B : Type 0} {c d : Construct A} {f g : A → Construct B}
     ((a : A) → IsIncluded (f a) (g a)) → IsIncluded (c >>= f) (d >>= g)
 included_bind {c = c} {d = d} {f = f} {g = g} cd fg = record { part = bind_part c d f g cd fg }
 
-at_each_part : {A B : Type 0} (look : ℕ → A) (f g : A → Construct B) → ((a : A) → IsIncluded (f a) (g a)) →
+peek_part : {A B : Type 0} (look : ℕ → A) (f g : A → Construct B) → ((a : A) → IsIncluded (f a) (g a)) →
     (i : ℕ) (o : Outcome B) → peek look f i o → peek look g i o
-at_each_part look f g fg i o (chosen x) = chosen ((fg (look i)).part i o x)
+peek_part look f g fg i o (chosen x) = chosen ((fg (look i)).part i o x)
 
-pub included_at_each : {A B : Type 0} {look : ℕ → A} {f g : A → Construct B} → ((a : A) → IsIncluded (f a) (g a)) →
+pub included_peek : {A B : Type 0} {look : ℕ → A} {f g : A → Construct B} → ((a : A) → IsIncluded (f a) (g a)) →
     IsIncluded (peek look f) (peek look g)
-included_at_each {look = look} {f = f} {g = g} fg = record { part = at_each_part look f g fg }
+included_peek {look = look} {f = f} {g = g} fg = record { part = peek_part look f g fg }
 
-either_part : {A : Type 0} (b : Bool) (c c' d d' : Construct A) → IsIncluded c c' → IsIncluded d d' →
+branch_on_part : {A : Type 0} (b : Bool) (c c' d d' : Construct A) → IsIncluded c c' → IsIncluded d d' →
     (i : ℕ) (o : Outcome A) → branch_on b c d i o → branch_on b c' d' i o
-either_part b c c' d d' p q i o (first e x) = first e (p.part i o x)
-either_part b c c' d d' p q i o (second e x) = second e (q.part i o x)
+branch_on_part b c c' d d' p q i o (first e x) = first e (p.part i o x)
+branch_on_part b c c' d d' p q i o (second e x) = second e (q.part i o x)
 
-pub included_either : {A : Type 0} {b : Bool} {c c' d d' : Construct A} → IsIncluded c c' → IsIncluded d d' →
+pub included_branch_on : {A : Type 0} {b : Bool} {c c' d d' : Construct A} → IsIncluded c c' → IsIncluded d d' →
     IsIncluded (branch_on b c d) (branch_on b c' d')
-included_either {b = b} {c = c} {c' = c'} {d = d} {d' = d'} p q = record { part = either_part b c c' d d' p q }
+included_branch_on {b = b} {c = c} {c' = c'} {d = d} {d' = d'} p q = record { part = branch_on_part b c c' d d' p q }
 
 module _ {A S B : Type 0} (f g : S → Construct (More A S)) (add : A → B → B) (none : B)
     (fg : (s : S) → IsIncluded (f s) (g s)) where
@@ -69,7 +69,7 @@ pub included_many : {A S B : Type 0} {f g : S → Construct (More A S)} {add : A
 included_many {f = f} {g = g} {add = add} {none = none} {s = s} fg =
     record { part = many_part f g add none fg s }
 
-pub ruleset inclusions = (included_same, included_bind, included_at_each, included_either)
+pub ruleset inclusions = (included_same, included_bind, included_peek, included_branch_on)
 
 -- ---- the rules
 

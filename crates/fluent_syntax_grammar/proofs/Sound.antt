@@ -11,8 +11,8 @@ use Rattle.fluent_syntax_grammar.specs.Tokens.{spanned, inline_blank, blank, bla
 use Rattle.fluent_syntax_grammar.specs.Tokens.{rest_of_line}
 use Rattle.fluent_syntax_grammar.specs.Meaning.{kind_means}
 use Rattle.fluent_syntax_tree.specs.declared.spans.Span.{Span}
-use Rattle.fluent_syntax_grammar.proofs.Holds.{Holds, holds_weaker, holds_bind, holds_gives, holds_fails, holds_over}
-use Rattle.fluent_syntax_grammar.proofs.Holds.{holds_at_each, holds_either, holds_many}
+use Rattle.fluent_syntax_grammar.proofs.Holds.{Holds, holds_weaker, holds_bind, holds_yields, holds_fails, holds_skip}
+use Rattle.fluent_syntax_grammar.proofs.Holds.{holds_peek, holds_branch_on, holds_many}
 use Rattle.fluent_syntax_grammar.proofs.Cuts.{IsCuts, IsAsciiSet, ascii_space, word_place, blank_place, block_place}
 use Rattle.fluent_syntax_grammar.proofs.Cuts.{block_forward, eol_forward, eol_place, line_stop, run_stop}
 
@@ -91,8 +91,8 @@ module _ {t : List ℕ} {P : ℕ → Type 0} {s : ℕ} where
       Sound t P s c Mid → ((a : A) → Mid a → Sound t P s (f a) Good) → Sound t P s (c >>= f) Good
   sound_bind {Mid = Mid} x g = record { holds = holds_bind x.holds (λ a. known {Mid = Mid} (g a)) }
 
-  pub sound_gives : {A : Type 0} {Good : A → Type 0} {a : A} → Good a → Sound t P s (yields a) Good
-  sound_gives g = record { holds = holds_gives (λ i p. record { late = p.late; place = p.place; good = g }) }
+  pub sound_yields : {A : Type 0} {Good : A → Type 0} {a : A} → Good a → Sound t P s (yields a) Good
+  sound_yields g = record { holds = holds_yields (λ i p. record { late = p.late; place = p.place; good = g }) }
 
   pub sound_fails : {A : Type 0} {Good : A → Type 0} {k : Kind} → ((i : ℕ) → P i → i ≤ length t) → IsPlain k →
       ((i : ℕ) → kind_means t k i) → Sound t P s (fails k) Good
@@ -103,22 +103,22 @@ module _ {t : List ℕ} {P : ℕ → Type 0} {s : ℕ} where
             record { late = p.late; in_text = inside i p.place; one = refl; plain = plain; means = m i });
       }
 
-  pub sound_over : {W : ℕ → ℕ → Type 0} → IsOnward P W → Sound t P s (skip W) (λ u. Unit {0})
-  sound_over w =
+  pub sound_skip : {W : ℕ → ℕ → Type 0} → IsOnward P W → Sound t P s (skip W) (λ u. Unit {0})
+  sound_skip w =
       record {
         holds =
-            holds_over (λ i j p x. let f = w.forward i j x in let l = p.late in
+            holds_skip (λ i j p x. let f = w.forward i j x in let l = p.late in
             record { late = omega arith; place = w.place i j p.place x; good = tt });
       }
 
-  pub sound_at_each : {A B : Type 0} {Good : B → Type 0} {look : ℕ → A} {part : A → Construct B} →
+  pub sound_peek : {A B : Type 0} {Good : B → Type 0} {look : ℕ → A} {part : A → Construct B} →
       ((a : A) → Sound t P s (part a) Good) → Sound t P s (peek look part) Good
-  sound_at_each g =
-      record { holds = holds_at_each (λ a. holds_weaker (λ i p. p.0) (λ b j e. e) (λ k from to e. e) (g a).holds) }
+  sound_peek g =
+      record { holds = holds_peek (λ a. holds_weaker (λ i p. p.0) (λ b j e. e) (λ k from to e. e) (g a).holds) }
 
-  pub sound_either : {A : Type 0} {Good : A → Type 0} {test : Bool} {c d : Construct A} →
+  pub sound_branch_on : {A : Type 0} {Good : A → Type 0} {test : Bool} {c d : Construct A} →
       (test ≡ true → Sound t P s c Good) → (test ≡ false → Sound t P s d Good) → Sound t P s (branch_on test c d) Good
-  sound_either g h = record { holds = holds_either (λ e. (g e).holds) (λ e. (h e).holds) }
+  sound_branch_on g h = record { holds = holds_branch_on (λ e. (g e).holds) (λ e. (h e).holds) }
 
   -- after a place, what follows goes on from it
   pub sound_here : {B : Type 0} {Good : B → Type 0} {f : ℕ → Construct B} →
@@ -145,7 +145,7 @@ sound_many {Good = Good} h e g =
 
 -- the text from an earlier place to here
 pub sound_spanned : {t : List ℕ} {P : ℕ → Type 0} {s : ℕ} → P s → Sound t P s (spanned s) (IsSpan P)
-sound_spanned p = sound_here (λ m q. sound_gives (q.late, p, q.place))
+sound_spanned p = sound_here (λ m q. sound_yields (q.late, p, q.place))
 
 module _ (t : List ℕ) (P : ℕ → Type 0) (cuts : IsCuts t P) where
   pub onward_word : {set : ℕ → Bool} → IsAsciiSet set → IsOnward P (ByteRun t set)
@@ -165,23 +165,23 @@ module _ (t : List ℕ) (P : ℕ → Type 0) (cuts : IsCuts t P) where
   onward_run = record { forward = λ i j w. w.forward; place = λ i j p w. run_stop t P cuts i j p w }
 
   pub sound_inline_blank : {s : ℕ} → Sound t P s (inline_blank t) (λ u. Unit {0})
-  sound_inline_blank = sound_over (onward_word ascii_space)
+  sound_inline_blank = sound_skip (onward_word ascii_space)
 
   pub sound_blank : {s : ℕ} → Sound t P s (blank t) (λ u. Unit {0})
-  sound_blank = sound_over onward_blank
+  sound_blank = sound_skip onward_blank
 
   pub sound_blank_block : {s : ℕ} → Sound t P s (blank_block t) (λ u. Unit {0})
-  sound_blank_block = sound_over onward_block
+  sound_blank_block = sound_skip onward_block
 
   pub sound_rest_of_line : {s : ℕ} → Sound t P s (rest_of_line t) (IsSpan P)
-  sound_rest_of_line = sound_here (λ m q. sound_bind (sound_over onward_line) (λ u v. sound_spanned q.place))
+  sound_rest_of_line = sound_here (λ m q. sound_bind (sound_skip onward_line) (λ u v. sound_spanned q.place))
 
   past_holds : (s : ℕ) (o : Option ℕ) →
       Holds (λ i. Inside P s i × (after_eol t i ≡ o)) (past_eol o) (Ended P s (λ u. Unit {0})) (IsFault t s)
-  past_holds s None = holds_gives (λ i p. let q = p.0 in record { late = q.late; place = q.place; good = tt })
+  past_holds s None = holds_yields (λ i p. let q = p.0 in record { late = q.late; place = q.place; good = tt })
   past_holds s (Some k) =
-      holds_over (λ i j p w. let q = p.0 in let l = q.late in let f = eol_forward t i k p.1 in let e = w.there in
+      holds_skip (λ i j p w. let q = p.0 in let l = q.late in let f = eol_forward t i k p.1 in let e = w.there in
       record { late = omega arith; place = subst P (sym e) (eol_place t P cuts i k p.1); good = tt })
 
   pub sound_optional_eol : {s : ℕ} → Sound t P s (optional_eol t) (λ u. Unit {0})
-  sound_optional_eol {s = s} = record { holds = holds_at_each (past_holds s) }
+  sound_optional_eol {s = s} = record { holds = holds_peek (past_holds s) }

@@ -9,10 +9,10 @@ use Rattle.fluent_syntax_grammar.specs.Construct.{Read, Refused, chosen}
 use Rattle.fluent_syntax_grammar.specs.Comments.{hashes, comment_text, comment_rest, comment_line, comment_lines}
 use Rattle.fluent_syntax_grammar.specs.Comments.{other_level, no_comment_line, one_more, comment_of, comment_entry}
 use Rattle.fluent_syntax_tree.specs.declared.spans.Span.{Span}
-use Rattle.fluent_syntax_grammar.proofs.Holds.{Holds, holds_bind, holds_over}
+use Rattle.fluent_syntax_grammar.proofs.Holds.{Holds, holds_bind, holds_skip}
 use Rattle.fluent_syntax_grammar.proofs.Cuts.{IsCuts, ascii_byte}
-use Rattle.fluent_syntax_grammar.proofs.Sound.{IsSpan, Inside, Ended, IsFault, Sound, sound_bind, sound_gives}
-use Rattle.fluent_syntax_grammar.proofs.Sound.{sound_at_each, sound_here, sound_spanned, known, sound_rest_of_line}
+use Rattle.fluent_syntax_grammar.proofs.Sound.{IsSpan, Inside, Ended, IsFault, Sound, sound_bind, sound_yields}
+use Rattle.fluent_syntax_grammar.proofs.Sound.{sound_peek, sound_here, sound_spanned, known, sound_rest_of_line}
 use Rattle.fluent_syntax_grammar.proofs.Sound.{sound_optional_eol}
 use Rattle.fluent_syntax_grammar.proofs.SoundWords.{sound_token}
 use Rattle.fluent_syntax_tree.proofs.Every.{every-append}
@@ -44,18 +44,18 @@ module _ (t : List ℕ) (P : ℕ → Type 0) (cuts : IsCuts t P) where
   sound_text false = sound_bind (sound_token t P cuts 32 refl) (λ u v. sound_rest_of_line t P cuts)
 
   sound_rest : {s : ℕ} (b : Option ℕ) → Sound t P s (comment_rest t b) (list_every (IsSpan P))
-  sound_rest None = sound_gives tt
+  sound_rest None = sound_yields tt
   sound_rest (Some b) =
-      sound_bind (sound_at_each sound_text)
-      (λ content g. sound_bind (sound_optional_eol t P cuts) (λ u v. sound_gives (g, tt)))
+      sound_bind (sound_peek sound_text)
+      (λ content g. sound_bind (sound_optional_eol t P cuts) (λ u v. sound_yields (g, tt)))
 
   -- a comment line, from a place with that many hashes
   pub line_from : (s i level : ℕ) → s ≤ i + level → P i → hashes t i ≡ level →
       Holds (λ j. j ≡ i) (comment_line t level) (Ended P s (list_every (IsSpan P))) (IsFault t s)
   line_from s i level l p e = holds_bind {mid = λ u. Inside P s}
-      (holds_over (λ j m q w. let by = w.by in let same : i + hashes t i ≡ m = omega arith in
+      (holds_skip (λ j m q w. let by = w.by in let same : i + hashes t i ≡ m = omega arith in
       record { late = omega arith; place = subst P same (after_hashes i p) }))
-      (λ u. (sound_at_each sound_rest).holds)
+      (λ u. (sound_peek sound_rest).holds)
 
   lines_read : (s level i j : ℕ) (rest : List Span) → Inside P s i → comment_lines t level i (Read rest j) →
       Ended P s (list_every (IsSpan P)) rest j
@@ -84,7 +84,7 @@ module _ (t : List ℕ) (P : ℕ → Type 0) (cuts : IsCuts t P) where
       Holds (λ j. j ≡ i) (comment_of t level) (Ended P (i + level) (entry_every (IsSpan P))) (IsFault t (i + level))
   comment_from i level p e = holds_bind (line_from (i + level) i level (omega arith) p e) (λ content.
       known {Mid = list_every (IsSpan P)}
-      (λ g. sound_bind (sound_lines level) (λ rest k. sound_gives (every-append (IsSpan P) content rest g k))))
+      (λ g. sound_bind (sound_lines level) (λ rest k. sound_yields (every-append (IsSpan P) content rest g k))))
 
   pub comment_read : (i j : ℕ) (a : EntryTree Span) → P i → has_byte t 35 i ≡ true → comment_entry t i (Read a j) →
       Ended P (i + 1) (entry_every (IsSpan P)) a j

@@ -19,10 +19,10 @@ use Rattle.fluent_syntax_grammar.specs.Meaning.{kind_means}
 use Rattle.fluent_syntax_grammar.specs.Tiling.{failing_place}
 use Rattle.fluent_syntax_tree.specs.declared.edition.Edition.{Edition}
 use Rattle.fluent_syntax_tree.specs.declared.spans.Span.{Span}
-use Rattle.fluent_syntax_grammar.proofs.Holds.{Holds, holds_weaker, holds_bind, holds_gives, holds_fails}
-use Rattle.fluent_syntax_grammar.proofs.Holds.{holds_fails_from, holds_over, holds_at_each, holds_either}
+use Rattle.fluent_syntax_grammar.proofs.Holds.{Holds, holds_weaker, holds_bind, holds_yields, holds_fails}
+use Rattle.fluent_syntax_grammar.proofs.Holds.{holds_fails_from, holds_skip, holds_peek, holds_branch_on}
 use Rattle.fluent_syntax_grammar.proofs.Cuts.{IsCuts, word_place, ascii_name, ascii_byte}
-use Rattle.fluent_syntax_grammar.proofs.Sound.{IsSpan, IsPlain, Inside, Ended, IsFault, Sound, sound_bind, sound_gives}
+use Rattle.fluent_syntax_grammar.proofs.Sound.{IsSpan, IsPlain, Inside, Ended, IsFault, Sound, sound_bind, sound_yields}
 use Rattle.fluent_syntax_grammar.proofs.Sound.{sound_fails, sound_inline_blank, sound_blank_block}
 use Rattle.fluent_syntax_grammar.proofs.SoundWords.{sound_token, sound_identifier}
 use Rattle.fluent_syntax_grammar.proofs.SoundLines as lines
@@ -79,8 +79,8 @@ module _ {t : List ℕ} {P : ℕ → Type 0} {i s : ℕ} where
             (λ a. known_entry {Mid = Mid} (g a));
       }
 
-  pub entry_gives : {A : Type 0} {Good : A → Type 0} {a : A} → Good a → SoundEntry t P i s (yields a) Good
-  entry_gives g = record { holds = holds_gives (λ i p. record { late = p.late; place = p.place; good = g }) }
+  pub entry_yields : {A : Type 0} {Good : A → Type 0} {a : A} → Good a → SoundEntry t P i s (yields a) Good
+  entry_yields g = record { holds = holds_yields (λ i p. record { late = p.late; place = p.place; good = g }) }
 
 module _ (edition : Edition) (t : List ℕ) (P : ℕ → Type 0) (cuts : IsCuts t P) where
   pub sound_pattern : {s : ℕ} → Sound t P s (pattern edition t) (option_every (pattern_every (IsSpan P)))
@@ -89,7 +89,7 @@ module _ (edition : Edition) (t : List ℕ) (P : ℕ → Type 0) (cuts : IsCuts 
   sound_with : {s : ℕ} (id : Span) (value : Option (PatternTree Span)) → IsSpan P id →
       option_every (pattern_every (IsSpan P)) value → Sound t P s (attribute_with id value) (attribute_every (IsSpan P))
   sound_with id None g k = sound_fails cuts.in_text tt (λ i. tt)
-  sound_with id (Some value) g k = sound_gives (g, k)
+  sound_with id (Some value) g k = sound_yields (g, k)
 
   pub sound_attribute : {s : ℕ} → Sound t P s (attribute edition t) (attribute_every (IsSpan P))
   sound_attribute =
@@ -133,8 +133,8 @@ module _ (edition : Edition) (t : List ℕ) (P : ℕ → Type 0) (cuts : IsCuts 
             (λ j p. let late = p.late in let inside = cuts.in_text j p.place in
             record { late = omega arith; ordered = omega arith; onward = late; in_text = inside; means = tt });
       }
-  sound_message_with i id None (a ∷ rest) f g k = entry_gives (f, tt, k, tt)
-  sound_message_with i id (Some value) rest f g k = entry_gives (f, g, k, tt)
+  sound_message_with i id None (a ∷ rest) f g k = entry_yields (f, tt, k, tt)
+  sound_message_with i id (Some value) rest f g k = entry_yields (f, g, k, tt)
 
   sound_term_with : (i : ℕ) (id : Span) (value : Option (PatternTree Span)) (rest : List (AttributeTree Span)) →
       IsSpan P id → option_every (pattern_every (IsSpan P)) value → list_every (attribute_every (IsSpan P)) rest →
@@ -146,7 +146,7 @@ module _ (edition : Edition) (t : List ℕ) (P : ℕ → Type 0) (cuts : IsCuts 
             (λ j p. let late = p.late in let inside = cuts.in_text j p.place in
             record { late = omega arith; ordered = omega arith; onward = late; in_text = inside; means = tt });
       }
-  sound_term_with i id (Some value) rest f g k = entry_gives (f, g, k, tt)
+  sound_term_with i id (Some value) rest f g k = entry_yields (f, g, k, tt)
 
   abbrev AfterName : ℕ → Span →
       (Span → Option (PatternTree Span) → List (AttributeTree Span) → Construct (EntryTree Span)) →
@@ -181,14 +181,14 @@ name_goes_on t i j e w =
     elim split [ inl l ↦ l | inr same ↦ differs (subst (λ k. has t is_name_byte k ≡ true) same there) w.longest ]
 
 module _ (t : List ℕ) (P : ℕ → Type 0) (cuts : IsCuts t P) where
-  pub name_read : (i j : ℕ) (a : Span) → P i → identifier t i (Read a j) → Ended P (i + 1) (IsSpan P) a j
-  name_read i j a p
+  pub identifier_advances : (i j : ℕ) (a : Span) → P i → identifier t i (Read a j) → Ended P (i + 1) (IsSpan P) a j
+  identifier_advances i j a p
       (goes_on at_place (goes_on (chosen given) (first e (goes_on (passed w) (goes_on at_place given))))) =
       let forward = w.forward in
       let place = word_place t P cuts is_name_byte ascii_name i j p w in
       let on = name_goes_on t i j e w in
       record { late = omega arith; place = place; good = (forward, p, place) }
-  name_read i j a p (goes_on at_place (goes_on (chosen given) (second e x))) = elim x [ ]
+  identifier_advances i j a p (goes_on at_place (goes_on (chosen given) (second e x))) = elim x [ ]
 
   name_refused : (i from to : ℕ) (k : Kind) → has t is_letter i ≡ true → identifier t i (Refused k from to) → ⊥
   name_refused i from to k e (stops x) = elim x [ ]
@@ -201,7 +201,7 @@ module _ (t : List ℕ) (P : ℕ → Type 0) (cuts : IsCuts t P) where
   name_refused i from to k e (goes_on at_place (goes_on (chosen given) (second f x))) = differs e f
 
   at_name : (i j : ℕ) (a : Span) → P i → j ≡ i → (m : ℕ) → identifier t j (Read a m) → Ended P (i + 1) (IsSpan P) a m
-  at_name i j a p e m x = name_read i m a p (subst (λ j. identifier t j (Read a m)) e x)
+  at_name i j a p e m x = identifier_advances i m a p (subst (λ j. identifier t j (Read a m)) e x)
 
   -- a name that begins at i, or none
   name_holds : (i : ℕ) → P i → Holds (λ j. j ≡ i) (identifier t) (Ended P (i + 1) (IsSpan P)) (IsEntryFault t i i)
@@ -225,13 +225,13 @@ module _ (t : List ℕ) (P : ℕ → Type 0) (cuts : IsCuts t P) where
   token_there : (b i : ℕ) → b < 128 → has_byte t b i ≡ true → (F : Kind → ℕ → ℕ → Type 0) →
       Holds (λ j. j ≡ i) (token t b) (λ u. Inside P (i + 1)) F
   token_there b i l h F = holds_bind {mid = λ found j. (found ≡ true) × Inside P (i + 1) j}
-      (holds_at_each (λ found. holds_either
+      (holds_peek (λ found. holds_branch_on
       (λ e. holds_bind {mid = λ u. Inside P (i + 1)}
-      (holds_over (λ j m p w. let e = p.0 in let by = w.by in let same : i + 1 ≡ m = omega arith in
+      (holds_skip (λ j m p w. let e = p.0 in let by = w.by in let same : i + 1 ≡ m = omega arith in
       record { late = omega arith; place = subst P same (cuts.after i (ascii_byte t b i l h)) }))
-      (λ u. holds_gives (λ j p. (refl, p))))
-      (λ e. holds_gives (λ j p. differs (subst (λ j. has_byte t b j ≡ true) (sym p.0) h) (p.1 ∙ e)))))
-      (λ found. holds_either (λ e. holds_gives (λ j p. p.1)) (λ e. holds_fails (λ j p. differs p.0 e)))
+      (λ u. holds_yields (λ j p. (refl, p))))
+      (λ e. holds_yields (λ j p. differs (subst (λ j. has_byte t b j ≡ true) (sym p.0) h) (p.1 ∙ e)))))
+      (λ found. holds_branch_on (λ e. holds_yields (λ j p. p.1)) (λ e. holds_fails (λ j p. differs p.0 e)))
 
 module _ (edition : Edition) (t : List ℕ) (P : ℕ → Type 0) (cuts : IsCuts t P) where
   abbrev IsGood : EntryTree Span → Type 0

@@ -24,12 +24,12 @@ use Rattle.fluent_syntax_grammar.specs.Variants.{variant_of, variant_after, next
 use Rattle.fluent_syntax_grammar.specs.Grammar.{next, within, family}
 use Rattle.fluent_syntax_tree.specs.declared.edition.Edition.{Edition}
 use Rattle.fluent_syntax_tree.specs.declared.spans.Span.{Span}
-use Rattle.fluent_syntax_grammar.proofs.Holds.{Holds, gave, holds_weaker, holds_bind, holds_gives, holds_fails}
-use Rattle.fluent_syntax_grammar.proofs.Holds.{holds_over, holds_at_each, holds_either}
+use Rattle.fluent_syntax_grammar.proofs.Holds.{Holds, gave, holds_weaker, holds_bind, holds_yields, holds_fails}
+use Rattle.fluent_syntax_grammar.proofs.Holds.{holds_skip, holds_peek, holds_branch_on}
 use Rattle.fluent_syntax_grammar.proofs.Cuts.{IsCuts, ascii_byte, ascii_has, ascii_space, eol_cases, eol_forward}
 use Rattle.fluent_syntax_grammar.proofs.Cuts.{eol_place, stretch_places, word_place}
 use Rattle.fluent_syntax_grammar.proofs.Sound.{IsSpan, Inside, Ended, IsFault, Sound, weaker_fault, sound_bind}
-use Rattle.fluent_syntax_grammar.proofs.Sound.{sound_gives, sound_fails, sound_either, sound_here, known, IsPlain}
+use Rattle.fluent_syntax_grammar.proofs.Sound.{sound_yields, sound_fails, sound_branch_on, sound_here, known, IsPlain}
 use Rattle.fluent_syntax_grammar.proofs.Sound.{good_more, sound_many}
 use Rattle.fluent_syntax_grammar.proofs.Sound.{sound_inline_blank, sound_blank, sound_blank_block, onward_run}
 use Rattle.fluent_syntax_grammar.proofs.SoundWords.{sound_optional, sound_token}
@@ -131,10 +131,10 @@ module _ (t : List ℕ) (P : ℕ → Type 0) (cuts : IsCuts t P) (R : Family) (h
 
   piece_holds : (s : ℕ) (o : Option ℕ) →
       Holds (λ i. Inside P s i × (slice_get t i ≡ o)) (next_piece_at t R o) (EndedPiece s) (IsFault t s)
-  piece_holds s None = holds_gives (λ i p. p.0)
-  piece_holds s (Some b) = holds_at_each (λ eol. holds_either
-      (λ e. holds_gives (λ i p. p.0.0))
-      (λ e. holds_either
+  piece_holds s None = holds_yields (λ i p. p.0)
+  piece_holds s (Some b) = holds_peek (λ eol. holds_branch_on
+      (λ e. holds_yields (λ i p. p.0.0))
+      (λ e. holds_branch_on
       (λ f. holds_fails
       (λ i p. let q = p.0.0 in
       record {
@@ -144,17 +144,17 @@ module _ (t : List ℕ) (P : ℕ → Type 0) (cuts : IsCuts t P) (R : Family) (h
         plain = tt;
         means = byte_holds (λ c. c == 125) (slice_get t i) b p.0.1 f;
       }))
-      (λ f. holds_either
+      (λ f. holds_branch_on
       (λ g. holds_bind {mid = Ended P s (expression_every (IsSpan P))}
       (holds_weaker {pre = Inside P s} (λ i p. p.0.0) (λ a j x. x) (λ k from to x. x)
       (sound_placeable t P cuts R h).holds)
-      (λ x. holds_gives (λ i p. (record { late = p.late; place = p.place }, p.good))))
+      (λ x. holds_yields (λ i p. (record { late = p.late; place = p.place }, p.good))))
       (λ g. holds_bind
       (holds_weaker {pre = Inside P s} (λ i p. p.0.0) (λ a j x. x) (λ k from to x. x) (run_holds s))
-      (λ x. holds_gives (λ i p. p))))))
+      (λ x. holds_yields (λ i p. p))))))
 
   next_piece_holds : (s : ℕ) → Holds (Inside P s) (next_piece t R) (EndedPiece s) (IsFault t s)
-  next_piece_holds s = holds_at_each (piece_holds s)
+  next_piece_holds s = holds_peek (piece_holds s)
 
   pieces_read : (u : Unit {0}) (s i j : ℕ) (ps : List Piece) → Inside P s i →
       many (λ u. next_piece t R) (λ p ps. p ∷ ps) [] u i (Read ps j) → EndedPieces P s ps j
@@ -233,7 +233,7 @@ module _ (t : List ℕ) (P : ℕ → Type 0) (cuts : IsCuts t P) (R : Family) (h
   sound_line {s = s} = record { holds = record { on_read = line_read s; on_refused = line_refused s } }
 
   sound_own : {s : ℕ} → Sound t P s (line t R >>= λ l. yields (item l tt)) (good_more {S = Unit {0}} (GoodLine P))
-  sound_own = sound_bind sound_line (λ l g. sound_gives g)
+  sound_own = sound_bind sound_line (λ l g. sound_yields g)
 
   next_line_read : (s i j : ℕ) (l : More Line (Unit {0})) → Inside P s i → next_line t R i (Read l j) →
       Ended P s (good_more (GoodLine P)) l j
@@ -284,29 +284,29 @@ module _ (t : List ℕ) (P : ℕ → Type 0) (cuts : IsCuts t P) (R : Family) (h
       (sound_here (λ m q. record {
         holds = holds_bind (sound_pieces m) (λ ps. holds_bind (after_pieces m ps q.place) (λ e.
             known {Mid = λ e. GoodLine P (Opening m ps e)}
-            (λ g. sound_bind sound_lines (λ ls k. sound_gives (record { opening = g; lines = k })))));
+            (λ g. sound_bind sound_lines (λ ls k. sound_yields (record { opening = g; lines = k })))));
       })).holds
   layout_holds s (Some k) = holds_bind {mid = λ u. Inside P s}
-      (holds_over (λ i j p w. let q = p.0 in let late = q.late in let there = w.there in
+      (holds_skip (λ i j p w. let q = p.0 in let late = q.late in let there = w.there in
       let f = eol_forward t i k p.1 in
       record { late = omega arith; place = subst P (sym there) (eol_place t P cuts i k p.1) }))
       (λ u. (sound_bind (sound_blank_block t P cuts)
-      (λ u v. sound_bind sound_lines (λ ls g. sound_gives (record { opening = tt; lines = g })))).holds)
+      (λ u v. sound_bind sound_lines (λ ls g. sound_yields (record { opening = tt; lines = g })))).holds)
 
   pub sound_layout : {s : ℕ} → Sound t P s (layout t R) (GoodLayout P)
   sound_layout {s = s} =
-      sound_bind (sound_inline_blank t P cuts) (λ u v. record { holds = holds_at_each (layout_holds s) })
+      sound_bind (sound_inline_blank t P cuts) (λ u v. record { holds = holds_peek (layout_holds s) })
 
 module _ (edition : Edition) (t : List ℕ) (P : ℕ → Type 0) (cuts : IsCuts t P) (R : Family) (h : IsSoundFamily t P R)
   where
     pub sound_pattern : {s : ℕ} → Sound t P s (pattern edition t R) (option_every (pattern_every (IsSpan P)))
-    sound_pattern = sound_bind (sound_layout t P cuts R h) (λ y g. sound_gives (good_pattern t P cuts edition y g))
+    sound_pattern = sound_bind (sound_layout t P cuts R h) (λ y g. sound_yields (good_pattern t P cuts edition y g))
 
     sound_variant_of : {s : ℕ} (starred star : Bool) (key : KeyTree Span) (p : Option (PatternTree Span)) →
         key_every (IsSpan P) key → option_every (pattern_every (IsSpan P)) p →
         Sound t P s (variant_of t starred star key p) (good_more (variant_every (IsSpan P)))
     sound_variant_of starred star key None g k = sound_fails cuts.in_text tt (λ i. tt)
-    sound_variant_of starred star key (Some p) g k = sound_bind (sound_blank t P cuts) (λ u v. sound_gives (g, k))
+    sound_variant_of starred star key (Some p) g k = sound_bind (sound_blank t P cuts) (λ u v. sound_yields (g, k))
 
     sound_after : {s : ℕ} (starred star : Bool) →
         Sound t P s (variant_after edition t R starred star) (good_more (variant_every (IsSpan P)))
@@ -321,7 +321,7 @@ module _ (edition : Edition) (t : List ℕ) (P : ℕ → Type 0) (cuts : IsCuts 
     sound_next_variant starred =
         sound_bind (sound_optional t P cuts 42 refl) (λ star u. sound_bind (sound_only t P cuts starred star) (λ u v.
         sound_bind (sound_optional t P cuts 91 refl)
-        (λ bracket u. sound_either (λ e. sound_after starred star) (λ e. sound_end t P cuts edition starred star))))
+        (λ bracket u. sound_branch_on (λ e. sound_after starred star) (λ e. sound_end t P cuts edition starred star))))
 
     pub sound_variants : {s : ℕ} (starred : Bool) →
         Sound t P s (more_variants edition t R starred) (variants_every (IsSpan P))
@@ -330,7 +330,7 @@ module _ (edition : Edition) (t : List ℕ) (P : ℕ → Type 0) (cuts : IsCuts 
     variants_holds : (s : ℕ) →
         Holds (AtArrow t P cuts s true) (variants_of_select edition t R) (Ended P s (variants_every (IsSpan P)))
         (IsFault t s)
-    variants_holds s = holds_bind {mid = λ u. Inside P s} (holds_over (after_arrow t P cuts s))
+    variants_holds s = holds_bind {mid = λ u. Inside P s} (holds_skip (after_arrow t P cuts s))
         (λ u. (sound_bind (sound_inline_blank t P cuts)
         (λ u v. sound_bind (sound_arrow t P cuts)
         (λ u v. sound_bind (sound_blank t P cuts) (λ u v. sound_variants false)))).holds)
@@ -341,7 +341,7 @@ module _ (edition : Edition) (t : List ℕ) (P : ℕ → Type 0) (cuts : IsCuts 
         (IsFault t s)
     select_holds s e g None m =
         holds_bind (variants_holds s)
-        (λ vs. holds_gives (λ i p. record { late = p.late; place = p.place; good = (g, p.good) }))
+        (λ vs. holds_yields (λ i p. record { late = p.late; place = p.place; good = (g, p.good) }))
     select_holds s e g (Some k) m =
         holds_fails (λ i p. let q = p.0 in let n = m k refl i in
         record { late = q.late; in_text = cuts.in_text i q.place; one = refl; plain = n.0; means = n.1 })
@@ -351,17 +351,17 @@ module _ (edition : Edition) (t : List ℕ) (P : ℕ → Type 0) (cuts : IsCuts 
         (branch_on arrow (select_with edition t R e (selector_fault e))
         (branch_on (is_term_attribute e) (fails TermAttributeAsPlaceable) (yields (inline e))))
         (Ended P s (expression_every (IsSpan P))) (IsFault t s)
-    after_blank s e g arrow = holds_either
+    after_blank s e g arrow = holds_branch_on
         (λ y. holds_weaker (λ i p. (p.0, p.1 ∙ y)) (λ a j x. x) (λ k from to x. x)
         (select_holds s e g (selector_fault e) (plain_fault t e)))
         (λ y. holds_weaker {pre = Inside P s} (λ i p. p.0) (λ a j x. x) (λ k from to x. x)
-        (sound_either (λ z. sound_fails cuts.in_text tt (λ i. tt)) (λ z. sound_gives g)).holds)
+        (sound_branch_on (λ z. sound_fails cuts.in_text tt (λ i. tt)) (λ z. sound_yields g)).holds)
 
     pub sound_expression : {s : ℕ} → Sound t P s (expression edition t R) (expression_every (IsSpan P))
     sound_expression {s = s} = sound_bind (sound_inline t P cuts R h) (λ e g. sound_bind (sound_blank t P cuts) (λ u v.
         record {
           holds =
-              holds_bind {mid = AtArrow t P cuts s} (holds_at_each (λ a. holds_gives (λ i p. p)))
+              holds_bind {mid = AtArrow t P cuts s} (holds_peek (λ a. holds_yields (λ i p. p)))
               (λ arrow. after_blank s e g arrow);
         }))
 

@@ -22,11 +22,11 @@ use Rattle.fluent_syntax_grammar.specs.Inline.{named_reference, inline_of, inlin
 use Rattle.fluent_syntax_grammar.specs.Variants.{variant_key, only_star, variants_end}
 use Rattle.fluent_syntax_tree.specs.declared.edition.Edition.{Edition}
 use Rattle.fluent_syntax_tree.specs.declared.spans.Span.{Span}
-use Rattle.fluent_syntax_grammar.proofs.Holds.{Holds, holds_weaker, holds_fails, holds_over}
-use Rattle.fluent_syntax_grammar.proofs.Holds.{holds_at_each}
+use Rattle.fluent_syntax_grammar.proofs.Holds.{Holds, holds_weaker, holds_fails, holds_skip}
+use Rattle.fluent_syntax_grammar.proofs.Holds.{holds_peek}
 use Rattle.fluent_syntax_grammar.proofs.Cuts.{IsCuts, ascii_byte, eol_forward, eol_place}
-use Rattle.fluent_syntax_grammar.proofs.Sound.{IsSpan, IsPlain, Inside, Ended, IsFault, Sound, sound_bind, sound_gives}
-use Rattle.fluent_syntax_grammar.proofs.Sound.{sound_fails, sound_at_each, sound_either, sound_inline_blank}
+use Rattle.fluent_syntax_grammar.proofs.Sound.{IsSpan, IsPlain, Inside, Ended, IsFault, Sound, sound_bind, sound_yields}
+use Rattle.fluent_syntax_grammar.proofs.Sound.{sound_fails, sound_peek, sound_branch_on, sound_inline_blank}
 use Rattle.fluent_syntax_grammar.proofs.Sound.{sound_blank, good_more, sound_many}
 use Rattle.fluent_syntax_grammar.proofs.SoundWords.{sound_optional, sound_token, sound_identifier, sound_number}
 use Rattle.fluent_syntax_grammar.proofs.SoundStrings.{sound_string}
@@ -38,14 +38,14 @@ pub record IsSoundFamily (t : List ℕ) (P : ℕ → Type 0) (R : Family) : Type
 
 sound_look : {A : Type 0} {t : List ℕ} {P : ℕ → Type 0} {s : ℕ} {look : ℕ → A} →
     Sound t P s (peek look yields) (λ a. Unit {0})
-sound_look = sound_at_each (λ a. sound_gives tt)
+sound_look = sound_peek (λ a. sound_yields tt)
 
 module _ (t : List ℕ) (P : ℕ → Type 0) (cuts : IsCuts t P) where
   pub sound_accessor : {s : ℕ} → Sound t P s (accessor t) (option_every (IsSpan P))
   sound_accessor =
       sound_bind (sound_optional t P cuts 46 refl)
-      (λ dot u. sound_either (λ e. sound_bind (sound_identifier t P cuts) (λ a g. sound_gives g))
-      (λ e. sound_gives tt))
+      (λ dot u. sound_branch_on (λ e. sound_bind (sound_identifier t P cuts) (λ a g. sound_yields g))
+      (λ e. sound_yields tt))
 
   pub sound_separator : {s : ℕ} → Sound t P s (separator t) (λ u. Unit {0})
   sound_separator =
@@ -54,22 +54,22 @@ module _ (t : List ℕ) (P : ℕ → Type 0) (cuts : IsCuts t P) where
 
   pub sound_named : {s : ℕ} (id : Span) (a : MaybeArguments Span) → IsSpan P id → maybe_every (IsSpan P) a →
       Sound t P s (named_reference t id a) (inline_every (IsSpan P))
-  sound_named id no_arguments g h = sound_bind sound_accessor (λ a k. sound_gives (g, k))
+  sound_named id no_arguments g h = sound_bind sound_accessor (λ a k. sound_yields (g, k))
   sound_named id (some_arguments a) g h =
-      sound_either (λ e. sound_gives (g, h)) (λ e. sound_fails cuts.in_text tt (λ i. tt))
+      sound_branch_on (λ e. sound_yields (g, h)) (λ e. sound_fails cuts.in_text tt (λ i. tt))
 
   pub sound_key : {s : ℕ} → Sound t P s (variant_key t) (key_every (IsSpan P))
   sound_key =
-      sound_at_each
-      (λ n. sound_either (λ e. sound_bind (sound_number t P cuts) (λ v g. sound_gives g))
-      (λ e. sound_bind (sound_identifier t P cuts) (λ v g. sound_gives g)))
+      sound_peek
+      (λ n. sound_branch_on (λ e. sound_bind (sound_number t P cuts) (λ v g. sound_yields g))
+      (λ e. sound_bind (sound_identifier t P cuts) (λ v g. sound_yields g)))
 
   pub sound_only : {s : ℕ} (starred star : Bool) → Sound t P s (only_star starred star) (λ u. Unit {0})
-  sound_only starred star = sound_either (λ e. sound_fails cuts.in_text tt (λ i. tt)) (λ e. sound_gives tt)
+  sound_only starred star = sound_branch_on (λ e. sound_fails cuts.in_text tt (λ i. tt)) (λ e. sound_yields tt)
 
   pub sound_end : {s : ℕ} (edition : Edition) (starred star : Bool) →
       Sound t P s (variants_end edition starred star) (good_more (variant_every (IsSpan P)))
-  sound_end edition starred star = sound_either (λ e. sound_gives tt) (λ e. sound_fails cuts.in_text tt (λ i. tt))
+  sound_end edition starred star = sound_branch_on (λ e. sound_yields tt) (λ e. sound_fails cuts.in_text tt (λ i. tt))
 
 -- the parts of an argument are good
 abbrev pub good_argument : (ℕ → Type 0) → Argument → Type 0
@@ -116,11 +116,11 @@ module _ (t : List ℕ) (P : ℕ → Type 0) (cuts : IsCuts t P) where
       holds_fails (λ i p. let q = p.0 in
       record { late = q.late; in_text = cuts.in_text i q.place; one = refl; plain = tt; means = tt })
   arrow_holds s (Some k) =
-      holds_over (λ i j p w. let q = p.0 in let l = q.late in let f = eol_forward t i k p.1 in let e = w.there in
+      holds_skip (λ i j p w. let q = p.0 in let l = q.late in let f = eol_forward t i k p.1 in let e = w.there in
       record { late = omega arith; place = subst P (sym e) (eol_place t P cuts i k p.1); good = tt })
 
   pub sound_arrow : {s : ℕ} → Sound t P s (peek (after_eol t) arrow_line_end) (λ u. Unit {0})
-  sound_arrow {s = s} = record { holds = holds_at_each (arrow_holds s) }
+  sound_arrow {s = s} = record { holds = holds_peek (arrow_holds s) }
 
   abbrev pub AtArrow : ℕ → Bool → ℕ → Type 0
   AtArrow s arrow i = Inside P s i × (has_arrow t i ≡ arrow)
@@ -141,34 +141,34 @@ module _ (t : List ℕ) (P : ℕ → Type 0) (cuts : IsCuts t P) where
 module _ (t : List ℕ) (P : ℕ → Type 0) (cuts : IsCuts t P) (R : Family) (h : IsSoundFamily t P R) where
   pub sound_call : {s : ℕ} → Sound t P s (call_arguments t R) (maybe_every (IsSpan P))
   sound_call {s = s} =
-      sound_bind (sound_blank t P cuts) (λ u v. sound_bind (sound_optional t P cuts 40 refl) (λ bracket u. sound_either
-      (λ e. sound_bind (sound_bind (sound_blank t P cuts) (λ u v. h.argument_list s)) (λ a g. sound_gives g))
-      (λ e. sound_gives tt)))
+      sound_bind (sound_blank t P cuts) (λ u v. sound_bind (sound_optional t P cuts 40 refl) (λ bracket u. sound_branch_on
+      (λ e. sound_bind (sound_bind (sound_blank t P cuts) (λ u v. h.argument_list s)) (λ a g. sound_yields g))
+      (λ e. sound_yields tt)))
 
   pub sound_placeable : {s : ℕ} → Sound t P s (placeable t R) (expression_every (IsSpan P))
   sound_placeable =
       sound_bind (sound_token t P cuts 123 refl)
       (λ u v. sound_bind (sound_blank t P cuts) (λ u v. sound_bind (h.expression _) (λ e g.
       sound_bind (sound_inline_blank t P cuts)
-      (λ u v. sound_bind (sound_token t P cuts 125 refl) (λ u v. sound_gives g)))))
+      (λ u v. sound_bind (sound_token t P cuts 125 refl) (λ u v. sound_yields g)))))
 
   sound_inline_of : {s : ℕ} (x : Start) → Sound t P s (inline_of t R x) (inline_every (IsSpan P))
-  sound_inline_of quote = sound_bind (sound_string t P cuts) (λ v g. sound_gives g)
-  sound_inline_of digit = sound_bind (sound_number t P cuts) (λ v g. sound_gives g)
-  sound_inline_of minus = sound_bind (sound_number t P cuts) (λ v g. sound_gives g)
+  sound_inline_of quote = sound_bind (sound_string t P cuts) (λ v g. sound_yields g)
+  sound_inline_of digit = sound_bind (sound_number t P cuts) (λ v g. sound_yields g)
+  sound_inline_of minus = sound_bind (sound_number t P cuts) (λ v g. sound_yields g)
   sound_inline_of term =
       sound_bind (sound_token t P cuts 45 refl)
       (λ u v. sound_bind (sound_identifier t P cuts) (λ id g. sound_bind (sound_accessor t P cuts) (λ a k.
-      sound_bind sound_call (λ c m. sound_gives (g, k, m)))))
+      sound_bind sound_call (λ c m. sound_yields (g, k, m)))))
   sound_inline_of dollar =
-      sound_bind (sound_token t P cuts 36 refl) (λ u v. sound_bind (sound_identifier t P cuts) (λ id g. sound_gives g))
+      sound_bind (sound_token t P cuts 36 refl) (λ u v. sound_bind (sound_identifier t P cuts) (λ id g. sound_yields g))
   sound_inline_of letter =
       sound_bind (sound_identifier t P cuts) (λ id g. sound_bind sound_call (λ a k. sound_named t P cuts id a g k))
-  sound_inline_of brace = sound_bind sound_placeable (λ e g. sound_gives g)
+  sound_inline_of brace = sound_bind sound_placeable (λ e g. sound_yields g)
   sound_inline_of other = sound_fails cuts.in_text tt (λ i. tt)
 
   pub sound_inline : {s : ℕ} → Sound t P s (inline_expression t R) (inline_every (IsSpan P))
-  sound_inline = sound_at_each sound_inline_of
+  sound_inline = sound_peek sound_inline_of
 
   sound_value : {s : ℕ} (x : Start) → Sound t P s (argument_value t R x) (inline_every (IsSpan P))
   sound_value quote = sound_inline
@@ -182,14 +182,14 @@ module _ (t : List ℕ) (P : ℕ → Type 0) (cuts : IsCuts t P) (R : Family) (h
 
   sound_named_rest : {s : ℕ} (names : List (List ℕ)) (name : Span) → IsSpan P name →
       Sound t P s (named_rest t R names name) (good_more (good_argument P))
-  sound_named_rest names name f = sound_either (λ e. sound_fails cuts.in_text tt (λ i. tt))
+  sound_named_rest names name f = sound_branch_on (λ e. sound_fails cuts.in_text tt (λ i. tt))
       (λ y. sound_bind (sound_token t P cuts 58 refl)
-      (λ u v. sound_bind (sound_blank t P cuts) (λ u v. sound_bind (sound_at_each sound_value) (λ e g.
-      sound_bind (sound_separator t P cuts) (λ u v. sound_gives (f, g))))))
+      (λ u v. sound_bind (sound_blank t P cuts) (λ u v. sound_bind (sound_peek sound_value) (λ e g.
+      sound_bind (sound_separator t P cuts) (λ u v. sound_yields (f, g))))))
 
   sound_positional_rest : {s : ℕ} (names : List (List ℕ)) (e : InlineTree Span) → inline_every (IsSpan P) e →
       Sound t P s (positional_rest t names e) (good_more (good_argument P))
-  sound_positional_rest [] e g = sound_bind (sound_separator t P cuts) (λ u v. sound_gives g)
+  sound_positional_rest [] e g = sound_bind (sound_separator t P cuts) (λ u v. sound_yields g)
   sound_positional_rest (n ∷ ns) e g = sound_fails cuts.in_text tt (λ i. tt)
 
   sound_argument_rest : {s : ℕ} (names : List (List ℕ)) (e : InlineTree Span) (o : Option Span) (colon : Bool) →
@@ -212,7 +212,7 @@ module _ (t : List ℕ) (P : ℕ → Type 0) (cuts : IsCuts t P) (R : Family) (h
         means = none_holds (λ c. c == 41) (slice_get t i) p.1;
       })
   argument_holds s names (Some b) = holds_weaker {pre = Inside P s} (λ i p. p.0) (λ a j x. x) (λ k from to x. x)
-      (sound_either (λ e. sound_bind (sound_token t P cuts 41 refl) (λ u v. sound_gives tt))
+      (sound_branch_on (λ e. sound_bind (sound_token t P cuts 41 refl) (λ u v. sound_yields tt))
       (λ e. sound_bind sound_inline
       (λ e g. sound_bind sound_look
       (λ colon u. sound_argument_rest names e (argument_name e) colon g (good_name P e g))))).holds
@@ -220,4 +220,4 @@ module _ (t : List ℕ) (P : ℕ → Type 0) (cuts : IsCuts t P) (R : Family) (h
   pub sound_arguments : {s : ℕ} (names : List (List ℕ)) →
       Sound t P s (more_arguments t R names) (arguments_every (IsSpan P))
   sound_arguments {s = s} names =
-      sound_many (λ names. record { holds = holds_at_each (argument_holds s names) }) (tt, tt) (good_arguments P)
+      sound_many (λ names. record { holds = holds_peek (argument_holds s names) }) (tt, tt) (good_arguments P)

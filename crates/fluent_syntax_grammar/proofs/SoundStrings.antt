@@ -10,10 +10,10 @@ use Rattle.fluent_syntax_grammar.specs.Places.{has_byte, Steps}
 use Rattle.fluent_syntax_grammar.specs.Construct.{Read, Refused}
 use Rattle.fluent_syntax_grammar.specs.Strings.{HexDigits, hex_digits, all_there, too_few, escaped, string_unit}
 use Rattle.fluent_syntax_grammar.specs.Strings.{string_units, before_quote, unit_and_more, bad_unit, string_literal}
-use Rattle.fluent_syntax_grammar.proofs.Holds.{Holds, holds_weaker, holds_bind, holds_fails, holds_over, holds_at_each}
-use Rattle.fluent_syntax_grammar.proofs.Holds.{holds_either}
+use Rattle.fluent_syntax_grammar.proofs.Holds.{Holds, holds_weaker, holds_bind, holds_fails, holds_skip, holds_peek}
+use Rattle.fluent_syntax_grammar.proofs.Holds.{holds_branch_on}
 use Rattle.fluent_syntax_grammar.proofs.Cuts.{AsciiAt, IsCuts, ascii_has, ascii_byte, ascii_hex}
-use Rattle.fluent_syntax_grammar.proofs.Sound.{IsSpan, Inside, Ended, IsFault, Sound, sound_bind, sound_gives}
+use Rattle.fluent_syntax_grammar.proofs.Sound.{IsSpan, Inside, Ended, IsFault, Sound, sound_bind, sound_yields}
 use Rattle.fluent_syntax_grammar.proofs.Sound.{sound_here, sound_spanned}
 use Rattle.fluent_syntax_grammar.proofs.SoundWords.{sound_token}
 use Rattle.fluent_syntax_grammar.proofs.Facts.{byte_holds}
@@ -56,9 +56,9 @@ module _ (t : List ℕ) where
   hex_holds s w = record { on_read = hex_read s w; on_refused = hex_refused s w }
 
   -- two bytes on
-  over_two : (s i j : ℕ) (b : ℕ) → Inside (InText t) s i → slice_get t (i + 1) ≡ Some b → Steps 2 i j →
+  skip_two : (s i j : ℕ) (b : ℕ) → Inside (InText t) s i → slice_get t (i + 1) ≡ Some b → Steps 2 i j →
       Inside (InText t) s j
-  over_two s i j b p e w = let late = p.late in let by = w.by in let l = slice_get_within t (i + 1) b e in
+  skip_two s i j b p e w = let late = p.late in let by = w.by in let l = slice_get_within t (i + 1) b e in
       record { late = omega arith; place = omega arith }
 
   escaped_holds : (s : ℕ) (o : Option ℕ) →
@@ -68,14 +68,14 @@ module _ (t : List ℕ) where
       holds_fails (λ i p. let q = p.0 in
       record { late = q.late; in_text = q.place; one = refl; plain = tt; means = tt })
   escaped_holds s (Some b) =
-      holds_either (λ e.
-      holds_over (λ i j p w. let q = over_two s i j b p.0 p.1 w in
+      holds_branch_on (λ e.
+      holds_skip (λ i j p w. let q = skip_two s i j b p.0 p.1 w in
       record { late = q.late; place = q.place; good = tt }))
-      (λ e. holds_either
-      (λ e. holds_bind {mid = λ u. Inside (InText t) s} (holds_over (λ i j p w. over_two s i j b p.0 p.1 w))
+      (λ e. holds_branch_on
+      (λ e. holds_bind {mid = λ u. Inside (InText t) s} (holds_skip (λ i j p w. skip_two s i j b p.0 p.1 w))
       (λ u. hex_holds s 4))
-      (λ e. holds_either
-      (λ e. holds_bind {mid = λ u. Inside (InText t) s} (holds_over (λ i j p w. over_two s i j b p.0 p.1 w))
+      (λ e. holds_branch_on
+      (λ e. holds_bind {mid = λ u. Inside (InText t) s} (holds_skip (λ i j p w. skip_two s i j b p.0 p.1 w))
       (λ u. hex_holds s 6))
       (λ e. holds_fails
       (λ i p. let q = p.0 in record { late = q.late; in_text = q.place; one = refl; plain = tt; means = tt }))))
@@ -89,7 +89,7 @@ module _ (t : List ℕ) where
       holds_fails (λ i p. let q = p.0 in
       record { late = q.late; in_text = q.place; one = refl; plain = tt; means = p.2 })
   unit_holds s (Some b) =
-      holds_either (λ e.
+      holds_branch_on (λ e.
       holds_fails (λ i p. let q = p.0 in
       record {
         late = q.late;
@@ -98,10 +98,10 @@ module _ (t : List ℕ) where
         plain = tt;
         means = byte_holds (λ c. c == lf) (slice_get t i) b p.1 e;
       }))
-      (λ e. holds_either
-      (λ e. holds_at_each
+      (λ e. holds_branch_on
+      (λ e. holds_peek
       (λ o. holds_weaker (λ i p. (p.0.0, p.1)) (λ a j x. x) (λ k from to x. x) (escaped_holds s o)))
-      (λ e. holds_over
+      (λ e. holds_skip
       (λ i j p w. let q = p.0 in let late = q.late in let by = w.by in let l = slice_get_within t i b p.1 in
       record { late = omega arith; place = omega arith; good = tt })))
 
@@ -137,4 +137,4 @@ module _ (t : List ℕ) (P : ℕ → Type 0) (cuts : IsCuts t P) where
   pub sound_string : {s : ℕ} → Sound t P s (string_literal t) (IsSpan P)
   sound_string = sound_bind (sound_token t P cuts 34 refl) (λ u v. sound_here (λ m q. sound_bind sound_units (λ u v.
       sound_bind (sound_spanned q.place)
-      (λ value good. sound_bind (sound_token t P cuts 34 refl) (λ u v. sound_gives good)))))
+      (λ value good. sound_bind (sound_token t P cuts 34 refl) (λ u v. sound_yields good)))))

@@ -6,11 +6,11 @@ use Rattle.fluent_syntax_tree.specs.Kind.{ExpectedCharRange}
 use Rattle.fluent_syntax_grammar.specs.Places.{has_byte}
 use Rattle.fluent_syntax_grammar.specs.Construct.{fails}
 use Rattle.fluent_syntax_grammar.specs.Tokens.{optional, token, digits, identifier, number}
-use Rattle.fluent_syntax_grammar.proofs.Holds.{Holds, holds_weaker, holds_bind, holds_gives, holds_fails, holds_over}
-use Rattle.fluent_syntax_grammar.proofs.Holds.{holds_at_each, holds_either}
+use Rattle.fluent_syntax_grammar.proofs.Holds.{Holds, holds_weaker, holds_bind, holds_yields, holds_fails, holds_skip}
+use Rattle.fluent_syntax_grammar.proofs.Holds.{holds_peek, holds_branch_on}
 use Rattle.fluent_syntax_grammar.proofs.Cuts.{IsCuts, ascii_byte, ascii_digit, ascii_name}
-use Rattle.fluent_syntax_grammar.proofs.Sound.{IsSpan, Inside, IsFault, Sound, sound_bind, sound_gives, sound_fails}
-use Rattle.fluent_syntax_grammar.proofs.Sound.{sound_over, sound_at_each, sound_either, sound_here, sound_spanned}
+use Rattle.fluent_syntax_grammar.proofs.Sound.{IsSpan, Inside, IsFault, Sound, sound_bind, sound_yields, sound_fails}
+use Rattle.fluent_syntax_grammar.proofs.Sound.{sound_skip, sound_peek, sound_branch_on, sound_here, sound_spanned}
 use Rattle.fluent_syntax_grammar.proofs.Sound.{onward_word}
 
 is_small : (b : ℕ) → nat_lt b 128 ≡ true → b < 128
@@ -27,15 +27,15 @@ module _ (t : List ℕ) (P : ℕ → Type 0) (cuts : IsCuts t P) where
 
   pub optional_holds : (s b : ℕ) → nat_lt b 128 ≡ true →
       Holds (Inside P s) (optional t b) (AfterOptional s b) (IsFault t s)
-  optional_holds s b l = holds_at_each (λ found. holds_either
+  optional_holds s b l = holds_peek (λ found. holds_branch_on
       (λ e. holds_bind {mid = λ u. Inside P s}
-      (holds_over (λ i j p w. let q = p.0 in let late = q.late in let by = w.by in
+      (holds_skip (λ i j p w. let q = p.0 in let late = q.late in let by = w.by in
       record {
         late = omega arith;
         place = subst P (sym by) (cuts.after i (ascii_byte t b i (is_small b l) (p.1 ∙ e)));
       }))
-      (λ u. holds_gives (λ i p. record { inside = p; missing = λ no. absurd (true_false no) })))
-      (λ e. holds_gives (λ i p. record { inside = p.0; missing = λ no. p.1 ∙ e })))
+      (λ u. holds_yields (λ i p. record { inside = p; missing = λ no. absurd (true_false no) })))
+      (λ e. holds_yields (λ i p. record { inside = p.0; missing = λ no. p.1 ∙ e })))
 
   pub sound_optional : {s : ℕ} (b : ℕ) → nat_lt b 128 ≡ true → Sound t P s (optional t b) (λ found. Unit {0})
   sound_optional {s = s} b l =
@@ -47,8 +47,8 @@ module _ (t : List ℕ) (P : ℕ → Type 0) (cuts : IsCuts t P) where
 
   pub sound_token : {s : ℕ} (b : ℕ) → nat_lt b 128 ≡ true → Sound t P s (token t b) (λ u. Unit {0})
   sound_token {s = s} b l = record {
-    holds = holds_bind (optional_holds s b l) (λ found. holds_either
-        (λ e. holds_gives (λ i p. let q = p.inside in record { late = q.late; place = q.place; good = tt }))
+    holds = holds_bind (optional_holds s b l) (λ found. holds_branch_on
+        (λ e. holds_yields (λ i p. let q = p.inside in record { late = q.late; place = q.place; good = tt }))
         (λ e. holds_fails
         (λ i p. let q = p.inside in
         record {
@@ -66,18 +66,18 @@ module _ (t : List ℕ) (P : ℕ → Type 0) (cuts : IsCuts t P) where
 
   pub sound_digits : {s : ℕ} → Sound t P s (digits t) (λ u. Unit {0})
   sound_digits =
-      sound_at_each
-      (λ found. sound_either (λ e. sound_over (onward_word t P cuts ascii_digit)) (λ e. sound_range (codes "0-9")))
+      sound_peek
+      (λ found. sound_branch_on (λ e. sound_skip (onward_word t P cuts ascii_digit)) (λ e. sound_range (codes "0-9")))
 
   pub sound_identifier : {s : ℕ} → Sound t P s (identifier t) (IsSpan P)
   sound_identifier =
       sound_here (λ m q.
-      sound_bind {Mid = λ letter. Unit {0}} (sound_at_each (λ letter. sound_gives tt)) (λ letter u. sound_either
-      (λ e. sound_bind (sound_over (onward_word t P cuts ascii_name)) (λ u v. sound_spanned q.place))
+      sound_bind {Mid = λ letter. Unit {0}} (sound_peek (λ letter. sound_yields tt)) (λ letter u. sound_branch_on
+      (λ e. sound_bind (sound_skip (onward_word t P cuts ascii_name)) (λ u v. sound_spanned q.place))
       (λ e. sound_range (codes "a-zA-Z"))))
 
   pub sound_number : {s : ℕ} → Sound t P s (number t) (IsSpan P)
   sound_number = sound_here (λ m q. sound_bind (sound_optional 45 refl) (λ x u. sound_bind sound_digits (λ x u.
       sound_bind (sound_optional 46 refl)
-      (λ point u. sound_bind {Mid = λ u. Unit {0}} (sound_either (λ e. sound_digits) (λ e. sound_gives tt))
+      (λ point u. sound_bind {Mid = λ u. Unit {0}} (sound_branch_on (λ e. sound_digits) (λ e. sound_yields tt))
       (λ x u. sound_spanned q.place)))))

@@ -5,8 +5,8 @@ use Rattle.fluent_syntax_grammar.specs.Construct.{Outcome, Read, Refused, Constr
 use Rattle.fluent_syntax_grammar.specs.Construct.{given, here, at_place, fails, failed, fails_from, failed_from, skip}
 use Rattle.fluent_syntax_grammar.specs.Construct.{passed, peek, chosen, branch_on, first, second, More, no_item, item}
 use Rattle.fluent_syntax_grammar.specs.Construct.{many, list_ends, list_stops, item_and_more, stops_later}
-use Rattle.fluent_syntax_grammar.proofs.Holds.{Holds, holds_weaker, holds_bind, holds_gives, holds_here, holds_fails}
-use Rattle.fluent_syntax_grammar.proofs.Holds.{holds_fails_from, holds_over, holds_at_each, holds_either}
+use Rattle.fluent_syntax_grammar.proofs.Holds.{Holds, holds_weaker, holds_bind, holds_yields, holds_here, holds_fails}
+use Rattle.fluent_syntax_grammar.proofs.Holds.{holds_fails_from, holds_skip, holds_peek, holds_branch_on}
 
 -- a place of the text from s on
 pub record From (t : List ℕ) (s i : ℕ) : Type 0 where
@@ -47,8 +47,8 @@ pub total_weaker : {A : Type 0} {pre pre' : ℕ → Type 0} {c : Construct A} �
     Total pre' c
 total_weaker w x = record { has = λ i p. x.has i (w i p) }
 
-pub total_gives : {A : Type 0} {pre : ℕ → Type 0} {a : A} → Total pre (yields a)
-total_gives {a = a} = record { has = λ i p. (Read a i, given) }
+pub total_yields : {A : Type 0} {pre : ℕ → Type 0} {a : A} → Total pre (yields a)
+total_yields {a = a} = record { has = λ i p. (Read a i, given) }
 
 pub total_here : {pre : ℕ → Type 0} → Total pre here
 total_here = record { has = λ i p. (Read i i, at_place) }
@@ -59,21 +59,21 @@ total_fails {k = k} = record { has = λ i p. (Refused k i (i + 1), failed refl) 
 total_fails_from : {A : Type 0} {pre : ℕ → Type 0} {k : Kind} {start : ℕ} → Total pre (fails_from {A = A} k start)
 total_fails_from {k = k} {start = start} = record { has = λ i p. (Refused k start i, failed_from) }
 
-pub total_over : {pre : ℕ → Type 0} {W : ℕ → ℕ → Type 0} → ((i : ℕ) → pre i → (j : ℕ) × W i j) → Total pre (skip W)
-total_over w = record { has = λ i p. let x = w i p in (Read tt x.0, passed x.1) }
+pub total_skip : {pre : ℕ → Type 0} {W : ℕ → ℕ → Type 0} → ((i : ℕ) → pre i → (j : ℕ) × W i j) → Total pre (skip W)
+total_skip w = record { has = λ i p. let x = w i p in (Read tt x.0, passed x.1) }
 
-pub total_at_each : {A B : Type 0} {pre : ℕ → Type 0} {look : ℕ → A} {part : A → Construct B} →
+pub total_peek : {A B : Type 0} {pre : ℕ → Type 0} {look : ℕ → A} {part : A → Construct B} →
     ((a : A) → Total (λ i. pre i × (look i ≡ a)) (part a)) → Total pre (peek look part)
-total_at_each {look = look} g = record { has = λ i p. let x = (g (look i)).has i (p, refl) in (x.0, chosen x.1) }
+total_peek {look = look} g = record { has = λ i p. let x = (g (look i)).has i (p, refl) in (x.0, chosen x.1) }
 
-either_has : {A : Type 0} (pre : ℕ → Type 0) (test : Bool) (c d : Construct A) → (test ≡ true → Total pre c) →
+branch_on_has : {A : Type 0} (pre : ℕ → Type 0) (test : Bool) (c d : Construct A) → (test ≡ true → Total pre c) →
     (test ≡ false → Total pre d) → (i : ℕ) → pre i → (o : Outcome A) × branch_on test c d i o
-either_has pre true c d g h i p = let x = (g refl).has i p in (x.0, first refl x.1)
-either_has pre false c d g h i p = let x = (h refl).has i p in (x.0, second refl x.1)
+branch_on_has pre true c d g h i p = let x = (g refl).has i p in (x.0, first refl x.1)
+branch_on_has pre false c d g h i p = let x = (h refl).has i p in (x.0, second refl x.1)
 
-pub total_either : {A : Type 0} {pre : ℕ → Type 0} {test : Bool} {c d : Construct A} → (test ≡ true → Total pre c) →
+pub total_branch_on : {A : Type 0} {pre : ℕ → Type 0} {test : Bool} {c d : Construct A} → (test ≡ true → Total pre c) →
     (test ≡ false → Total pre d) → Total pre (branch_on test c d)
-total_either {pre = pre} {test = test} {c = c} {d = d} g h = record { has = either_has pre test c d g h }
+total_branch_on {pre = pre} {test = test} {c = c} {d = d} g h = record { has = branch_on_has pre test c d g h }
 
 -- ---- from a place on
 
@@ -88,8 +88,8 @@ module _ {t : List ℕ} {s : ℕ} where
       Both t s (c >>= f)
   both_bind x g = record { total = total_bind x.total x.on (λ a. (g a).total); on = holds_bind x.on (λ a. (g a).on) }
 
-  pub both_gives : {A : Type 0} {a : A} → Both t s (yields a)
-  both_gives = record { total = total_gives; on = holds_gives (λ i p. p) }
+  pub both_yields : {A : Type 0} {a : A} → Both t s (yields a)
+  both_yields = record { total = total_yields; on = holds_yields (λ i p. p) }
 
   pub both_here : Both t s here
   both_here = record { total = total_here; on = holds_here (λ i p. p) }
@@ -100,25 +100,25 @@ module _ {t : List ℕ} {s : ℕ} where
   pub both_fails_from : {A : Type 0} {k : Kind} {start : ℕ} → Both t s (fails_from {A = A} k start)
   both_fails_from = record { total = total_fails_from; on = holds_fails_from (λ i p. tt) }
 
-  pub both_over : {W : ℕ → ℕ → Type 0} → IsWord t W → Both t s (skip W)
-  both_over w = record {
-    total = total_over (λ i p. w.exists i p.in_text);
+  pub both_skip : {W : ℕ → ℕ → Type 0} → IsWord t W → Both t s (skip W)
+  both_skip w = record {
+    total = total_skip (λ i p. w.exists i p.in_text);
     on =
-        holds_over (λ i j p x. let late = p.late in let f = w.forward i j x in
+        holds_skip (λ i j p x. let late = p.late in let f = w.forward i j x in
         record { late = omega arith; in_text = w.in_text i j p.in_text x });
   }
 
-  pub both_at_each : {A B : Type 0} {look : ℕ → A} {part : A → Construct B} → ((a : A) → Both t s (part a)) →
+  pub both_peek : {A B : Type 0} {look : ℕ → A} {part : A → Construct B} → ((a : A) → Both t s (part a)) →
       Both t s (peek look part)
-  both_at_each g = record {
-    total = total_at_each (λ a. total_weaker (λ i p. p.0) (g a).total);
-    on = holds_at_each (λ a. holds_weaker (λ i p. p.0) (λ b j x. x) (λ k from to x. x) (g a).on);
+  both_peek g = record {
+    total = total_peek (λ a. total_weaker (λ i p. p.0) (g a).total);
+    on = holds_peek (λ a. holds_weaker (λ i p. p.0) (λ b j x. x) (λ k from to x. x) (g a).on);
   }
 
-  pub both_either : {A : Type 0} {test : Bool} {c d : Construct A} → Both t s c → Both t s d →
+  pub both_branch_on : {A : Type 0} {test : Bool} {c d : Construct A} → Both t s c → Both t s d →
       Both t s (branch_on test c d)
-  both_either x y =
-      record { total = total_either (λ e. x.total) (λ e. y.total); on = holds_either (λ e. x.on) (λ e. y.on) }
+  both_branch_on x y =
+      record { total = total_branch_on (λ e. x.total) (λ e. y.total); on = holds_branch_on (λ e. x.on) (λ e. y.on) }
 
   pub earlier : (i : ℕ) → From t (s + 1) i → From t s i
   earlier i p = let late = p.late in record { late = omega arith; in_text = p.in_text }
@@ -138,17 +138,17 @@ module _ {t : List ℕ} {s : ℕ} where
   pub strict_fails : {A : Type 0} {k : Kind} → Strict t s (fails {A = A} k)
   strict_fails = record { total = total_fails; on = holds_fails (λ i p. tt) }
 
-  pub strict_at_each : {A B : Type 0} {look : ℕ → A} {part : A → Construct B} → ((a : A) → Strict t s (part a)) →
+  pub strict_peek : {A B : Type 0} {look : ℕ → A} {part : A → Construct B} → ((a : A) → Strict t s (part a)) →
       Strict t s (peek look part)
-  strict_at_each g = record {
-    total = total_at_each (λ a. total_weaker (λ i p. p.0) (g a).total);
-    on = holds_at_each (λ a. holds_weaker (λ i p. p.0) (λ b j x. x) (λ k from to x. x) (g a).on);
+  strict_peek g = record {
+    total = total_peek (λ a. total_weaker (λ i p. p.0) (g a).total);
+    on = holds_peek (λ a. holds_weaker (λ i p. p.0) (λ b j x. x) (λ k from to x. x) (g a).on);
   }
 
-  pub strict_either : {A : Type 0} {test : Bool} {c d : Construct A} → Strict t s c → Strict t s d →
+  pub strict_branch_on : {A : Type 0} {test : Bool} {c d : Construct A} → Strict t s c → Strict t s d →
       Strict t s (branch_on test c d)
-  strict_either x y =
-      record { total = total_either (λ e. x.total) (λ e. y.total); on = holds_either (λ e. x.on) (λ e. y.on) }
+  strict_branch_on x y =
+      record { total = total_branch_on (λ e. x.total) (λ e. y.total); on = holds_branch_on (λ e. x.on) (λ e. y.on) }
 
 -- ---- lists
 

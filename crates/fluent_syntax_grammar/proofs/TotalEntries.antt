@@ -17,14 +17,14 @@ use Rattle.fluent_syntax_grammar.specs.Comments.{other_level, no_comment_line, c
 use Rattle.fluent_syntax_grammar.specs.Tiling.{entry_of}
 use Rattle.fluent_syntax_tree.specs.declared.edition.Edition.{Edition}
 use Rattle.fluent_syntax_tree.specs.declared.spans.Span.{Span}
-use Rattle.fluent_syntax_grammar.proofs.Holds.{holds_over}
+use Rattle.fluent_syntax_grammar.proofs.Holds.{holds_skip}
 use Rattle.fluent_syntax_grammar.proofs.SoundStrings.{InText}
 use Rattle.fluent_syntax_grammar.proofs.SoundEntries.{sound_attributes}
 use Rattle.fluent_syntax_grammar.proofs.SoundComments.{after_hashes, line_from}
 use Rattle.fluent_syntax_grammar.proofs.Boundaries.{text_cuts}
 use Rattle.fluent_syntax_grammar.proofs.CommentFaults.{some_hash}
-use Rattle.fluent_syntax_grammar.proofs.Total.{From, Both, Strict, total_bind, total_over, both_bind, both_gives}
-use Rattle.fluent_syntax_grammar.proofs.Total.{both_here, both_fails, both_fails_from, both_at_each, both_strict}
+use Rattle.fluent_syntax_grammar.proofs.Total.{From, Both, Strict, total_bind, total_skip, both_bind, both_yields}
+use Rattle.fluent_syntax_grammar.proofs.Total.{both_here, both_fails, both_fails_from, both_peek, both_strict}
 use Rattle.fluent_syntax_grammar.proofs.Total.{strict_first, strict_then}
 use Rattle.fluent_syntax_grammar.proofs.TotalWords.{on_sound, both_inline_blank}
 use Rattle.fluent_syntax_grammar.proofs.TotalWords.{both_blank_block, both_optional_eol, both_spanned}
@@ -47,20 +47,20 @@ use Rattle.fluent_syntax_grammar.proofs.TotalFamily.{pattern_within}
 
 both_with : {t : List ℕ} {s : ℕ} (id : Span) (value : Option (PatternTree Span)) → Both t s (attribute_with id value)
 both_with id None = both_fails
-both_with id (Some value) = both_gives
+both_with id (Some value) = both_yields
 
 both_message_with :
     {s : ℕ} (t : List ℕ) (start : ℕ) (id : Span) (value : Option (PatternTree Span))
     (rest : List (AttributeTree Span)) → Both t s (message_with t start id value rest)
 both_message_with t start id None [] = both_fails_from
-both_message_with t start id None (a ∷ rest) = both_gives
-both_message_with t start id (Some value) rest = both_gives
+both_message_with t start id None (a ∷ rest) = both_yields
+both_message_with t start id (Some value) rest = both_yields
 
 both_term_with :
     {s : ℕ} (t : List ℕ) (start : ℕ) (id : Span) (value : Option (PatternTree Span))
     (rest : List (AttributeTree Span)) → Both t s (term_with t start id value rest)
 both_term_with t start id None rest = both_fails_from
-both_term_with t start id (Some value) rest = both_gives
+both_term_with t start id (Some value) rest = both_yields
 
 module _ (edition : Edition) (t : List ℕ) (R : Family) (h : IsIncludedFamily R (family edition t)) (low : ℕ)
     (patterns : (s : ℕ) → low ≤ s → Both t s (pattern edition t R)) where
@@ -141,16 +141,16 @@ module _ (t : List ℕ) where
   both_text false = both_bind (both_strict (strict_token t 32)) (λ u. both_rest_of_line t)
 
   both_rest : {s : ℕ} (b : Option ℕ) → Both t s (comment_rest t b)
-  both_rest None = both_gives
-  both_rest (Some b) = both_bind (both_at_each both_text) (λ content. both_bind (both_optional_eol t) (λ u. both_gives))
+  both_rest None = both_yields
+  both_rest (Some b) = both_bind (both_peek both_text) (λ content. both_bind (both_optional_eol t) (λ u. both_yields))
 
   line_has : (i level : ℕ) → i ≤ length t → hashes t i ≡ level → (o : Outcome (List Span)) × comment_line t level i o
   line_has i level l e =
       let inside = after_hashes t (InText t) (text_cuts t) i l in
       let whole =
-      total_bind {pre = λ j. j ≡ i} {mid = λ u. From t 0} (total_over (λ j p. (j + level, record { by = refl })))
-      (holds_over (λ j m p w. let by = w.by in record { late = omega arith; in_text = omega arith }))
-      (λ u. (both_at_each both_rest).total) in
+      total_bind {pre = λ j. j ≡ i} {mid = λ u. From t 0} (total_skip (λ j p. (j + level, record { by = refl })))
+      (holds_skip (λ j m p w. let by = w.by in record { late = omega arith; in_text = omega arith }))
+      (λ u. (both_peek both_rest).total) in
       whole.has i refl
 
   record Lines (level i : ℕ) : Type 0 where

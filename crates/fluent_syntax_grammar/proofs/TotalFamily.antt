@@ -23,16 +23,16 @@ use Rattle.fluent_syntax_grammar.specs.Variants.{more_variants}
 use Rattle.fluent_syntax_tree.specs.declared.edition.Edition.{Edition}
 use Rattle.fluent_syntax_tree.specs.declared.spans.Span.{Span}
 use Rattle.fluent_syntax_grammar.proofs.Functional.{single_stretch}
-use Rattle.fluent_syntax_grammar.proofs.Holds.{Holds, gave, holds_weaker, holds_bind, holds_gives, holds_fails}
-use Rattle.fluent_syntax_grammar.proofs.Holds.{holds_over, holds_at_each, holds_either}
+use Rattle.fluent_syntax_grammar.proofs.Holds.{Holds, gave, holds_weaker, holds_bind, holds_yields, holds_fails}
+use Rattle.fluent_syntax_grammar.proofs.Holds.{holds_skip, holds_peek, holds_branch_on}
 use Rattle.fluent_syntax_grammar.proofs.Cuts.{eol_forward, eol_text}
 use Rattle.fluent_syntax_grammar.proofs.Facts.{has_inside, right_true}
 use Rattle.fluent_syntax_grammar.proofs.SoundStrings.{InText}
 use Rattle.fluent_syntax_grammar.proofs.SoundLines.{sound_family}
 use Rattle.fluent_syntax_grammar.proofs.Boundaries.{text_cuts}
-use Rattle.fluent_syntax_grammar.proofs.Total.{From, AnyFault, Total, Both, total_bind, total_weaker, total_gives}
-use Rattle.fluent_syntax_grammar.proofs.Total.{total_fails, total_over, total_at_each, total_either, both_bind}
-use Rattle.fluent_syntax_grammar.proofs.Total.{both_gives, both_here, both_fails, both_either, both_strict, more_on}
+use Rattle.fluent_syntax_grammar.proofs.Total.{From, AnyFault, Total, Both, total_bind, total_weaker, total_yields}
+use Rattle.fluent_syntax_grammar.proofs.Total.{total_fails, total_skip, total_peek, total_branch_on, both_bind}
+use Rattle.fluent_syntax_grammar.proofs.Total.{both_yields, both_here, both_fails, both_branch_on, both_strict, more_on}
 use Rattle.fluent_syntax_grammar.proofs.Total.{more_earlier, Going, going_then, past_end, both_many}
 use Rattle.fluent_syntax_grammar.proofs.TotalWords.{both_blank, both_blank_block, both_inline_blank, both_optional}
 use Rattle.fluent_syntax_grammar.proofs.TotalWords.{on_sound, optional_on, strict_token, total_optional}
@@ -49,7 +49,7 @@ module _ (edition : Edition) (t : List ℕ) (R : Family) (low : ℕ) (h : (s : �
       both_bind both_here
       (λ start. both_bind (both_inline_blank t)
       (λ u. both_bind both_here
-      (λ first. both_bind (both_pieces t R low h s l) (λ ps. both_bind (both_ending t) (λ e. both_gives)))))
+      (λ first. both_bind (both_pieces t R low h s l) (λ ps. both_bind (both_ending t) (λ e. both_yields)))))
 
   line_on : (s : ℕ) → low ≤ s + 1 → (i j k b : ℕ) (x : Line) → From t s i → InlineBlank t i k →
       slice_get t k ≡ Some b → line t R i (Read x j) → From t (s + 1) j
@@ -69,7 +69,7 @@ module _ (edition : Edition) (t : List ℕ) (R : Family) (low : ℕ) (h : (s : �
   own_total : (s : ℕ) → low ≤ s + 1 → (i : ℕ) → From t s i → (o : Outcome (More Line (Unit {0}))) ×
       (line t R >>= λ x. yields (item x tt)) i o
   own_total s l i p =
-      let whole = total_bind (both_line s l).total (both_line s l).on (λ x. total_gives {a = item x tt}) in
+      let whole = total_bind (both_line s l).total (both_line s l).on (λ x. total_yields {a = item x tt}) in
       whole.has i p
 
   lines_own : (s : ℕ) → low ≤ s + 1 → (i k b : ℕ) (own : Bool) → From t s i → InlineBlank t i k →
@@ -112,13 +112,13 @@ module _ (edition : Edition) (t : List ℕ) (R : Family) (low : ℕ) (h : (s : �
   layout_rest : (s : ℕ) → low ≤ s + 1 →
       Both {A = Layout} t s
       (blank_block t >>= λ u. more_lines t R >>= λ ls. yields (record { opening = None; lines = ls }))
-  layout_rest s l = both_bind (both_blank_block t) (λ u. both_bind (both_lines s l) (λ ls. both_gives))
+  layout_rest s l = both_bind (both_blank_block t) (λ u. both_bind (both_lines s l) (λ ls. both_yields))
 
   layout_open : (s : ℕ) → low ≤ s + 1 → Both t s (layout_at t R None)
   layout_open s l =
       both_bind both_here
       (λ start. both_bind (both_pieces t R low h s l)
-      (λ ps. both_bind (both_ending t) (λ e. both_bind (both_lines s l) (λ ls. both_gives))))
+      (λ ps. both_bind (both_ending t) (λ e. both_bind (both_lines s l) (λ ls. both_yields))))
 
   reach : (s k i j : ℕ) → From t s i × (after_eol t i ≡ Some k) → j ≡ k → From t s j
   reach s k i j p e = let q = p.0 in let late = q.late in let f = eol_forward t i k p.1 in
@@ -128,27 +128,27 @@ module _ (edition : Edition) (t : List ℕ) (R : Family) (low : ℕ) (h : (s : �
       Total (λ i. From t s i × (after_eol t i ≡ o)) (layout_at t R o)
   layout_total s l None = total_weaker (λ i p. p.0) (layout_open s l).total
   layout_total s l (Some k) =
-      total_bind {mid = λ u. From t s} (total_over (λ i p. (k, record { there = refl })))
-      (holds_over (λ i j p w. reach s k i j p w.there)) (λ u. (layout_rest s l).total)
+      total_bind {mid = λ u. From t s} (total_skip (λ i p. (k, record { there = refl })))
+      (holds_skip (λ i j p w. reach s k i j p w.there)) (λ u. (layout_rest s l).total)
 
   layout_on : (s : ℕ) → low ≤ s + 1 → (o : Option ℕ) →
       Holds (λ i. From t s i × (after_eol t i ≡ o)) (layout_at t R o) (λ y. From t s) AnyFault
   layout_on s l None = holds_weaker (λ i p. p.0) (λ a j x. x) (λ k from to x. x) (layout_open s l).on
   layout_on s l (Some k) =
-      holds_bind {mid = λ u. From t s} (holds_over (λ i j p w. reach s k i j p w.there)) (λ u. (layout_rest s l).on)
+      holds_bind {mid = λ u. From t s} (holds_skip (λ i j p w. reach s k i j p w.there)) (λ u. (layout_rest s l).on)
 
   both_layout : (s : ℕ) → low ≤ s + 1 → Both t s (layout t R)
   both_layout s l =
       both_bind (both_inline_blank t)
-      (λ u. record { total = total_at_each (layout_total s l); on = holds_at_each (layout_on s l) })
+      (λ u. record { total = total_peek (layout_total s l); on = holds_peek (layout_on s l) })
 
   pub both_pattern : (s : ℕ) → low ≤ s + 1 → Both t s (pattern edition t R)
-  both_pattern s l = both_bind (both_layout s l) (λ y. both_gives)
+  both_pattern s l = both_bind (both_layout s l) (λ y. both_yields)
 
   both_variant_of : (s : ℕ) (starred star : Bool) (key : KeyTree Span) (p : Option (PatternTree Span)) →
       Both t s (variant_of t starred star key p)
   both_variant_of s starred star key None = both_fails
-  both_variant_of s starred star key (Some p) = both_bind (both_blank t) (λ u. both_gives)
+  both_variant_of s starred star key (Some p) = both_bind (both_blank t) (λ u. both_yields)
 
   both_after : (s : ℕ) → low ≤ s + 1 → (starred star : Bool) → Both t s (variant_after edition t R starred star)
   both_after s l starred star =
@@ -160,7 +160,7 @@ module _ (edition : Edition) (t : List ℕ) (R : Family) (low : ℕ) (h : (s : �
 
   end_on : (s : ℕ) (starred star : Bool) →
       Holds (From t s) (variants_end edition starred star) (more_on {S = Bool} t s) AnyFault
-  end_on s starred star = holds_either (λ e. holds_gives (λ i p. p)) (λ e. holds_fails (λ i p. tt))
+  end_on s starred star = holds_branch_on (λ e. holds_yields (λ i p. p)) (λ e. holds_fails (λ i p. tt))
 
   -- where `[` stands, the variant goes on after it
   abbrev Bracket : (starred star : Bool) → Construct (More (VariantTree Span) Bool)
@@ -170,17 +170,17 @@ module _ (edition : Edition) (t : List ℕ) (R : Family) (low : ℕ) (h : (s : �
 
   going_bracket : (s : ℕ) → low ≤ s + 1 → (starred star : Bool) → Going t s (Bracket starred star)
   going_bracket s l starred star = record {
-    total = total_bind (total_optional t 91) (optional_on t s 91) (λ bracket. total_either
+    total = total_bind (total_optional t 91) (optional_on t s 91) (λ bracket. total_branch_on
         (λ e. total_weaker (λ i p. p.past e) (both_after (s + 1) (omega arith) starred star).total)
-        (λ e. total_either (λ y. total_gives) (λ y. total_fails)));
-    on = holds_bind (optional_on t s 91) (λ bracket. holds_either
+        (λ e. total_branch_on (λ y. total_yields) (λ y. total_fails)));
+    on = holds_bind (optional_on t s 91) (λ bracket. holds_branch_on
         (λ e. holds_weaker (λ i p. p.past e) (more_earlier t s) (λ k from to x. x)
         (both_after (s + 1) (omega arith) starred star).on)
         (λ e. holds_weaker (λ i p. p.at) (λ a j x. x) (λ k from to x. x) (end_on s starred star)));
   }
 
   both_only : (s : ℕ) (starred star : Bool) → Both t s (only_star starred star)
-  both_only s starred star = both_either both_fails both_gives
+  both_only s starred star = both_branch_on both_fails both_yields
 
   going_variant : (s : ℕ) → low ≤ s + 1 → (starred : Bool) → Going t s (next_variant edition t R starred)
   going_variant s l starred =
@@ -218,26 +218,26 @@ module _ (edition : Edition) (t : List ℕ) (R : Family) (low : ℕ) (h : (s : �
 
   variants_total : (s : ℕ) → low ≤ s + 1 → Total (AtArrow s true) (variants_of_select edition t R)
   variants_total s l =
-      total_bind (total_over (λ i p. (i + 2, record { by = refl }))) (holds_over (after_arrow s))
+      total_bind (total_skip (λ i p. (i + 2, record { by = refl }))) (holds_skip (after_arrow s))
       (λ u. (after_two s l).total)
 
   variants_on : (s : ℕ) → low ≤ s + 1 →
       Holds (AtArrow s true) (variants_of_select edition t R) (λ vs. From t s) AnyFault
-  variants_on s l = holds_bind (holds_over (after_arrow s)) (λ u. (after_two s l).on)
+  variants_on s l = holds_bind (holds_skip (after_arrow s)) (λ u. (after_two s l).on)
 
   select_total : (s : ℕ) → low ≤ s + 1 → (e : InlineTree Span) (o : Option Kind) →
       Total (AtArrow s true) (select_with edition t R e o)
-  select_total s l e None = total_bind (variants_total s l) (variants_on s l) (λ vs. total_gives)
+  select_total s l e None = total_bind (variants_total s l) (variants_on s l) (λ vs. total_yields)
   select_total s l e (Some k) = total_fails
 
   select_on : (s : ℕ) → low ≤ s + 1 → (e : InlineTree Span) (o : Option Kind) →
       Holds (AtArrow s true) (select_with edition t R e o) (λ x. From t s) AnyFault
-  select_on s l e None = holds_bind (variants_on s l) (λ vs. holds_gives (λ i p. p))
+  select_on s l e None = holds_bind (variants_on s l) (λ vs. holds_yields (λ i p. p))
   select_on s l e (Some k) = holds_fails (λ i p. tt)
 
   no_select : (s : ℕ) (e : InlineTree Span) →
       Both t s (branch_on (is_term_attribute e) (fails TermAttributeAsPlaceable) (yields (inline e)))
-  no_select s e = both_either both_fails both_gives
+  no_select s e = both_branch_on both_fails both_yields
 
   abbrev AfterBlank : InlineTree Span → Bool → Construct (ExpressionTree Span)
   AfterBlank e arrow =
@@ -248,11 +248,11 @@ module _ (edition : Edition) (t : List ℕ) (R : Family) (low : ℕ) (h : (s : �
       Both t s (peek (has_arrow t) yields >>= λ arrow. AfterBlank e arrow)
   arrow_at s l e = record {
     total =
-        total_bind {mid = AtArrow s} (total_at_each (λ a. total_gives)) (holds_at_each (λ a. holds_gives (λ i p. p)))
-        (λ arrow. total_either
+        total_bind {mid = AtArrow s} (total_peek (λ a. total_yields)) (holds_peek (λ a. holds_yields (λ i p. p)))
+        (λ arrow. total_branch_on
         (λ y. total_weaker (λ i p. (p.0, p.1 ∙ y)) (select_total s l e (selector_fault e)))
         (λ y. total_weaker (λ i p. p.0) (no_select s e).total));
-    on = holds_bind {mid = AtArrow s} (holds_at_each (λ a. holds_gives (λ i p. p))) (λ arrow. holds_either
+    on = holds_bind {mid = AtArrow s} (holds_peek (λ a. holds_yields (λ i p. p))) (λ arrow. holds_branch_on
         (λ y. holds_weaker (λ i p. (p.0, p.1 ∙ y)) (λ a j x. x) (λ k from to x. x)
         (select_on s l e (selector_fault e)))
         (λ y. holds_weaker (λ i p. p.0) (λ a j x. x) (λ k from to x. x) (no_select s e).on));

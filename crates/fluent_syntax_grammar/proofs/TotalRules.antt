@@ -21,17 +21,17 @@ use Rattle.fluent_syntax_grammar.specs.Lines.{is_run_place, ending_of, ending, t
 use Rattle.fluent_syntax_grammar.specs.Lines.{more_pieces}
 use Rattle.fluent_syntax_grammar.specs.Variants.{variant_key}
 use Rattle.fluent_syntax_tree.specs.declared.spans.Span.{Span}
-use Rattle.fluent_syntax_grammar.proofs.Holds.{Holds, gave, holds_weaker, holds_bind, holds_gives, holds_here}
-use Rattle.fluent_syntax_grammar.proofs.Holds.{holds_fails, holds_over, holds_at_each, holds_either}
+use Rattle.fluent_syntax_grammar.proofs.Holds.{Holds, gave, holds_weaker, holds_bind, holds_yields, holds_here}
+use Rattle.fluent_syntax_grammar.proofs.Holds.{holds_fails, holds_skip, holds_peek, holds_branch_on}
 use Rattle.fluent_syntax_grammar.proofs.Cuts.{eol_forward, eol_text}
 use Rattle.fluent_syntax_grammar.proofs.SoundStrings.{InText}
 use Rattle.fluent_syntax_grammar.proofs.SoundLines.{ending_holds}
 use Rattle.fluent_syntax_grammar.proofs.Boundaries.{text_cuts}
 use Rattle.fluent_syntax_grammar.proofs.Total.{From, AnyFault, Total, Both, Strict, total_bind, total_weaker}
-use Rattle.fluent_syntax_grammar.proofs.Total.{total_gives, total_here, total_fails, total_over, total_at_each}
-use Rattle.fluent_syntax_grammar.proofs.Total.{total_either, both_bind, both_gives, both_here, both_fails, both_at_each}
-use Rattle.fluent_syntax_grammar.proofs.Total.{both_either, both_strict, strict_first, strict_fails, strict_at_each}
-use Rattle.fluent_syntax_grammar.proofs.Total.{strict_either, Going, more_on, more_earlier, going_strict, both_many}
+use Rattle.fluent_syntax_grammar.proofs.Total.{total_yields, total_here, total_fails, total_skip, total_peek}
+use Rattle.fluent_syntax_grammar.proofs.Total.{total_branch_on, both_bind, both_yields, both_here, both_fails, both_peek}
+use Rattle.fluent_syntax_grammar.proofs.Total.{both_branch_on, both_strict, strict_first, strict_fails, strict_peek}
+use Rattle.fluent_syntax_grammar.proofs.Total.{strict_branch_on, Going, more_on, more_earlier, going_strict, both_many}
 use Rattle.fluent_syntax_grammar.proofs.TotalWords.{both_blank, both_inline_blank, both_optional, run_word}
 use Rattle.fluent_syntax_grammar.proofs.TotalWords.{strict_identifier, strict_number, strict_string, strict_token}
 use Rattle.fluent_syntax_grammar.proofs.Facts.{differs, stretch_onward}
@@ -42,54 +42,54 @@ pub record BothFamily (t : List ℕ) (s : ℕ) (R : Family) : Type 0 where
   pub argument_list : Both t s R.argument_list
 
 both_look : {A : Type 0} {t : List ℕ} {s : ℕ} {look : ℕ → A} → Both t s (peek look yields)
-both_look = both_at_each (λ a. both_gives)
+both_look = both_peek (λ a. both_yields)
 
 module _ (t : List ℕ) where
   both_accessor : {s : ℕ} → Both t s (accessor t)
   both_accessor =
       both_bind (both_optional t 46)
-      (λ dot. both_either (both_bind (both_strict (strict_identifier t)) (λ a. both_gives)) both_gives)
+      (λ dot. both_branch_on (both_bind (both_strict (strict_identifier t)) (λ a. both_yields)) both_yields)
 
   both_separator : {s : ℕ} → Both t s (separator t)
   both_separator = both_bind (both_blank t) (λ u. both_bind (both_optional t 44) (λ u. both_blank t))
 
   both_named : {s : ℕ} (id : Span) (a : MaybeArguments Span) → Both t s (named_reference t id a)
-  both_named id no_arguments = both_bind both_accessor (λ a. both_gives)
-  both_named id (some_arguments a) = both_either both_gives both_fails
+  both_named id no_arguments = both_bind both_accessor (λ a. both_yields)
+  both_named id (some_arguments a) = both_branch_on both_yields both_fails
 
   pub both_key : {s : ℕ} → Both t s (variant_key t)
   both_key =
-      both_at_each (λ n.
-      both_either (both_bind (both_strict (strict_number t)) (λ v. both_gives))
-      (both_bind (both_strict (strict_identifier t)) (λ v. both_gives)))
+      both_peek (λ n.
+      both_branch_on (both_bind (both_strict (strict_number t)) (λ v. both_yields))
+      (both_bind (both_strict (strict_identifier t)) (λ v. both_yields)))
 
   arrow_total : (s : ℕ) (o : Option ℕ) → Total (λ i. From t s i × (after_eol t i ≡ o)) (arrow_line_end o)
   arrow_total s None = total_fails
-  arrow_total s (Some k) = total_over (λ i p. (k, record { there = refl }))
+  arrow_total s (Some k) = total_skip (λ i p. (k, record { there = refl }))
 
   arrow_on : (s : ℕ) (o : Option ℕ) →
       Holds (λ i. From t s i × (after_eol t i ≡ o)) (arrow_line_end o) (λ u. From t s) AnyFault
   arrow_on s None = holds_fails (λ i p. tt)
   arrow_on s (Some k) =
-      holds_over (λ i j p w. let q = p.0 in let late = q.late in let there = w.there in let f = eol_forward t i k p.1 in
+      holds_skip (λ i j p w. let q = p.0 in let late = q.late in let there = w.there in let f = eol_forward t i k p.1 in
       let l = eol_text t i k p.1 in record { late = omega arith; in_text = omega arith })
 
   pub both_arrow : {s : ℕ} → Both t s (peek (after_eol t) arrow_line_end)
-  both_arrow {s = s} = record { total = total_at_each (arrow_total s); on = holds_at_each (arrow_on s) }
+  both_arrow {s = s} = record { total = total_peek (arrow_total s); on = holds_peek (arrow_on s) }
 
   -- ---- endings
 
   ending_of_total : {pre : ℕ → Type 0} (i : ℕ) (o : Option ℕ) → Total pre (ending_of t i o)
-  ending_of_total i None = total_gives
+  ending_of_total i None = total_yields
   ending_of_total i (Some k) =
-      total_bind {mid = λ u j. Unit {0}} (total_over (λ j p. (k, record { there = refl }))) (holds_over (λ j m p w. tt))
-      (λ u. total_gives)
+      total_bind {mid = λ u j. Unit {0}} (total_skip (λ j p. (k, record { there = refl }))) (holds_skip (λ j m p w. tt))
+      (λ u. total_yields)
 
   pub both_ending : {s : ℕ} → Both t s (ending t)
   both_ending {s = s} = record {
     total =
         total_bind {mid = λ i j. Unit {0}} total_here (holds_here (λ i p. tt))
-        (λ i. total_at_each (λ o. ending_of_total i o));
+        (λ i. total_peek (λ o. ending_of_total i o));
     on =
         holds_weaker (λ i p. record { late = p.late; place = p.in_text })
         (λ a j e. record { late = e.late; in_text = e.place }) (λ k from to f. tt)
@@ -147,8 +147,8 @@ module _ (t : List ℕ) (R : Family) (low : ℕ) (h : (s : ℕ) → low ≤ s �
   both_call s l =
       both_bind (both_blank t)
       (λ u. both_bind (both_optional t 40)
-      (λ bracket. both_either (both_bind (both_bind (both_blank t) (λ u. (h s l).argument_list)) (λ a. both_gives))
-      both_gives))
+      (λ bracket. both_branch_on (both_bind (both_bind (both_blank t) (λ u. (h s l).argument_list)) (λ a. both_yields))
+      both_yields))
 
   pub strict_placeable : (s : ℕ) → low ≤ s + 1 → Strict t s (placeable t R)
   strict_placeable s l =
@@ -156,25 +156,25 @@ module _ (t : List ℕ) (R : Family) (low : ℕ) (h : (s : ℕ) → low ≤ s �
       (λ u. both_bind (both_blank t)
       (λ u. both_bind (h (s + 1) l).expression
       (λ e. both_bind (both_inline_blank t)
-      (λ u. both_bind (both_strict (strict_token t 125)) (λ u. both_gives)))))
+      (λ u. both_bind (both_strict (strict_token t 125)) (λ u. both_yields)))))
 
   strict_inline_of : (s : ℕ) → low ≤ s + 1 → (x : Start) → Strict t s (inline_of t R x)
-  strict_inline_of s l quote = strict_first (strict_string t) (λ v. both_gives)
-  strict_inline_of s l digit = strict_first (strict_number t) (λ v. both_gives)
-  strict_inline_of s l minus = strict_first (strict_number t) (λ v. both_gives)
+  strict_inline_of s l quote = strict_first (strict_string t) (λ v. both_yields)
+  strict_inline_of s l digit = strict_first (strict_number t) (λ v. both_yields)
+  strict_inline_of s l minus = strict_first (strict_number t) (λ v. both_yields)
   strict_inline_of s l term =
       strict_first (strict_token t 45)
       (λ u. both_bind (both_strict (strict_identifier t))
-      (λ id. both_bind (both_accessor t) (λ a. both_bind (both_call (s + 1) l) (λ c. both_gives))))
+      (λ id. both_bind (both_accessor t) (λ a. both_bind (both_call (s + 1) l) (λ c. both_yields))))
   strict_inline_of s l dollar =
-      strict_first (strict_token t 36) (λ u. both_bind (both_strict (strict_identifier t)) (λ id. both_gives))
+      strict_first (strict_token t 36) (λ u. both_bind (both_strict (strict_identifier t)) (λ id. both_yields))
   strict_inline_of s l letter =
       strict_first (strict_identifier t) (λ id. both_bind (both_call (s + 1) l) (λ a. both_named t id a))
-  strict_inline_of s l brace = strict_first (strict_placeable s l) (λ e. both_gives)
+  strict_inline_of s l brace = strict_first (strict_placeable s l) (λ e. both_yields)
   strict_inline_of s l other = strict_fails
 
   pub strict_inline : (s : ℕ) → low ≤ s + 1 → Strict t s (inline_expression t R)
-  strict_inline s l = strict_at_each (strict_inline_of s l)
+  strict_inline s l = strict_peek (strict_inline_of s l)
 
   -- ---- arguments
 
@@ -191,14 +191,14 @@ module _ (t : List ℕ) (R : Family) (low : ℕ) (h : (s : ℕ) → low ≤ s �
   both_named_rest : (s : ℕ) → low ≤ s + 1 → (names : List (List ℕ)) (name : Span) →
       Both t s (named_rest t R names name)
   both_named_rest s l names name =
-      both_either both_fails
+      both_branch_on both_fails
       (both_bind (both_strict (strict_token t 58))
-      (λ u. both_bind (both_blank t) (λ u. both_bind (both_at_each (both_value s l)) (λ e.
-      both_bind (both_separator t) (λ u. both_gives)))))
+      (λ u. both_bind (both_blank t) (λ u. both_bind (both_peek (both_value s l)) (λ e.
+      both_bind (both_separator t) (λ u. both_yields)))))
 
   both_positional_rest : (s : ℕ) (names : List (List ℕ)) (e : InlineTree Span) →
       Both t s (positional_rest t names e)
-  both_positional_rest s [] e = both_bind (both_separator t) (λ u. both_gives)
+  both_positional_rest s [] e = both_bind (both_separator t) (λ u. both_yields)
   both_positional_rest s (m ∷ ms) e = both_fails
 
   both_argument_rest : (s : ℕ) → low ≤ s + 1 → (names : List (List ℕ)) (e : InlineTree Span) (o : Option Span)
@@ -211,7 +211,7 @@ module _ (t : List ℕ) (R : Family) (low : ℕ) (h : (s : ℕ) → low ≤ s �
       Strict t s (next_argument_at t R names b)
   strict_argument_at s l names None = strict_fails
   strict_argument_at s l names (Some b) =
-      strict_either (strict_first (strict_token t 41) (λ u. both_gives))
+      strict_branch_on (strict_first (strict_token t 41) (λ u. both_yields))
       (strict_first (strict_inline s l)
       (λ e. both_bind both_look
       (λ colon. both_argument_rest (s + 1) (omega arith) names e (argument_name e) colon)))
@@ -219,7 +219,7 @@ module _ (t : List ℕ) (R : Family) (low : ℕ) (h : (s : ℕ) → low ≤ s �
   pub both_arguments : (s : ℕ) → low ≤ s + 1 → (names : List (List ℕ)) → Both t s (more_arguments t R names)
   both_arguments s l names =
       both_many t (next_argument t R) _ _ s
-      (λ m k names. going_strict (strict_at_each (strict_argument_at m (omega arith) names))) s (omega arith) names
+      (λ m k names. going_strict (strict_peek (strict_argument_at m (omega arith) names))) s (omega arith) names
 
   -- ---- pieces
 
@@ -232,21 +232,21 @@ module _ (t : List ℕ) (R : Family) (low : ℕ) (h : (s : ℕ) → low ≤ s �
         record { late = omega arith; in_text = (run_word t).in_text i j q.in_text w }
 
     after_run : (from : ℕ) → Both {A = Piece} t (s + 1) (here >>= λ to. yields (run from to))
-    after_run from = both_bind both_here (λ to. both_gives)
+    after_run from = both_bind both_here (λ to. both_yields)
 
     run_total : Total AtRun (text_run t)
     run_total =
         total_bind {mid = λ from. AtRun} total_here (holds_here (λ i p. p))
-        (λ from. total_bind (total_over (λ i p. (run_word t).exists i (p.0).in_text)) (holds_over past_run)
+        (λ from. total_bind (total_skip (λ i p. (run_word t).exists i (p.0).in_text)) (holds_skip past_run)
         (λ u. (after_run from).total))
 
     run_read_on : Holds AtRun (text_run t) (λ p. From t (s + 1)) AnyFault
     run_read_on =
         holds_bind {mid = λ from. AtRun} (holds_here (λ i p. p))
-        (λ from. holds_bind (holds_over past_run) (λ u. (after_run from).on))
+        (λ from. holds_bind (holds_skip past_run) (λ u. (after_run from).on))
 
     placed_piece : Strict {A = More Piece (Unit {0})} t s (placeable t R >>= λ e. yields (item (placed e) tt))
-    placed_piece = strict_first (strict_placeable s l) (λ e. both_gives)
+    placed_piece = strict_first (strict_placeable s l) (λ e. both_yields)
 
     -- a byte stands there that begins no line end
     abbrev AtByte : ℕ → ℕ → Type 0
@@ -259,39 +259,39 @@ module _ (t : List ℕ) (R : Family) (low : ℕ) (h : (s : ℕ) → low ≤ s �
         (text_run t >>= λ p. yields (item p tt)))
 
     rest_total : (b : ℕ) → Total (AtByte b) (AlignedRest b)
-    rest_total b = total_either (λ x. total_fails) (λ x. total_either
+    rest_total b = total_branch_on (λ x. total_fails) (λ x. total_branch_on
         (λ y. total_weaker (λ i p. p.0) placed_piece.total)
         (λ y. total_weaker (λ i p. (p.0, run_place t i b p.1 p.2 y x))
-        (total_bind run_total run_read_on (λ p. total_gives))))
+        (total_bind run_total run_read_on (λ p. total_yields))))
 
     rest_on : (b : ℕ) → Holds (AtByte b) (AlignedRest b) (λ p. From t (s + 1)) AnyFault
-    rest_on b = holds_either (λ x. holds_fails (λ i p. tt)) (λ x. holds_either
+    rest_on b = holds_branch_on (λ x. holds_fails (λ i p. tt)) (λ x. holds_branch_on
         (λ y. holds_weaker (λ i p. p.0) (λ a j z. z) (λ k from to z. z) placed_piece.on)
         (λ y. holds_weaker (λ i p. (p.0, run_place t i b p.1 p.2 y x)) (λ a j z. z) (λ k from to z. z)
-        (holds_bind run_read_on (λ p. holds_gives (λ i q. q)))))
+        (holds_bind run_read_on (λ p. holds_yields (λ i q. q)))))
 
     piece_total : (o : Option ℕ) → Total (λ i. From t s i × (slice_get t i ≡ o)) (next_piece_at t R o)
-    piece_total None = total_gives
+    piece_total None = total_yields
     piece_total (Some b) =
-        total_at_each
-        (λ eol. total_either (λ e. total_gives) (λ e. total_weaker (λ i p. (p.0.0, p.0.1, p.1 ∙ e)) (rest_total b)))
+        total_peek
+        (λ eol. total_branch_on (λ e. total_yields) (λ e. total_weaker (λ i p. (p.0.0, p.0.1, p.1 ∙ e)) (rest_total b)))
 
     piece_on : (o : Option ℕ) →
         Holds (λ i. From t s i × (slice_get t i ≡ o)) (next_piece_at t R o) (more_on t s) AnyFault
-    piece_on None = holds_gives (λ i p. p.0)
+    piece_on None = holds_yields (λ i p. p.0)
     piece_on (Some b) =
-        holds_at_each
-        (λ eol. holds_either (λ e. holds_gives (λ i p. p.0.0))
+        holds_peek
+        (λ eol. holds_branch_on (λ e. holds_yields (λ i p. p.0.0))
         (λ e. holds_weaker (λ i p. (p.0.0, p.0.1, p.1 ∙ e)) (more_earlier t s) (λ k from to z. z) (rest_on b)))
 
     going_piece : Going t s (next_piece t R)
-    going_piece = record { total = total_at_each piece_total; on = holds_at_each piece_on }
+    going_piece = record { total = total_peek piece_total; on = holds_peek piece_on }
 
     -- from a byte that begins no line end, a piece goes on
     piece_past : (b : ℕ) → Holds (AtByte b) (next_piece_at t R (Some b)) (λ p. From t (s + 1)) AnyFault
     piece_past b =
-        holds_at_each
-        (λ eol. holds_either (λ e. holds_gives (λ i p. differs (p.1 ∙ e) p.0.2))
+        holds_peek
+        (λ eol. holds_branch_on (λ e. holds_yields (λ i p. differs (p.1 ∙ e) p.0.2))
         (λ e. holds_weaker (λ i p. p.0) (λ a j z. z) (λ k from to z. z) (rest_on b)))
 
     -- before a line end there is none

@@ -13,19 +13,19 @@ use Rattle.fluent_syntax_grammar.specs.Tokens.{optional_eol, rest_of_line, digit
 use Rattle.fluent_syntax_grammar.specs.Strings.{hex_digits, all_there, escaped, string_unit, string_units, before_quote}
 use Rattle.fluent_syntax_grammar.specs.Strings.{unit_and_more, bad_unit, string_literal}
 use Rattle.fluent_syntax_grammar.specs.Lines.{is_run_place}
-use Rattle.fluent_syntax_grammar.proofs.Holds.{Holds, holds_weaker, holds_bind, holds_gives, holds_fails, holds_over}
-use Rattle.fluent_syntax_grammar.proofs.Holds.{holds_at_each, holds_either}
+use Rattle.fluent_syntax_grammar.proofs.Holds.{Holds, holds_weaker, holds_bind, holds_yields, holds_fails, holds_skip}
+use Rattle.fluent_syntax_grammar.proofs.Holds.{holds_peek, holds_branch_on}
 use Rattle.fluent_syntax_grammar.proofs.Cuts.{ascii_blank, line_inside, run_inside, eol_forward, eol_text}
 use Rattle.fluent_syntax_grammar.proofs.Cuts.{block_forward, block_place}
 use Rattle.fluent_syntax_grammar.proofs.Sound.{Sound}
 use Rattle.fluent_syntax_grammar.proofs.SoundStrings.{InText, unit_holds, sound_units}
-use Rattle.fluent_syntax_grammar.proofs.SoundEntries.{name_read}
+use Rattle.fluent_syntax_grammar.proofs.SoundEntries.{identifier_advances}
 use Rattle.fluent_syntax_grammar.proofs.Boundaries.{text_cuts}
 use Rattle.fluent_syntax_grammar.proofs.Computed.{find_here, find_on}
 use Rattle.fluent_syntax_grammar.proofs.ComputedRules.{computed_hex, hex_run, hex_end}
-use Rattle.fluent_syntax_grammar.proofs.Total.{From, AnyFault, Total, Both, Strict, IsWord, total_bind, total_gives}
-use Rattle.fluent_syntax_grammar.proofs.Total.{total_fails, total_over, total_at_each, total_either, both_bind}
-use Rattle.fluent_syntax_grammar.proofs.Total.{both_gives, both_here, both_fails, both_over, both_at_each, both_either}
+use Rattle.fluent_syntax_grammar.proofs.Total.{From, AnyFault, Total, Both, Strict, IsWord, total_bind, total_yields}
+use Rattle.fluent_syntax_grammar.proofs.Total.{total_fails, total_skip, total_peek, total_branch_on, both_bind}
+use Rattle.fluent_syntax_grammar.proofs.Total.{both_yields, both_here, both_fails, both_skip, both_peek, both_branch_on}
 use Rattle.fluent_syntax_grammar.proofs.Total.{both_strict, strict_first, strict_then}
 use Rattle.fluent_syntax_grammar.proofs.Facts.{lt_or_same, stretch_in_text, has_inside}
 
@@ -98,13 +98,13 @@ module _ (t : List ℕ) where
   -- ---- marks
 
   pub both_inline_blank : {s : ℕ} → Both t s (inline_blank t)
-  both_inline_blank = both_over (word_of is_space)
+  both_inline_blank = both_skip (word_of is_space)
 
   pub both_blank : {s : ℕ} → Both t s (blank t)
-  both_blank = both_over (stretch_word (is_blank_place t) blank_inside)
+  both_blank = both_skip (stretch_word (is_blank_place t) blank_inside)
 
   pub both_blank_block : {s : ℕ} → Both t s (blank_block t)
-  both_blank_block = both_over block_word
+  both_blank_block = both_skip block_word
 
   -- after an optional byte that was there, the place is after it
   pub record AfterByte (s : ℕ) (found : Bool) (j : ℕ) : Type 0 where
@@ -112,21 +112,21 @@ module _ (t : List ℕ) where
     pub past : found ≡ true → From t (s + 1) j
 
   pub optional_on : (s b : ℕ) → Holds (From t s) (optional t b) (AfterByte s) AnyFault
-  optional_on s b = holds_at_each (λ found. holds_either
+  optional_on s b = holds_peek (λ found. holds_branch_on
       (λ e. holds_bind {mid = λ u. From t (s + 1)}
-      (holds_over (λ i j p w. let q = p.0 in let late = q.late in let by = w.by in
+      (holds_skip (λ i j p w. let q = p.0 in let late = q.late in let by = w.by in
       let l = has_inside (λ c. c == b) t i (p.1 ∙ e) in record { late = omega arith; in_text = omega arith }))
-      (λ u. holds_gives
+      (λ u. holds_yields
       (λ i p. let late = p.late in
       record { at = record { late = omega arith; in_text = p.in_text }; past = λ yes. p })))
-      (λ e. holds_gives (λ i p. record { at = p.0; past = λ yes. true_false yes })))
+      (λ e. holds_yields (λ i p. record { at = p.0; past = λ yes. true_false yes })))
 
   pub total_optional : {pre : ℕ → Type 0} (b : ℕ) → Total pre (optional t b)
   total_optional b =
-      total_at_each
-      (λ found. total_either
-      (λ e. total_bind {mid = λ u i. Unit {0}} (total_over (λ i p. (i + 1, record { by = refl })))
-      (holds_over (λ i j p w. tt)) (λ u. total_gives)) (λ e. total_gives))
+      total_peek
+      (λ found. total_branch_on
+      (λ e. total_bind {mid = λ u i. Unit {0}} (total_skip (λ i p. (i + 1, record { by = refl })))
+      (holds_skip (λ i j p w. tt)) (λ u. total_yields)) (λ e. total_yields))
 
   pub both_optional : {s : ℕ} (b : ℕ) → Both t s (optional t b)
   both_optional {s = s} b =
@@ -138,32 +138,32 @@ module _ (t : List ℕ) where
   pub strict_token : {s : ℕ} (b : ℕ) → Strict t s (token t b)
   strict_token {s = s} b = record {
     total =
-        total_bind (total_optional b) (optional_on s b) (λ found. total_either (λ e. total_gives) (λ e. total_fails));
+        total_bind (total_optional b) (optional_on s b) (λ found. total_branch_on (λ e. total_yields) (λ e. total_fails));
     on =
         holds_bind (optional_on s b)
-        (λ found. holds_either (λ e. holds_gives (λ i p. p.past e)) (λ e. holds_fails (λ i p. tt)));
+        (λ found. holds_branch_on (λ e. holds_yields (λ i p. p.past e)) (λ e. holds_fails (λ i p. tt)));
   }
 
   past_total : (s : ℕ) (o : Option ℕ) → Total (λ i. From t s i × (after_eol t i ≡ o)) (past_eol o)
-  past_total s None = total_gives
-  past_total s (Some k) = total_over (λ i p. (k, record { there = refl }))
+  past_total s None = total_yields
+  past_total s (Some k) = total_skip (λ i p. (k, record { there = refl }))
 
   past_on : (s : ℕ) (o : Option ℕ) → Holds (λ i. From t s i × (after_eol t i ≡ o)) (past_eol o) (λ u. From t s) AnyFault
-  past_on s None = holds_gives (λ i p. p.0)
+  past_on s None = holds_yields (λ i p. p.0)
   past_on s (Some k) =
-      holds_over (λ i j p w. let q = p.0 in let late = q.late in let there = w.there in let f = eol_forward t i k p.1 in
+      holds_skip (λ i j p w. let q = p.0 in let late = q.late in let there = w.there in let f = eol_forward t i k p.1 in
       let l = eol_text t i k p.1 in record { late = omega arith; in_text = omega arith })
 
   pub both_optional_eol : {s : ℕ} → Both t s (optional_eol t)
-  both_optional_eol {s = s} = record { total = total_at_each (past_total s); on = holds_at_each (past_on s) }
+  both_optional_eol {s = s} = record { total = total_peek (past_total s); on = holds_peek (past_on s) }
 
   pub both_spanned : {s start : ℕ} → Both t s (spanned start)
-  both_spanned = both_bind both_here (λ end. both_gives)
+  both_spanned = both_bind both_here (λ end. both_yields)
 
   pub both_rest_of_line : {s : ℕ} → Both t s (rest_of_line t)
   both_rest_of_line =
       both_bind both_here
-      (λ start. both_bind (both_over (stretch_word (is_line_place t) (line_inside t))) (λ u. both_spanned))
+      (λ start. both_bind (both_skip (stretch_word (is_line_place t) (line_inside t))) (λ u. both_spanned))
 
   word_on : (set : ℕ → Bool) (i j : ℕ) → has t set i ≡ true → ByteRun t set i j → i < j
   word_on set i j e w =
@@ -173,11 +173,11 @@ module _ (t : List ℕ) where
   strict_digits : {s : ℕ} → Strict t s (digits t)
   strict_digits {s = s} = record {
     total =
-        total_at_each
-        (λ found. total_either (λ e. total_over (λ i p. (word_of is_digit).exists i (p.0).in_text))
+        total_peek
+        (λ found. total_branch_on (λ e. total_skip (λ i p. (word_of is_digit).exists i (p.0).in_text))
         (λ e. total_fails));
-    on = holds_at_each (λ found. holds_either
-        (λ e. holds_over
+    on = holds_peek (λ found. holds_branch_on
+        (λ e. holds_skip
         (λ i j p w. let q = p.0 in let late = q.late in let l = word_on is_digit i j (p.1 ∙ e) w in
         let m = (word_of is_digit).in_text i j q.in_text w in record { late = omega arith; in_text = m }))
         (λ e. holds_fails (λ i p. tt)));
@@ -186,15 +186,15 @@ module _ (t : List ℕ) where
   both_identifier : {s : ℕ} → Both t s (identifier t)
   both_identifier =
       both_bind both_here
-      (λ start. both_bind (both_at_each (λ letter. both_gives))
-      (λ letter. both_either (both_bind (both_over (word_of is_name_byte)) (λ u. both_spanned)) both_fails))
+      (λ start. both_bind (both_peek (λ letter. both_yields))
+      (λ letter. both_branch_on (both_bind (both_skip (word_of is_name_byte)) (λ u. both_spanned)) both_fails))
 
   pub strict_identifier : {s : ℕ} → Strict t s (identifier t)
   strict_identifier {s = s} = record {
     total = both_identifier.total;
     on = record {
       on_read =
-          λ i j a p x. (let q = name_read t (InText t) (text_cuts t) i j a p.in_text x in let late = p.late in
+          λ i j a p x. (let q = identifier_advances t (InText t) (text_cuts t) i j a p.in_text x in let late = p.late in
           let on = q.late in record { late = omega arith; in_text = q.place });
       on_refused = λ i from to k p x. tt;
     };
@@ -205,7 +205,7 @@ module _ (t : List ℕ) where
       strict_then both_here
       (λ start. strict_then (both_optional 45)
       (λ x. strict_first strict_digits (λ u. both_bind (both_optional 46) (λ point.
-      both_bind (both_either (both_strict strict_digits) both_gives) (λ u. both_spanned)))))
+      both_bind (both_branch_on (both_strict strict_digits) both_yields) (λ u. both_spanned)))))
 
   -- ---- strings
 
@@ -223,23 +223,23 @@ module _ (t : List ℕ) where
   Always a j = Unit {0}
 
   steps_total : {pre : ℕ → Type 0} (n : ℕ) → Total pre (skip (Steps n))
-  steps_total n = total_over (λ i p. (i + n, record { by = refl }))
+  steps_total n = total_skip (λ i p. (i + n, record { by = refl }))
 
   steps_on : {pre : ℕ → Type 0} (n : ℕ) → Holds pre (skip (Steps n)) Always AnyFault
-  steps_on n = holds_over (λ i j p w. tt)
+  steps_on n = holds_skip (λ i j p w. tt)
 
   escaped_total : {pre : ℕ → Type 0} (o : Option ℕ) → Total pre (escaped t o)
   escaped_total None = total_fails
   escaped_total (Some b) =
-      total_either (λ e. steps_total 2)
-      (λ e. total_either (λ e. total_bind (steps_total 2) (steps_on 2) (λ u. total_hex 4))
-      (λ e. total_either (λ e. total_bind (steps_total 2) (steps_on 2) (λ u. total_hex 6)) (λ e. total_fails)))
+      total_branch_on (λ e. steps_total 2)
+      (λ e. total_branch_on (λ e. total_bind (steps_total 2) (steps_on 2) (λ u. total_hex 4))
+      (λ e. total_branch_on (λ e. total_bind (steps_total 2) (steps_on 2) (λ u. total_hex 6)) (λ e. total_fails)))
 
   unit_total : {pre : ℕ → Type 0} (o : Option ℕ) → Total pre (string_unit t o)
   unit_total None = total_fails
   unit_total (Some b) =
-      total_either (λ e. total_fails)
-      (λ e. total_either (λ e. total_at_each (λ o. escaped_total o)) (λ e. steps_total 1))
+      total_branch_on (λ e. total_fails)
+      (λ e. total_branch_on (λ e. total_peek (λ o. escaped_total o)) (λ e. steps_total 1))
 
   abbrev At : ℕ → ℕ → Type 0
   At i j = j ≡ i
@@ -252,21 +252,21 @@ module _ (t : List ℕ) where
 
   escaped_on : (i : ℕ) (o : Option ℕ) → Holds (At i) (escaped t o) (After i) AnyFault
   escaped_on i None = holds_fails (λ j p. tt)
-  escaped_on i (Some b) = holds_either (λ e. holds_over (λ j m p w. let by = w.by in omega arith))
-      (λ e. holds_either
-      (λ e. holds_bind {mid = λ u j. i + 2 ≤ j} (holds_over (λ j m p w. let by = w.by in omega arith))
+  escaped_on i (Some b) = holds_branch_on (λ e. holds_skip (λ j m p w. let by = w.by in omega arith))
+      (λ e. holds_branch_on
+      (λ e. holds_bind {mid = λ u j. i + 2 ≤ j} (holds_skip (λ j m p w. let by = w.by in omega arith))
       (λ u. hex_on i 4))
-      (λ e. holds_either
-      (λ e. holds_bind {mid = λ u j. i + 2 ≤ j} (holds_over (λ j m p w. let by = w.by in omega arith))
+      (λ e. holds_branch_on
+      (λ e. holds_bind {mid = λ u j. i + 2 ≤ j} (holds_skip (λ j m p w. let by = w.by in omega arith))
       (λ u. hex_on i 6))
       (λ e. holds_fails (λ j p. tt))))
 
   unit_on : (i : ℕ) (o : Option ℕ) → Holds (At i) (string_unit t o) (After i) AnyFault
   unit_on i None = holds_fails (λ j p. tt)
-  unit_on i (Some b) = holds_either (λ e. holds_fails (λ j p. tt)) (λ e. holds_either
-      (λ e. holds_at_each
+  unit_on i (Some b) = holds_branch_on (λ e. holds_fails (λ j p. tt)) (λ e. holds_branch_on
+      (λ e. holds_peek
       (λ o. holds_weaker {pre = At i} (λ j p. p.0) (λ a j x. x) (λ k from to x. x) (escaped_on i o)))
-      (λ e. holds_over (λ j m p w. let by = w.by in omega arith)))
+      (λ e. holds_skip (λ j m p w. let by = w.by in omega arith)))
 
   unit_text : (i j : ℕ) → i ≤ length t → has_byte t 34 i ≡ false → string_unit t (slice_get t i) i (Read tt j) →
       j ≤ length t
@@ -303,4 +303,4 @@ module _ (t : List ℕ) where
       strict_first (strict_token 34)
       (λ u. both_bind both_here
       (λ start. both_bind both_units
-      (λ u. both_bind both_spanned (λ value. both_bind (both_strict (strict_token 34)) (λ u. both_gives)))))
+      (λ u. both_bind both_spanned (λ value. both_bind (both_strict (strict_token 34)) (λ u. both_yields)))))

@@ -17,8 +17,8 @@ use Rattle.fluent_syntax_grammar.specs.Lines.{no_byte, other_line, own_line}
 use Rattle.fluent_syntax_grammar.specs.Layout.{Line}
 use Rattle.fluent_syntax_grammar.specs.Patterns.{layout_at, layout, pattern}
 use Rattle.fluent_syntax_grammar.specs.Variants.{next_variant, more_variants}
-use Rattle.fluent_syntax_grammar.proofs.Included.{IsIncluded, included_same, included_bind, included_at_each}
-use Rattle.fluent_syntax_grammar.proofs.Included.{included_either, included_many, included_next_line, IsIncludedFamily}
+use Rattle.fluent_syntax_grammar.proofs.Included.{IsIncluded, included_same, included_bind, included_peek}
+use Rattle.fluent_syntax_grammar.proofs.Included.{included_branch_on, included_many, included_next_line, IsIncludedFamily}
 use Rattle.fluent_syntax_tree.specs.declared.edition.Edition.{Edition}
 use Rattle.fluent_syntax_tree.specs.declared.spans.Span.{Span}
 
@@ -52,28 +52,28 @@ union_bind {c = c} {cs = cs} {f = f} {fs = fs} u v = record {
   found = bind_found c cs f fs u v;
 }
 
-at_each_found : {A B : Type 0} (look : ℕ → A) (f : A → Construct B) (fs : ℕ → A → Construct B) →
+peek_found : {A B : Type 0} (look : ℕ → A) (f : A → Construct B) (fs : ℕ → A → Construct B) →
     ((a : A) → IsUnion (f a) (λ n. fs n a)) → (i : ℕ) (o : Outcome B) → peek look f i o → (n : ℕ) ×
     peek look (fs n) i o
-at_each_found look f fs v i o (chosen x) = let m = (v (look i)).found i o x in (m.0, chosen m.1)
+peek_found look f fs v i o (chosen x) = let m = (v (look i)).found i o x in (m.0, chosen m.1)
 
-pub union_at_each : {A B : Type 0} {look : ℕ → A} {f : A → Construct B} {fs : ℕ → A → Construct B} →
+pub union_peek : {A B : Type 0} {look : ℕ → A} {f : A → Construct B} {fs : ℕ → A → Construct B} →
     ((a : A) → IsUnion (f a) (λ n. fs n a)) → IsUnion (peek look f) (λ n. peek look (fs n))
-union_at_each {look = look} {f = f} {fs = fs} v = record {
-  grows = λ m n l. included_at_each (λ a. (v a).grows m n l);
-  found = at_each_found look f fs v;
+union_peek {look = look} {f = f} {fs = fs} v = record {
+  grows = λ m n l. included_peek (λ a. (v a).grows m n l);
+  found = peek_found look f fs v;
 }
 
-either_found : {A : Type 0} (b : Bool) (c d : Construct A) (cs ds : ℕ → Construct A) → IsUnion c cs → IsUnion d ds →
+branch_on_found : {A : Type 0} (b : Bool) (c d : Construct A) (cs ds : ℕ → Construct A) → IsUnion c cs → IsUnion d ds →
     (i : ℕ) (o : Outcome A) → branch_on b c d i o → (n : ℕ) × branch_on b (cs n) (ds n) i o
-either_found b c d cs ds u v i o (first e x) = let m = u.found i o x in (m.0, first e m.1)
-either_found b c d cs ds u v i o (second e x) = let m = v.found i o x in (m.0, second e m.1)
+branch_on_found b c d cs ds u v i o (first e x) = let m = u.found i o x in (m.0, first e m.1)
+branch_on_found b c d cs ds u v i o (second e x) = let m = v.found i o x in (m.0, second e m.1)
 
-pub union_either : {A : Type 0} {b : Bool} {c d : Construct A} {cs ds : ℕ → Construct A} → IsUnion c cs → IsUnion d ds →
+pub union_branch_on : {A : Type 0} {b : Bool} {c d : Construct A} {cs ds : ℕ → Construct A} → IsUnion c cs → IsUnion d ds →
     IsUnion (branch_on b c d) (λ n. branch_on b (cs n) (ds n))
-union_either {b = b} {c = c} {d = d} {cs = cs} {ds = ds} u v = record {
-  grows = λ m n l. included_either (u.grows m n l) (v.grows m n l);
-  found = either_found b c d cs ds u v;
+union_branch_on {b = b} {c = c} {d = d} {cs = cs} {ds = ds} u v = record {
+  grows = λ m n l. included_branch_on (u.grows m n l) (v.grows m n l);
+  found = branch_on_found b c d cs ds u v;
 }
 
 module _ {A S B : Type 0} (f : S → Construct (More A S)) (fs : ℕ → S → Construct (More A S)) (add : A → B → B)
@@ -105,7 +105,7 @@ pub union_many :
 union_many {f = f} {fs = fs} {add = add} {none = none} {s = s} v =
     record { grows = many_grows f fs add none v s; found = many_found f fs add none v s }
 
-pub ruleset unions = (union_same, union_bind, union_at_each, union_either)
+pub ruleset unions = (union_same, union_bind, union_peek, union_branch_on)
 
 -- ---- the rules
 

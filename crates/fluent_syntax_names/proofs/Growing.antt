@@ -29,17 +29,18 @@ use Rattle.fluent_syntax_names.proofs.Adding.{adds_both, drop_next, leaves_rest,
 -- ---- What is found depends on what the tables hold alone
 
 module _ (file : ℕ) (text : Text) where
-  pub finding_known : (D : Text → Bool) (names attributes : Lookup) (known : Known) → Holds names attributes known
+  pub finding_known : (D : Text → Bool) (names parts : Lookup) (known : Known) → Holds names parts known
       → (m : Mention Span)
-      → finding_of D file text (record { names = names; attributes = attributes }) m ≡ finding_of D file text known m
-  finding_known D names attributes known h (says.Message x v) = ap (twice kind.DefinedTwice file x) (h.0 _)
-  finding_known D names attributes known h (says.Term x) = ap (twice kind.DefinedTwice file x) (h.0 _)
-  finding_known D names attributes known h (says.Attribute x) = ap (twice kind.AttributeTwice file x) (h.1 _)
-  finding_known D names attributes known h (says.Junk x) = refl
-  finding_known D names attributes known h (says.MessageReference x a) = refl
-  finding_known D names attributes known h (says.TermReference x a) = refl
-  finding_known D names attributes known h (says.Variable x) = refl
-  finding_known D names attributes known h (says.Function x) = refl
+      → finding_of D file text (record { names = names; parts = parts }) m ≡ finding_of D file text known m
+  finding_known D names parts known h (says.Message x v) = ap (twice kind.DefinedTwice file x) (h.0 _)
+  finding_known D names parts known h (says.Term x) = ap (twice kind.DefinedTwice file x) (h.0 _)
+  finding_known D names parts known h (says.Attribute x) = ap (twice kind.AttributeTwice file x) (h.1 _)
+  finding_known D names parts known h (says.Junk x) = refl
+  finding_known D names parts known h (says.MessageReference x a) = refl
+  finding_known D names parts known h (says.TermReference x a) = refl
+  finding_known D names parts known h (says.Variable x) = refl
+  finding_known D names parts known h (says.Function x) = refl
+  finding_known D names parts known h (says.VariantKey x first) = ap (twice kind.VariantTwice file x) (h.1 _)
 
   module _ (D E : Text → Bool) (same : (name : Text) → D name ≡ E name) where
     part_same : (entry : EntryName) (a : Option Span)
@@ -69,6 +70,7 @@ module _ (file : ℕ) (text : Text) where
     finding_same known (says.TermReference x a) = undefined_same kind.UndefinedTerm (term_name x) a
     finding_same known (says.Variable x) = refl
     finding_same known (says.Function x) = refl
+    finding_same known (says.VariantKey x first) = refl
 
 module _ (A B : Set) where
   -- what is known of each reference agrees

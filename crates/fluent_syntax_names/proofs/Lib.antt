@@ -12,5 +12,6 @@ pub mod Nodes
 pub mod Numbered
 pub mod Placed
 pub mod MessageReferences
+pub mod Variants
 pub mod Ways
 pub mod graphs

@@ -70,6 +70,8 @@ module _ (file : ℕ) (text : Text) where
       ∙ same ∙ sym (undefined_out E kind.UndefinedTerm (term_name x) a l' refl)
   finding_local D E known (says.Variable x) l l' same = same
   finding_local D E known (says.Function x) l l' same = same
+  finding_local D E known (says.VariantKey x first) l l' same =
+      put_own (finding_of D file text known (says.VariantKey x first)) l l' same
 
 -- ---- So what the sets define may differ
 

@@ -9,7 +9,7 @@ use Rattle.fluent_syntax_tree.specs.Tree.{NamedTrees, no_named, nameds, ElementT
 use Rattle.fluent_syntax_tree.specs.Tree.{PatternTree, no_elements, elements, VariantTree, variant, VariantTrees}
 use Rattle.fluent_syntax_tree.specs.Tree.{no_variants, variants, expression_map, inline_map, arguments_map}
 use Rattle.fluent_syntax_tree.specs.Tree.{maybe_map, option_texts, inlines_map, named_map, nameds_map, element_map}
-use Rattle.fluent_syntax_tree.specs.Tree.{pattern_map, variant_map, variants_map}
+use Rattle.fluent_syntax_tree.specs.Tree.{pattern_map, variant_map, variants_map, KeyTree, name_key, number_key, key_map}
 use Rattle.fluent_syntax_tree.specs.Entry.{AttributeTree, EntryTree, message, term, comment, junk, attribute_map}
 use Rattle.fluent_syntax_tree.specs.Entry.{entry_map}
 use Rattle.std.specs.Prelude.{is_some, option_map}
@@ -17,18 +17,26 @@ use Rattle.fluent_syntax_names.specs.declared.mention.Mention.TheVariants as say
 use Rattle.fluent_syntax_names.specs.Mentions.{Mentions, expression_mentions, inline_mentions, arguments_mentions}
 use Rattle.fluent_syntax_names.specs.Mentions.{maybe_mentions, inlines_mentions, named_mentions, nameds_mentions}
 use Rattle.fluent_syntax_names.specs.Mentions.{element_mentions, pattern_mentions, variant_mentions}
-use Rattle.fluent_syntax_names.specs.Mentions.{variants_mentions, attribute_mentions, attributes_mentions}
+use Rattle.fluent_syntax_names.specs.Mentions.{variants_mentions, select_mentions, key_text, variant_key}
+use Rattle.fluent_syntax_names.specs.Mentions.{attribute_mentions, attributes_mentions}
 use Rattle.fluent_syntax_names.specs.Mentions.{value_mentions, entry_mentions, mention_map}
 
 module _ {X Y : Type 0} (f : X → Y) (more : Mentions Y) where
   abbrev moved : Mentions X → Mentions Y
   moved ms = map (mention_map f) ms ++ more
 
+  key_mapped : (k : KeyTree X) → key_text (key_map f k) ≡ f (key_text k)
+  key_mapped (name_key x) = refl
+  key_mapped (number_key x) = refl
+
+  variant_key_mapped : (v : VariantTree X) → variant_key (variant_map f v) ≡ f (variant_key v)
+  variant_key_mapped (variant k p d) = key_mapped k
+
   mutual
     expression_mapped : (e : ExpressionTree X) (tail : Mentions X) →
         expression_mentions (expression_map f e) (moved tail) ≡ moved (expression_mentions e tail)
     expression_mapped (select e vs) tail =
-        ap (inline_mentions (inline_map f e)) (variants_mapped vs tail) ∙ inline_mapped e (variants_mentions vs tail)
+        ap (inline_mentions (inline_map f e)) (select_mapped vs tail) ∙ inline_mapped e (select_mentions vs tail)
     expression_mapped (inline e) tail = inline_mapped e tail
 
     inline_mapped : (e : InlineTree X) (tail : Mentions X) →
@@ -79,15 +87,28 @@ module _ {X Y : Type 0} (f : X → Y) (more : Mentions Y) where
     pattern_mapped (elements e es) tail =
         ap (element_mentions (element_map f e)) (pattern_mapped es tail) ∙ element_mapped e (pattern_mentions es tail)
 
-    variant_mapped : (v : VariantTree X) (tail : Mentions X) →
-        variant_mentions (variant_map f v) (moved tail) ≡ moved (variant_mentions v tail)
-    variant_mapped (variant k p d) tail = pattern_mapped p tail
+    variant_mapped : (first : X) (v : VariantTree X) (tail : Mentions X) →
+        variant_mentions (f first) (variant_map f v) (moved tail) ≡ moved (variant_mentions first v tail)
+    variant_mapped first (variant k p d) tail =
+        ap (λ x. says.VariantKey x (f first) ∷ pattern_mentions (pattern_map f p) (moved tail)) (key_mapped k)
+        ∙ ap (λ l. says.VariantKey (f (key_text k)) (f first) ∷ l) (pattern_mapped p tail)
 
-    variants_mapped : (vs : VariantTrees X) (tail : Mentions X) →
-        variants_mentions (variants_map f vs) (moved tail) ≡ moved (variants_mentions vs tail)
-    variants_mapped no_variants tail = refl
-    variants_mapped (variants v vs) tail =
-        ap (variant_mentions (variant_map f v)) (variants_mapped vs tail) ∙ variant_mapped v (variants_mentions vs tail)
+    variants_mapped : (first : X) (vs : VariantTrees X) (tail : Mentions X) →
+        variants_mentions (f first) (variants_map f vs) (moved tail) ≡ moved (variants_mentions first vs tail)
+    variants_mapped first no_variants tail = refl
+    variants_mapped first (variants v vs) tail =
+        ap (variant_mentions (f first) (variant_map f v)) (variants_mapped first vs tail)
+        ∙ variant_mapped first v (variants_mentions first vs tail)
+
+    select_mapped : (vs : VariantTrees X) (tail : Mentions X) →
+        select_mentions (variants_map f vs) (moved tail) ≡ moved (select_mentions vs tail)
+    select_mapped no_variants tail = refl
+    select_mapped (variants v vs) tail =
+        let first = variant_key v in
+        ap (λ x. variant_mentions x (variant_map f v) (variants_mentions x (variants_map f vs) (moved tail)))
+        (variant_key_mapped v)
+        ∙ ap (variant_mentions (f first) (variant_map f v)) (variants_mapped first vs tail)
+        ∙ variant_mapped first v (variants_mentions first vs tail)
 
   attributes_mapped : (as' : List (AttributeTree X)) (tail : Mentions X) →
       attributes_mentions (map (attribute_map f) as') (moved tail) ≡ moved (attributes_mentions as' tail)

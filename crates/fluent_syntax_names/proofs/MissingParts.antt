@@ -107,6 +107,7 @@ module _ (text : Text) (D E : Other) (defines : (name : Text) → D.defines name
   missing_part_same owner (says.TermReference x a) = reference_same owner (term_name x)
   missing_part_same owner (says.Variable x) = variable_same owner x
   missing_part_same owner (says.Function x) = refl
+  missing_part_same owner (says.VariantKey x first) = refl
 
   pub missing_parts_same : (owner : EntryName) (ms : Mentions Span) (tail : List MissingPart)
       → missing_parts_in D text owner ms tail ≡ missing_parts_in E text owner ms tail

@@ -16,7 +16,7 @@ use Rattle.fluent_syntax_names.specs.Mentions.{Mentions}
 use Rattle.fluent_syntax_names.specs.FirstPlaces.{first_of, place_where}
 use Rattle.fluent_syntax_names.specs.Severities.{is_local}
 use Rattle.fluent_syntax_names.specs.QualifiedNames.{Text, message_name, term_name, nameless, name_at, qualified_name}
-use Rattle.fluent_syntax_names.specs.QualifiedNames.{qualified_attribute}
+use Rattle.fluent_syntax_names.specs.QualifiedNames.{qualified_attribute, qualified_key}
 use Rattle.fluent_syntax_names.specs.QualifiedNames.{qualified_value, qualified_pattern}
 use Rattle.fluent_syntax_names.specs.Cycles.{pattern_after, referenced_pattern, no_pattern, links, is_cyclic}
 
@@ -69,11 +69,11 @@ is_defined files name = list_any (bytes_eq name) (defined_by files)
 pub record Known : Type 0 where
   -- messages and terms of the file
   pub names : Text → Option Span
-  -- attributes of the last of them
-  pub attributes : Text → Option Span
+  -- attributes of the last of them, and the keys of the variants in it
+  pub parts : Text → Option Span
 
 abbrev pub nothing : Known
-nothing = record { names = λ name. None; attributes = λ name. None }
+nothing = record { names = λ name. None; parts = λ name. None }
 
 -- a name more, where it is new
 abbrev pub noted : (Text → Option Span) → Text → Span → Text → Option Span
@@ -81,11 +81,13 @@ noted known name place = λ n. first_of (known n) (place_where n name place)
 
 abbrev pub after : Text → Known → Mention Span → Known
 after text known (says.Message x v) =
-    record { names = noted known.names (qualified_name text (message_name x)) x; attributes = λ name. None }
+    record { names = noted known.names (qualified_name text (message_name x)) x; parts = λ name. None }
 after text known (says.Term x) =
-    record { names = noted known.names (qualified_name text (term_name x)) x; attributes = λ name. None }
+    record { names = noted known.names (qualified_name text (term_name x)) x; parts = λ name. None }
 after text known (says.Attribute x) =
-    record { names = known.names; attributes = noted known.attributes (name_at text x) x }
+    record { names = known.names; parts = noted known.parts (name_at text x) x }
+after text known (says.VariantKey x first) =
+    record { names = known.names; parts = noted known.parts (qualified_key text first x) x }
 after text known _ = known
 
 -- ---- What is found at a mention
@@ -127,7 +129,9 @@ finding_of is_defined file text known (says.Message x v) =
 finding_of is_defined file text known (says.Term x) =
     twice kind.DefinedTwice file x (known.names (qualified_name text (term_name x)))
 finding_of is_defined file text known (says.Attribute x) =
-    twice kind.AttributeTwice file x (known.attributes (name_at text x))
+    twice kind.AttributeTwice file x (known.parts (name_at text x))
+finding_of is_defined file text known (says.VariantKey x first) =
+    twice kind.VariantTwice file x (known.parts (qualified_key text first x))
 finding_of is_defined file text known (says.MessageReference x a) =
     undefined is_defined file text kind.UndefinedMessage (message_name x) a
 finding_of is_defined file text known (says.TermReference x a) =

@@ -7,7 +7,7 @@ use Rattle.fluent_syntax_tree.specs.Tree.{inline_placeable, ArgumentsTree, argum
 use Rattle.fluent_syntax_tree.specs.Tree.{some_arguments, InlineTrees, no_inlines, inlines, NamedTree, named_argument}
 use Rattle.fluent_syntax_tree.specs.Tree.{NamedTrees, no_named, nameds, ElementTree, text_element, placeable}
 use Rattle.fluent_syntax_tree.specs.Tree.{PatternTree, no_elements, elements, VariantTree, variant, VariantTrees}
-use Rattle.fluent_syntax_tree.specs.Tree.{no_variants, variants}
+use Rattle.fluent_syntax_tree.specs.Tree.{no_variants, variants, KeyTree, name_key, number_key}
 use Rattle.fluent_syntax_tree.specs.Entry.{AttributeTree, MessageTree, TermTree, EntryTree, message, term, comment}
 use Rattle.fluent_syntax_tree.specs.Entry.{junk, BodyTree}
 use Rattle.fluent_syntax_tree.specs.Tree.{option_texts}
@@ -18,9 +18,17 @@ use Rattle.fluent_syntax_names.specs.declared.mention.Mention.TheVariants as say
 abbrev pub Mentions : Type 0 → Type 0
 Mentions X = List (Mention X)
 
+-- as it is spelled
+abbrev pub key_text : {X : Type 0} → KeyTree X → X
+key_text (name_key x) = x
+key_text (number_key x) = x
+
+abbrev pub variant_key : {X : Type 0} → VariantTree X → X
+variant_key (variant k p d) = key_text k
+
 abbrev mutual
   pub expression_mentions : {X : Type 0} → ExpressionTree X → Mentions X → Mentions X
-  expression_mentions (select e vs) tail = inline_mentions e (variants_mentions vs tail)
+  expression_mentions (select e vs) tail = inline_mentions e (select_mentions vs tail)
   expression_mentions (inline e) tail = inline_mentions e tail
 
   pub inline_mentions : {X : Type 0} → InlineTree X → Mentions X → Mentions X
@@ -58,12 +66,19 @@ abbrev mutual
   pattern_mentions no_elements tail = tail
   pattern_mentions (elements x xs) tail = element_mentions x (pattern_mentions xs tail)
 
-  pub variant_mentions : {X : Type 0} → VariantTree X → Mentions X → Mentions X
-  variant_mentions (variant k p d) tail = pattern_mentions p tail
+  -- of a select with this first key
+  pub variant_mentions : {X : Type 0} → X → VariantTree X → Mentions X → Mentions X
+  variant_mentions first (variant k p d) tail = says.VariantKey (key_text k) first ∷ pattern_mentions p tail
 
-  pub variants_mentions : {X : Type 0} → VariantTrees X → Mentions X → Mentions X
-  variants_mentions no_variants tail = tail
-  variants_mentions (variants x xs) tail = variant_mentions x (variants_mentions xs tail)
+  pub variants_mentions : {X : Type 0} → X → VariantTrees X → Mentions X → Mentions X
+  variants_mentions first no_variants tail = tail
+  variants_mentions first (variants x xs) tail = variant_mentions first x (variants_mentions first xs tail)
+
+  -- all variants of a select
+  pub select_mentions : {X : Type 0} → VariantTrees X → Mentions X → Mentions X
+  select_mentions no_variants tail = tail
+  select_mentions (variants x xs) tail =
+      variant_mentions (variant_key x) x (variants_mentions (variant_key x) xs tail)
 
 module _ {X : Type 0} where
   abbrev pub attribute_mentions : AttributeTree X → Mentions X → Mentions X
@@ -135,6 +150,7 @@ mention_map f (says.MessageReference x a) = says.MessageReference (f x) (option_
 mention_map f (says.TermReference x a) = says.TermReference (f x) (option_texts f a)
 mention_map f (says.Variable x) = says.Variable (f x)
 mention_map f (says.Function x) = says.Function (f x)
+mention_map f (says.VariantKey x first) = says.VariantKey (f x) (f first)
 
 -- the range so many bytes on
 abbrev pub shifted_span : ℕ → Span → Span

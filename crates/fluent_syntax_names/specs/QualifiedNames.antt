@@ -1,7 +1,8 @@
 -- How the names of entries and of attributes are spelled.
 use Rattle.std.specs.Prelude.{ℕ, ◌&&◌, nat_le, List, [], ◌∷◌, ◌++◌, length, slice_range, if◌then◌else◌, true, false}
 use Rattle.std.specs.Prelude.{Option, Some, None}
-use Rattle.fluent_syntax_tree.specs.Bytes.{hyphen, full_stop, equals_sign, dollar_sign, greater_than}
+use Rattle.std.specs.Fmt.{decimal}
+use Rattle.fluent_syntax_tree.specs.Bytes.{hyphen, full_stop, equals_sign, dollar_sign, greater_than, left_bracket}
 use Rattle.fluent_syntax_tree.specs.declared.spans.Span.{Span}
 use Rattle.fluent_syntax_names.specs.declared.qualified_names.EntryName.{EntryName}
 use Rattle.fluent_syntax_names.specs.declared.qualified_names.PatternName.{PatternName}
@@ -46,6 +47,11 @@ qualified_variable text entry variable = variable_of (qualified_name text entry)
 -- `name>other`, that an entry refers to another, or to an attribute of it
 abbrev pub qualified_reference : List ℕ → EntryName → EntryName → List ℕ
 qualified_reference text entry other = (qualified_name text entry ++ greater_than ∷ []) ++ qualified_name text other
+
+-- `12[key`, the key of a variant in the select whose first key stands at 12. A name begins with a letter and a number
+-- does not, so keys that are spelled alike are of one kind. No attribute is spelled so.
+abbrev pub qualified_key : List ℕ → (first key : Span) → List ℕ
+qualified_key text first key = (decimal first.start ++ left_bracket ∷ []) ++ name_at text key
 
 abbrev pub qualified_part : List ℕ → EntryName → Option Span → List ℕ
 qualified_part text entry None = qualified_value text entry

@@ -1,5 +1,5 @@
 -- Which entries became junk.
-use Rattle.std.specs.Prelude.{ℕ, Bool, ◌||◌, ◌==◌, ◌-◌, List, [], ◌∷◌, Option, None, if◌then◌else◌, take_while}
+use Rattle.std.specs.Prelude.{ℕ, Bool, ◌||◌, ◌==◌, ◌-◌, [], ◌∷◌, Option, None, if◌then◌else◌, take_while}
 use Rattle.std.specs.Char.{is_ascii_alphanumeric}
 use Rattle.std.specs.Str.{bytes_eq}
 use Rattle.fluent_syntax_tree.specs.Bytes.{hyphen, underscore}

@@ -10,6 +10,7 @@ use Rattle.fluent_syntax_names.specs.declared.finding.Kind.TheVariants as kind
 abbrev pub sentence_of : Kind → List ℕ → List ℕ
 sentence_of kind.DefinedTwice name = codes "`" ++ name ++ codes "` is defined twice"
 sentence_of kind.AttributeTwice name = codes "the entry has the attribute `" ++ name ++ codes "` twice"
+sentence_of kind.VariantTwice name = codes "the select has the variant `" ++ name ++ codes "` twice"
 sentence_of kind.UndefinedMessage name = codes "no file defines the message `" ++ name ++ codes "`"
 sentence_of kind.UndefinedTerm name = codes "no file defines the term `-" ++ name ++ codes "`"
 sentence_of kind.UndefinedAttribute name = codes "no file defines its attribute `" ++ name ++ codes "`"

@@ -3,11 +3,12 @@ use Rattle.std.specs.Prelude.{ℕ, Bool, true, false, List, codes}
 use Rattle.fluent_syntax_names.specs.declared.finding.Kind.{Kind}
 use Rattle.fluent_syntax_names.specs.declared.finding.Kind.TheVariants as kind
 use Rattle.fluent_syntax_names.specs.declared.finding.Severity.{Severity}
-use Rattle.fluent_syntax_names.specs.declared.finding.Severity.TheVariants.{Error}
+use Rattle.fluent_syntax_names.specs.declared.finding.Severity.TheVariants.{Error, Warning}
 
 abbrev pub severity_of : Kind → Severity
 severity_of kind.DefinedTwice = Error
 severity_of kind.AttributeTwice = Error
+severity_of kind.VariantTwice = Warning
 severity_of kind.UndefinedMessage = Error
 severity_of kind.UndefinedTerm = Error
 severity_of kind.UndefinedAttribute = Error
@@ -18,6 +19,7 @@ severity_of kind.CyclicReference = Error
 abbrev pub name_of : Kind → List ℕ
 name_of kind.DefinedTwice = codes "defined-twice"
 name_of kind.AttributeTwice = codes "attribute-twice"
+name_of kind.VariantTwice = codes "variant-twice"
 name_of kind.UndefinedMessage = codes "undefined-message"
 name_of kind.UndefinedTerm = codes "undefined-term"
 name_of kind.UndefinedAttribute = codes "undefined-attribute"
@@ -28,6 +30,7 @@ name_of kind.CyclicReference = codes "cyclic-reference"
 abbrev pub is_local : Kind → Bool
 is_local kind.DefinedTwice = true
 is_local kind.AttributeTwice = true
+is_local kind.VariantTwice = true
 is_local kind.UndefinedMessage = false
 is_local kind.UndefinedTerm = false
 is_local kind.UndefinedAttribute = false

@@ -27,21 +27,21 @@ LeavesNames old now left all = (rest : List Text) (name : Text) →
     ≡ (has_name old name || list_any (bytes_eq name) (all rest))
 
 -- the tables hold what is known
-abbrev pub Holds : (names attributes : Lookup) → Known → Type 0
-Holds names attributes known =
-    ((name : Text) → names name ≡ known.names name) × ((name : Text) → attributes name ≡ known.attributes name)
+abbrev pub Holds : (names parts : Lookup) → Known → Type 0
+Holds names parts known =
+    ((name : Text) → names name ≡ known.names name) × ((name : Text) → parts name ≡ known.parts name)
 
 -- the tables go on as what is known does
-abbrev pub HoldsAfter : (old_names old_attributes new_names new_attributes : Lookup) → Text → Mention Span → Type 0
-HoldsAfter old_names old_attributes new_names new_attributes text mention = (known : Known) →
-    Holds old_names old_attributes known → Holds new_names new_attributes (after text known mention)
+abbrev pub HoldsAfter : (old_names old_parts new_names new_parts : Lookup) → Text → Mention Span → Type 0
+HoldsAfter old_names old_parts new_names new_parts text mention = (known : Known) →
+    Holds old_names old_parts known → Holds new_names new_parts (after text known mention)
 
--- the entry is noted, and no attribute of it
-abbrev pub NotesEntry : (old_names new_names new_attributes : Lookup) → Text → Span → Type 0
-NotesEntry old_names new_names new_attributes name place =
-    Notes old_names new_names name place × ((n : Text) → new_attributes n ≡ None)
+-- the entry is noted, and no part of it
+abbrev pub NotesEntry : (old_names new_names new_parts : Lookup) → Text → Span → Type 0
+NotesEntry old_names new_names new_parts name place =
+    Notes old_names new_names name place × ((n : Text) → new_parts n ≡ None)
 
--- the attribute is noted, and no entry
-abbrev pub NotesAttribute : (old_names new_names old_attributes new_attributes : Lookup) → Text → Span → Type 0
-NotesAttribute old_names new_names old_attributes new_attributes name place =
-    ((n : Text) → new_names n ≡ old_names n) × Notes old_attributes new_attributes name place
+-- the part is noted, and no entry
+abbrev pub NotesPart : (old_names new_names old_parts new_parts : Lookup) → Text → Span → Type 0
+NotesPart old_names new_names old_parts new_parts name place =
+    ((n : Text) → new_names n ≡ old_names n) × Notes old_parts new_parts name place

@@ -26,7 +26,8 @@ use std::slice::from_ref;
 
 /// All that is found in the files of one language, in the order of the files and of their texts.
 ///
-/// - A name that a file defines twice, or an attribute that an entry has twice: at each place but the first.
+/// - A name that a file defines twice, an attribute that an entry has twice, or a key that a select has twice: at each
+///   place but the first.
 /// - A reference to a message or a term that no file defines, or to an attribute or a value that none has.
 /// - A reference that comes back: what it refers to reaches the pattern that it stands in.
 ///
@@ -59,8 +60,8 @@ pub fn findings_with_externals(
     findings_in_files(alloc, known, &cycles, files)
 }
 
-/// What is found in a file by itself, whatever stands in other files, in the order of its text: a name or an attribute
-/// that is given twice, and a reference that comes back. The findings are of the file 0.
+/// What is found in a file by itself, whatever stands in other files, in the order of its text: a name, an attribute or
+/// a key that is given twice, and a reference that comes back. The findings are of the file 0.
 ///
 /// Takes the memory of tables of its names and references, and of the list; `AllocError` where there is none.
 pub fn local_findings(alloc: Global, file: &NameIndex<'_>) -> Result<Vec<Finding>, AllocError>

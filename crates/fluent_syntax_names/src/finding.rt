@@ -10,13 +10,13 @@ pub struct Finding {
     pub kind: Kind,
     /// The number of the file that has it, from 0.
     pub file: usize,
-    /// The name there, as it stands in the text; `None` where the file has no place for what it lacks.
+    /// The name or the key there, as it stands in the text; `None` where the file has no place for what it lacks.
     pub place: Option<Span>,
-    /// The other place that it speaks of: of a name that is given twice the first one.
+    /// The other place that it speaks of: of a name or a key that is given twice the first one.
     pub other: Option<Place>,
 }
 
-/// A name in a file.
+/// A name or a key in a file.
 #[derive(Clone, Copy, Debug, PartialEq, Eq)]
 pub struct Place {
     /// The number of the file, from 0.
@@ -31,6 +31,8 @@ pub enum Kind {
     DefinedTwice,
     /// The entry has an attribute of this name before.
     AttributeTwice,
+    /// The select has a variant with this key before.
+    VariantTwice,
     /// No file defines the message that is referred to.
     UndefinedMessage,
     /// No file defines the term that is referred to.
@@ -62,6 +64,7 @@ impl Kind {
             Kind::UndefinedMessage | Kind::UndefinedTerm => Severity::Error,
             Kind::UndefinedAttribute | Kind::UndefinedValue => Severity::Error,
             Kind::CyclicReference => Severity::Error,
+            Kind::VariantTwice => Severity::Warning,
         }
     }
 
@@ -72,6 +75,7 @@ impl Kind {
         match self {
             Kind::DefinedTwice => "defined-twice",
             Kind::AttributeTwice => "attribute-twice",
+            Kind::VariantTwice => "variant-twice",
             Kind::UndefinedMessage => "undefined-message",
             Kind::UndefinedTerm => "undefined-term",
             Kind::UndefinedAttribute => "undefined-attribute",
@@ -86,7 +90,8 @@ impl Kind {
         ensures { result ≡ is_local self }
     {
         match self {
-            Kind::DefinedTwice | Kind::AttributeTwice | Kind::CyclicReference => true,
+            Kind::DefinedTwice | Kind::AttributeTwice | Kind::VariantTwice => true,
+            Kind::CyclicReference => true,
             Kind::UndefinedMessage | Kind::UndefinedTerm => false,
             Kind::UndefinedAttribute | Kind::UndefinedValue => false,
         }

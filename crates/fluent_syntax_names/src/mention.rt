@@ -40,4 +40,10 @@ pub enum Mention<X> {
     Function {
         name: X,
     },
+    /// A select has a variant with this key, a name or a number: `[one] One`
+    VariantKey {
+        key: X,
+        /// The first key of the select, which may be this one.
+        first: X,
+    },
 }

@@ -43,10 +43,10 @@ impl FileContext<'_> {
     ) -> Result<Option<Finding>, AllocError>
         ensures finding { IfOk result (λ finding.
             finding ≡ finding_of (knows self.now.known) self.now.file self.now.text.now
-            (record { names = place_of noted.old.names.table; attributes = place_of noted.old.attributes.table })
+            (record { names = place_of noted.old.names.table; parts = place_of noted.old.parts.table })
             mention.now) }
-        ensures noted { OnOk result (HoldsAfter (place_of noted.old.names.table) (place_of noted.old.attributes.table)
-            (place_of noted.new.names.table) (place_of noted.new.attributes.table) self.now.text.now mention.now) }
+        ensures noted { OnOk result (HoldsAfter (place_of noted.old.names.table) (place_of noted.old.parts.table)
+            (place_of noted.new.names.table) (place_of noted.new.parts.table) self.now.text.now mention.now) }
     {
         match mention {
             Mention::Message { name, .. } => self.entry_twice(noted, message_name(*name)),
@@ -54,6 +54,10 @@ impl FileContext<'_> {
             Mention::Attribute { name } => {
                 let first = noted.note_attribute(self.alloc, self.text, *name)?;
                 Ok(self.twice(Kind::AttributeTwice, *name, first))
+            }
+            Mention::VariantKey { key, first } => {
+                let earlier = noted.note_key(self.alloc, self.text, *first, *key)?;
+                Ok(self.twice(Kind::VariantTwice, *key, earlier))
             }
             Mention::MessageReference { name, attribute } => {
                 self.undefined(Kind::UndefinedMessage, message_name(*name), *attribute)
@@ -106,7 +110,7 @@ impl FileContext<'_> {
         ensures finding { IfOk result (λ finding. finding ≡ twice Kind.DefinedTwice self.now.file entry.name
             (place_of noted.old.names.table (qualified_name self.now.text.now entry))) }
         ensures noted { OnOk result (NotesEntry (place_of noted.old.names.table) (place_of noted.new.names.table)
-            (place_of noted.new.attributes.table) (qualified_name self.now.text.now entry) entry.name) }
+            (place_of noted.new.parts.table) (qualified_name self.now.text.now entry) entry.name) }
     {
         let first = noted.note_entry(self.alloc, self.text, entry)?;
         Ok(self.twice(Kind::DefinedTwice, entry.name, first))

@@ -34,6 +34,7 @@ impl Kind {
         match self {
             Kind::DefinedTwice => format!(in alloc; "`{name}` is defined twice"),
             Kind::AttributeTwice => format!(in alloc; "the entry has the attribute `{name}` twice"),
+            Kind::VariantTwice => format!(in alloc; "the select has the variant `{name}` twice"),
             Kind::UndefinedMessage => format!(in alloc; "no file defines the message `{name}`"),
             Kind::UndefinedTerm => format!(in alloc; "no file defines the term `-{name}`"),
             Kind::UndefinedAttribute => format!(in alloc; "no file defines its attribute `{name}`"),

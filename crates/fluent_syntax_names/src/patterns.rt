@@ -2,11 +2,11 @@
 ghost use Rattle.std.specs.Prelude.{◌≡◌, OnOk, option_map, map};
 ghost use Rattle.fluent_syntax_tree.specs.Tree.{elements_of, inlines_of, nameds_of, variants_of};
 ghost use Rattle.fluent_syntax_tree.specs.View.{identifier_view, expression_view, inline_view, element_view};
-ghost use Rattle.fluent_syntax_tree.specs.View.{arguments_view, named_view, pattern_view, variant_view};
+ghost use Rattle.fluent_syntax_tree.specs.View.{arguments_view, key_view, named_view, pattern_view, variant_view};
 ghost use Rattle.fluent_syntax_names.specs.Growing.{Adds};
 ghost use Rattle.fluent_syntax_names.specs.Mentions.{expression_mentions, inline_mentions, element_mentions};
 ghost use Rattle.fluent_syntax_names.specs.Mentions.{arguments_mentions, pattern_mentions, inlines_mentions};
-ghost use Rattle.fluent_syntax_names.specs.Mentions.{nameds_mentions, variants_mentions};
+ghost use Rattle.fluent_syntax_names.specs.Mentions.{key_text, nameds_mentions, select_mentions};
 
 use crate::mention::Mention;
 use fluent_syntax_tree::ast::*;
@@ -19,6 +19,16 @@ pub(crate) fn name_of<X: Copy>(id: &Option<Identifier<X>>) -> Option<X>
     match id {
         Some(id) => Some(id.name),
         None => None,
+    }
+}
+
+/// The key, as it is spelled.
+fn key_text<X: Copy>(key: &VariantKey<X>) -> X
+    ensures { result ≡ key_text (key_view (λ x. x) key.now) }
+{
+    match key {
+        VariantKey::Identifier { name } => *name,
+        VariantKey::NumberLiteral { value } => *value,
     }
 }
 
@@ -85,9 +95,15 @@ fn add_variants<X: Copy>(
 ) -> Result<(), AllocError>
     ensures { OnOk result
         (Adds list.old.items list.new.items
-        (variants_mentions (variants_of (map (variant_view (λ x. x)) variants.now)))) }
+        (select_mentions (variants_of (map (variant_view (λ x. x)) variants.now)))) }
 {
+    let Some(first_variant) = variants.first() else {
+        return Ok(());
+    };
+    let first = key_text(&first_variant.key);
     for variant in variants {
+        let key = key_text(&variant.key);
+        list.push(Mention::VariantKey { key, first })?;
         add_pattern(list, &variant.value)?;
     }
     Ok(())

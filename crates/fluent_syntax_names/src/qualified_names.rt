@@ -3,7 +3,7 @@ ghost use Rattle.std.specs.Prelude.{◌≡◌, IfOk};
 ghost use Rattle.fluent_syntax_names.specs.QualifiedNames.{name_at, qualified_name, qualified_attribute};
 ghost use Rattle.fluent_syntax_names.specs.QualifiedNames.{qualified_value};
 ghost use Rattle.fluent_syntax_names.specs.QualifiedNames.{qualified_variable, qualified_reference, variable_of};
-ghost use Rattle.fluent_syntax_names.specs.QualifiedNames.{qualified_pattern};
+ghost use Rattle.fluent_syntax_names.specs.QualifiedNames.{qualified_pattern, qualified_key};
 
 use fluent_syntax_tree::spans::Span;
 use std::alloc::{AllocError, Global};
@@ -123,6 +123,21 @@ pub(crate) fn qualified_reference(
     bytes.push(b'>')?;
     let other = qualified_name(alloc, text, other)?;
     bytes.extend_from_slice(&other)?;
+    Ok(bytes)
+}
+
+/// The key of a variant behind the place of the first key of its select and a `[`.
+pub(crate) fn qualified_key(
+    alloc: Global,
+    text: &str,
+    first: Span,
+    key: Span,
+) -> Result<Vec<u8>, AllocError>
+    ensures { IfOk result (λ bytes. bytes.items ≡ qualified_key text.now first key) }
+{
+    let select = first.start;
+    let mut bytes = format!(in alloc; "{select}[")?.into_bytes();
+    bytes.extend_from_slice(name_at(text, key))?;
     Ok(bytes)
 }
 

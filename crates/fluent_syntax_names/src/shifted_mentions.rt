@@ -61,5 +61,9 @@ pub(crate) fn shifted_mention(
         Mention::Function { name } => Mention::Function {
             name: shifted_span(base, name)?,
         },
+        Mention::VariantKey { key, first } => Mention::VariantKey {
+            key: shifted_span(base, key)?,
+            first: shifted_span(base, first)?,
+        },
     })
 }

@@ -14,15 +14,18 @@ static COLORS: [&str; 3] = ["auto", "always", "never"];
 /// What standard input is called.
 const STDIN_NAME: &str = "<stdin>";
 
-/// The command line that `ftl` takes.
-pub fn command_line<'a>(alloc: Global) -> Result<Command<'a>, AllocError> {
-    let program = Command::new(alloc, "ftl")
-        .subcommand_required(true)
-        .disable_help_subcommand(true);
+/// The command line that `ftl` takes, where this is its first word. The words that read by edition two are in it only
+/// where they are asked for, so that none of them is proposed for another.
+pub fn command_line<'a>(alloc: Global, word: &str) -> Result<Command<'a>, AllocError> {
+    let program = Command::new(alloc, "ftl").subcommand_required(true);
     let program = with_checks(alloc, program)?;
-    let program = with_checks_by_edition_two(alloc, program)?;
     let program = with_conversions(alloc, program)?;
-    with_other_words(alloc, program)
+    let program = with_other_words(alloc, program)?;
+    if word.ends_with("-two") {
+        with_checks_by_edition_two(alloc, program)
+    } else {
+        Ok(program)
+    }
 }
 
 /// Adds the words that check and format.
@@ -38,8 +41,8 @@ fn with_checks_by_edition_two<'a>(
     program: Command<'a>,
 ) -> Result<Command<'a>, AllocError> {
     program
-        .subcommand(check(alloc, "check-two")?.hide(true))?
-        .subcommand(format(alloc, "format-two")?.hide(true))
+        .subcommand(check(alloc, "check-two")?)?
+        .subcommand(format(alloc, "format-two")?)
 }
 
 /// Adds the words that write another form.
@@ -130,7 +133,10 @@ fn format<'a>(alloc: Global, name: &'a str) -> Result<Command<'a>, AllocError> {
   ftl format < menu.ftl      the normal form; entries with errors are left out",
     )?
     .arg(write(alloc)?)?
-    .arg(names_only(alloc))
+    .arg(names_only(alloc))?
+    .arg(diff(alloc)?)?
+    .arg(quiet(alloc))?
+    .arg(stdin_name(alloc))
 }
 
 fn write<'a>(alloc: Global) -> Result<Arg<'a>, AllocError> {
@@ -146,6 +152,23 @@ fn names_only<'a>(alloc: Global) -> Arg<'a> {
     Arg::new(alloc, "check")
         .long("check")
         .help("Names the files that --write would change, with status 1")
+        .action(ArgAction::SetTrue)
+}
+
+fn diff<'a>(alloc: Global) -> Result<Arg<'a>, AllocError> {
+    Arg::new(alloc, "diff")
+        .long("diff")
+        .help("Shows what --write would change, with status 1")
+        .action(ArgAction::SetTrue)
+        .conflicts_with("write")?
+        .conflicts_with("check")
+}
+
+fn quiet<'a>(alloc: Global) -> Arg<'a> {
+    Arg::new(alloc, "quiet")
+        .short('q')
+        .long("quiet")
+        .help("Leaves out the last line, of how many files there are; errors are told all the same")
         .action(ArgAction::SetTrue)
 }
 
@@ -167,6 +190,7 @@ fn word<'a>(
         .about(about)
         .after_help(examples)
         .arg(nesting(alloc))?
+        .arg(exclude(alloc))?
         .arg(paths(
             alloc,
             "Files, folders for every .ftl file below, or `-`; none for standard input",
@@ -190,13 +214,25 @@ fn paths<'a>(alloc: Global, help: &'a str) -> Arg<'a> {
         .num_args(0..)
 }
 
-/// The paths that the words name.
-pub(crate) fn paths_of<'a>(
+/// The option for what is passed over in folders.
+pub(crate) fn exclude<'a>(alloc: Global) -> Arg<'a> {
+    Arg::new(alloc, "exclude")
+        .long("exclude")
+        .value_name("NAME")
+        .help(
+            "Passes over what has the name in a folder, or with a `/` the path; may be given again",
+        )
+        .action(ArgAction::Append)
+}
+
+/// The texts that the words give for the argument.
+pub(crate) fn texts_of<'a>(
     alloc: Global,
     options: &ArgMatches<'a>,
+    argument: &str,
 ) -> Result<Vec<&'a str>, AllocError> {
-    match options.get_strs("paths") {
-        Some(paths) => Vec::from_slice(alloc, paths),
+    match options.get_strs(argument) {
+        Some(texts) => Vec::from_slice(alloc, texts),
         None => Ok(Vec::new(alloc)),
     }
 }

@@ -1,9 +1,10 @@
 //! The word `compare`.
 
-use crate::commands::{color, paths_of};
-use crate::lint_args::{form, nesting};
+use crate::commands::{color, exclude, texts_of};
+use crate::lint_args::{form, ignore, ignored_of, nesting};
 use crate::options::Options;
 use clap::{Arg, ArgAction, ArgMatches, Command};
+use ftl_files::ReportedKind;
 use std::alloc::{AllocError, Global};
 
 /// Files of a reference language, and of others to compare with it.
@@ -11,9 +12,25 @@ use std::alloc::{AllocError, Global};
 pub struct Compare<'a> {
     /// How a text is read, and how a difference is told.
     pub options: Options,
+    /// Kinds that are not told.
+    pub ignored: Vec<ReportedKind>,
+    /// What is passed over in folders.
+    pub excluded: Vec<&'a str>,
     /// Files, or folders for every file below: the reference, where the project names none, and the others.
     pub paths: Vec<&'a str>,
 }
+
+static KIND_NAMES: [&str; 9] = [
+    "missing-file",
+    "missing",
+    "missing-value",
+    "missing-attribute",
+    "missing-reference",
+    "obsolete",
+    "obsolete-value",
+    "obsolete-attribute",
+    "unknown-variable",
+];
 
 /// The word, with its options.
 pub(crate) fn compare_command<'a>(alloc: Global) -> Result<Command<'a>, AllocError> {
@@ -27,6 +44,8 @@ pub(crate) fn compare_command<'a>(alloc: Global) -> Result<Command<'a>, AllocErr
         )
         .arg(form(alloc))?
         .arg(color(alloc))?
+        .arg(ignore(alloc, KIND_NAMES.as_slice()))?
+        .arg(exclude(alloc))?
         .arg(nesting(alloc))?
         .arg(paths(alloc))
 }
@@ -51,6 +70,8 @@ pub(crate) fn compare_of<'a>(
 ) -> Result<Compare<'a>, AllocError> {
     Ok(Compare {
         options: said,
-        paths: paths_of(alloc, options)?,
+        ignored: ignored_of(alloc, options)?,
+        excluded: texts_of(alloc, options, "exclude")?,
+        paths: texts_of(alloc, options, "paths")?,
     })
 }

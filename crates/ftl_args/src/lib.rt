@@ -8,11 +8,12 @@ mod mistakes;
 mod options;
 mod request;
 mod requested;
+mod usage;
 
-pub use commands::command_line;
 pub use compare_args::Compare;
 pub use lint_args::Lint;
 pub use mistakes::{mistake, status_of};
 pub use options::Options;
 pub use request::{Change, Request, Task, Work};
 pub use requested::request_of;
+pub use usage::usage_of;

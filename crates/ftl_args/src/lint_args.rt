@@ -1,10 +1,9 @@
 //! The word `lint`.
 
-use crate::commands::{color, paths_of};
+use crate::commands::{color, exclude, texts_of};
 use crate::options::Options;
 use clap::{Arg, ArgAction, ArgMatches, Command, value_parser};
-use fluent_syntax_names::Kind;
-use ftl_files::kind_of_name;
+use ftl_files::{ReportedKind, reported_kind_of_name};
 use std::alloc::{AllocError, Global};
 
 /// Files to search for mistakes between names.
@@ -13,14 +12,19 @@ pub struct Lint<'a> {
     /// How a text is read, and how a finding is told.
     pub options: Options,
     /// Kinds that are not told.
-    pub ignored: Vec<Kind>,
-    /// Files and folders, which are one set.
+    pub ignored: Vec<ReportedKind>,
+    /// What is passed over in folders.
+    pub excluded: Vec<&'a str>,
+    /// Whether each folder directly below a path is a set of its own.
+    pub each: bool,
+    /// Files and folders, which are one set, or one for each language of the project.
     pub paths: Vec<&'a str>,
 }
 
-static KIND_NAMES: [&str; 7] = [
+static KIND_NAMES: [&str; 8] = [
     "defined-twice",
     "attribute-twice",
+    "variant-twice",
     "undefined-message",
     "undefined-term",
     "undefined-attribute",
@@ -36,23 +40,34 @@ pub(crate) fn lint_command<'a>(alloc: Global) -> Result<Command<'a>, AllocError>
         .about("Tells names that are given twice, and references to what no file defines")
         .after_help(
             "Examples:
-  ftl lint .                                every .ftl file below this folder, as one set
+  ftl lint .                                every .ftl file below this folder, the project's languages by themselves
+  ftl lint --each locales                   the same, each folder in locales as a set of its own
   ftl lint --ignore undefined-message menu.ftl",
         )
         .arg(form(alloc))?
         .arg(color(alloc))?
-        .arg(ignore(alloc))?
+        .arg(ignore(alloc, KIND_NAMES.as_slice()))?
+        .arg(exclude(alloc))?
+        .arg(each(alloc))?
         .arg(nesting(alloc))?
         .arg(paths(alloc))
 }
 
-fn ignore<'a>(alloc: Global) -> Arg<'a> {
+/// The option for the kinds that are not told, which are among these.
+pub(crate) fn ignore<'a>(alloc: Global, kinds: &'a [&'a str]) -> Arg<'a> {
     Arg::new(alloc, "ignore")
         .long("ignore")
         .value_name("KIND")
-        .help("A kind of finding that is not told; may be given again")
+        .help("A kind that is not told; may be given again")
         .action(ArgAction::Append)
-        .value_parser(KIND_NAMES.as_slice())
+        .value_parser(kinds)
+}
+
+fn each<'a>(alloc: Global) -> Arg<'a> {
+    Arg::new(alloc, "each")
+        .long("each")
+        .help("Each folder directly below a PATH is a set of its own, as a language is")
+        .action(ArgAction::SetTrue)
 }
 
 /// The option for the form.
@@ -92,15 +107,25 @@ pub(crate) fn lint_of<'a>(
     said: Options,
     options: &ArgMatches<'a>,
 ) -> Result<Lint<'a>, AllocError> {
+    Ok(Lint {
+        options: said,
+        ignored: ignored_of(alloc, options)?,
+        excluded: texts_of(alloc, options, "exclude")?,
+        each: options.get_flag("each"),
+        paths: texts_of(alloc, options, "paths")?,
+    })
+}
+
+/// The kinds that the options name.
+pub(crate) fn ignored_of(
+    alloc: Global,
+    options: &ArgMatches<'_>,
+) -> Result<Vec<ReportedKind>, AllocError> {
     let mut ignored = Vec::new(alloc);
     for name in options.get_strs("ignore").unwrap_or(&[]) {
-        if let Some(kind) = kind_of_name(*name) {
+        if let Some(kind) = reported_kind_of_name(*name) {
             ignored.push(kind)?;
         }
     }
-    Ok(Lint {
-        options: said,
-        ignored,
-        paths: paths_of(alloc, options)?,
-    })
+    Ok(ignored)
 }

@@ -1,8 +1,12 @@
 //! Mistakes in the words.
 
+use crate::commands::command_line;
+use crate::requested::asked_word;
+use crate::usage::usage_of;
 use clap::Error;
 use clap::error::ErrorKind;
 use std::alloc::{AllocError, Global};
+use std::fmt::Write;
 
 /// The exit status of what is no request: 0 where help was asked for, 4 where memory was refused, else 2.
 pub fn status_of(error: &Error) -> u8 {
@@ -13,33 +17,79 @@ pub fn status_of(error: &Error) -> u8 {
     }
 }
 
-/// What is wrong with the words, and what was meant where that can be guessed, on a line without its LF; empty where
-/// there is no word.
-pub fn mistake(alloc: Global, error: &Error) -> Result<String, AllocError> {
-    let mut line = String::new(alloc);
-    if error.kind() == ErrorKind::MissingSubcommand {
-        return Ok(line);
-    }
-    let told = format!(in alloc; "{error}")?;
-    for part in told.as_str().lines() {
-        if let Some(reason) = part.strip_prefix("error: ") {
-            line.push_str("ftl: ")?;
-            push_as_word(&mut line, reason)?;
-        } else if let Some(tip) = part.strip_prefix("  tip: ") {
-            line.push_str("; ")?;
-            push_as_word(&mut line, tip)?;
+/// What is wrong with the words, on a line, where there is one; and on the last line, without its LF, how the word is
+/// called that was meant, or which words there are. The program's own name is the first of the words.
+///
+/// `AllocError`: a growth was refused.
+pub fn mistake(alloc: Global, words: &[String], error: &Error) -> Result<String, AllocError> {
+    let mut lines = String::new(alloc);
+    let word = asked_word(words);
+    if error.kind() != ErrorKind::MissingSubcommand {
+        push_reason(&mut lines, format!(in alloc; "{error}")?.as_str())?;
+        if error.kind() == ErrorKind::InvalidSubcommand && !lines.as_str().contains(';') {
+            push_abbreviated(&mut lines, alloc, word)?;
         }
+        lines.push('\n')?;
     }
-    Ok(line)
+    lines.push_str(usage_of(alloc, word)?.as_str())?;
+    Ok(lines)
 }
 
-/// Adds the text, where a subcommand is called a word.
+/// Adds what is wrong, with what is missing, which values are possible, and what may have been meant.
+fn push_reason(line: &mut String, told: &str) -> Result<(), AllocError> {
+    for part in told.lines() {
+        if let Some(reason) = part.strip_prefix("error: ") {
+            line.push_str("ftl: ")?;
+            push_as_word(line, reason)?;
+        } else if let Some(tip) = part.strip_prefix("  tip: ") {
+            line.push_str("; ")?;
+            push_as_word(line, tip)?;
+        } else if let Some(values) = part.strip_prefix("  [") {
+            line.push_str("; ")?;
+            line.push_str(values.trim_end_matches(']'))?;
+        } else if let Some(argument) = part.strip_prefix("  ") {
+            write!(line, " {argument}")?;
+        }
+    }
+    Ok(())
+}
+
+/// Adds the text, where a subcommand is called a word and control characters are escaped.
 fn push_as_word(line: &mut String, text: &str) -> Result<(), AllocError> {
     for (index, part) in text.split("subcommand").enumerate() {
         if index != 0 {
             line.push_str("word")?;
         }
-        line.push_str(part)?;
+        for c in part.chars() {
+            if c < ' ' || c == '\u{7F}' {
+                for escaped in c.escape_default() {
+                    line.push(escaped)?;
+                }
+            } else {
+                line.push(c)?;
+            }
+        }
     }
     Ok(())
+}
+
+/// Adds the word that this one abbreviates, as `fmt` does `format`, if there is one.
+fn push_abbreviated(line: &mut String, alloc: Global, short: &str) -> Result<(), AllocError> {
+    for command in command_line(alloc, "")?.get_subcommands() {
+        if abbreviates(short, command.get_name()) {
+            return write!(line, "; a similar word exists: '{}'", command.get_name());
+        }
+    }
+    Ok(())
+}
+
+/// Whether it has two or more of the word's letters, in their order, and the first one first.
+fn abbreviates(short: &str, word: &str) -> bool {
+    let mut rest = word.chars();
+    for letter in short.chars() {
+        if !rest.any(|other| other == letter) {
+            return false;
+        }
+    }
+    short.len() > 1 && short.chars().next() == word.chars().next()
 }

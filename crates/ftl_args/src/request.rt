@@ -28,8 +28,12 @@ pub struct Work<'a> {
     pub task: Task,
     /// How a text is read, and how its errors are told.
     pub options: Options,
+    /// Whether no line says what became of all files.
+    pub is_quiet: bool,
     /// What standard input is called.
     pub stdin_name: &'a str,
+    /// What is passed over in folders.
+    pub excluded: Vec<&'a str>,
     /// Files and folders, and `-` for standard input; none for standard input alone.
     pub paths: Vec<&'a str>,
 }
@@ -58,6 +62,8 @@ pub enum Change {
     Write,
     /// The file is named where it would change.
     Name,
+    /// What would change is shown.
+    Show,
 }
 
 impl Task {

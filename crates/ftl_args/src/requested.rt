@@ -1,6 +1,6 @@
 //! The request that a command line makes.
 
-use crate::commands::{command_line, paths_of};
+use crate::commands::{command_line, texts_of};
 use crate::compare_args::compare_of;
 use crate::lint_args::lint_of;
 use crate::options::Options;
@@ -12,7 +12,7 @@ use std::alloc::{AllocError, Global};
 
 /// What the words ask for, the program's own name first; a mistake in them, or a wish for help, as `Err`.
 pub fn request_of<'a>(alloc: Global, words: &'a [String]) -> Result<Request<'a>, Error> {
-    let matches = command_line(alloc)?.try_get_matches_from(words)?;
+    let matches = command_line(alloc, asked_word(words))?.try_get_matches_from(words)?;
     let Some((word, options)) = matches.subcommand() else {
         // the word is required
         return Err(Error::from(AllocError));
@@ -31,9 +31,20 @@ pub fn request_of<'a>(alloc: Global, words: &'a [String]) -> Result<Request<'a>,
     Ok(Request::Answer(Work {
         task: task_of(word, options),
         options: options_of(word, options),
+        is_quiet: options.get_flag("quiet"),
         stdin_name: options.get_str("stdin-name").unwrap_or("<stdin>"),
-        paths: paths_of(alloc, options)?,
+        excluded: texts_of(alloc, options, "exclude")?,
+        paths: texts_of(alloc, options, "paths")?,
     }))
+}
+
+/// The word that says what is to be done, or that of which the help is wanted; empty where there is none.
+pub(crate) fn asked_word(words: &[String]) -> &str {
+    match words {
+        [_, help, word, ..] if help.as_str() == "help" => word.as_str(),
+        [_, word, ..] => word.as_str(),
+        _ => "",
+    }
 }
 
 fn task_of(word: &str, options: &ArgMatches<'_>) -> Task {
@@ -51,6 +62,8 @@ fn change_of(options: &ArgMatches<'_>) -> Change {
         Change::Write
     } else if options.get_flag("check") {
         Change::Name
+    } else if options.get_flag("diff") {
+        Change::Show
     } else {
         Change::Print
     }

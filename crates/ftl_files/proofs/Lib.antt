@@ -1,5 +1,5 @@
 pub mod Changed
-pub mod KindNames
+pub mod ListedNames
 pub mod OriginalLemmas
 pub mod ReadingLemmas
 pub mod Refusing

@@ -2,7 +2,7 @@
 use Rattle.std.proofs.Common.{◌≡◌, ◌≢◌, ◌∙◌, ℕ, List, Some, subst, sym}
 use Rattle.toml.specs.Data.{Members}
 use Rattle.toml.specs.Parse.{parse_document}
-use Rattle.ftl_files.proofs.KindNames.{same_some}
+use Rattle.ftl_files.proofs.ListedNames.{same_some}
 use Rattle.ftl_files.specs.Settings.{Says}
 use Rattle.ftl_files.specs.declared.settings_fault.SettingsFault.{SettingsFault}
 use Rattle.ftl_files.specs.declared.settings_fault.SettingsFault.TheVariants.{Memory}

@@ -1,4 +1,5 @@
 pub mod Files
+pub mod Kinds
 pub mod Memory
 pub mod Nearness
 pub mod Options

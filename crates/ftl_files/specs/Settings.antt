@@ -3,12 +3,12 @@ use Rattle.std.specs.Prelude.{◌≡◌, ◌⊎◌, ◌<◌, ◌^◌, ℕ, List,
 use Rattle.std.specs.Prelude.{IfSome, String, codes, option_map, pos, string_bytes}
 use Rattle.std.specs.declared.alloc.Global.{Global}
 use Rattle.std.specs.Str.{bytes_eq}
-use Rattle.fluent_syntax_names.specs.Severities.{name_of}
-use Rattle.fluent_syntax_names.specs.declared.finding.Kind.{Kind}
 use Rattle.toml.specs.Data.{Data, Members, array, get_member, integer, member, no_members, string}
 use Rattle.toml.specs.View.{items_of}
 use Rattle.fluent_syntax_tree.specs.declared.edition.Edition.{Edition}
+use Rattle.ftl_files.specs.Kinds.{reported_name}
 use Rattle.ftl_files.specs.Options.{color_name, edition_number, output_name}
+use Rattle.ftl_files.specs.declared.kinds.ReportedKind.{ReportedKind}
 use Rattle.ftl_files.specs.declared.options.Color.{Color}
 use Rattle.ftl_files.specs.declared.options.Output.{Output}
 use Rattle.ftl_files.specs.declared.settings.Settings.{Settings}
@@ -16,8 +16,9 @@ use Rattle.ftl_files.specs.declared.settings.Settings.{Settings}
 -- keys that stand for something
 abbrev pub is_known : List ℕ → Bool
 is_known key =
-    bytes_eq key (codes "reference") || bytes_eq key (codes "ignore") || bytes_eq key (codes "edition")
-    || bytes_eq key (codes "output") || bytes_eq key (codes "nesting") || bytes_eq key (codes "color")
+    bytes_eq key (codes "reference") || bytes_eq key (codes "ignore") || bytes_eq key (codes "exclude")
+    || bytes_eq key (codes "edition") || bytes_eq key (codes "output") || bytes_eq key (codes "nesting")
+    || bytes_eq key (codes "color")
 
 abbrev pub are_known : Members → Bool
 are_known no_members = true
@@ -27,10 +28,18 @@ are_known (member key value members) = is_known key && are_known members
 abbrev pub IsReference : Option Data → Option (String Global) → Type 0
 IsReference value reference = value ≡ option_map (λ path. string (string_bytes path)) reference
 
--- the kinds are those that the list of its key names, one by one; or there is no such key
-abbrev pub IsIgnored : Option Data → List Kind → Type 0
-IsIgnored value kinds =
-    ((value ≡ None) × (kinds ≡ [])) ⊎ (value ≡ Some (array (items_of (map (λ kind. string (name_of kind)) kinds))))
+-- the things are those that the list of its key names, one by one; or there is no such key
+abbrev pub IsListed : {A : Type 0} (named : A → Data) → Option Data → List A → Type 0
+IsListed named value things =
+    ((value ≡ None) × (things ≡ [])) ⊎ (value ≡ Some (array (items_of (map named things))))
+
+-- the kinds are those that have these names
+abbrev pub IsIgnored : Option Data → List ReportedKind → Type 0
+IsIgnored value kinds = IsListed (λ kind. string (reported_name kind)) value kinds
+
+-- what is excluded is named as it is spelled
+abbrev pub IsExcluded : Option Data → List (String Global) → Type 0
+IsExcluded value texts = IsListed (λ text. string (string_bytes text)) value texts
 
 -- the edition is that of the number of its key, or there is neither
 abbrev pub IsEdition : Option Data → Option Edition → Type 0
@@ -52,6 +61,7 @@ pub record Says (document : Members) (settings : Settings) : Type 0 where
   pub known : are_known document ≡ true
   pub reference : IsReference (get_member (codes "reference") document) settings.reference
   pub ignored : IsIgnored (get_member (codes "ignore") document) settings.ignored.items
+  pub excluded : IsExcluded (get_member (codes "exclude") document) settings.excluded.items
   pub edition : IsEdition (get_member (codes "edition") document) settings.edition
   pub output : IsOutput (get_member (codes "output") document) settings.output
   pub nesting : IsNesting (get_member (codes "nesting") document) settings.nesting

@@ -3,6 +3,7 @@ ghost use Rattle.std.specs.Prelude.{string_bytes};
 ghost use Rattle.ftl_files.specs.Files.{unknown};
 
 use crate::attributes::{keep_attributes, replaceable_metadata};
+use crate::excluded::Excluded;
 use crate::file_system::FileSystem;
 use crate::folders::Folders;
 use crate::listing::{Listing, list_within_limits};
@@ -115,8 +116,13 @@ impl<R: Files + AllocGlobal> Store for Disk<'_, R> {
 
 impl<R: Files + AllocGlobal + Clone + Drop> Folders for Disk<'_, R> {
     /// What comes behind `FOLDERS_LIMIT` folders or `FILES_LIMIT` files is left out.
-    fn files_below(&self, _alloc: Global, folder: &str) -> Result<Listing, AllocError> {
-        let listing = list_within_limits(self.rt, folder)?;
+    fn files_below(
+        &self,
+        _alloc: Global,
+        folder: &str,
+        excluded: &Excluded,
+    ) -> Result<Listing, AllocError> {
+        let listing = list_within_limits(self.rt, folder, excluded)?;
         for (_, error) in &listing.faults {
             if error.kind() == ErrorKind::OutOfMemory {
                 return Err(AllocError);
@@ -137,6 +143,10 @@ impl<R: Files + AllocGlobal + Clone + Drop> Folders for Disk<'_, R> {
             Err(error) if error.kind() == ErrorKind::OutOfMemory => Err(AllocError),
             _ => Ok(None),
         }
+    }
+
+    fn has(&self, path: &str) -> bool {
+        fs::symlink_metadata(self.rt, path).is_ok()
     }
 }
 

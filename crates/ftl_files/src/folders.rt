@@ -1,6 +1,7 @@
 //! Folders with files, as an editor's session sees them.
 ghost use Rattle.std.specs.Prelude.{◌≡◌, ◌≤◌, ℕ, List, Option, None, IfOk, IfSome, length};
 
+use crate::excluded::Excluded;
 use crate::listing::Listing;
 use std::alloc::{AllocError, Global};
 
@@ -12,9 +13,14 @@ pub trait Folders {
     /// The bytes of the file at a path, where they are known.
     ghost bytes_at: { Self → List ℕ → Option (List ℕ) } = { λ _ _. None };
 
-    /// The files below the folder whose names end in `.ftl`. No symlink is followed, and no folder is looked into whose
-    /// name begins with a `.`. `AllocError` where a growth was refused.
-    fn files_below(&self, alloc: Global, folder: &str) -> Result<Listing, AllocError>;
+    /// The files below the folder whose names end in `.ftl`, without what is excluded. No symlink is followed.
+    /// `AllocError` where a growth was refused.
+    fn files_below(
+        &self,
+        alloc: Global,
+        folder: &str,
+        excluded: &Excluded,
+    ) -> Result<Listing, AllocError>;
 
     /// The bytes of the file at the path. None where it can't be read, or has more bytes than that. `AllocError` where
     /// a growth was refused.
@@ -22,4 +28,7 @@ pub trait Folders {
         ensures read { IfOk result (λ found. IfSome found (λ read.
             IfSome (bytes_at self.now path.now) (λ bytes. read.items ≡ bytes))) }
         ensures limit { IfOk result (λ found. IfSome found (λ read. length read.items ≤ limit)) };
+
+    /// Whether something stands at the path, which may be no file that can be read.
+    fn has(&self, path: &str) -> bool;
 }

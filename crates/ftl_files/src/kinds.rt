@@ -1,9 +1,54 @@
-//! Kinds of findings by their names.
+//! Kinds of what is told of names, by their names.
 ghost use Rattle.std.specs.Prelude.{◌≡◌, ◌≢◌, IfSome, None};
-ghost use Rattle.fluent_syntax_names.specs.declared.finding.Kind.{Kind};
+ghost use Rattle.fluent_syntax_names.specs.Differences.{difference_name};
 ghost use Rattle.fluent_syntax_names.specs.Severities.{name_of};
+ghost use Rattle.fluent_syntax_names.specs.declared.differences.Difference.{Difference};
+ghost use Rattle.fluent_syntax_names.specs.declared.finding.Kind.{Kind};
+ghost use Rattle.ftl_files.specs.Kinds.{reported_name};
+ghost use Rattle.ftl_files.specs.declared.kinds.ReportedKind.{ReportedKind};
 
-use fluent_syntax_names::Kind;
+use fluent_syntax_names::{Difference, Kind};
+
+/// A kind of what is told of names.
+#[derive(Clone, Copy, Debug, PartialEq, Eq)]
+pub enum ReportedKind {
+    /// What `lint` tells.
+    Finding(Kind),
+    /// What `compare` tells of two files.
+    Difference(Difference),
+    /// What `compare` tells of a file that is not there.
+    MissingFile,
+}
+
+impl ReportedKind {
+    /// Its name, as a command line has it.
+    pub fn name(self) -> &'static str
+        ensures { result.now ≡ reported_name self }
+    {
+        match self {
+            ReportedKind::Finding(kind) => kind.name(),
+            ReportedKind::Difference(difference) => difference.name(),
+            ReportedKind::MissingFile => "missing-file",
+        }
+    }
+}
+
+/// The kind that has the name, as `lint` or `compare` tells it. `None` where none has it.
+pub fn reported_kind_of_name(name: &str) -> Option<ReportedKind>
+    ensures named { IfSome result (λ kind. reported_name kind ≡ name.now) }
+    ensures none { result ≡ None → (kind : ReportedKind) → reported_name kind ≢ name.now }
+{
+    if name == "missing-file" {
+        return Some(ReportedKind::MissingFile);
+    }
+    match kind_of_name(name) {
+        Some(kind) => Some(ReportedKind::Finding(kind)),
+        None => match difference_of_name(name) {
+            Some(difference) => Some(ReportedKind::Difference(difference)),
+            None => None,
+        },
+    }
+}
 
 /// The kind of finding that has the name, as `lint` tells it. `None` where none has it.
 pub fn kind_of_name(name: &str) -> Option<Kind>
@@ -13,11 +58,30 @@ pub fn kind_of_name(name: &str) -> Option<Kind>
     match name {
         "defined-twice" => Some(Kind::DefinedTwice),
         "attribute-twice" => Some(Kind::AttributeTwice),
+        "variant-twice" => Some(Kind::VariantTwice),
         "undefined-message" => Some(Kind::UndefinedMessage),
         "undefined-term" => Some(Kind::UndefinedTerm),
         "undefined-attribute" => Some(Kind::UndefinedAttribute),
         "undefined-value" => Some(Kind::UndefinedValue),
         "cyclic-reference" => Some(Kind::CyclicReference),
+        _ => None,
+    }
+}
+
+/// The difference that has the name, as `compare` tells it. `None` where none has it.
+fn difference_of_name(name: &str) -> Option<Difference>
+    ensures named { IfSome result (λ difference. difference_name difference ≡ name.now) }
+    ensures none { result ≡ None → (difference : Difference) → difference_name difference ≢ name.now }
+{
+    match name {
+        "missing" => Some(Difference::Missing),
+        "missing-value" => Some(Difference::MissingValue),
+        "missing-attribute" => Some(Difference::MissingAttribute),
+        "missing-reference" => Some(Difference::MissingReference),
+        "obsolete" => Some(Difference::Obsolete),
+        "obsolete-value" => Some(Difference::ObsoleteValue),
+        "obsolete-attribute" => Some(Difference::ObsoleteAttribute),
+        "unknown-variable" => Some(Difference::UnknownVariable),
         _ => None,
     }
 }

@@ -4,6 +4,7 @@
 
 mod attributes;
 mod disk;
+mod excluded;
 mod file_system;
 mod folders;
 mod kinds;
@@ -22,16 +23,17 @@ mod store;
 mod uris;
 
 pub use disk::Disk;
+pub use excluded::Excluded;
 pub use file_system::FileSystem;
 pub use folders::Folders;
-pub use kinds::kind_of_name;
+pub use kinds::{ReportedKind, kind_of_name, reported_kind_of_name};
 pub use limits::{BYTES_LIMIT, FILE_LIMIT, FILES_LIMIT, FOLDERS_LIMIT};
 pub use listing::{Listing, list};
 pub use memory::Memory;
 pub use nearness::shared_folders;
 pub use options::{Color, Form, Output, Reading, color_of_name, output_of_name};
 pub use originals::original_of;
-pub use paths::is_below;
+pub use paths::{SeenPaths, absolute_path, is_below};
 pub use reading::{SourceFile, SourceFiles, read_files};
 pub use replacing::replace_file;
 pub use settings::{Settings, settings_of};

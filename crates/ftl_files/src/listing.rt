@@ -1,6 +1,8 @@
 //! Which files a path names, and which a folder has.
 
+use crate::excluded::Excluded;
 use crate::limits::{FILES_LIMIT, FOLDERS_LIMIT};
+use crate::paths::absolute_path;
 use std::alloc::AllocError;
 use std::collections::VecDeque;
 use std::fs::DirEntry;
@@ -23,41 +25,57 @@ impl Listing {
     pub fn is_whole(&self) -> bool {
         self.faults.is_empty() && !self.is_cut
     }
+
+    /// Whether it is that of a file, which has the path itself.
+    pub fn is_of_file(&self, path: &str) -> bool {
+        matches!(self.files.as_slice(), [file] if file.as_str() == path)
+    }
+
+    /// Whether nothing was listed, since what has the path could not be.
+    pub fn has_failed(&self, path: &str) -> bool {
+        self.files.is_empty() && self.faults.iter().any(|(at, _)| at.as_str() == path)
+    }
 }
 
 /// How a folder is searched.
 #[derive(Clone, Copy)]
-struct Search {
-    /// Whether folders are looked into whose name begins with a `.`.
-    hidden: bool,
+struct Search<'e> {
+    /// What is passed over.
+    excluded: &'e Excluded,
     /// How many folders are looked into at most.
     folders: usize,
     /// With how many files no further folder is looked into.
     files: usize,
 }
 
-/// No system has as many folders and files.
-const WHOLE: Search = Search {
-    hidden: true,
-    folders: usize::MAX,
-    files: usize::MAX,
-};
+/// A folder that is to be searched.
+#[derive(Drop)]
+struct Found {
+    /// Its path, as it is shown.
+    path: String,
+    /// Its path from the root on.
+    absolute: String,
+}
 
-const WITHIN_LIMITS: Search = Search {
-    hidden: false,
-    folders: FOLDERS_LIMIT,
-    files: FILES_LIMIT,
-};
-
-/// The path itself, if it names no folder; else each file below the folder whose name ends in `.ftl`. Below the folder
-/// no symlink is followed. An entry whose name is not UTF-8, or that vanishes meanwhile, is told as a fault, and the
-/// others are listed.
+/// The path itself, if it names no folder; else each file below the folder whose name ends in `.ftl`, without what is
+/// excluded. Below the folder no symlink is followed. An entry whose name is not UTF-8, or that vanishes meanwhile, is
+/// told as a fault, and the others are listed. A path that doesn't begin at the root begins in the current folder.
 pub fn list<R: Files + AllocGlobal + Clone + Drop>(
     rt: &R,
+    current: &str,
     path: &str,
+    excluded: &Excluded,
 ) -> Result<Listing, AllocError> {
     match fs::metadata(rt, path) {
-        Ok(metadata) if metadata.is_dir() => search_folder(rt, path, WHOLE),
+        Ok(metadata) if metadata.is_dir() => {
+            // no system has as many folders and files
+            let search = Search {
+                excluded,
+                folders: usize::MAX,
+                files: usize::MAX,
+            };
+            search_folder(rt, current, path, search)
+        }
         Ok(_) => {
             let mut listing = no_files(rt);
             listing.files.push(String::from_str(rt.alloc(), path)?)?;
@@ -71,12 +89,19 @@ pub fn list<R: Files + AllocGlobal + Clone + Drop>(
     }
 }
 
-/// The files below the folder, without hidden folders and within the limits of an editor's workspace.
+/// The files below the folder, whose path begins at the root, without what is excluded and within the limits of an
+/// editor's workspace.
 pub(crate) fn list_within_limits<R: Files + AllocGlobal + Clone + Drop>(
     rt: &R,
     folder: &str,
+    excluded: &Excluded,
 ) -> Result<Listing, AllocError> {
-    search_folder(rt, folder, WITHIN_LIMITS)
+    let search = Search {
+        excluded,
+        folders: FOLDERS_LIMIT,
+        files: FILES_LIMIT,
+    };
+    search_folder(rt, "", folder, search)
 }
 
 fn no_files<R: AllocGlobal>(rt: &R) -> Listing {
@@ -90,18 +115,22 @@ fn no_files<R: AllocGlobal>(rt: &R) -> Listing {
 /// The files below the folder, the nearest folders first.
 fn search_folder<R: Files + AllocGlobal + Clone + Drop>(
     rt: &R,
+    current: &str,
     folder: &str,
-    search: Search,
+    search: Search<'_>,
 ) -> Result<Listing, AllocError> {
     let mut listing = no_files(rt);
     let mut folders = VecDeque::new(rt.alloc());
-    folders.push_back(String::from_str(rt.alloc(), folder)?)?;
+    folders.push_back(Found {
+        path: String::from_str(rt.alloc(), folder)?,
+        absolute: absolute_path(rt.alloc(), current, folder)?,
+    })?;
     for _ in 0..search.folders {
         let Some(folder) = folders.pop_front() else {
             break;
         };
         if listing.files.len() < search.files {
-            list_folder(rt, folder.as_str(), search, &mut listing, &mut folders)?;
+            list_folder(rt, &folder, search, &mut listing, &mut folders)?;
         } else {
             listing.is_cut = true;
         }
@@ -114,18 +143,19 @@ fn search_folder<R: Files + AllocGlobal + Clone + Drop>(
 /// Adds the folder's own files, and its folders.
 fn list_folder<R: Files + AllocGlobal + Clone + Drop>(
     rt: &R,
-    path: &str,
-    search: Search,
+    folder: &Found,
+    search: Search<'_>,
     listing: &mut Listing,
-    folders: &mut VecDeque<String>,
+    folders: &mut VecDeque<Found>,
 ) -> Result<(), AllocError> {
+    let path = folder.path.as_str();
     let entries = match fs::read_dir(rt, path) {
         Ok(entries) => entries,
         Err(error) => return add_fault(rt, path, error, listing),
     };
     for entry in entries {
         match entry {
-            Ok(entry) => list_entry(rt, &entry, search, listing, folders)?,
+            Ok(entry) => list_entry(rt, &entry, folder, search, listing, folders)?,
             // a name that is not UTF-8 is told by its folder's
             Err(error) => add_fault(rt, path, error, listing)?,
         }
@@ -136,21 +166,22 @@ fn list_folder<R: Files + AllocGlobal + Clone + Drop>(
 fn list_entry<R: Files + AllocGlobal + Clone + Drop>(
     rt: &R,
     entry: &DirEntry<R>,
-    search: Search,
+    folder: &Found,
+    search: Search<'_>,
     listing: &mut Listing,
-    folders: &mut VecDeque<String>,
+    folders: &mut VecDeque<Found>,
 ) -> Result<(), AllocError> {
-    let path = entry.path();
+    let path = String::from_str(rt.alloc(), entry.path().as_str())?;
     let name = entry.file_name();
+    let absolute = format!(in rt.alloc(); "{}/{name}", folder.absolute)?;
     match entry.file_type() {
-        Ok(kind) if kind.is_dir() && (search.hidden || !name.starts_with('.')) => {
-            folders.push_back(String::from_str(rt.alloc(), path.as_str())?)?;
+        Ok(kind) if kind.is_dir() && !search.excluded.has_folder(absolute.as_str()) => {
+            folders.push_back(Found { path, absolute })?;
         }
-        Ok(kind) if kind.is_file() && name.ends_with(".ftl") => {
-            listing
-                .files
-                .push(String::from_str(rt.alloc(), path.as_str())?)?;
-        }
+        Ok(kind)
+            if kind.is_file()
+                && name.ends_with(".ftl")
+                && !search.excluded.has_file(absolute.as_str()) => listing.files.push(path)?,
         Ok(_) => (),
         Err(error) => add_fault(rt, path.as_str(), error, listing)?,
     }

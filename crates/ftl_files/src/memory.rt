@@ -2,6 +2,7 @@
 ghost use Rattle.std.specs.Prelude.{◌≡◌, ◌∷◌, [], None, Some, MatchOption, OnErr, OnOk, string_bytes};
 ghost use Rattle.ftl_files.specs.Memory.{bytes_at, counts_now, fails, files_of, only_now};
 
+use crate::excluded::Excluded;
 use crate::file_system::FileSystem;
 use crate::folders::Folders;
 use crate::listing::Listing;
@@ -183,12 +184,18 @@ impl Store for Memory {
 impl Folders for Memory {
     ghost bytes_at = { λ memory. bytes_at memory.changes.items };
 
-    fn files_below(&self, alloc: Global, folder: &str) -> Result<Listing, AllocError> {
+    fn files_below(
+        &self,
+        alloc: Global,
+        folder: &str,
+        excluded: &Excluded,
+    ) -> Result<Listing, AllocError> {
         let mut files = Vec::new(alloc);
         for change in &self.changes {
             let path = change.path.as_str();
             if path.ends_with(".ftl")
                 && is_below(folder, path)
+                && !excluded.hides(folder, path)
                 && latest(self.changes.as_slice(), path).is_some()
             {
                 files.push(String::from_str(alloc, path)?)?;
@@ -208,5 +215,9 @@ impl Folders for Memory {
             Some(bytes) if bytes.len() <= limit => Ok(Some(bytes.to_vec(alloc)?)),
             _ => Ok(None),
         }
+    }
+
+    fn has(&self, path: &str) -> bool {
+        latest(self.changes.as_slice(), path).is_some()
     }
 }

@@ -3,6 +3,7 @@ ghost use Rattle.std.specs.Prelude.{◌≡◌, ◌≤◌, All, IfOk, IfSome, len
 ghost use Rattle.ftl_files.specs.Reading.{IsOf, total};
 ghost use Rattle.ftl_files.specs.declared.limits.TheConstants.{BYTES_LIMIT, FILES_LIMIT};
 
+use crate::excluded::Excluded;
 use crate::folders::Folders;
 use crate::limits::{BYTES_LIMIT, FILE_LIMIT, FILES_LIMIT};
 use crate::paths::is_below;
@@ -24,18 +25,19 @@ pub struct SourceFiles {
 }
 
 /// The files below the folder whose names end in `.ftl`, each as it is now, in the order of their paths. Left out is
-/// what can't be read or is no UTF-8, a file of more than `FILE_LIMIT` bytes, and what comes behind `FILES_LIMIT` files
-/// or would pass `BYTES_LIMIT` bytes. `AllocError` where a growth was refused.
+/// what is excluded, can't be read or is no UTF-8, a file of more than `FILE_LIMIT` bytes, and what comes behind
+/// `FILES_LIMIT` files or would pass `BYTES_LIMIT` bytes. `AllocError` where a growth was refused.
 pub fn read_files<F: Folders>(
     alloc: Global,
     files: &F,
     folder: &str,
+    excluded: &Excluded,
 ) -> Result<SourceFiles, AllocError>
     ensures files { IfOk result (λ found. All (IsOf (F.bytes_at files.now) folder.now) found.files.items) }
     ensures few { IfOk result (λ found. length found.files.items ≤ FILES_LIMIT) }
     ensures bytes { IfOk result (λ found. total found.files.items ≤ BYTES_LIMIT) }
 {
-    let listing = files.files_below(alloc, folder)?;
+    let listing = files.files_below(alloc, folder, excluded)?;
     let is_whole = listing.is_whole();
     let listed = listing.files.len();
     let mut found = Vec::new(alloc);

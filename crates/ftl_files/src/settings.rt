@@ -1,24 +1,23 @@
 //! The settings, as their text says them.
 ghost use Rattle.std.specs.Prelude.{◌≡◌, ◌≢◌, ◌++◌, ◌∷◌, ℕ, [], List, Option, Some, String, IfErr, IfOk, OnOk, false};
-ghost use Rattle.std.specs.Prelude.{option_map, true};
+ghost use Rattle.std.specs.Prelude.{option_map, string_bytes, true};
 ghost use Rattle.std.specs.declared.alloc.Global.{Global};
-ghost use Rattle.fluent_syntax_names.specs.declared.finding.Kind.{Kind};
 ghost use Rattle.ftl_files.specs.declared.settings_fault.SettingsFault.TheVariants as SettingsFault;
 ghost use Rattle.ftl_files.specs.declared.settings.Settings.{Settings};
 ghost use Rattle.toml.specs.Data.{Members, no_members, string};
 ghost use Rattle.toml.specs.Parse.{parse_document};
 ghost use Rattle.toml.specs.View.{table_view, view};
 ghost use Rattle.fluent_syntax_tree.specs.declared.edition.Edition.{Edition};
-ghost use Rattle.ftl_files.specs.Settings.{IsColor, IsEdition, IsIgnored, IsNesting, IsOutput, IsReference, Says};
-ghost use Rattle.ftl_files.specs.Settings.{are_known, is_known};
+ghost use Rattle.ftl_files.specs.Settings.{IsColor, IsEdition, IsExcluded, IsIgnored, IsNesting, IsOutput};
+ghost use Rattle.ftl_files.specs.Settings.{IsReference, Says, are_known, is_known};
 ghost use Rattle.ftl_files.specs.declared.options.Color.{Color};
 ghost use Rattle.ftl_files.specs.declared.options.Output.{Output};
-ghost use Rattle.fluent_syntax_names.specs.Severities.{name_of};
+ghost use Rattle.ftl_files.specs.Kinds.{reported_name};
+ghost use Rattle.ftl_files.specs.declared.kinds.ReportedKind.{ReportedKind};
 
-use crate::kinds::kind_of_name;
+use crate::kinds::{ReportedKind, reported_kind_of_name};
 use crate::options::{Color, Output, color_of_name, output_of_name};
 use crate::settings_fault::SettingsFault;
-use fluent_syntax_names::Kind;
 use fluent_syntax_tree::edition::Edition;
 use std::alloc::{AllocError, Global};
 use toml::{Table, Value};
@@ -31,8 +30,10 @@ const GREATEST_NESTING: i64 = 4_294_967_295;
 pub struct Settings {
     /// `reference`: the file or the folder of the reference language.
     pub reference: Option<String>,
-    /// `ignore`: the kinds of findings that are not told, in the order of the text.
-    pub ignored: Vec<Kind>,
+    /// `ignore`: the kinds that are not told, in the order of the text.
+    pub ignored: Vec<ReportedKind>,
+    /// `exclude`: what is passed over where a folder is listed, in the order of the text.
+    pub excluded: Vec<String>,
     /// `edition`: that of the grammar.
     pub edition: Option<Edition>,
     /// `output`: how what is found is told.
@@ -51,6 +52,7 @@ impl Settings {
         Settings {
             reference: None,
             ignored: Vec::new(alloc),
+            excluded: Vec::new(alloc),
             edition: None,
             output: None,
             nesting: None,
@@ -62,8 +64,8 @@ impl Settings {
 /// What the text of an `ftl.toml` says.
 ///
 /// `Memory`: a growth was refused. `Toml`: the text is no TOML document. `Key`: it has a key that stands for nothing.
-/// `Reference`, `Ignore`, `Edition`, `Output`, `Nesting`, `Color`: the value of that key is of another kind, or is none
-/// of those that the key may have.
+/// `Reference`, `Ignore`, `Exclude`, `Edition`, `Output`, `Nesting`, `Color`: the value of that key is of another kind,
+/// or is none of those that the key may have.
 pub fn settings_of(alloc: Global, text: &str) -> Result<Settings, SettingsFault>
     ensures says { IfOk result (λ settings. (document : Members)
         × (parse_document text.now ≡ Some document) × Says document settings) }
@@ -78,6 +80,7 @@ pub fn settings_of(alloc: Global, text: &str) -> Result<Settings, SettingsFault>
     check_keys(alloc, &table)?;
     let reference = reference_of(alloc, table.get("reference"))?;
     let ignored = ignored_of(alloc, table.get("ignore"))?;
+    let excluded = excluded_of(alloc, table.get("exclude"))?;
     let edition = edition_of(table.get("edition"))?;
     let output = output_of(table.get("output"))?;
     let nesting = nesting_of(table.get("nesting"))?;
@@ -85,6 +88,7 @@ pub fn settings_of(alloc: Global, text: &str) -> Result<Settings, SettingsFault>
     Ok(Settings {
         reference,
         ignored,
+        excluded,
         edition,
         output,
         nesting,
@@ -119,7 +123,7 @@ fn is_known(key: &str) -> bool
 {
     matches!(
         key,
-        "reference" | "ignore" | "edition" | "output" | "nesting" | "color"
+        "reference" | "ignore" | "exclude" | "edition" | "output" | "nesting" | "color"
     )
 }
 
@@ -137,9 +141,9 @@ fn reference_of(alloc: Global, value: Option<&Value>) -> Result<Option<String>, 
     }
 }
 
-fn ignored_of(alloc: Global, value: Option<&Value>) -> Result<Vec<Kind>, SettingsFault>
+fn ignored_of(alloc: Global, value: Option<&Value>) -> Result<Vec<ReportedKind>, SettingsFault>
     ensures says { IfOk result (λ kinds. IsIgnored (option_map (λ v. view v.now) value.entry) kinds.items) }
-    ensures refused { IfErr result (λ fault. fault ≢ SettingsFault.Memory → (kinds : List Kind) →
+    ensures refused { IfErr result (λ fault. fault ≢ SettingsFault.Memory → (kinds : List ReportedKind) →
         IsIgnored (option_map (λ v. view v.now) value.entry) kinds → ⊥) }
 {
     let mut kinds = Vec::new(alloc);
@@ -155,7 +159,7 @@ fn ignored_of(alloc: Global, value: Option<&Value>) -> Result<Vec<Kind>, Setting
     Ok(kinds)
 }
 
-fn add_kind(kinds: &mut Vec<Kind>, kind: Kind) -> Result<(), AllocError>
+fn add_kind(kinds: &mut Vec<ReportedKind>, kind: ReportedKind) -> Result<(), AllocError>
     ensures { OnOk result (kinds.new.items ≡ kinds.old.items ++ kind ∷ []) }
 {
     kinds.push(kind)?;
@@ -163,14 +167,51 @@ fn add_kind(kinds: &mut Vec<Kind>, kind: Kind) -> Result<(), AllocError>
 }
 
 /// The kind that the value names.
-fn kind_of(value: &Value) -> Result<Kind, SettingsFault>
-    ensures says { IfOk result (λ kind. view value.now ≡ string (name_of kind)) }
-    ensures refused { IfErr result (λ fault. (kind : Kind) → view value.now ≢ string (name_of kind)) }
+fn kind_of(value: &Value) -> Result<ReportedKind, SettingsFault>
+    ensures says { IfOk result (λ kind. view value.now ≡ string (reported_name kind)) }
+    ensures refused { IfErr result (λ fault. (kind : ReportedKind) → view value.now ≢ string (reported_name kind)) }
 {
     let Value::String(name) = value else {
         return Err(SettingsFault::Ignore);
     };
-    kind_of_name(name.as_str()).ok_or(SettingsFault::Ignore)
+    reported_kind_of_name(name.as_str()).ok_or(SettingsFault::Ignore)
+}
+
+fn excluded_of(alloc: Global, value: Option<&Value>) -> Result<Vec<String>, SettingsFault>
+    ensures says { IfOk result (λ texts. IsExcluded (option_map (λ v. view v.now) value.entry) texts.items) }
+    ensures refused { IfErr result (λ fault. fault ≢ SettingsFault.Memory → (texts : List (String Global)) →
+        IsExcluded (option_map (λ v. view v.now) value.entry) texts → ⊥) }
+{
+    let mut texts = Vec::new(alloc);
+    let Some(value) = value else {
+        return Ok(texts);
+    };
+    let Value::Array(values) = value else {
+        return Err(SettingsFault::Exclude);
+    };
+    for text in values {
+        add_text(&mut texts, text_of(alloc, text)?)?;
+    }
+    Ok(texts)
+}
+
+fn add_text(texts: &mut Vec<String>, text: String) -> Result<(), AllocError>
+    ensures { OnOk result (texts.new.items ≡ texts.old.items ++ text ∷ []) }
+{
+    texts.push(text)?;
+    Ok(())
+}
+
+/// The text that the value is.
+fn text_of(alloc: Global, value: &Value) -> Result<String, SettingsFault>
+    ensures says { IfOk result (λ text. view value.now ≡ string (string_bytes text)) }
+    ensures refused { IfErr result (λ fault. fault ≢ SettingsFault.Memory →
+        (text : String Global) → view value.now ≢ string (string_bytes text)) }
+{
+    match value {
+        Value::String(text) => Ok(String::from_str(alloc, text.as_str())?),
+        _ => Err(SettingsFault::Exclude),
+    }
 }
 
 fn edition_of(value: Option<&Value>) -> Result<Option<Edition>, SettingsFault>

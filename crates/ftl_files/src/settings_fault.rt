@@ -15,6 +15,8 @@ pub enum SettingsFault {
     Reference,
     /// The value of `ignore` is no list of names of kinds.
     Ignore,
+    /// The value of `exclude` is no list of texts.
+    Exclude,
     /// The value of `edition` is not the number of one.
     Edition,
     /// The value of `output` is not the name of a form.
@@ -43,7 +45,14 @@ impl fmt::Display for SettingsFault {
             SettingsFault::Toml(message) => write!(f, "{message}"),
             SettingsFault::Key(key) => write!(f, "no setting is called `{key}`"),
             SettingsFault::Reference => f.write_str("`reference` wants a path in quotes"),
-            SettingsFault::Ignore => f.write_str("`ignore` wants a list of names of kinds"),
+            SettingsFault::Ignore => {
+                f.write_str(
+                    "`ignore` wants a list of kinds, as `ftl help lint` and `ftl help compare` have them",
+                )
+            }
+            SettingsFault::Exclude => {
+                f.write_str("`exclude` wants a list of names and paths in quotes")
+            }
             SettingsFault::Edition => f.write_str("`edition` wants 1 or 2"),
             SettingsFault::Output => {
                 f.write_str("`output` wants \"lines\", \"full\", \"json\" or \"github\"")

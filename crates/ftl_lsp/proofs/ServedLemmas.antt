@@ -10,8 +10,8 @@ use Rattle.ftl_lsp.specs.Served.{Ends, IsFresh, IsUnsent, Serves, begins, has_no
 use Rattle.ftl_lsp.specs.Outbox.{Sends}
 use Rattle.ftl_lsp.specs.Phases.{ending_of}
 use Rattle.ftl_lsp.specs.Served.{GoesOn, Stops, TakesStep, is_not_written, is_unpublished, stops}
-use Rattle.ftl_lsp.specs.Served.{takes, republishes, publishes_unwritten, has_no_memory_to_publish}
-use Rattle.ftl_lsp.specs.Sessions.{Answers, Session, Republishes}
+use Rattle.ftl_lsp.specs.Served.{takes, sends_unasked, publishes_unwritten, has_no_memory_to_publish}
+use Rattle.ftl_lsp.specs.Sessions.{Answers, Session, Unasked}
 use Rattle.ftl_lsp.specs.declared.endings.Ending.{Ending}
 use Rattle.ftl_lsp.specs.declared.endings.Ending.TheVariants.{Input, Memory, Output}
 use Rattle.ftl_lsp.specs.declared.phases.Phase.{Phase}
@@ -73,7 +73,7 @@ is_exit_of Left = refl
 pub ends_by_no_input : (phase : Phase) → ending_of phase ≢ Some Input
 ends_by_no_input phase is = true≢false (sym (is_exit_of phase) ∙ ap is_exit is)
 
--- ---- What is published again
+-- ---- What is sent unasked
 
 -- behind what changes nothing of the session a step is one of the session
 pub takes_behind : {X Y : Type 0} (r : Result X Y) (old mid now : Session)
@@ -83,12 +83,13 @@ takes_behind (Ok x) old mid now left after written sent_on same step =
     takes (subst (λ (s : Session). TakesStep s now left after written sent_on) same step)
 takes_behind (Err e) old mid now left after written sent_on same step = step
 
--- a document of which was told
-pub republishes_behind : {X Y : Type 0} (r : Result X Y) (old mid : Session) (left written sent_on : Option (List ℕ))
-    (value : Data) → mid ≡ old → Republishes old value → OnOk r (Sends written sent_on (Some value)) →
+-- what was sent unasked
+pub unasked_behind : {X Y : Type 0} (r : Result X Y) (old mid : Session) (left written sent_on : Option (List ℕ))
+    (value : Data) → mid ≡ old → Unasked old value → OnOk r (Sends written sent_on (Some value)) →
     OnOk r (GoesOn old mid left left written sent_on)
-republishes_behind (Ok x) old mid left written sent_on value same anew sends = republishes value anew same refl sends
-republishes_behind (Err e) old mid left written sent_on value same anew sends = sends
+unasked_behind (Ok x) old mid left written sent_on value same unasked sends =
+    sends_unasked value unasked same refl sends
+unasked_behind (Err e) old mid left written sent_on value same unasked sends = sends
 
 -- why a session stops behind what changes nothing of it
 pub stops_behind : {X : Type 0} (r : Result X Ending) (old mid : Session) (left written now : Option (List ℕ)) →
@@ -97,9 +98,9 @@ pub stops_behind : {X : Type 0} (r : Result X Ending) (old mid : Session) (left 
 stops_behind r old mid left written now same stopped =
     subst (λ (s : Session). IfErr r (λ ending. Stops s left written ending now)) same stopped
 
--- a document of which could not be told
+-- what is unasked could not be sent
 pub not_published : {Y : Type 0} (r : Result Y Ending) (before : Session) (left written now : Option (List ℕ))
-    (value : Data) → Republishes before value → IfErr r (λ ending. (ending ≡ Memory) ⊎ (ending ≡ Output)) →
+    (value : Data) → Unasked before value → IfErr r (λ ending. (ending ≡ Memory) ⊎ (ending ≡ Output)) →
     (r ≡ Err Memory → now ≡ written) → IfErr r (λ ending. Stops before left written ending now)
 not_published (Ok x) before left written now value anew fault same = fault
 not_published (Err e) before left written now value anew (inl is) same =

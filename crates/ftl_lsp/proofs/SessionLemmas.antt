@@ -4,7 +4,7 @@ use Rattle.std.proofs.Common.{refl, sym, ap, ◌∙◌}
 use Rattle.std.specs.Prelude.{ℤ, ◌&&◌, ◌≢◌, ◌⊎◌}
 use Rattle.std.proofs.Common.{inl, inr, subst, true≢false, map, All, ◌++◌}
 use Rattle.std.proofs.lemmas.List.{map-append}
-use Rattle.std.specs.Prelude.{IfOk, IfSome, OnOk, is_some, option_and_then, option_map}
+use Rattle.std.specs.Prelude.{IfErr, IfOk, IfSome, OnOk, is_some, option_and_then, option_map}
 use Rattle.std.specs.Str.{bytes_eq}
 use Rattle.std.proofs.lemmas.Map.{update_same}
 use Rattle.std.proofs.lemmas.Slice.Eq.{bytes_eq-Decides}
@@ -23,7 +23,7 @@ use Rattle.ftl_lsp.specs.Diagnostics.{DiagnosesText, shown}
 use Rattle.ftl_lsp.specs.DiagnosticForms.{IsLintDiagnostic, PublishesDiagnostics, error_form}
 use Rattle.ftl_lsp.specs.declared.diagnostics.Diagnostic.{Diagnostic}
 use Rattle.ftl_lsp.specs.Sessions.{Answers, AnswersNotification, AnswersRequest, AnswersRunning, HandlesNotification}
-use Rattle.ftl_lsp.specs.Sessions.{Finds, HasResponse, Republishes, fits}
+use Rattle.ftl_lsp.specs.Sessions.{Finds, RefusesFor, Republishes, fits}
 use Rattle.ftl_lsp.specs.Sessions.{IsMethod, Session, TakesRequest, concerns}
 use Rattle.ftl_lsp.specs.Asking.{IsResult, names_open}
 use Rattle.ftl_lsp.specs.Sessions.{changes, published, requested, notified, opens, passes, runs}
@@ -31,6 +31,7 @@ use Rattle.ftl_lsp.specs.Sessions.{saves, watches}
 use Rattle.ftl_lsp.specs.declared.methods.Method.{Method}
 use Rattle.ftl_lsp.specs.declared.methods.Method.TheVariants.{DidChange, DidClose, DidOpen, DidSave}
 use Rattle.ftl_lsp.specs.declared.methods.Method.TheVariants.{Initialized}
+use Rattle.ftl_lsp.specs.declared.phases.ErrorCode.{ErrorCode}
 use Rattle.ftl_lsp.specs.declared.phases.Phase.{Phase}
 use Rattle.ftl_lsp.specs.declared.phases.Phase.TheVariants.{Running}
 
@@ -198,21 +199,21 @@ pub publishes_saved : {Y : Type 0} (r : Result (Option Value) Y) (d : Data) (uri
 publishes_saved r d uri old new named same sent =
     ok_with r _ _ _ (λ e x h. saved old.texts new.texts d uri _ _ refl named (ap (λ s. s.texts) e) h) same sent
 
-mapped_some : (found : Option Value) → is_some found ≡ is_some (option_map view found)
-mapped_some None = refl
-mapped_some (Some value) = refl
+-- what is found for a request, where it is known to be a value
+pub finds_of : (old : Session) (d : Data) (method : Option Method) (found : Result Value ErrorCode) (value : Value) →
+    refusal_of old.phase method ≡ None → IfOk found (λ v. fits old.texts d method ≡ true) →
+    IfOk found (λ v. IsResult old.texts d method (view v)) → found ≡ Ok value → Finds old d method (view value)
+finds_of old d method found value allowed fitting is_result is = record {
+  allowed = allowed;
+  fitting = subst (λ (r : Result Value ErrorCode). IfOk r (λ v. fits old.texts d method ≡ true)) is fitting;
+  is_result = subst (λ (r : Result Value ErrorCode). IfOk r (λ v. IsResult old.texts d method (view v))) is is_result;
+}
 
--- what is found for a request, where it is known whether that is a value
-pub finds_of : (old : Session) (d : Data) (method : Option Method) (found value : Option Value) →
-    refusal_of old.phase method ≡ None → HasResponse method (fits old.texts d method) (is_some found) →
-    IsResult old.texts d method (option_map view found) → found ≡ value → Finds old d method (option_map view value)
-finds_of old d method found value allowed fitting is_result is =
-    subst (λ (o : Option Value). Finds old d method (option_map view o)) is
-    (record {
-      allowed = allowed;
-      fitting = subst (HasResponse method (fits old.texts d method)) (mapped_some found) fitting;
-      is_result = is_result;
-    })
+-- why nothing is found, where it is known that there is nothing
+pub refuses_for : (method : Option Method) (fitting : Bool) (found : Result Value ErrorCode) (code : ErrorCode) →
+    IfErr found (RefusesFor method fitting) → found ≡ Err code → RefusesFor method fitting code
+refuses_for method fitting found code refuses is =
+    subst (λ (r : Result Value ErrorCode). IfErr r (RefusesFor method fitting)) is refuses
 
 -- a request that was taken behind something that changes nothing of the session
 pub takes_request : {Y : Type 0} (r : Result (Option Value) Y) (old mid new : Session) (body : List ℕ)

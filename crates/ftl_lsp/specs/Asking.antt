@@ -1,5 +1,5 @@
 -- What a request asks of, and what stands in its answer.
-use Rattle.std.specs.Prelude.{◌≡◌, ◌&&◌, ℕ, List, ⊤, Bool, Option, Some, is_some, option_and_then}
+use Rattle.std.specs.Prelude.{◌≡◌, ◌&&◌, ℕ, List, ⊤, Bool, Option, Some, None, is_some, option_and_then}
 use Rattle.serde_json.specs.Data.{Data, null}
 use Rattle.ftl_lsp.specs.Edits.{position_param_in}
 use Rattle.ftl_lsp.specs.Formatting.{FormatsText}
@@ -20,13 +20,13 @@ names_position texts d = names_open texts d && is_some (position_param_in d)
 abbrev pub renames_position : (texts : List ℕ → Option OpenText) → Data → Bool
 renames_position texts d = names_position texts d && is_some (new_name_in d)
 
--- What is found is the formatting of the document.
-abbrev pub IsFormattingOf : (document : Option OpenText) → (result : Option Data) → Type 0
-IsFormattingOf (Some found) (Some value) = FormatsText found.text value
-IsFormattingOf _ _ = ⊤
+-- The result is the formatting of the document, if that is open.
+abbrev pub IsFormattingOf : (document : Option OpenText) → (result : Data) → Type 0
+IsFormattingOf (Some found) result = FormatsText found.text result
+IsFormattingOf None result = ⊤
 
 -- It is what stands in the answer to a request of the method. Of methods that aren't named here nothing is said.
-abbrev pub IsResult : (texts : List ℕ → Option OpenText) → Data → Option Method → (result : Option Data) → Type 0
+abbrev pub IsResult : (texts : List ℕ → Option OpenText) → Data → Option Method → (result : Data) → Type 0
 IsResult texts d (Some Formatting) result = IsFormattingOf (option_and_then texts (uri_in d)) result
-IsResult texts d (Some Shutdown) result = result ≡ Some null
+IsResult texts d (Some Shutdown) result = result ≡ null
 IsResult texts d _ result = ⊤

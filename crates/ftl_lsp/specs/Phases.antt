@@ -7,14 +7,18 @@ use Rattle.ftl_lsp.specs.declared.methods.Method.TheVariants.{Initialize, Shutdo
 use Rattle.ftl_lsp.specs.declared.methods.Method.TheVariants.{Formatting, FoldingRange, DidOpen, DidChange}
 use Rattle.ftl_lsp.specs.declared.methods.Method.TheVariants.{DidClose, DidSave, Exit}
 use Rattle.ftl_lsp.specs.declared.methods.Method.TheVariants.{Definition, References, DocumentHighlight}
-use Rattle.ftl_lsp.specs.declared.methods.Method.TheVariants.{Hover, Rename, Completion, WorkspaceSymbol}
+use Rattle.ftl_lsp.specs.declared.methods.Method.TheVariants.{Hover, Completion, WorkspaceSymbol}
+use Rattle.ftl_lsp.specs.declared.methods.Method.TheVariants as methods
 use Rattle.ftl_lsp.specs.declared.methods.Method.TheVariants.{SemanticTokens, Initialized}
 use Rattle.ftl_lsp.specs.declared.methods.Method.TheVariants.{DidChangeWatchedFiles}
 use Rattle.ftl_lsp.specs.declared.phases.Phase.{Phase}
 use Rattle.ftl_lsp.specs.declared.phases.Phase.TheVariants.{Fresh, Running, ShutDown, Exited, Left}
 use Rattle.ftl_lsp.specs.declared.phases.ErrorCode.{ErrorCode}
 use Rattle.ftl_lsp.specs.declared.phases.ErrorCode.TheVariants.{ParseError, InvalidRequest, MethodNotFound}
-use Rattle.ftl_lsp.specs.declared.phases.ErrorCode.TheVariants.{InvalidParams, NotInitialized}
+use Rattle.ftl_lsp.specs.declared.phases.ErrorCode.TheVariants.{InvalidParams, NotInitialized, Rename}
+use Rattle.ftl_lsp.specs.declared.phases.RenameFault.{RenameFault}
+use Rattle.ftl_lsp.specs.declared.phases.RenameFault.TheVariants.{NoName, VariableOrFunction}
+use Rattle.ftl_lsp.specs.declared.phases.RenameFault.TheVariants.{NoIdentifier, Taken}
 
 -- the numbers of the protocol: `negsuc n` is the negative of n and one
 abbrev pub number_of : ErrorCode → ℤ
@@ -23,6 +27,13 @@ number_of InvalidRequest = negsuc 32599
 number_of MethodNotFound = negsuc 32600
 number_of InvalidParams = negsuc 32601
 number_of NotInitialized = negsuc 32001
+number_of (Rename fault) = negsuc 32601
+
+abbrev pub text_of_rename : RenameFault → List ℕ
+text_of_rename NoName = codes "there is no name at this place"
+text_of_rename VariableOrFunction = codes "a variable or a function can't be renamed"
+text_of_rename NoIdentifier = codes "the new name is no identifier: a letter, and then letters, digits, - and _"
+text_of_rename Taken = codes "the new name is taken: a document or a file defines it"
 
 abbrev pub text_of : ErrorCode → List ℕ
 text_of ParseError = codes "the message is no JSON text"
@@ -30,6 +41,7 @@ text_of InvalidRequest = codes "the request has no place here"
 text_of MethodNotFound = codes "the method is not known"
 text_of InvalidParams = codes "the parameters name no open document"
 text_of NotInitialized = codes "the server is not initialized"
+text_of (Rename fault) = text_of_rename fault
 
 -- what is refused of requests before `initialize`: all but that
 abbrev pub refusal_before : Option Method → Option ErrorCode
@@ -47,7 +59,7 @@ refusal_behind (Some Definition) = None
 refusal_behind (Some References) = None
 refusal_behind (Some DocumentHighlight) = None
 refusal_behind (Some Hover) = None
-refusal_behind (Some Rename) = None
+refusal_behind (Some methods.Rename) = None
 refusal_behind (Some Completion) = None
 refusal_behind (Some WorkspaceSymbol) = None
 refusal_behind (Some SemanticTokens) = None

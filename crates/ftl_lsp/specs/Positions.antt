@@ -9,6 +9,11 @@ use Rattle.ftl_lsp.specs.declared.positions.Position.{Position}
 abbrev pub ends_line : List ℕ → ℕ → Bool
 ends_line t at = (slice_index t at == lf) || ((slice_index t at == cr) && not (slice_index t (at + 1) == lf))
 
+-- a line begins with the byte, or at the text's end
+abbrev pub begins_line : List ℕ → ℕ → Bool
+begins_line t zero = true
+begins_line t (suc n) = ends_line t n
+
 -- how many UTF-16 units begin with the byte: two for a character of four bytes, one for any other, and none for the
 -- bytes that go on with a character
 abbrev pub utf16_units : ℕ → ℕ

@@ -4,7 +4,7 @@ use Rattle.serde_json.specs.Data.{Data}
 use Rattle.ftl_lsp.specs.Inbox.{EndsAs, TakesFrame}
 use Rattle.ftl_lsp.specs.Outbox.{Sends}
 use Rattle.ftl_lsp.specs.Phases.{ending_of}
-use Rattle.ftl_lsp.specs.Sessions.{Answers, Session, Republishes}
+use Rattle.ftl_lsp.specs.Sessions.{Answers, Session, Unasked}
 use Rattle.ftl_lsp.specs.declared.endings.Ending.{Ending}
 use Rattle.ftl_lsp.specs.declared.endings.Ending.TheVariants.{Memory, Output}
 use Rattle.ftl_lsp.specs.declared.phases.Phase.TheVariants.{Fresh}
@@ -27,10 +27,11 @@ pub record TakesStep (before now : Session) (left after written sent_on : Option
   pub taken : TakesFrame left after body
   pub answered : SendsAnswer before body now written sent_on
 
--- A session goes on: it takes a frame off the input, or it publishes the diagnostics of a document again.
+-- A session goes on: it takes a frame off the input, or it publishes the diagnostics of a document again or shows a
+-- sentence, by which nothing else changes.
 pub data GoesOn (before now : Session) (left after written sent_on : Option (List ℕ)) : Type 0 where
   takes : TakesStep before now left after written sent_on → GoesOn before now left after written sent_on
-  republishes : (value : Data) → Republishes before value → now ≡ before → after ≡ left →
+  sends_unasked : (value : Data) → Unasked before value → now ≡ before → after ≡ left →
       Sends written sent_on (Some value) → GoesOn before now left after written sent_on
 
 -- What is left of the input and what stands on the output, behind a session's steps from the first on.
@@ -48,14 +49,14 @@ pub data IsUnsent (before : Session) (body : List ℕ) (written : Option (List �
   is_not_written : (now : Option (List ℕ)) (value : Data) (next : Session) → Answers before body (Some value) next →
       IsUnsent before body written Output now
 
--- Why nothing is published again, and what stands on the output then: likewise.
+-- Why nothing is sent unasked, and what stands on the output then: likewise.
 pub data IsUnpublished (before : Session) (written : Option (List ℕ)) : Ending → (now : Option (List ℕ)) → Type 0 where
   has_no_memory_to_publish : (now : Option (List ℕ)) → now ≡ written → IsUnpublished before written Memory now
-  publishes_unwritten : (now : Option (List ℕ)) (value : Data) → Republishes before value →
+  publishes_unwritten : (now : Option (List ℕ)) (value : Data) → Unasked before value →
       IsUnpublished before written Output now
 
--- Why a session takes no further step: no frame was read, its body was not answered, or nothing could be published
--- again.
+-- Why a session takes no further step: no frame was read, its body was not answered, or what is unasked could not be
+-- sent.
 pub data Stops (before : Session) (left written : Option (List ℕ)) : Ending → (now : Option (List ℕ)) → Type 0 where
   has_no_frame : (ending : Ending) (now : Option (List ℕ)) → EndsAs left ending → now ≡ written →
       Stops before left written ending now

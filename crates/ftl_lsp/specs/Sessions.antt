@@ -1,7 +1,8 @@
 -- What a session does with its messages: what it knows then, and what it sends.
-use Rattle.std.specs.Prelude.{◌≡◌, ◌≢◌, ◌&&◌, ℕ, List, Bool, true, false, Option, Some, None}
+use Rattle.std.specs.Prelude.{◌≡◌, ◌≢◌, ◌&&◌, ℕ, List, ⊤, Bool, true, false, Option, Some, None}
 use Rattle.std.specs.Prelude.{IfSome, IfNone, is_some, option_and_then}
 use Rattle.std.specs.Str.{IsUtf8}
+use Rattle.fluent_syntax_names.specs.declared.finding.Severity.{Severity}
 use Rattle.serde_json.specs.Data.{Data, Items, null}
 use Rattle.serde_json.specs.Read.{read}
 use Rattle.ftl_lsp.specs.Asking.{IsResult, names_open, names_position, renames_position}
@@ -11,7 +12,7 @@ use Rattle.ftl_lsp.specs.Methods.{name_of}
 use Rattle.ftl_lsp.specs.OpenDocuments.{MakesOpen, OpenText, Sets, texts}
 use Rattle.ftl_lsp.specs.Params.{changes_in, opened_text_in, uri_in, version_in}
 use Rattle.ftl_lsp.specs.Phases.{after_notification, after_request, refusal_of}
-use Rattle.ftl_lsp.specs.Replies.{IsSent, Reply, silence, answered, refused, diagnosed, withdrawn, watch}
+use Rattle.ftl_lsp.specs.Replies.{IsSent, Reply, silence, answered, refused, diagnosed, withdrawn, watch, notice_form}
 use Rattle.ftl_lsp.specs.declared.methods.Method.{Method}
 use Rattle.ftl_lsp.specs.declared.methods.Method.TheVariants.{DocumentSymbol, Formatting, FoldingRange}
 use Rattle.ftl_lsp.specs.declared.methods.Method.TheVariants.{Definition, References, DocumentHighlight}
@@ -20,6 +21,7 @@ use Rattle.ftl_lsp.specs.declared.methods.Method.TheVariants.{DidOpen, DidChange
 use Rattle.ftl_lsp.specs.declared.methods.Method.TheVariants.{Initialized}
 use Rattle.ftl_lsp.specs.declared.phases.ErrorCode.{ErrorCode}
 use Rattle.ftl_lsp.specs.declared.phases.ErrorCode.TheVariants.{ParseError, InvalidRequest, InvalidParams}
+use Rattle.ftl_lsp.specs.declared.phases.ErrorCode.TheVariants as errors
 use Rattle.ftl_lsp.specs.declared.phases.Phase.{Phase}
 use Rattle.ftl_lsp.specs.declared.phases.Phase.TheVariants.{Running}
 use Rattle.ftl_lsp.specs.declared.server.Server.{Server}
@@ -51,27 +53,34 @@ fits texts d (Some Completion) = names_position texts d
 fits texts d (Some Rename) = renames_position texts d
 fits texts d _ = true
 
--- A result is found where the parameters fit; a renaming may have none then too, by what stands at the place.
+-- A result is found where the parameters fit. Of a renaming, which is answered elsewhere, nothing is said.
 abbrev pub HasResponse : Option Method → (fitting found : Bool) → Type 0
-HasResponse (Some Rename) fitting found = found ≡ true → fitting ≡ true
+HasResponse (Some Rename) fitting found = ⊤
 HasResponse _ fitting found = found ≡ fitting
 
+-- Why a request that its phase allows is refused: its parameters don't fit; or, of a renaming whose parameters do, what
+-- stands at the place can't have the new name.
+abbrev pub RefusesFor : Option Method → (fitting : Bool) → ErrorCode → Type 0
+RefusesFor method false code = code ≡ InvalidParams
+RefusesFor (Some Rename) true (errors.Rename fault) = ⊤
+RefusesFor method true code = ⊥
+
 -- What is found for a request of the method, where its phase has none against it.
-pub record Finds (old : Session) (d : Data) (method : Option Method) (result : Option Data) :
+pub record Finds (old : Session) (d : Data) (method : Option Method) (result : Data) :
     Type 0 where
   pub allowed : refusal_of old.phase method ≡ None
-  pub fitting : HasResponse method (fits old.texts d method) (is_some result)
+  pub fitting : fits old.texts d method ≡ true
   pub is_result : IsResult old.texts d method result
 
--- What a request of the method, with that identifier, does: it is refused, by its phase or for its parameters, and
--- nothing changes; or it is answered by what is found.
+-- What a request of the method, with that identifier, does: it is refused, by its phase, for its parameters or for what
+-- it would rename, and nothing changes; or it is answered by what is found.
 pub data TakesRequest (old : Session) (id d : Data) (method : Option Method) :
     Reply → (new : Session) → Type 0 where
   is_out_of_phase : (code : ErrorCode) (new : Session) → refusal_of old.phase method ≡ Some code → new ≡ old →
       TakesRequest old id d method (refused id code) new
-  finds_none : (new : Session) → Finds old d method None → new ≡ old →
-      TakesRequest old id d method (refused id InvalidParams) new
-  finds : (result : Data) (new : Session) → Finds old d method (Some result) →
+  finds_none : (code : ErrorCode) (new : Session) → refusal_of old.phase method ≡ None →
+      RefusesFor method (fits old.texts d method) code → new ≡ old → TakesRequest old id d method (refused id code) new
+  finds : (result : Data) (new : Session) → Finds old d method result →
       new ≡ record { phase = after_request old.phase method; texts = old.texts } →
       TakesRequest old id d method (answered id result) new
 
@@ -136,6 +145,19 @@ pub record Republishes (session : Session) (value : Data) : Type 0 where
   pub found : OpenText
   pub is_open : session.texts uri ≡ Some found
   pub diagnostics : IsSent (diagnosed uri found.text) (Some value)
+
+-- The session runs, and the value shows the user a sentence, as that a document can't be formatted or that settings are
+-- wrong.
+pub record Shows (session : Session) (value : Data) : Type 0 where
+  pub runs : session.phase ≡ Running
+  pub severity : Severity
+  pub text : List ℕ
+  pub notice : value ≡ notice_form severity text
+
+-- What is sent between two messages: one of these.
+pub data Unasked (session : Session) (value : Data) : Type 0 where
+  republishes : Republishes session value → Unasked session value
+  shows : Shows session value → Unasked session value
 
 -- The same, where that value is sent for it, if any is.
 abbrev pub AnswersRequest : (old : Session) → (id d : Data) → Option Method → Option Data →

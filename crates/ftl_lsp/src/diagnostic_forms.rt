@@ -9,6 +9,7 @@ use crate::diagnostics::Diagnostic;
 use crate::positions::PositionRange;
 use crate::replies::range_form;
 use fluent_syntax_names::{Difference, Kind, Severity};
+use ftl_files::ReportedKind;
 use serde_json::{Value, json};
 use std::alloc::{AllocError, Global};
 
@@ -36,6 +37,14 @@ impl LintDiagnosticKind {
         match self {
             LintDiagnosticKind::Finding(kind) => kind.severity(),
             LintDiagnosticKind::Difference(difference) => difference.severity(),
+        }
+    }
+
+    /// The same, as settings name it.
+    pub(crate) fn reported(self) -> ReportedKind {
+        match self {
+            LintDiagnosticKind::Finding(kind) => ReportedKind::Finding(kind),
+            LintDiagnosticKind::Difference(difference) => ReportedKind::Difference(difference),
         }
     }
 
@@ -174,7 +183,7 @@ fn related_form(alloc: Global, related: Related<'_>) -> Result<Value, AllocError
 }
 
 /// The number of a severity in the protocol.
-fn severity_number(severity: Severity) -> u64
+pub(crate) fn severity_number(severity: Severity) -> u64
     ensures { result ≡ severity_number severity }
 {
     match severity {

@@ -2,6 +2,7 @@
 ghost use Rattle.std.specs.Prelude.{◌≡◌, ◌≤◌, [], ◌∷◌, length, map, All, IfOk};
 ghost use Rattle.ftl_lsp.specs.Diagnostics.{deep_diagnostic, diagnostic_of, shown};
 
+use crate::escapes::escaped;
 use crate::positions::{Position, Positions};
 use fluent_syntax::parser::ParserError;
 use std::alloc::{AllocError, Global};
@@ -67,7 +68,8 @@ fn diagnose(
     let from = error.pos.start;
     let start = positions.position(from);
     let end = positions.position(error.pos.end.min(size).max(from));
-    let message = format!(in alloc; "{}", error.kind)?;
+    let text = format!(in alloc; "{}", error.kind)?;
+    let message = escaped(alloc, text.as_str())?;
     Ok(Diagnostic {
         start,
         end,

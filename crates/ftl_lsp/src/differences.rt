@@ -1,9 +1,11 @@
 //! What of a document and its original one has and the other lacks.
 
 use crate::diagnostic_forms::{LintDiagnostic, LintDiagnosticKind, Related};
+use crate::difference_messages::{difference_message, missing_message, names_of_part};
+use crate::entry_names::{EntryNames, entry_name, name_with_hyphen};
 use crate::occurrences::{bytes_of, is_name_byte};
 use crate::originals::Original;
-use crate::positions::{Position, PositionRange, Positions, START};
+use crate::positions::{PositionRange, Positions, START};
 use fluent_syntax::spans::Span;
 use fluent_syntax_names::{
     Mention, MissingPart, NameIndex, Part, RefusedNames, Side, missing_parts,
@@ -36,18 +38,18 @@ fn missing_of<'u>(
 ) -> Result<Vec<LintDiagnostic<'u>>, AllocError> {
     let theirs = &original.name_index;
     let entries = MatchedEntries::new(alloc, document, theirs)?;
-    let mut positions = Positions::new(document.text);
     let mut their_positions = Positions::new(theirs.text);
     let mut diagnostics = Vec::new(alloc);
     for missing in missing_parts(alloc, theirs, document)?.iter() {
         if let Some(difference) = Side::Reference.difference(missing.part) {
             let there = their_positions.range(missing.name);
-            let said = difference.sentence(alloc, bytes_of(theirs.text, missing.name))?;
-            let (range, is_junk) = entries.range_in_document(&mut positions, theirs.text, missing);
+            let names = names_of_part(theirs.text, &entries.original, missing);
+            let (range, is_junk) = entries.range_in_document(theirs.text, missing);
+            let message = missing_message(alloc, difference, names, is_junk, shown, there.start)?;
             diagnostics.push(LintDiagnostic {
                 range,
                 kind: LintDiagnosticKind::Difference(difference),
-                message: message_of(alloc, said.as_str(), shown, there.start, is_junk)?,
+                message,
                 related: Some(Related {
                     uri: original.uri,
                     range: there,
@@ -59,34 +61,22 @@ fn missing_of<'u>(
     Ok(diagnostics)
 }
 
-/// What is said of a part, with its place in the original, and that it is junk if it is.
-fn message_of(
-    alloc: Global,
-    said: &str,
-    shown: &str,
-    position: Position,
-    is_junk: bool,
-) -> Result<String, AllocError> {
-    let line = position.line.saturating_add(1);
-    let column = position.character.saturating_add(1);
-    let behind = if is_junk { " is junk here" } else { "" };
-    format!(in alloc; "{said} of {shown}:{line}:{column}{behind}")
-}
-
 /// What is told of that which the original lacks.
 fn extra_of<'u>(
     alloc: Global,
     document: &NameIndex<'_>,
     original: &Original<'u>,
 ) -> Result<Vec<LintDiagnostic<'u>>, AllocError> {
+    let entries = EntryNames::new(alloc, document)?;
     let mut positions = Positions::new(document.text);
     let mut diagnostics = Vec::new(alloc);
     for missing in missing_parts(alloc, document, &original.name_index)?.iter() {
         if let Some(difference) = Side::Other.difference(missing.part) {
+            let names = names_of_part(document.text, &entries, missing);
             diagnostics.push(LintDiagnostic {
                 range: positions.range(missing.name),
                 kind: LintDiagnosticKind::Difference(difference),
-                message: difference.sentence(alloc, bytes_of(document.text, missing.name))?,
+                message: difference_message(alloc, difference, names)?,
                 related: None,
             })?;
         }
@@ -97,10 +87,9 @@ fn extra_of<'u>(
 /// The entries of an original, and where a document has those of the same names.
 #[derive(Drop)]
 struct MatchedEntries<'d> {
-    /// Those of the original, in order: where its name begins, and the name, a term's with its `-`.
-    original: Vec<(usize, &'d str)>,
-    /// Where the document defines each name first.
-    document: BTreeMap<&'d str, Span>,
+    original: EntryNames<'d>,
+    /// Where the document defines each name first, a term's with its `-`.
+    document: BTreeMap<&'d str, PositionRange>,
     /// The names with which junk of the document begins.
     refused: RefusedNames<PositionRange>,
 }
@@ -111,63 +100,56 @@ impl<'d> MatchedEntries<'d> {
         document: &NameIndex<'d>,
         original: &NameIndex<'d>,
     ) -> Result<MatchedEntries<'d>, AllocError> {
-        let mut theirs = Vec::new(alloc);
-        for mention in &original.mentions {
-            if let Some(name) = entry_name(mention) {
-                theirs.push((name.start, bytes_of(original.text, name)))?;
-            }
-        }
-        let mut own = BTreeMap::new(alloc);
-        for mention in document.mentions.iter().rev() {
-            if let Some(name) = entry_name(mention) {
-                drop(own.insert(bytes_of(document.text, name), name)?);
-            }
-        }
         Ok(MatchedEntries {
-            original: theirs,
-            document: own,
+            original: EntryNames::new(alloc, original)?,
+            document: first_ranges(alloc, document)?,
             refused: refused_ranges(alloc, document)?,
         })
     }
 
     /// Where the document has the entry in which the original has what the document lacks, and whether it is junk
     /// there; its begin, where it lacks that. `text` is that of the original.
-    fn range_in_document(
-        &self,
-        positions: &mut Positions<'_>,
-        text: &str,
-        missing: &MissingPart,
-    ) -> (PositionRange, bool) {
+    fn range_in_document(&self, text: &str, missing: &MissingPart) -> (PositionRange, bool) {
         let junk = match missing.part {
             Part::Entry => self.refused.place_of(text, missing.name),
             _ => None,
         };
         match junk {
             Some(range) => (range, true),
-            None => (self.range_defined(positions, missing.name), false),
+            None => (self.range_defined(missing.name), false),
         }
     }
 
     /// Where the document defines the entry in which the original has the name; its begin, where it lacks that.
-    fn range_defined(&self, positions: &mut Positions<'_>, name: Span) -> PositionRange {
-        let behind = self
-            .original
-            .partition_point(|(start, _)| *start <= name.start);
-        let own = match behind
-            .checked_sub(1)
-            .and_then(|last| self.original.get(last))
-        {
-            Some((_, entry)) => self.document.get(entry).copied(),
+    fn range_defined(&self, name: Span) -> PositionRange {
+        let own = match self.original.name_at(name.start) {
+            Some(entry) => self.document.get(entry).copied(),
             None => None,
         };
-        match own {
-            Some(span) => positions.range(span),
-            None => PositionRange {
-                start: START,
-                end: START,
-            },
+        own.unwrap_or(PositionRange {
+            start: START,
+            end: START,
+        })
+    }
+}
+
+/// Where the document defines each name first. Its places are asked for in the order of the text, which that of the
+/// original need not be.
+fn first_ranges<'d>(
+    alloc: Global,
+    document: &NameIndex<'d>,
+) -> Result<BTreeMap<&'d str, PositionRange>, AllocError> {
+    let mut positions = Positions::new(document.text);
+    let mut ranges = BTreeMap::new(alloc);
+    for mention in &document.mentions {
+        if let Some(name) = entry_name(mention) {
+            let shown = name_with_hyphen(document.text, name);
+            if !ranges.contains_key(shown) {
+                drop(ranges.insert(shown, positions.range(name))?);
+            }
         }
     }
+    Ok(ranges)
 }
 
 /// The names with which junk of the document begins, each with its range where it does first.
@@ -193,16 +175,4 @@ fn refused_ranges(
         }
     }
     Ok(names)
-}
-
-/// The name of the entry that is defined there, a term's with its `-`. None where none is.
-fn entry_name(mention: &Mention<Span>) -> Option<Span> {
-    match mention {
-        Mention::Message { name, .. } => Some(*name),
-        Mention::Term { name } => Some(Span {
-            start: name.start.saturating_sub(1),
-            end: name.end,
-        }),
-        _ => None,
-    }
 }

@@ -30,18 +30,16 @@ pub fn formatted_text(alloc: Global, text: &str) -> Result<Option<String>, Alloc
     }
 }
 
-/// The edit that formats the text, as the protocol has it; null where the text stays as it is. `AllocError` where a
-/// growth was refused.
-pub fn formatting_of(alloc: Global, text: &str) -> Result<Value, AllocError>
+/// The edit that makes of the text its formatted text, as the protocol has it; null where they are the same.
+/// `AllocError` where a growth was refused.
+pub fn formatting_edit(alloc: Global, text: &str, formatted: &str) -> Result<Value, AllocError>
+    requires { IsFormatted text.now formatted.now }
     ensures { IfOk result (λ value. FormatsText text.now (view value)) }
 {
-    let Some(written) = formatted_text(alloc, text)? else {
-        return Ok(null());
-    };
-    if written.as_str() == text {
+    if formatted == text {
         return Ok(null());
     }
-    whole_edit(alloc, text, written.as_str())
+    whole_edit(alloc, text, formatted)
 }
 
 /// The edit that sets the whole text.

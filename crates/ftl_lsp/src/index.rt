@@ -144,23 +144,32 @@ impl IndexedDocument<'_> {
             .any(|found| found.defines && is_named(self.text, found, name))
     }
 
-    /// The message or term in which the byte stands, as it stands in the text, with its comment. None where none is.
+    /// The messages and terms that define the name, in order, as they stand in the text with their comments.
     /// `AllocError` where a growth was refused.
-    pub fn entry_at(&self, alloc: Global, byte: usize) -> Result<Option<String>, AllocError> {
+    pub fn definitions_of(&self, alloc: Global, name: Name<'_>) -> Result<Vec<String>, AllocError> {
+        let spans = self.ranges_of(alloc, name, OccurrenceFilter::Definitions)?;
         match &self.names {
-            Names::OpenDocument { document, .. } => entry_of(alloc, document, byte),
+            _ if spans.is_empty() => Ok(Vec::new(alloc)),
+            Names::OpenDocument { document, .. } => entries_at(alloc, document, &spans),
             Names::ClosedFile(_) => {
                 let document = Document::new(alloc, String::from_str(alloc, self.text)?)?;
-                entry_of(alloc, &document, byte)
+                entries_at(alloc, &document, &spans)
             }
         }
     }
 }
 
-/// The message or term in which the byte of a document stands.
-fn entry_of(alloc: Global, document: &Document, byte: usize) -> Result<Option<String>, AllocError> {
-    match document.entry_at(byte) {
-        Some(entry) => Ok(Some(String::from_str(alloc, entry)?)),
-        None => Ok(None),
+/// The messages and terms of a document in which the ranges begin.
+fn entries_at(
+    alloc: Global,
+    document: &Document,
+    spans: &[Span],
+) -> Result<Vec<String>, AllocError> {
+    let mut found = Vec::new(alloc);
+    for span in spans {
+        if let Some(entry) = document.entry_at(span.start) {
+            found.push(String::from_str(alloc, entry)?)?;
+        }
     }
+    Ok(found)
 }

@@ -121,7 +121,7 @@ fn add_mention(
             add_attribute(found, owner, Some(name))?;
             Ok(owner)
         }
-        Mention::Junk { .. } => Ok(owner),
+        Mention::Junk { .. } | Mention::VariantKey { .. } => Ok(owner),
         Mention::MessageReference { name, attribute } => {
             add_reference(found, NameKind::Message, name, attribute)?;
             Ok(owner)

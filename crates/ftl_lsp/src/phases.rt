@@ -1,7 +1,7 @@
 //! How far a session is, and what it refuses there.
 ghost use Rattle.std.specs.Prelude.{◌≡◌};
 ghost use Rattle.ftl_lsp.specs.Phases.{after_notification, after_request, ending_of, number_of, refusal_of};
-ghost use Rattle.ftl_lsp.specs.Phases.{text_of};
+ghost use Rattle.ftl_lsp.specs.Phases.{text_of, text_of_rename};
 
 use crate::endings::Ending;
 use crate::methods::Method;
@@ -33,6 +33,37 @@ pub enum ErrorCode {
     InvalidParams,
     /// `initialize` has not come.
     NotInitialized,
+    /// What stands at the place can't have the new name.
+    Rename(RenameFault),
+}
+
+/// Why a name can't have another.
+#[derive(Clone, Copy, PartialEq, Eq)]
+pub enum RenameFault {
+    /// No name stands at the place.
+    NoName,
+    /// The name there is that of a variable or a function, which nothing defines.
+    VariableOrFunction,
+    /// The new name is no identifier.
+    NoIdentifier,
+    /// A document or a file defines something of the new name.
+    Taken,
+}
+
+impl RenameFault {
+    /// Its text.
+    pub fn text(&self) -> &'static str
+        ensures { result.now ≡ text_of_rename self.now }
+    {
+        match self {
+            RenameFault::NoName => "there is no name at this place",
+            RenameFault::VariableOrFunction => "a variable or a function can't be renamed",
+            RenameFault::NoIdentifier => {
+                "the new name is no identifier: a letter, and then letters, digits, - and _"
+            }
+            RenameFault::Taken => "the new name is taken: a document or a file defines it",
+        }
+    }
 }
 
 impl ErrorCode {
@@ -44,7 +75,7 @@ impl ErrorCode {
             ErrorCode::ParseError => -32700,
             ErrorCode::InvalidRequest => -32600,
             ErrorCode::MethodNotFound => -32601,
-            ErrorCode::InvalidParams => -32602,
+            ErrorCode::InvalidParams | ErrorCode::Rename(_) => -32602,
             ErrorCode::NotInitialized => -32002,
         }
     }
@@ -59,6 +90,7 @@ impl ErrorCode {
             ErrorCode::MethodNotFound => "the method is not known",
             ErrorCode::InvalidParams => "the parameters name no open document",
             ErrorCode::NotInitialized => "the server is not initialized",
+            ErrorCode::Rename(fault) => fault.text(),
         }
     }
 }

@@ -1,6 +1,7 @@
 //! Places as the protocol counts them: lines, and UTF-16 units from the line's begin.
 ghost use Rattle.std.specs.Prelude.{◌≡◌, ◌+◌, ◌^◌, ◌<◌, ◌≤◌, ℕ, List, length, min};
-ghost use Rattle.ftl_lsp.specs.Positions.{ends_line, utf16_units, position_at, line_at, character_at, IsPosition};
+ghost use Rattle.ftl_lsp.specs.Positions.{begins_line, ends_line, utf16_units, position_at, line_at, character_at};
+ghost use Rattle.ftl_lsp.specs.Positions.{IsPosition};
 
 use fluent_syntax::spans::Span;
 use std::marker::Model;
@@ -25,8 +26,8 @@ pub(crate) const START: Position = Position {
     character: 0,
 };
 
-/// The places of one text. Where the bytes come in order, the text is read once for all of them. In a clause it is the
-/// bytes of the text.
+/// The places of one text. Where the bytes come in order, the text is read once for all of them; a step back reads no
+/// more than lies between, and a line. In a clause it is the bytes of the text.
 #[derive(Drop)]
 pub struct Positions<'t> {
     text: &'t [u8],
@@ -56,7 +57,7 @@ impl<'t> Positions<'t> {
     }
 
     /// The place of a byte of the text, or of its end. It reads what lies between the last byte that was asked for and
-    /// this one, or all before this one where it lies before the last.
+    /// this one; where this one lies before the last, twice, and the line up to it.
     pub fn position(&mut self, byte: usize) -> Position
         requires { byte ≤ length self.old }
         ensures text { self.new ≡ self.old }
@@ -64,7 +65,7 @@ impl<'t> Positions<'t> {
         ensures meaning { IsPosition self.old byte result }
     {
         let (mut here, from) = if byte < self.byte {
-            (START, 0)
+            line_start_before(self.text, byte, self.byte, self.here.line)
         } else {
             (self.here, self.byte)
         };
@@ -97,6 +98,33 @@ impl Positions<'_> {
             end: self.position_or_end(span.end),
         }
     }
+}
+
+/// Where the line begins in which a byte stands: its place and its byte. It is read back from a byte behind that one,
+/// or from that one itself, which stands in the line of the number.
+fn line_start_before(text: &[u8], byte: usize, from: usize, line: usize) -> (Position, usize)
+    requires order { byte ≤ from }
+    requires within { from ≤ length text.now }
+    requires line { line ≡ line_at text.now from }
+    ensures before { result.1 ≤ byte }
+    ensures position { result.0 ≡ position_at text.now result.1 }
+{
+    let (mut at, mut line) = (from, line);
+    while at > byte || !begins_line(text, at) {
+        at -= 1;
+        if is_line_end(text, at) {
+            line -= 1;
+        }
+    }
+    (Position { line, character: 0 }, at)
+}
+
+/// Whether a line begins with the byte, or at the text's end.
+fn begins_line(text: &[u8], at: usize) -> bool
+    requires { at ≤ length text.now }
+    ensures { result ≡ begins_line text.now at }
+{
+    at == 0 || is_line_end(text, at - 1)
 }
 
 /// The place behind a byte of the text that has this one.

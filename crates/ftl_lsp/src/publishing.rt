@@ -17,6 +17,7 @@ use crate::others::{look_up_others, name_indexes_of, others_of};
 use crate::replies::diagnostics_notification;
 use crate::server::Server;
 use fluent_syntax_names::{Finding, NameIndex, findings, findings_with_externals, local_findings};
+use ftl_files::ReportedKind;
 use serde_json::Value;
 use std::alloc::{AllocError, Global};
 use std::slice::from_ref;
@@ -63,8 +64,10 @@ impl Server {
             return Ok(Vec::new(self.alloc));
         }
         let name_index = open.document.name_index(self.alloc)?;
-        let differences = self.differences(open, &name_index)?;
-        let findings = self.reported_findings(uri, name_index)?;
+        let ignored = self.ignored_of(open)?;
+        let mut differences = self.differences(open, &name_index)?;
+        differences.retain(|told| !ignored.contains(&told.kind.reported()));
+        let findings = self.reported_findings(uri, name_index, &ignored)?;
         let diagnostics = finding_diagnostics(self.alloc, uri, open.document.text(), &findings)?;
         let mut list = lint_diagnostic_list(self.alloc, &diagnostics, self.related)?;
         let mut behind = lint_diagnostic_list(self.alloc, &differences, self.related)?;
@@ -111,25 +114,25 @@ impl Server {
         }
     }
 
-    /// What is found in a document, but for the kinds that are not told of it.
+    /// The kinds that are not told of a document.
+    fn ignored_of(&self, open: &OpenDocument) -> Result<Vec<ReportedKind>, AllocError> {
+        match &open.path {
+            Some(path) => self.workspace.ignored_at(self.alloc, path.as_str()),
+            None => Ok(Vec::new(self.alloc)),
+        }
+    }
+
+    /// What is found in a document, but for these kinds.
     fn reported_findings(
         &self,
         uri: &str,
         name_index: NameIndex<'_>,
+        ignored: &[ReportedKind],
     ) -> Result<Vec<Finding>, AllocError> {
-        let ignored = match self.documents.get(uri) {
-            Some(
-                OpenDocument {
-                    path: Some(path),
-                    ..
-                },
-            ) => self.workspace.ignored_at(self.alloc, path.as_str())?,
-            _ => Vec::new(self.alloc),
-        };
         self.findings(uri, name_index)?
             .iter()
             .copied()
-            .filter(|finding| !ignored.contains(&finding.kind))
+            .filter(|finding| !ignored.contains(&ReportedKind::Finding(finding.kind)))
             .collect(self.alloc)
     }
 

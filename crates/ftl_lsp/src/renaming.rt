@@ -2,6 +2,7 @@
 
 use crate::index::{IndexedDocument, OccurrenceFilter};
 use crate::occurrences::{Name, NameKind, is_name_byte};
+use crate::phases::RenameFault;
 use crate::positions::Positions;
 use crate::replies::{edit_form, edits_of_document};
 use crate::request_context::RequestContext;
@@ -18,18 +19,17 @@ fn is_identifier(text: &str) -> bool {
     }
 }
 
-/// The identifier that the new name of a message or term is; a term's may have its `-`. None where it is none, and of a
-/// variable or function.
-fn identifier_of(kind: NameKind, new_name: &str) -> Option<&str> {
+/// The identifier that the new name of a message or term is; a term's may have its `-`.
+fn identifier_of(kind: NameKind, new_name: &str) -> Result<&str, RenameFault> {
     let name = match kind {
         NameKind::Message => new_name,
         NameKind::Term => new_name.strip_prefix('-').unwrap_or(new_name),
-        NameKind::Variable | NameKind::Function => return None,
+        NameKind::Variable | NameKind::Function => return Err(RenameFault::VariableOrFunction),
     };
     if is_identifier(name) {
-        Some(name)
+        Ok(name)
     } else {
-        None
+        Err(RenameFault::NoIdentifier)
     }
 }
 
@@ -47,28 +47,36 @@ fn renamed_name<'n>(name: Name<'n>, new_name: &'n str) -> Name<'n> {
     }
 }
 
-/// The edits by which the name at the place has the new name in all open documents and closed files. None where there
-/// is no message, term or attribute at the place, the new name is no identifier, or something has it already.
-/// `AllocError` where a growth was refused.
+/// The name at the place, and the identifier that it is to have.
+fn names_of<'c>(
+    context: &'c RequestContext<'_>,
+    new_name: &'c str,
+) -> Result<(Name<'c>, &'c str), RenameFault> {
+    let name = context.name().ok_or(RenameFault::NoName)?;
+    let identifier = identifier_of(name.kind, new_name)?;
+    let renamed = renamed_name(name, identifier);
+    let is_taken = context
+        .documents
+        .iter()
+        .any(|document| document.defines(renamed));
+    if is_taken {
+        Err(RenameFault::Taken)
+    } else {
+        Ok((name, identifier))
+    }
+}
+
+/// The edits by which the name at the place has the new name in all open documents and closed files; or why it can't
+/// have it. `AllocError` where a growth was refused.
 pub fn renaming(
     alloc: Global,
     context: &RequestContext<'_>,
     new_name: &str,
-) -> Result<Option<Value>, AllocError> {
-    let Some(name) = context.name() else {
-        return Ok(None);
+) -> Result<Result<Value, RenameFault>, AllocError> {
+    let (name, identifier) = match names_of(context, new_name) {
+        Ok(names) => names,
+        Err(fault) => return Ok(Err(fault)),
     };
-    let Some(identifier) = identifier_of(name.kind, new_name) else {
-        return Ok(None);
-    };
-    let renamed_name = renamed_name(name, identifier);
-    if context
-        .documents
-        .iter()
-        .any(|document| document.defines(renamed_name))
-    {
-        return Ok(None);
-    }
     let mut changes = Vec::new(alloc);
     for document in &context.documents {
         let edits = edits_in(alloc, document, name, identifier)?;
@@ -77,7 +85,7 @@ pub fn renaming(
         }
     }
     let changes = Value::Array(changes);
-    Ok(Some(json!(in alloc; {"documentChanges": changes})?))
+    Ok(Ok(json!(in alloc; {"documentChanges": changes})?))
 }
 
 /// The edits by which the name has another text in a document or file.

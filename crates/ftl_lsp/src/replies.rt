@@ -5,11 +5,9 @@ ghost use Rattle.serde_json.specs.View.{view};
 ghost use Rattle.ftl_lsp.specs.Locations.{edit_form, position_form, range_form, span_form};
 ghost use Rattle.ftl_lsp.specs.Replies.{answer_form, diagnostics_form, refusal_form, register_form};
 
-use crate::index::IndexedDocument;
-use crate::occurrences::{NameKind, Occurrence, bytes_of, name_of};
+use crate::occurrences::NameKind;
 use crate::phases::ErrorCode;
 use crate::positions::{Position, Positions};
-use crate::symbols::{FoldingRange, Symbol, SymbolKind};
 use fluent_syntax::spans::Span;
 use serde_json::{Value, json};
 use std::alloc::{AllocError, Global};
@@ -140,87 +138,6 @@ pub fn diagnostics_notification(
     })
 }
 
-/// The symbols of a text, in order.
-pub fn symbol_list(alloc: Global, text: &str, symbols: &[Symbol]) -> Result<Value, AllocError> {
-    let mut positions = Positions::new(text);
-    let mut list = Vec::new(alloc);
-    for symbol in symbols {
-        list.push(symbol_form(alloc, text, &mut positions, symbol)?)?;
-    }
-    Ok(Value::Array(list))
-}
-
-/// A symbol, with its attributes under it.
-fn symbol_form(
-    alloc: Global,
-    text: &str,
-    positions: &mut Positions<'_>,
-    symbol: &Symbol,
-) -> Result<Value, AllocError> {
-    let mut children = Vec::new(alloc);
-    for name in &symbol.attributes {
-        let shown = SymbolFields {
-            name: bytes_of(text, *name),
-            kind: SymbolKind::Attribute,
-            whole: *name,
-            selected: *name,
-        };
-        children.push(symbol_fields_form(alloc, positions, shown, Vec::new(alloc))?)?;
-    }
-    let shown = SymbolFields {
-        name: bytes_of(text, symbol.name),
-        kind: symbol.kind,
-        whole: symbol.whole,
-        selected: symbol.name,
-    };
-    symbol_fields_form(alloc, positions, shown, children)
-}
-
-/// What is told of a symbol: its name, its kind, its stretch, and the part of that which is its name.
-#[derive(Clone, Copy)]
-struct SymbolFields<'a> {
-    name: &'a str,
-    kind: SymbolKind,
-    whole: Span,
-    selected: Span,
-}
-
-/// A symbol with those under it.
-fn symbol_fields_form(
-    alloc: Global,
-    positions: &mut Positions<'_>,
-    shown: SymbolFields<'_>,
-    children: Vec<Value>,
-) -> Result<Value, AllocError> {
-    let children = Value::Array(children);
-    json!(in alloc; {
-        "name": (shown.name),
-        "kind": (kind_number(shown.kind)),
-        "range": (span_form(alloc, positions, shown.whole)?),
-        "selectionRange": (span_form(alloc, positions, shown.selected)?),
-        "children": children
-    })
-}
-
-/// The number of a kind in the protocol: a constant for a message, a variable for a term, a property for an attribute.
-fn kind_number(kind: SymbolKind) -> u64 {
-    match kind {
-        SymbolKind::Message => 14,
-        SymbolKind::Term => 13,
-        SymbolKind::Attribute => 7,
-    }
-}
-
-/// The folds of a text, in order.
-pub fn folding_range_list(alloc: Global, folds: &[FoldingRange]) -> Result<Value, AllocError> {
-    let mut list = Vec::new(alloc);
-    for fold in folds {
-        let (first, last) = (fold.first as u64, fold.last as u64);
-        list.push(json!(in alloc; {"startLine": first, "endLine": last, "kind": "comment"})?)?;
-    }
-    Ok(Value::Array(list))
-}
-
 /// The tokens of a text, by their numbers.
 pub fn token_list(alloc: Global, numbers: &[usize]) -> Result<Value, AllocError> {
     let mut list = Vec::new(alloc);
@@ -299,47 +216,6 @@ pub fn item_form(alloc: Global, label: &str, kind: NameKind) -> Result<Value, Al
         NameKind::Function => 3,
     };
     json!(in alloc; {"label": label, "kind": number})
-}
-
-/// What the workspace knows of a name.
-pub fn workspace_symbol(
-    alloc: Global,
-    document: &IndexedDocument<'_>,
-    positions: &mut Positions<'_>,
-    occurrence: Occurrence,
-) -> Result<Value, AllocError> {
-    let name = name_of(document.text, occurrence);
-    let location = location_form(alloc, document.uri, positions, occurrence.span())?;
-    let (kind, shown) = match (name.attribute, name.kind) {
-        (Some(attribute), _) => (SymbolKind::Attribute, attribute),
-        (None, NameKind::Term) => (SymbolKind::Term, name.name),
-        (None, _) => (SymbolKind::Message, name.name),
-    };
-    let number = kind_number(kind);
-    let symbol = json!(in alloc; {"name": shown, "kind": number, "location": location})?;
-    match name.attribute {
-        None => Ok(symbol),
-        Some(_) => with_member(
-            alloc,
-            symbol,
-            "containerName",
-            json!(in alloc; (name.name))?,
-        ),
-    }
-}
-
-/// An object with a member more.
-pub fn with_member(
-    alloc: Global,
-    object: Value,
-    key: &str,
-    member: Value,
-) -> Result<Value, AllocError> {
-    let mut object = object;
-    if let Some(members) = object.as_object_mut() {
-        drop(members.insert(String::from_str(alloc, key)?, member)?);
-    }
-    Ok(object)
 }
 
 /// A range, by its two places.

@@ -13,8 +13,7 @@ use std::alloc::AllocError;
 
 impl Server {
     /// Notes of which documents is to be published again behind a notification of the method: of all that are open in
-    /// the
-    /// workspace, but for the one that it names, where others may be found in them now.
+    /// the workspace, but for the one that it names, where others may be found in them now.
     pub(crate) fn mark_stale(
         &mut self,
         method: Option<Method>,
@@ -48,8 +47,7 @@ impl Server {
     }
 
     /// The diagnostics of a document of which is to be published again, as long as the session runs and no message
-    /// waits.
-    /// None where there is none left.
+    /// waits. None where there is none left.
     pub(crate) fn republish_next(&mut self, is_idle: bool) -> Result<Option<Value>, AllocError>
         ensures same { OnOk result (session_of self.new ≡ session_of self.old) }
         ensures diagnostics { IfOk result (λ sent. IfSome sent

@@ -159,16 +159,11 @@ fn add_entries(
     document: &IndexedDocument<'_>,
     name: Name<'_>,
 ) -> Result<(), AllocError> {
-    for span in document
-        .ranges_of(alloc, name, OccurrenceFilter::Definitions)?
-        .iter()
-    {
-        if let Some(entry) = document.entry_at(alloc, span.start)? {
-            if !shown.is_empty() {
-                shown.push_str("\n")?;
-            }
-            shown.push_str(entry.as_str())?;
+    for entry in document.definitions_of(alloc, name)?.iter() {
+        if !shown.is_empty() {
+            shown.push_str("\n")?;
         }
+        shown.push_str(entry.as_str())?;
     }
     Ok(())
 }

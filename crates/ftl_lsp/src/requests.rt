@@ -1,12 +1,15 @@
 //! What a request asks of a place in an open document.
-ghost use Rattle.std.specs.Prelude.{◌≡◌, is_some, true, IfOk};
+ghost use Rattle.std.specs.Prelude.{◌≡◌, is_some, true, IfErr, IfOk, Some};
 ghost use Rattle.serde_json.specs.View.{view};
 ghost use Rattle.ftl_lsp.specs.Asking.{names_position, renames_position};
 ghost use Rattle.ftl_lsp.specs.OpenDocuments.{texts};
+ghost use Rattle.ftl_lsp.specs.Sessions.{RefusesFor};
 
 use crate::completion::completion;
+use crate::methods::Method;
 use crate::offsets::byte_of;
 use crate::params::{new_name, occurrence_filter, position_param, uri_of};
+use crate::phases::ErrorCode;
 use crate::renaming::renaming;
 use crate::request_context::RequestContext;
 use crate::server::Server;
@@ -95,18 +98,22 @@ impl Server {
         }
     }
 
-    /// The edits by which the name at the place has the new name of the request. None also where there is no new name,
-    /// or the name can't have it.
-    pub(crate) fn renaming(&self, message: &Value) -> Result<Option<Value>, AllocError>
-        ensures { IfOk result (λ found. is_some found ≡ true
-            → renames_position (texts self.now.documents) (view message.now) ≡ true) }
+    /// The edits by which the name at the place has the new name of the request, or why it can't have it.
+    pub(crate) fn renaming(&self, message: &Value) -> Result<Result<Value, ErrorCode>, AllocError>
+        ensures found { let fitting = renames_position (texts self.now.documents) (view message.now) in
+            IfOk result (λ found. IfOk found (λ edits. fitting ≡ true)) }
+        ensures refused { let fitting = renames_position (texts self.now.documents) (view message.now) in
+            IfOk result (λ found. IfErr found (RefusesFor (Some Method.Rename) fitting)) }
     {
         let Some(context) = self.context_of(message)? else {
-            return Ok(None);
+            return Ok(Err(ErrorCode::InvalidParams));
         };
-        match new_name(message) {
-            Some(name) => renaming(self.alloc, &context, name),
-            None => Ok(None),
+        let Some(name) = new_name(message) else {
+            return Ok(Err(ErrorCode::InvalidParams));
+        };
+        match renaming(self.alloc, &context, name)? {
+            Ok(edits) => Ok(Ok(edits)),
+            Err(fault) => Ok(Err(ErrorCode::Rename(fault))),
         }
     }
 }

@@ -1,21 +1,24 @@
 //! What a request asks for.
-ghost use Rattle.std.specs.Prelude.{◌≡◌, is_some, option_and_then, option_map, IfOk, OnOk};
+ghost use Rattle.std.specs.Prelude.{◌≡◌, is_some, option_and_then, option_map, true, IfErr, IfOk, IfSome, OnOk};
 ghost use Rattle.serde_json.specs.View.{view};
 ghost use Rattle.ftl_lsp.specs.Asking.{IsFormattingOf, IsResult, names_open};
 ghost use Rattle.ftl_lsp.specs.OpenDocuments.{open_text, texts};
 ghost use Rattle.ftl_lsp.specs.Params.{uri_in};
-ghost use Rattle.ftl_lsp.specs.Sessions.{HasResponse, fits, session_of};
+ghost use Rattle.ftl_lsp.specs.Sessions.{HasResponse, RefusesFor, fits, session_of};
 
-use crate::formatting::formatting_of;
+use crate::formatting::{formatted_text, formatting_edit};
 use crate::index::{IndexedDocument, indexed_documents};
 use crate::methods::Method;
+use crate::notices::Notice;
 use crate::occurrences::bytes_of;
 use crate::open_documents::OpenDocument;
 use crate::params::{takes_related, uri_of};
+use crate::phases::ErrorCode;
 use crate::positions::Positions;
-use crate::replies::{capabilities, folding_range_list, symbol_list, token_list, workspace_symbol};
+use crate::replies::{capabilities, null, token_list};
 use crate::semantic_tokens::{encoded_tokens, semantic_tokens_of};
 use crate::server::Server;
+use crate::symbol_forms::{folding_range_list, symbol_list, workspace_symbol};
 use crate::symbols::{folding_ranges_in, symbols_in};
 use crate::tokens::tokens_of;
 use crate::workspace::Workspace;
@@ -23,9 +26,29 @@ use serde_json::Value;
 use std::alloc::AllocError;
 
 impl Server {
-    /// What a request of the method asks for. None where its parameters name no open document, or not what the method
-    /// wants beside it.
+    /// What a request of the method asks for, or why it is refused.
     pub(crate) fn response(
+        &mut self,
+        method: Option<Method>,
+        message: &Value,
+    ) -> Result<Result<Value, ErrorCode>, AllocError>
+        ensures same { OnOk result (session_of self.new ≡ session_of self.old) }
+        ensures fitting { let fitting = fits (texts self.old.documents) (view message.now) method in
+            IfOk result (λ response. IfOk response (λ value. fitting ≡ true)) }
+        ensures result { IfOk result (λ response. IfOk response (λ value.
+            IsResult (texts self.old.documents) (view message.now) method (view value))) }
+        ensures refused { let fitting = fits (texts self.old.documents) (view message.now) method in
+            IfOk result (λ response. IfErr response (RefusesFor method fitting)) }
+    {
+        if let Some(Method::Rename) = method {
+            return self.renaming(message);
+        }
+        Ok(self.found(method, message)?.ok_or(ErrorCode::InvalidParams))
+    }
+
+    /// What a request of the method, which is no renaming, asks for. None where its parameters name no open document,
+    /// or not what the method wants beside it.
+    fn found(
         &mut self,
         method: Option<Method>,
         message: &Value,
@@ -33,8 +56,8 @@ impl Server {
         ensures same { OnOk result (session_of self.new ≡ session_of self.old) }
         ensures response { IfOk result (λ response.
             HasResponse method (fits (texts self.old.documents) (view message.now) method) (is_some response)) }
-        ensures result { IfOk result (λ response.
-            IsResult (texts self.old.documents) (view message.now) method (option_map view response)) }
+        ensures result { IfOk result (λ response. IfSome response (λ value.
+            IsResult (texts self.old.documents) (view message.now) method (view value))) }
     {
         match method {
             Some(Method::Initialize) => {
@@ -52,7 +75,6 @@ impl Server {
             Some(Method::DocumentHighlight) => self.document_highlights(message),
             Some(Method::Hover) => self.hover(message),
             Some(Method::Completion) => self.completions(message),
-            Some(Method::Rename) => self.renaming(message),
             _ => Ok(Some(Value::Null)),
         }
     }
@@ -100,17 +122,25 @@ impl Server {
         Ok(Some(token_list(self.alloc, &numbers)?))
     }
 
-    /// The edit that formats the document; null where it stays as it is.
-    fn formatting(&self, message: &Value) -> Result<Option<Value>, AllocError>
+    /// The edit that formats the document; null where it stays as it is. Why it is left is to be shown.
+    fn formatting(&mut self, message: &Value) -> Result<Option<Value>, AllocError>
+        ensures same { OnOk result (session_of self.new ≡ session_of self.old) }
         ensures response { IfOk result
-            (λ response. is_some response ≡ names_open (texts self.now.documents) (view message.now)) }
-        ensures formats { let here = option_and_then (texts self.now.documents) (uri_in (view message.now)) in
-            IfOk result (λ response. IsFormattingOf here (option_map view response)) }
+            (λ response. is_some response ≡ names_open (texts self.old.documents) (view message.now)) }
+        ensures formats { let here = option_and_then (texts self.old.documents) (uri_in (view message.now)) in
+            IfOk result (λ response. IfSome response (λ value. IsFormattingOf here (view value))) }
     {
         let Some(open) = self.document_of(message) else {
             return Ok(None);
         };
-        Ok(Some(formatting_of(self.alloc, open.document.text())?))
+        let text = open.document.text();
+        let Some(formatted) = formatted_text(self.alloc, text)? else {
+            let name = uri_of(message).unwrap_or("");
+            let notice = Notice::of_unformatted(self.alloc, name, open, &self.workspace)?;
+            self.notices.push(notice)?;
+            return Ok(Some(null()));
+        };
+        Ok(Some(formatting_edit(self.alloc, text, formatted.as_str())?))
     }
 
     /// The open documents and the closed files.

@@ -10,6 +10,7 @@ ghost use Rattle.ftl_lsp.specs.Sessions.{Answers, AnswersNotification, AnswersRe
 use crate::endings::Ending;
 use crate::messages::{Message, message_of};
 use crate::methods::Method;
+use crate::notices::Notice;
 use crate::open_documents::Documents;
 use crate::phases::{ErrorCode, Phase};
 use crate::replies::{answer, null, refusal};
@@ -30,6 +31,8 @@ pub struct Server {
     pub(crate) documents: Documents,
     /// The names of documents of which is still to be published again.
     pub(crate) stale: Vec<String>,
+    /// What is still to be shown to the user.
+    pub(crate) notices: Vec<Notice>,
     /// The names that the open documents define, by the documents' names, as far as they were looked up since the
     /// documents changed.
     pub(crate) defined: BTreeMap<String, DefinedNames>,
@@ -49,6 +52,7 @@ impl Server {
             related: false,
             documents: Documents::new(alloc),
             stale: Vec::new(alloc),
+            notices: Vec::new(alloc),
             defined: BTreeMap::new(alloc),
             workspace: Workspace::new(alloc),
         }
@@ -94,12 +98,13 @@ impl Server {
         }
     }
 
-    /// Reads the files of the workspace, if they may be others now.
+    /// Reads the files of the workspace, if they may be others now. What is wrong with its settings is to be shown.
     fn read_files<F: Folders>(&mut self, anew: bool, files: &F) -> Result<(), AllocError>
         ensures { OnOk result (session_of self.new ≡ session_of self.old) }
     {
         if anew {
-            self.workspace.read(self.alloc, files)?;
+            let mut faults = self.workspace.read(self.alloc, files)?;
+            self.notices.append(&mut faults)?;
         }
         Ok(())
     }
@@ -131,8 +136,9 @@ impl Server {
         if let Some(code) = self.phase.refusal(method) {
             return self.refuse(id, code);
         }
-        let Some(response) = self.response(method, message)? else {
-            return self.refuse(id, ErrorCode::InvalidParams);
+        let response = match self.response(method, message)? {
+            Ok(response) => response,
+            Err(code) => return self.refuse(id, code),
         };
         let reply = answer(self.alloc, id, response)?;
         self.phase = self.phase.after_request(method);

@@ -55,9 +55,8 @@ pub fn serve<R: Read, W: Write, F: Folders>(
     Ending::Memory
 }
 
-/// Publishes the diagnostics of a document again, if there is one of which that is to be done and no message waits, and
-/// takes the next
-/// message else. The endings are those of `answer_next`.
+/// Shows a notice, if there is one; or publishes the diagnostics of a document again, if there is one of which that is
+/// to be done and no message waits; and takes the next message else. The endings are those of `answer_next`.
 fn go_on<R: Read, W: Write, F: Folders>(
     alloc: Global,
     server: &mut Server,
@@ -77,8 +76,8 @@ fn go_on<R: Read, W: Write, F: Folders>(
         (W.contents writer.old) ending (W.contents writer.new)) }
     ensures input { result ≡ Err Ending.Input → has_failed reader.new ≡ true }
 {
-    match server.republish_next(pending.is_empty()) {
-        Ok(Some(diagnostics)) => send(alloc, writer, &diagnostics),
+    match server.next_unasked(pending.is_empty()) {
+        Ok(Some(value)) => send(alloc, writer, &value),
         Ok(None) => answer_next(alloc, server, reader, pending, block, writer, files),
         Err(AllocError) => Err(Ending::Memory),
     }

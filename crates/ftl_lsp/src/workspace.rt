@@ -2,11 +2,15 @@
 ghost use Rattle.std.specs.Prelude.{◌≡◌};
 
 use crate::closed_files::ClosedFile;
+use crate::notices::Notice;
 use crate::open_documents::OpenDocument;
 use crate::originals::Reference;
 use crate::settings::settings_in;
-use fluent_syntax_names::{DefinedNames, Kind};
-use ftl_files::{Folders, Settings, SourceFile, SourceFiles, is_below, path_of_uri, read_files};
+use fluent_syntax_names::{DefinedNames, Severity};
+use ftl_files::{
+    Excluded, Folders, ReportedKind, Settings, SourceFile, SourceFiles, is_below, path_of_uri,
+    read_files,
+};
 use serde_json::Value;
 use std::alloc::{AllocError, Global};
 use std::collections::BTreeMap;
@@ -16,10 +20,14 @@ use std::collections::BTreeMap;
 struct Folder {
     /// Its path, which doesn't end in a `/`.
     path: String,
-    /// The kinds of findings that are not told of its files.
-    ignored: Vec<Kind>,
+    /// The kinds that are not told of its files.
+    ignored: Vec<ReportedKind>,
+    /// What is passed over below it.
+    excluded: Excluded,
     /// Where the reference language has its files, if that is said.
     reference: Option<Reference>,
+    /// Why what it says of itself can't be gone by, if it can't.
+    fault: Option<String>,
 }
 
 impl Folder {
@@ -28,33 +36,63 @@ impl Folder {
         Ok(Folder {
             path: String::from_str(alloc, path)?,
             ignored: Vec::new(alloc),
+            excluded: Excluded::new(alloc),
             reference: None,
+            fault: None,
         })
     }
 
-    /// Reads anew what it says of itself.
+    /// Whether files are looked for where the path stands.
+    fn covers(&self, path: &str) -> bool {
+        is_below(self.path.as_str(), path) && !self.excluded.hides(self.path.as_str(), path)
+    }
+
+    /// Reads anew what it says of itself. The sentence says why that can't be gone by, where it didn't say so before.
     ///
     /// `AllocError` where a growth was refused.
-    fn read_settings<F: Folders>(&mut self, alloc: Global, files: &F) -> Result<(), AllocError> {
-        match settings_in(alloc, files, self.path.as_str())? {
-            Some(
-                Settings {
-                    reference,
-                    ignored,
-                    ..
-                },
-            ) => {
-                self.reference = match reference {
-                    Some(name) => Reference::in_folder(alloc, self.path.as_str(), name.as_str())?,
-                    None => None,
-                };
-                self.ignored = ignored;
-            }
-            None => {
-                self.reference = None;
-                self.ignored = Vec::new(alloc);
-            }
+    fn read_settings<F: Folders>(
+        &mut self,
+        alloc: Global,
+        files: &F,
+    ) -> Result<Option<String>, AllocError> {
+        let (settings, fault) = match settings_in(alloc, files, self.path.as_str())? {
+            Ok(settings) => (settings, None),
+            Err(fault) => (None, Some(fault)),
+        };
+        self.take_settings(alloc, settings)?;
+        let told = match &fault {
+            Some(sentence) if self.fault != fault => Some(sentence.clone()?),
+            _ => None,
+        };
+        self.fault = fault;
+        Ok(told)
+    }
+
+    /// Notes what it says of itself.
+    fn take_settings(
+        &mut self,
+        alloc: Global,
+        settings: Option<Settings>,
+    ) -> Result<(), AllocError> {
+        self.reference = None;
+        self.ignored = Vec::new(alloc);
+        self.excluded = Excluded::new(alloc);
+        let Some(
+            Settings {
+                reference,
+                ignored,
+                excluded,
+                ..
+            },
+        ) = settings
+        else {
+            return Ok(());
+        };
+        self.excluded = excluded_in(alloc, self.path.as_str(), &excluded)?;
+        if let Some(name) = reference {
+            self.reference = Reference::in_folder(alloc, self.path.as_str(), name.as_str())?;
         }
+        self.ignored = ignored;
         Ok(())
     }
 }
@@ -114,18 +152,29 @@ impl Workspace {
         self.can_watch && !self.folders.is_empty()
     }
 
-    /// Reads the files anew. What is said of one whose text is the same is kept.
+    /// Reads the files anew. What is said of one whose text is the same is kept. The notices tell which settings are
+    /// wrong by now.
     ///
     /// `AllocError` where a growth was refused.
-    pub fn read<F: Folders>(&mut self, alloc: Global, files: &F) -> Result<(), AllocError> {
+    pub fn read<F: Folders>(
+        &mut self,
+        alloc: Global,
+        files: &F,
+    ) -> Result<Vec<Notice>, AllocError> {
         let mut found = BTreeMap::new(alloc);
+        let mut notices = Vec::new(alloc);
         let mut all = true;
         for folder in self.folders.iter_mut() {
-            folder.read_settings(alloc, files)?;
+            if let Some(text) = folder.read_settings(alloc, files)? {
+                notices.push(Notice {
+                    severity: Severity::Error,
+                    text,
+                })?;
+            }
             let SourceFiles {
                 files: sources,
                 is_whole,
-            } = read_files(alloc, files, folder.path.as_str())?;
+            } = read_files(alloc, files, folder.path.as_str(), &folder.excluded)?;
             all = all && is_whole;
             for file in sources {
                 let SourceFile { path, text } = file;
@@ -139,7 +188,7 @@ impl Workspace {
         self.files = found;
         self.is_whole = all;
         self.defined = None;
-        Ok(())
+        Ok(notices)
     }
 
     /// Whether all files are known that may define what a file at the path refers to: it stands below one of the
@@ -150,14 +199,12 @@ impl Workspace {
 
     /// Whether files are looked for where the path stands, below one of the folders.
     pub fn covers(&self, path: &str) -> bool {
-        self.folders
-            .iter()
-            .any(|folder| is_covered(folder.path.as_str(), path))
+        self.folders.iter().any(|folder| folder.covers(path))
     }
 
-    /// The kinds of findings that are not told of a file at the path: those that a folder leaves out below which it
+    /// The kinds that are not told of a file at the path: those that a folder leaves out below which it
     /// stands. `AllocError` where a growth was refused.
-    pub fn ignored_at(&self, alloc: Global, path: &str) -> Result<Vec<Kind>, AllocError> {
+    pub fn ignored_at(&self, alloc: Global, path: &str) -> Result<Vec<ReportedKind>, AllocError> {
         let mut ignored = Vec::new(alloc);
         for folder in &self.folders {
             if is_below(folder.path.as_str(), path) {
@@ -224,12 +271,13 @@ impl Workspace {
     }
 }
 
-/// Whether files are looked for where the path stands, if they are looked for below the folder.
-fn is_covered(folder: &str, path: &str) -> bool {
-    match path.strip_prefix(folder) {
-        Some(behind) => is_below(folder, path) && !behind.contains("/."),
-        None => false,
+/// What the folder says is passed over.
+fn excluded_in(alloc: Global, folder: &str, texts: &[String]) -> Result<Excluded, AllocError> {
+    let mut excluded = Excluded::new(alloc);
+    for text in texts {
+        excluded.add(alloc, folder, text.as_str())?;
     }
+    Ok(excluded)
 }
 
 /// Whether one of the documents is that of the path.

@@ -1,7 +1,7 @@
 //! The words of the command line.
 
-use crate::messages::refuse;
-use ftl::{RunFault, usage};
+use crate::messages::{refuse, refuse_words};
+use ftl::RunFault;
 use std::env;
 use std::io::ErrorKind;
 use std::rt::Env;
@@ -12,8 +12,7 @@ pub(crate) fn all_args<R: Env + Eprint + AllocGlobal>(rt: &R) -> Result<Vec<Stri
     let words = match env::args(rt) {
         Ok(words) => words.collect(rt.alloc()),
         Err(error) if error.kind() == ErrorKind::InvalidData => {
-            let _ = rt.eprintln("ftl: a word is not UTF-8");
-            return Err(refuse(rt, usage(), 2));
+            return Err(refuse_words(rt, "ftl: a word is not UTF-8", ""));
         }
         Err(_) => return Err(refuse(rt, memory.line(), memory.status())),
     };

@@ -1,24 +1,26 @@
 //! Files and folders, searched for mistakes between names.
 
 use crate::colors::form_over_paths;
+use crate::file_sets::{FileSet, add_files, folder_of_languages};
+use crate::listed::NamedFiles;
 use crate::messages::{end_run, refuse_run};
-use crate::project::project_settings;
+use crate::project::{Project, project_of};
 use fluent_syntax_names::Kind;
 use ftl::{RunFault, Watched};
-use ftl_args::{Lint, Options};
-use ftl_files::{Disk, list};
-use ftl_project::{Fault, LintOptions, Streams, Tally, check_summary, lint_files, report_fault};
+use ftl_args::Lint;
+use ftl_files::{Disk, Reading, ReportedKind, absolute_path};
+use ftl_project::{LintOptions, Streams, Tally, check_summary, lint_files};
+use std::alloc::{AllocError, Global};
 use std::io;
 
-/// Searches all files that the paths name, as one set; the exit status. Kinds that the project ignores are not told.
+/// Searches all files that the paths name, each language as a set of its own; the exit status. Kinds that the project ignores are not told.
 pub(crate) fn lint_paths(rt: &HostRuntime, lint: &Lint<'_>) -> u8 {
-    let settings = match project_settings(rt) {
-        Ok(settings) => settings,
+    let project = match project_of(rt, &lint.excluded) {
+        Ok(project) => project,
         Err(status) => return status,
     };
-    let options = lint.options.or(&settings);
     let mut tally = Tally::new();
-    match lint_all(rt, lint, options, settings.ignored, &mut tally) {
+    match lint_all(rt, lint, &project, &mut tally) {
         Ok(()) => end_run(rt, &tally, check_summary(rt.alloc(), &tally)),
         Err(fault) => refuse_run(rt, fault),
     }
@@ -27,18 +29,31 @@ pub(crate) fn lint_paths(rt: &HostRuntime, lint: &Lint<'_>) -> u8 {
 fn lint_all(
     rt: &HostRuntime,
     lint: &Lint<'_>,
-    options: Options,
-    mut ignored: Vec<Kind>,
+    project: &Project,
     tally: &mut Tally,
 ) -> Result<(), RunFault> {
-    if ignored.extend_from_slice(&lint.ignored).is_err() {
+    let options = lint.options.or(&project.settings);
+    let Ok(ignored) = ignored_of(rt, lint, project) else {
         return Err(RunFault::Memory);
-    }
-    let files = files_of(rt, lint, tally)?;
+    };
+    let sets = sets_of(rt, lint, project, tally)?;
     let lint_options = LintOptions {
         form: form_over_paths(rt, options),
         ignored: &ignored,
     };
+    for set in &sets {
+        lint_set(rt, set, options.reading(), lint_options, tally)?;
+    }
+    Ok(())
+}
+
+fn lint_set(
+    rt: &HostRuntime,
+    set: &FileSet,
+    reading: Reading,
+    lint_options: LintOptions<'_>,
+    tally: &mut Tally,
+) -> Result<(), RunFault> {
     let mut streams = Streams {
         out: &mut Watched::new(io::writer(rt)),
         err: &mut Watched::new(rt.stderr()),
@@ -46,48 +61,62 @@ fn lint_all(
     lint_files(
         rt.alloc(),
         &mut Disk::new(rt),
-        &files,
-        options.reading(),
+        &set.files,
+        reading,
         lint_options,
         tally,
         &mut streams,
     )
 }
 
-/// The files that the paths name. What can't be listed is told.
-fn files_of(rt: &HostRuntime, lint: &Lint<'_>, tally: &mut Tally) -> Result<Vec<String>, RunFault> {
-    let mut files = Vec::new(rt.alloc());
-    for path in &lint.paths {
-        for file in files_at(rt, *path, tally)? {
-            if files.push(file).is_err() {
-                return Err(RunFault::Memory);
-            }
+/// The kinds of findings that are not told.
+fn ignored_of(
+    rt: &HostRuntime,
+    lint: &Lint<'_>,
+    project: &Project,
+) -> Result<Vec<Kind>, AllocError> {
+    let mut ignored = Vec::new(rt.alloc());
+    for kind in project.settings.ignored.iter().chain(&lint.ignored) {
+        if let ReportedKind::Finding(kind) = kind {
+            ignored.push(*kind)?;
         }
     }
-    Ok(files)
+    Ok(ignored)
 }
 
-/// The files that the path names. What can't be listed is told.
-pub(crate) fn files_at(
+/// The files that the paths name, each once, by language. What can't be listed is told.
+fn sets_of(
     rt: &HostRuntime,
-    path: &str,
+    lint: &Lint<'_>,
+    project: &Project,
     tally: &mut Tally,
-) -> Result<Vec<String>, RunFault> {
-    let Ok(listing) = list(rt, path) else {
-        return Err(RunFault::Memory);
-    };
-    for (path, error) in listing.faults {
-        let mut streams = Streams {
-            out: &mut Watched::new(io::writer(rt)),
-            err: &mut Watched::new(rt.stderr()),
+) -> Result<Vec<FileSet>, RunFault> {
+    let alloc = rt.alloc();
+    let mut named = NamedFiles::new(rt, project);
+    let mut sets = Vec::new(alloc);
+    for path in &lint.paths {
+        let files = named.files_at(rt, *path, tally)?;
+        let Ok(languages) = languages_at(alloc, lint, project, *path) else {
+            return Err(RunFault::Memory);
         };
-        report_fault(
-            rt.alloc(),
-            tally,
-            path.as_str(),
-            &Fault::Read(error),
-            &mut streams,
-        )?;
+        let languages = languages.as_ref().map(|folder| folder.as_str());
+        let Ok(()) = add_files(alloc, &mut sets, project, languages, files) else {
+            return Err(RunFault::Memory);
+        };
     }
-    Ok(listing.files)
+    Ok(sets)
+}
+
+/// The folder whose folders are languages: the path itself, if the words say so, or else that of the project.
+fn languages_at(
+    alloc: Global,
+    lint: &Lint<'_>,
+    project: &Project,
+    path: &str,
+) -> Result<Option<String>, AllocError> {
+    if lint.each {
+        Ok(Some(absolute_path(alloc, project.current.as_str(), path)?))
+    } else {
+        folder_of_languages(alloc, project)
+    }
 }

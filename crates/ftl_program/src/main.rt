@@ -4,8 +4,10 @@
 mod args;
 mod colors;
 mod compare;
+mod file_sets;
 mod help;
 mod lint;
+mod listed;
 mod messages;
 mod paths;
 mod project;
@@ -15,9 +17,9 @@ use crate::args::all_args;
 use crate::compare::compare_paths;
 use crate::help::page_of;
 use crate::lint::lint_paths;
-use crate::messages::{print_page, refuse_args, refuse_serving, refuse_writing};
-use crate::paths::answer_paths;
-use crate::project::project_settings;
+use crate::messages::{print_page, refuse_args, refuse_serving, refuse_writing, run_status};
+use crate::paths::{answer_named, answer_paths};
+use crate::project::{no_project, project_of};
 use crate::standard_input::answer_input;
 use ftl_args::{Change, Request, Task, Work, request_of};
 use ftl_files::Output;
@@ -40,7 +42,7 @@ fn run_args(rt: &HostRuntime, words: &[String]) -> u8 {
         Ok(Request::Answer(work)) => answer(rt, work),
         Ok(Request::Lint(lint)) => lint_paths(rt, &lint),
         Ok(Request::Compare(compare)) => compare_paths(rt, &compare),
-        Err(error) => refuse_args(rt, &error),
+        Err(error) => refuse_args(rt, words, &error),
     }
 }
 
@@ -48,24 +50,30 @@ fn run_args(rt: &HostRuntime, words: &[String]) -> u8 {
 fn answer(rt: &HostRuntime, mut work: Work<'_>) -> u8 {
     let on_input = work.paths.is_empty();
     match work.task {
-        Task::Format(Change::Write | Change::Name) if on_input => return refuse_writing(rt),
+        Task::Format(Change::Write | Change::Name | Change::Show) if on_input =>
+            return refuse_writing(rt),
         Task::Format(Change::Write) if work.paths.contains(&"-") => return refuse_writing(rt),
         _ if on_input => return answer_alone(rt, &work),
-        Task::FromJson => return answer_paths(rt, &work),
         _ => (),
     }
-    match project_settings(rt) {
-        Ok(settings) => work.options = work.options.or(&settings),
-        Err(status) => return status,
+    let found = match work.task {
+        Task::FromJson => no_project(rt),
+        _ => project_of(rt, &work.excluded),
+    };
+    match found {
+        Ok(project) => {
+            work.options = work.options.or(&project.settings);
+            run_status(rt, answer_paths(rt, &work, &project))
+        }
+        Err(status) => status,
     }
-    answer_paths(rt, &work)
 }
 
 /// Answers standard input; as a file of its name where a form of files is asked for.
 fn answer_alone(rt: &HostRuntime, work: &Work<'_>) -> u8 {
     match (work.task, work.options.output) {
-        (Task::Check, Some(Output::Full | Output::Json | Output::Github)) => answer_paths(rt, work),
-        (Task::FromJson, _) => answer_paths(rt, work),
+        (Task::Check, Some(Output::Full | Output::Json | Output::Github)) | (Task::FromJson, _) =>
+            run_status(rt, answer_named(rt, work)),
         _ => answer_input(rt, work),
     }
 }

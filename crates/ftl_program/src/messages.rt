@@ -1,13 +1,13 @@
 //! What the program tells by itself.
 
 use clap::Error;
-use ftl::{RunFault, usage};
-use ftl_args::{mistake, status_of};
+use ftl::RunFault;
+use ftl_args::{mistake, status_of, usage_of};
 use ftl_project::Tally;
 use std::alloc::AllocError;
 
 /// The status for wrong words.
-const WRONG_ARGS: u8 = 2;
+pub(crate) const WRONG_ARGS: u8 = 2;
 
 /// Writes the line to standard error, and gives the exit status back.
 pub(crate) fn refuse<R: Eprint>(rt: &R, line: &str, status: u8) -> u8 {
@@ -18,6 +18,14 @@ pub(crate) fn refuse<R: Eprint>(rt: &R, line: &str, status: u8) -> u8 {
 /// Tells why a run stopped, and gives its exit status.
 pub(crate) fn refuse_run<R: Eprint>(rt: &R, fault: RunFault) -> u8 {
     refuse(rt, fault.line(), fault.status())
+}
+
+/// The exit status of a run; where it stopped, why is told.
+pub(crate) fn run_status<R: Eprint>(rt: &R, ended: Result<u8, RunFault>) -> u8 {
+    match ended {
+        Ok(status) => status,
+        Err(fault) => refuse_run(rt, fault),
+    }
 }
 
 /// Tells what a run met, on a line, and gives the exit status.
@@ -40,7 +48,11 @@ pub(crate) fn print_page<R: Print + Eprint>(rt: &R, page: &str) -> u8 {
 }
 
 /// Writes the help of a word that was asked for; or tells what is wrong with the words. The exit status.
-pub(crate) fn refuse_args<R: Print + Eprint + AllocGlobal>(rt: &R, error: &Error) -> u8 {
+pub(crate) fn refuse_args<R: Print + Eprint + AllocGlobal>(
+    rt: &R,
+    words: &[String],
+    error: &Error,
+) -> u8 {
     let status = status_of(error);
     if status == 0 {
         return match error.print(rt) {
@@ -48,33 +60,39 @@ pub(crate) fn refuse_args<R: Print + Eprint + AllocGlobal>(rt: &R, error: &Error
             Err(_) => refuse_run(rt, RunFault::Output),
         };
     }
-    match mistake(rt.alloc(), error) {
-        Ok(line) if status == WRONG_ARGS => {
-            if !line.is_empty() {
-                let _ = rt.eprintln(line.as_str());
-            }
-            refuse(rt, usage(), WRONG_ARGS)
-        }
+    match mistake(rt.alloc(), words, error) {
+        Ok(lines) if status == WRONG_ARGS => refuse(rt, lines.as_str(), WRONG_ARGS),
         _ => refuse_run(rt, RunFault::Memory),
     }
 }
 
+/// Tells what is wrong with the words, and how the word is called, or which words there are.
+pub(crate) fn refuse_words<R: Eprint + AllocGlobal>(rt: &R, line: &str, word: &str) -> u8 {
+    let _ = rt.eprintln(line);
+    match usage_of(rt.alloc(), word) {
+        Ok(usage) => refuse(rt, usage.as_str(), WRONG_ARGS),
+        Err(AllocError) => refuse_run(rt, RunFault::Memory),
+    }
+}
+
 /// Tells that there is nothing to compare with the reference.
-pub(crate) fn refuse_compare<R: Eprint>(rt: &R) -> u8 {
-    let _ = rt.eprintln("ftl: compare wants a reference, and what to compare with it");
-    refuse(rt, usage(), WRONG_ARGS)
+pub(crate) fn refuse_compare<R: Eprint + AllocGlobal>(rt: &R) -> u8 {
+    let line = "ftl: compare wants a reference, and what to compare with it";
+    refuse_words(rt, line, "compare")
 }
 
 /// Tells that the language server is another program.
-pub(crate) fn refuse_serving<R: Eprint>(rt: &R) -> u8 {
-    let _ = rt.eprintln(
-        "ftl: the language server is the program ftl-lsp, which a checkout installs by: ./ftl install FOLDER lsp",
-    );
-    refuse(rt, usage(), WRONG_ARGS)
+pub(crate) fn refuse_serving<R: Eprint + AllocGlobal>(rt: &R) -> u8 {
+    let line =
+        "ftl: the language server is the program ftl-lsp, which a checkout installs by: ./ftl install FOLDER lsp";
+    refuse_words(rt, line, "")
 }
 
 /// Tells that standard input is no file to be written or named.
-pub(crate) fn refuse_writing<R: Eprint>(rt: &R) -> u8 {
-    let _ = rt.eprintln("ftl: --write and --check are for files and folders");
-    refuse(rt, usage(), WRONG_ARGS)
+pub(crate) fn refuse_writing<R: Eprint + AllocGlobal>(rt: &R) -> u8 {
+    refuse_words(
+        rt,
+        "ftl: --write, --check and --diff are for files and folders",
+        "format",
+    )
 }

@@ -1,55 +1,82 @@
 //! Files and folders, answered each by its name.
 
 use crate::colors::form_over_paths;
-use crate::lint::files_at;
-use crate::messages::{end_run, refuse_run};
+use crate::listed::NamedFiles;
+use crate::messages::end_run;
+use crate::project::Project;
 use crate::standard_input::{all_input, tell_of_terminal};
 use ftl::{RunFault, Watched};
 use ftl_args::{Change, Task, Work};
 use ftl_files::{Disk, Memory, Store};
 use ftl_project::{
-    Streams, Tally, check_files, check_summary, convert_files, format_summary, name_files,
-    print_files, write_files,
+    RewriteCounts, Streams, Tally, check_files, check_summary, convert_files, diff_files,
+    format_summary, name_files, print_files, write_files, write_summary,
 };
 use std::alloc::AllocError;
 use std::io;
 
-/// Answers the paths in their order, or standard input where there is none; the exit status.
-pub(crate) fn answer_paths(rt: &HostRuntime, work: &Work<'_>) -> u8 {
-    let mut tally = Tally::new();
-    if let Err(fault) = answer_all(rt, work, &mut tally) {
-        return refuse_run(rt, fault);
-    }
-    match work.task {
-        _ if work.paths.is_empty() => tally.status(),
-        Task::Check => end_run(rt, &tally, check_summary(rt.alloc(), &tally)),
-        Task::Format(Change::Write | Change::Name) => {
-            end_run(rt, &tally, format_summary(rt.alloc(), &tally))
+/// What a run met.
+#[derive(Drop)]
+struct Met {
+    tally: Tally,
+    counts: RewriteCounts,
+}
+
+impl Met {
+    /// A run that met nothing.
+    fn new() -> Self {
+        Met {
+            tally: Tally::new(),
+            counts: RewriteCounts::new(),
         }
-        _ => tally.status(),
+    }
+
+    /// Tells what was met, and gives the exit status.
+    fn end(&self, rt: &HostRuntime, work: &Work<'_>) -> u8 {
+        let Met { tally, counts } = self;
+        let alloc = rt.alloc();
+        match work.task {
+            _ if work.is_quiet => tally.status(),
+            Task::Check => end_run(rt, tally, check_summary(alloc, tally)),
+            Task::Format(Change::Write) => end_run(rt, tally, write_summary(alloc, tally, counts)),
+            Task::Format(Change::Name | Change::Show) => end_run(
+                rt,
+                tally,
+                format_summary(alloc, tally),
+            ),
+            _ => tally.status(),
+        }
     }
 }
 
-fn answer_all(rt: &HostRuntime, work: &Work<'_>, tally: &mut Tally) -> Result<(), RunFault> {
-    if work.paths.is_empty() {
-        return answer_named_input(rt, work, tally);
-    }
+/// Answers the paths in their order, each file once; the exit status.
+pub(crate) fn answer_paths(
+    rt: &HostRuntime,
+    work: &Work<'_>,
+    project: &Project,
+) -> Result<u8, RunFault> {
+    let mut met = Met::new();
+    let mut named = NamedFiles::new(rt, project);
     for path in &work.paths {
         if *path == "-" {
-            answer_named_input(rt, work, tally)?;
+            answer_named_input(rt, work, &mut met)?;
         } else {
-            answer_path(rt, work, *path, tally)?;
+            let files = named.files_at(rt, *path, &mut met.tally)?;
+            run_task(rt, &mut Disk::new(rt), &files, work, &mut met)?;
         }
     }
-    Ok(())
+    Ok(met.end(rt, work))
+}
+
+/// Answers standard input as a file of its name; the exit status.
+pub(crate) fn answer_named(rt: &HostRuntime, work: &Work<'_>) -> Result<u8, RunFault> {
+    let mut met = Met::new();
+    answer_named_input(rt, work, &mut met)?;
+    Ok(met.tally.status())
 }
 
 /// Answers standard input as a file of its name.
-fn answer_named_input(
-    rt: &HostRuntime,
-    work: &Work<'_>,
-    tally: &mut Tally,
-) -> Result<(), RunFault> {
+fn answer_named_input(rt: &HostRuntime, work: &Work<'_>, met: &mut Met) -> Result<(), RunFault> {
     tell_of_terminal(rt);
     let input = all_input(rt)?;
     let mut memory = Memory::new(rt.alloc());
@@ -61,7 +88,7 @@ fn answer_named_input(
         work.stdin_name,
         input.as_slice(),
     ) {
-        Ok(()) => answer_files(rt, &mut memory, files.as_slice(), work, tally),
+        Ok(()) => run_task(rt, &mut memory, files.as_slice(), work, met),
         Err(AllocError) => Err(RunFault::Memory),
     }
 }
@@ -78,25 +105,16 @@ fn put_named<R: AllocGlobal>(
     Ok(())
 }
 
-/// Answers a file, or the files of a folder. What can't be listed is told, and the others are answered.
-fn answer_path(
-    rt: &HostRuntime,
-    work: &Work<'_>,
-    path: &str,
-    tally: &mut Tally,
-) -> Result<(), RunFault> {
-    let files = files_at(rt, path, tally)?;
-    answer_files(rt, &mut Disk::new(rt), &files, work, tally)
-}
-
-fn answer_files<S: Store>(
+/// Does with the files what is asked.
+fn run_task<S: Store>(
     rt: &HostRuntime,
     store: &mut S,
     files: &[String],
     work: &Work<'_>,
-    tally: &mut Tally,
+    met: &mut Met,
 ) -> Result<(), RunFault> {
     let alloc = rt.alloc();
+    let Met { tally, counts } = met;
     let reading = work.options.reading();
     let mut streams = Streams {
         out: &mut Watched::new(io::writer(rt)),
@@ -108,10 +126,13 @@ fn answer_files<S: Store>(
             check_files(alloc, store, files, reading, form, tally, &mut streams)
         }
         (Task::Format(Change::Write), _) => {
-            write_files(alloc, store, files, reading, tally, &mut streams)
+            write_files(alloc, store, files, reading, tally, counts, &mut streams)
         }
         (Task::Format(Change::Name), _) => {
             name_files(alloc, store, files, reading, tally, &mut streams)
+        }
+        (Task::Format(Change::Show), _) => {
+            diff_files(alloc, store, files, reading, tally, &mut streams)
         }
         (_, Some(command)) => {
             let nesting = reading.nesting;

@@ -4,7 +4,7 @@ use crate::messages::{refuse, refuse_run};
 use fluent_syntax::parser::TooDeep;
 use ftl::{Command, Formatted, Outcome, RunFault, Watched, formatted_within, run_within};
 use ftl_args::{Task, Work};
-use ftl_project::{Reading, lossy_entry_in, lossy_entry_line};
+use ftl_project::{Reading, lossy_entry_in, lossy_entry_line, note_line};
 use simdutf8::basic::from_utf8;
 use std::io;
 use std::io::{ErrorKind, IsTerminal, Read};
@@ -50,7 +50,12 @@ fn answer_reader<R: Print + Eprint + AllocGlobal, I: Read + Drop>(
         &mut writer,
     );
     match ended {
-        Ok(Ok(outcome)) => outcome.status(),
+        Ok(Ok(outcome)) => {
+            if command == Command::Runtime {
+                warn_of_errors(rt, work, outcome);
+            }
+            outcome.status()
+        }
         Ok(Err(fault)) => refuse_run(rt, fault),
         Err(TooDeep) => refuse(rt, NESTS_DEEPER, TOO_DEEP),
     }
@@ -86,7 +91,17 @@ fn put_formatted<R: Print + Eprint + AllocGlobal>(
     if formatted.outcome == Outcome::Clean && !formatted.is_canonical {
         warn(rt, text, work);
     }
+    warn_of_errors(rt, work, formatted.outcome);
     formatted.outcome.status()
+}
+
+/// Tells that entries with errors were left out, if some were. Of memory it says nothing: the text was written.
+fn warn_of_errors<R: Eprint + AllocGlobal>(rt: &R, work: &Work<'_>, outcome: Outcome) {
+    if outcome == Outcome::SyntaxErrors {
+        if let Ok(line) = note_line(rt.alloc(), work.stdin_name, &"has syntax errors") {
+            let _ = rt.eprint(line.as_str());
+        }
+    }
 }
 
 /// All of standard input.

@@ -10,10 +10,10 @@ use Rattle.ftl_project.specs.Comparing.{Compares, IsFileMissing, IsPairCompared,
 use Rattle.ftl_project.specs.Faults.{Failing, HasStatus, IsRead}
 use Rattle.ftl_project.specs.NameIndexes.{IsNameIndex}
 use Rattle.ftl_project.specs.Tally.{counted, failed}
+use Rattle.ftl_project.specs.declared.comparing.CompareOptions.{CompareOptions}
 use Rattle.ftl_project.specs.declared.comparing.Pair.{Pair}
 use Rattle.ftl_project.specs.declared.comparing.Share.{Share}
 use Rattle.ftl_project.specs.declared.fault.Fault.{Fault}
-use Rattle.ftl_files.specs.declared.options.Form.{Form}
 use Rattle.ftl_files.specs.declared.options.Reading.{Reading}
 use Rattle.ftl_project.specs.declared.tally.Tally.{Tally}
 
@@ -27,14 +27,15 @@ pub of_text : (at : List ℕ → Option (List ℕ)) (path own text said : List �
 of_text at path own text said same_path same_text read =
     subst (λ p. IsRead (at p) text) same_path (subst (λ t. IsRead (at path) t) (sym same_text) read)
 
-module _ (CallFails : Failing) (reading : Reading) (form : Form) (at : List ℕ → Option (List ℕ)) (pair : Pair) where
+module _ (CallFails : Failing) (reading : Reading) (options : CompareOptions) (at : List ℕ → Option (List ℕ))
+    (pair : Pair) where
   pub alone : (text : List ℕ) (errors : ℕ) (share : Share) (report_text : List ℕ) → pair.is_there ≡ false →
       IsRead (at (string_bytes pair.reference)) text →
       ((name_index : NameIndex) × IsNameIndex reading.edition text name_index
-      × IsFileMissing form pair name_index errors share report_text) →
-      IsComparison CallFails reading form at pair.is_there pair errors share report_text
+      × IsFileMissing options pair name_index errors share report_text) →
+      IsComparison CallFails reading options at pair.is_there pair errors share report_text
   alone text errors share report_text gone same that =
-      subst (λ is_there. IsComparison CallFails reading form at is_there pair errors share report_text) (sym gone) (
+      subst (λ is_there. IsComparison CallFails reading options at is_there pair errors share report_text) (sym gone) (
         that.0,
         (text, same, that.1),
         that.2,
@@ -44,10 +45,10 @@ module _ (CallFails : Failing) (reading : Reading) (form : Form) (at : List ℕ 
       IsRead (at (string_bytes pair.reference)) text →
       IsRead (at (string_bytes pair.other)) more →
       ((reference : NameIndex) × IsNameIndex reading.edition text reference × (other : NameIndex)
-      × IsNameIndex reading.edition more other × IsPairCompared form pair reference other errors share report_text) →
-      IsComparison CallFails reading form at pair.is_there pair errors share report_text
+      × IsNameIndex reading.edition more other × IsPairCompared options pair reference other errors share report_text) →
+      IsComparison CallFails reading options at pair.is_there pair errors share report_text
   beside text more errors share report_text there same alike that =
-      subst (λ is_there. IsComparison CallFails reading form at is_there pair errors share report_text) (sym there) (
+      subst (λ is_there. IsComparison CallFails reading options at is_there pair errors share report_text) (sym there) (
         that.0,
         (text, same, that.1),
         that.2,
@@ -58,9 +59,9 @@ module _ (CallFails : Failing) (reading : Reading) (form : Form) (at : List ℕ 
   -- A fault of the pair that was told was counted, and nothing was written of the pair.
   pub Compares-report_text : {E : Type 0} (result : Result (Unit {0}) E) (fault : Fault) (old new : Tally)
       (share : Share)
-      (before after : Option (List ℕ)) → IsPairFault CallFails reading form at pair fault →
+      (before after : Option (List ℕ)) → IsPairFault CallFails reading options at pair fault →
       ((status : ℕ) × HasStatus fault status × (new ≡ counted old (failed status))) → after ≡ before →
-      OnOk result (Compares CallFails reading form at pair old new share share before after)
+      OnOk result (Compares CallFails reading options at pair old new share share before after)
   Compares-report_text result fault old new share before after why report_text same = on_ok result (
     failed report_text.0,
     None,

@@ -9,10 +9,10 @@ use Rattle.ftl_project.specs.Faults.{Failing}
 use Rattle.ftl_project.specs.Linting.{NameIndexesEach, NameIndexesSource, Reads, ReadsSource, name_index_more}
 use Rattle.ftl_project.specs.Linting.{read_more}
 use Rattle.ftl_project.specs.Diagnostics.{ReportsEach, behind}
+use Rattle.ftl_project.specs.declared.comparing.CompareOptions.{CompareOptions}
 use Rattle.ftl_project.specs.declared.comparing.Pair.{Pair}
 use Rattle.ftl_project.specs.declared.comparing.Share.{Share}
 use Rattle.ftl_project.specs.declared.findings.Source.{Source}
-use Rattle.ftl_files.specs.declared.options.Form.{Form}
 use Rattle.ftl_files.specs.declared.options.Reading.{Reading}
 use Rattle.ftl_project.specs.declared.tally.Tally.{Tally}
 
@@ -24,14 +24,14 @@ ReportsEach-more Is items index d report_text text all below reports that whole 
     rw (take_more items index d below, whole) (behind (get_or items index d) text reports that)
 
 -- The pairs that were compared first, and one more.
-pub ComparesEach-more : (CallFails : Failing) (reading : Reading) (form : Form) (at : List ℕ → Option (List ℕ)) (pairs
-    : List Pair)
+pub ComparesEach-more : (CallFails : Failing) (reading : Reading) (options : CompareOptions)
+    (at : List ℕ → Option (List ℕ)) (pairs : List Pair)
     (index : ℕ) (pair : Pair) (old now new : Tally) (had between has : Share)
     (before middle after : Option (List ℕ)) → index < length pairs → pair ≡ get_or pairs index pair →
-    ComparesEach CallFails reading form at (take index pairs) old now had between before middle →
-    Compares CallFails reading form at pair now new between has middle after →
-    ComparesEach CallFails reading form at (take (index + 1) pairs) old new had has before after
-ComparesEach-more CallFails reading form at pairs index pair old now new had between has before middle after below is
+    ComparesEach CallFails reading options at (take index pairs) old now had between before middle →
+    Compares CallFails reading options at pair now new between has middle after →
+    ComparesEach CallFails reading options at (take (index + 1) pairs) old new had has before after
+ComparesEach-more CallFails reading options at pairs index pair old now new had between has before middle after below is
     each
     that = rw (take_more pairs index pair below, sym is) (pair_more pair each that)
 

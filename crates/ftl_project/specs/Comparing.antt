@@ -1,21 +1,20 @@
 -- How a comparison meets each pair.
 use Rattle.std.specs.Io.KnownBytes.{Appends}
 use Rattle.std.specs.Prelude.{◌≡◌, ◌⊎◌, ◌==◌, ◌+◌, ◌-◌, ◌^◌, ◌++◌, ℕ, Bool, true, false, not, List, [], ◌∷◌, Option}
-use Rattle.std.specs.Prelude.{None, Some, codes, count_by, is_some, min, string_bytes}
-use Rattle.std.specs.Fmt.{decimal}
+use Rattle.std.specs.Prelude.{None, Some, codes, count_by, if◌then◌else◌, min, string_bytes}
 use Rattle.fluent_syntax_names.specs.MissingParts.{all_missing_parts}
 use Rattle.fluent_syntax_names.specs.declared.missing_part.MissingPart.{MissingPart}
 use Rattle.fluent_syntax_names.specs.declared.missing_part.Part.{Part}
 use Rattle.fluent_syntax_names.specs.declared.missing_part.Part.TheVariants as part
 use Rattle.fluent_syntax_names.specs.declared.name_index.NameIndex.{NameIndex}
 use Rattle.fluent_syntax_names.specs.Differences.{difference_name, side_difference}
-use Rattle.fluent_syntax_names.specs.Sentences.{difference_sentence}
-use Rattle.ftl_project.specs.Differences.{counts_as_error}
+use Rattle.ftl_project.specs.Differences.{counts_as_error, is_reported, reported_parts}
 use Rattle.ftl_project.specs.Faults.{Failing, Fails, IsFault, IsRead, IsTooDeep, IsUnparsed}
 use Rattle.ftl_project.specs.NameIndexes.{IsNameIndex, entry_count}
 use Rattle.ftl_project.specs.Junk.{missing_part_junk}
-use Rattle.ftl_project.specs.Diagnostics.{IsName, IsDiagnostic, ReportsEach, location_at}
+use Rattle.ftl_project.specs.Diagnostics.{IsDiagnostic, ReportsEach, location_at}
 use Rattle.ftl_project.specs.Tally.{Processed, answered, counted, failed}
+use Rattle.ftl_project.specs.declared.comparing.CompareOptions.{CompareOptions}
 use Rattle.ftl_project.specs.declared.comparing.Pair.{Pair}
 use Rattle.ftl_project.specs.declared.comparing.Share.{Share}
 use Rattle.fluent_syntax_names.specs.declared.differences.Difference.{Difference}
@@ -29,40 +28,12 @@ use Rattle.ftl_project.specs.declared.tally.Tally.{Tally}
 
 -- ---- what is said of a part that one file has and the other one lacks
 
--- where the reference has what the other file lacks
-abbrev pub missing_at : (path : List ℕ) → SourceLocation → List ℕ
-missing_at path location = path ++ codes ":" ++ decimal location.line ++ codes ":" ++ decimal location.column
-
--- behind the place in the reference of an entry that the other file has as junk
-abbrev pub behind_missing : (is_junk : Bool) → List ℕ
-behind_missing false = codes ""
-behind_missing true = codes " is junk here"
-
--- of the part that has the name in the reference's text
-abbrev pub missing_message : (path text : List ℕ) → MissingPart → Difference → (is_junk : Bool) → (name : List ℕ)
-    → List ℕ
-missing_message path text missing difference is_junk name =
-    difference_sentence difference name ++ codes " of " ++ missing_at path (location_at text missing.name)
-    ++ behind_missing is_junk
-
--- This is told of a difference in the file, with a message that says so; of no difference nothing is told.
+-- This is told of a difference in the file; of no difference nothing is told. What the message says is for people.
 abbrev pub IsDifferenceReport : Form → (path : List ℕ) → Option SourceLocation → Option Difference →
-    (Says : Difference → List ℕ → Type 0) → (report_text : List ℕ) → Type 0
-IsDifferenceReport form path place None Says report_text = report_text ≡ []
-IsDifferenceReport form path place (Some difference) Says report_text =
-    (message : List ℕ) × Says difference message
-    × IsDiagnostic form path place (difference_name difference) message report_text
-
--- The message is that of the difference, by the name of the part in the text.
-abbrev pub SaysMissing : (path text : List ℕ) → MissingPart → (is_junk : Bool) → Difference → (message : List ℕ)
-    → Type 0
-SaysMissing path text missing is_junk difference message =
-    (name : List ℕ) × IsName text missing.name name
-    × (message ≡ missing_message path text missing difference is_junk name)
-
-abbrev pub SaysExtra : (text : List ℕ) → MissingPart → Difference → (message : List ℕ) → Type 0
-SaysExtra text missing difference message =
-    (name : List ℕ) × IsName text missing.name name × (message ≡ difference_sentence difference name)
+    (report_text : List ℕ) → Type 0
+IsDifferenceReport form path place None report_text = report_text ≡ []
+IsDifferenceReport form path place (Some difference) report_text =
+    (message : List ℕ) × IsDiagnostic form path place (difference_name difference) message report_text
 
 -- This is told of what the reference's text has and the other file lacks: where that has the entry as junk, at the
 -- first such junk.
@@ -70,15 +41,13 @@ abbrev pub IsMissingReport : Form → Pair → (text : List ℕ) → (other : Na
     → Type 0
 IsMissingReport form pair text other missing report_text =
     IsDifferenceReport form (string_bytes pair.other) (missing_part_junk text other missing)
-    (side_difference Reference missing.part)
-    (SaysMissing (string_bytes pair.reference) text missing
-    (is_some (missing_part_junk text other missing))) report_text
+    (side_difference Reference missing.part) report_text
 
 -- This is told of what the other file's text has and the reference lacks.
 abbrev pub IsExtraReport : Form → Pair → (text : List ℕ) → MissingPart → (report_text : List ℕ) → Type 0
 IsExtraReport form pair text missing report_text =
     IsDifferenceReport form (string_bytes pair.other) (Some (location_at text missing.name))
-    (side_difference Other missing.part) (SaysExtra text missing) report_text
+    (side_difference Other missing.part) report_text
 
 -- This is told of what the text of a side has and the other one lacks. `other` is the file that is not the reference.
 abbrev pub IsMissingPartReport : Side → Form → Pair → (text : List ℕ) → (other : NameIndex) → MissingPart
@@ -110,32 +79,46 @@ with_share share (Some part) = record {
 
 -- ---- a pair
 
--- The other file is not there: that is the one error, and all of the reference is missing.
-pub record IsFileMissing (form : Form) (pair : Pair) (reference : NameIndex) (errors : ℕ) (share : Share)
-    (text : List ℕ) :
-    Type 0 where
-  pub report_text : IsDiagnostic form (string_bytes pair.other) None (codes "missing-file")
-      (codes "there is no such file; the reference has " ++ string_bytes pair.reference) text
-  pub errors_are : errors ≡ 1
+-- This is told of a file that is not there, if that is told.
+abbrev pub IsFileReport : Form → Pair → (is_reported : Bool) → (report_text : List ℕ) → Type 0
+IsFileReport form pair false report_text = report_text ≡ []
+IsFileReport form pair true report_text =
+    IsDiagnostic form (string_bytes pair.other) None (codes "missing-file")
+    (codes "there is no such file; the reference has " ++ string_bytes pair.reference) report_text
+
+-- The other file is not there: that is the one error, if it is told, and all of the reference is missing.
+pub record IsFileMissing (options : CompareOptions) (pair : Pair) (reference : NameIndex) (errors : ℕ) (share : Share)
+    (text : List ℕ) : Type 0 where
+  pub report_text : IsFileReport options.form pair (is_reported options.ignored.now (codes "missing-file")) text
+  pub errors_are : errors ≡ (if is_reported options.ignored.now (codes "missing-file") then 1 else 0)
   pub share_is : share ≡ record { wanted = entry_count reference; missing = entry_count reference }
 
+-- what is told of that which the reference has and the other lacks, and the other way round
+abbrev pub reported_missing : CompareOptions → (reference other : NameIndex) → List MissingPart
+reported_missing options reference other =
+    reported_parts options.ignored.now Reference (all_missing_parts reference other)
+
+abbrev pub reported_extra : CompareOptions → (reference other : NameIndex) → List MissingPart
+reported_extra options reference other = reported_parts options.ignored.now Other (all_missing_parts other reference)
+
 -- What the reference has and the other lacks is told, in the order of the reference, and behind it what the other has
--- and the reference lacks, in the order of the other.
-pub record IsPairCompared (form : Form) (pair : Pair) (reference other : NameIndex) (errors : ℕ) (share : Share)
-    (text : List ℕ) : Type 0 where
+-- and the reference lacks, in the order of the other. All that is missing counts for the share.
+pub record IsPairCompared (options : CompareOptions) (pair : Pair) (reference other : NameIndex) (errors : ℕ)
+    (share : Share) (text : List ℕ) : Type 0 where
   pub missing : List ℕ
-  pub reports_missing : ReportsEach (IsMissingReport form pair reference.text.now other)
-      (all_missing_parts reference other) missing
+  pub reports_missing : ReportsEach (IsMissingReport options.form pair reference.text.now other)
+      (reported_missing options reference other) missing
   pub more : List ℕ
-  pub reports_extra : ReportsEach (IsExtraReport form pair other.text.now) (all_missing_parts other reference) more
+  pub reports_extra : ReportsEach (IsExtraReport options.form pair other.text.now)
+      (reported_extra options reference other) more
   pub text_is : text ≡ missing ++ more
   pub errors_are : errors
-      ≡ min (errors_of Reference (all_missing_parts reference other) + errors_of Other
-      (all_missing_parts other reference)) (2 ^ 64 - 1)
+      ≡ min (errors_of Reference (reported_missing options reference other) + errors_of Other
+      (reported_extra options reference other)) (2 ^ 64 - 1)
   pub share_is : share
       ≡ record { wanted = entry_count reference; missing = missing_entries (all_missing_parts reference other) }
 
-module _ (CallFails : Failing) (reading : Reading) (form : Form) (at : List ℕ → Option (List ℕ)) where
+module _ (CallFails : Failing) (reading : Reading) (options : CompareOptions) (at : List ℕ → Option (List ℕ)) where
   -- The name index is that of what was read of the file.
   abbrev pub IsNameIndexAt : (path : List ℕ) → NameIndex → Type 0
   IsNameIndexAt path name_index = (text : List ℕ) × IsRead (at path) text × IsNameIndex reading.edition text name_index
@@ -144,11 +127,11 @@ module _ (CallFails : Failing) (reading : Reading) (form : Form) (at : List ℕ 
   abbrev pub IsComparison : (is_there : Bool) → Pair → (errors : ℕ) → Share → (text : List ℕ) → Type 0
   IsComparison false pair errors share text = (reference : NameIndex)
       × IsNameIndexAt (string_bytes pair.reference) reference
-      × IsFileMissing form pair reference errors share text
+      × IsFileMissing options pair reference errors share text
   IsComparison true pair errors share text = (reference : NameIndex)
       × IsNameIndexAt (string_bytes pair.reference) reference
       × (other : NameIndex) × IsNameIndexAt (string_bytes pair.other) other
-      × IsPairCompared form pair reference other errors share text
+      × IsPairCompared options pair reference other errors share text
 
   -- Why a pair was not compared: one of its files was not answered.
   abbrev pub IsFileFault : (path : List ℕ) → Fault → Type 0

@@ -70,6 +70,12 @@ abbrev pub name_of : (path : List ℕ) → Replacement → List ℕ
 name_of path (Text text) = shown_text path ++ codes "\n"
 name_of path _ = []
 
+-- of a text of which it is shown what would change: how that is shown is for people
+abbrev pub IsShown : Reading → Answers
+IsShown reading path text errors has_problems shown = (replacement : Replacement)
+    × IsReplacement reading.edition text replacement × (errors ≡ errors_in replacement)
+    × (has_problems ≡ is_other replacement)
+
 -- of a text that is named where it would change
 abbrev pub IsNamed : Reading → Answers
 IsNamed reading path text errors has_problems named = (replacement : Replacement)

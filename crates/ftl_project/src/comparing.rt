@@ -1,19 +1,19 @@
 //! Files of a reference language are compared with those of another.
-ghost use Rattle.std.specs.Prelude.{◌≡◌, ◌≢◌, ◌⊎◌, ◌++◌, None, Some, Err, IfErr, IfOk, OnOk, codes, string_bytes, true};
+ghost use Rattle.std.specs.Prelude.{◌≡◌, ◌≢◌, ◌⊎◌, Some, Err, IfErr, IfOk, OnOk, string_bytes, true};
 ghost use Rattle.fluent_syntax_names.specs.declared.name_index.NameIndex.{NameIndex};
 ghost use Rattle.ftl_files.specs.Store.{AllUnchanged};
 ghost use Rattle.ftl_project.specs.Comparing.{Compares, ComparesEach, IsFileMissing, IsPairCompared, IsComparison};
-ghost use Rattle.ftl_project.specs.Comparing.{IsPairFault};
+ghost use Rattle.ftl_project.specs.Comparing.{IsFileReport, IsPairFault};
 ghost use Rattle.ftl_project.specs.Comparing.{errors_of, missing_entries, with_share};
 ghost use Rattle.ftl.specs.Watched.{has_failed, inner_of};
 ghost use Rattle.ftl_project.specs.Faults.{IsTooDeep, IsUnparsed};
 ghost use Rattle.ftl_project.specs.NameIndexes.{IsNameIndex, IsShort};
-ghost use Rattle.ftl_project.specs.Diagnostics.{IsDiagnostic};
 ghost use Rattle.ftl_project.specs.Summaries.{share_line_of};
 
 use crate::comparison_report::PairReporter;
 use crate::diagnostics::{Diagnostic, diagnostic_text};
-use crate::differences::counts_as_error;
+use crate::differences::{counts_as_error, is_reported, reported_parts};
+use crate::entry_names::EntryNames;
 use crate::fault::Fault;
 use crate::name_indexes::{entry_count, name_index};
 use crate::rewriting::read_text;
@@ -22,7 +22,7 @@ use crate::tally::Tally;
 use crate::translation::Translation;
 use fluent_syntax_names::{MissingPart, NameIndex, Part, Side, missing_parts};
 use ftl::{RunFault, write_all};
-use ftl_files::{Form, Reading, Store};
+use ftl_files::{Form, Reading, ReportedKind, Store};
 use std::alloc::{AllocError, Global};
 use std::io::Write;
 
@@ -33,6 +33,14 @@ pub struct Pair {
     pub other: String,
     /// Whether the other file is there.
     pub is_there: bool,
+}
+
+/// How differences are told.
+#[derive(Clone, Copy, Debug)]
+pub struct CompareOptions<'a> {
+    pub form: Form,
+    /// Kinds that are not told, nor counted as errors.
+    pub ignored: &'a [ReportedKind],
 }
 
 /// What a comparison met besides its tally.
@@ -71,14 +79,15 @@ pub fn compare_files<S: Store, O: Write, E: Write>(
     store: &mut S,
     pairs: &[Pair],
     reading: Reading,
-    form: Form,
+    options: CompareOptions<'_>,
     tally: &mut Tally,
     share: &mut Share,
     streams: &mut Streams<'_, O, E>,
 ) -> Result<(), RunFault>
     ensures stand { AllUnchanged (S.bytes_at store.old) (S.bytes_at store.new) }
-    ensures each { OnOk result (ComparesEach S.fails reading form (S.bytes_at store.old) pairs.now tally.old tally.new
-        share.old share.new (O.contents (inner_of streams.old.out.now)) (O.contents (inner_of streams.new.out.now))) }
+    ensures each { OnOk result (ComparesEach S.fails reading options.entry (S.bytes_at store.old) pairs.now tally.old
+        tally.new share.old share.new (O.contents (inner_of streams.old.out.now))
+        (O.contents (inner_of streams.new.out.now))) }
     ensures input { result ≢ Err RunFault.Input }
     ensures output { result ≡ Err RunFault.Output → (has_failed streams.new.out.now ≡ true)
         ⊎ (has_failed streams.new.err.now ≡ true) }
@@ -86,7 +95,7 @@ pub fn compare_files<S: Store, O: Write, E: Write>(
     let comparing = Comparing {
         alloc,
         reading,
-        form,
+        options,
     };
     for pair in pairs {
         comparing.report_pair(store, pair, tally, share, streams)?;
@@ -96,13 +105,13 @@ pub fn compare_files<S: Store, O: Write, E: Write>(
 
 /// How pairs are compared, and how what they lack is told.
 #[derive(Clone, Copy)]
-struct Comparing {
+struct Comparing<'a> {
     alloc: Global,
     reading: Reading,
-    form: Form,
+    options: CompareOptions<'a>,
 }
 
-impl Comparing {
+impl Comparing<'_> {
     /// Compares a pair, tells what came of it, and counts it.
     fn report_pair<S: Store, O: Write, E: Write>(
         &self,
@@ -113,8 +122,8 @@ impl Comparing {
         streams: &mut Streams<'_, O, E>,
     ) -> Result<(), RunFault>
         ensures stand { AllUnchanged (S.bytes_at store.old) (S.bytes_at store.new) }
-        ensures counted { OnOk result (Compares S.fails self.now.reading self.now.form (S.bytes_at store.old) pair.now
-            tally.old tally.new share.old share.new (O.contents (inner_of streams.old.out.now))
+        ensures counted { OnOk result (Compares S.fails self.now.reading self.now.options (S.bytes_at store.old)
+            pair.now tally.old tally.new share.old share.new (O.contents (inner_of streams.old.out.now))
             (O.contents (inner_of streams.new.out.now))) }
         ensures input { result ≢ Err RunFault.Input }
         ensures output { result ≡ Err RunFault.Output → (has_failed streams.new.out.now ≡ true)
@@ -132,11 +141,11 @@ impl Comparing {
 
     fn compare_pair<S: Store>(&self, store: &mut S, pair: &Pair) -> Result<PairComparison, Fault>
         ensures stand { AllUnchanged (S.bytes_at store.old) (S.bytes_at store.new) }
-        ensures compared { IfOk result (λ compared. IsComparison S.fails self.now.reading self.now.form
+        ensures compared { IfOk result (λ compared. IsComparison S.fails self.now.reading self.now.options
             (S.bytes_at store.old) pair.now.is_there pair.now compared.errors compared.share
             (string_bytes compared.report_text)) }
         ensures fault { IfErr result
-            (IsPairFault S.fails self.now.reading self.now.form (S.bytes_at store.old) pair.now) }
+            (IsPairFault S.fails self.now.reading self.now.options (S.bytes_at store.old) pair.now) }
     {
         let reference = read_text(store, pair.reference.as_str())?;
         if !pair.is_there {
@@ -150,16 +159,17 @@ impl Comparing {
     fn comparison_without_file(&self, pair: &Pair, reference: &str) -> Result<PairComparison, Fault>
         ensures compared { IfOk result (λ compared. (name_index : NameIndex)
             × IsNameIndex self.now.reading.edition reference.now name_index
-            × IsFileMissing self.now.form pair.now name_index compared.errors compared.share
+            × IsFileMissing self.now.options pair.now name_index compared.errors compared.share
             (string_bytes compared.report_text)) }
         ensures fault { IfErr result (IsUnparsed (IsTooDeep self.now.reading reference.now)) }
     {
         let reference = name_index(self.alloc, reference, self.reading)?;
         let wanted = entry_count(&reference);
-        let report_text = self.no_file(pair)?;
+        let is_reported = is_reported(self.options.ignored, "missing-file");
+        let report_text = self.no_file(pair, is_reported)?;
         Ok(PairComparison {
             report_text,
-            errors: 1,
+            errors: usize::from(is_reported),
             share: Share {
                 wanted,
                 missing: wanted,
@@ -167,13 +177,14 @@ impl Comparing {
         })
     }
 
-    /// What is told of a pair whose other file is not there.
-    fn no_file(&self, pair: &Pair) -> Result<String, AllocError>
-        ensures { IfOk result (λ report_text. IsDiagnostic self.now.form (string_bytes pair.now.other) None
-            (codes "missing-file")
-            (codes "there is no such file; the reference has " ++ string_bytes pair.now.reference)
+    /// What is told of a pair whose other file is not there, if that is told.
+    fn no_file(&self, pair: &Pair, is_reported: bool) -> Result<String, AllocError>
+        ensures { IfOk result (λ report_text. IsFileReport self.now.options.form pair.now is_reported
             (string_bytes report_text)) }
     {
+        if !is_reported {
+            return Ok(String::new(self.alloc));
+        }
         let reference = pair.reference.as_str();
         let message = format!(in self.alloc;
             "there is no such file; the reference has {reference}"
@@ -186,8 +197,9 @@ impl Comparing {
             severity: "error",
             message,
             error: None,
+            subject: None,
         };
-        diagnostic_text(self.alloc, &diagnostic, self.form)
+        diagnostic_text(self.alloc, &diagnostic, self.options.form)
     }
 
     /// What comes of a pair of these texts.
@@ -200,8 +212,8 @@ impl Comparing {
         ensures compared { IfOk result (λ compared. (reference_name_index : NameIndex)
             × IsNameIndex self.now.reading.edition reference.now reference_name_index × (other_name_index : NameIndex)
             × IsNameIndex self.now.reading.edition other.now other_name_index
-            × IsPairCompared self.now.form pair.now reference_name_index other_name_index compared.errors compared.share
-            (string_bytes compared.report_text)) }
+            × IsPairCompared self.now.options pair.now reference_name_index other_name_index compared.errors
+            compared.share (string_bytes compared.report_text)) }
         ensures fault { IfErr result (λ fault. IsUnparsed (IsTooDeep self.now.reading reference.now) fault
             ⊎ IsUnparsed (IsTooDeep self.now.reading other.now) fault) }
     {
@@ -212,15 +224,15 @@ impl Comparing {
     }
 
     /// What comes of a pair whose files say this.
-    fn comparison_of_indexes(
+    fn comparison_of_indexes<'o>(
         &self,
         pair: &Pair,
         reference: &NameIndex<'_>,
-        other: &NameIndex<'_>,
+        other: &'o NameIndex<'o>,
     ) -> Result<PairComparison, AllocError>
         requires reference { IsShort reference.now }
         requires other { IsShort other.now }
-        ensures { IfOk result (λ compared. IsPairCompared self.now.form pair.now reference.now other.now
+        ensures { IfOk result (λ compared. IsPairCompared self.now.options pair.now reference.now other.now
             compared.errors compared.share (string_bytes compared.report_text)) }
     {
         let translation = Translation::new(self.alloc, other)?;
@@ -228,15 +240,24 @@ impl Comparing {
             alloc: self.alloc,
             pair,
             translation: &translation,
-            form: self.form,
+            form: self.options.form,
         };
         let missing = missing_parts(self.alloc, reference, other)?;
-        let mut report_text = pair_reporter.report_of(Side::Reference, reference.text, &missing)?;
-        let more = missing_parts(self.alloc, other, reference)?;
-        let behind = pair_reporter.report_of(Side::Other, other.text, &more)?;
+        let reported = reported_parts(self.alloc, self.options.ignored, Side::Reference, &missing)?;
+        let names = EntryNames::new(self.alloc, reference)?;
+        let mut report_text = pair_reporter.report_of(
+            Side::Reference,
+            reference.text,
+            &names,
+            &reported,
+        )?;
+        let extra = missing_parts(self.alloc, other, reference)?;
+        let extra = reported_parts(self.alloc, self.options.ignored, Side::Other, &extra)?;
+        let own_names = EntryNames::new(self.alloc, other)?;
+        let behind = pair_reporter.report_of(Side::Other, other.text, &own_names, &extra)?;
         report_text.push_str(behind.as_str())?;
-        let missed = errors_of(Side::Reference, &missing);
-        let unknown = errors_of(Side::Other, &more);
+        let missed = errors_of(Side::Reference, &reported);
+        let unknown = errors_of(Side::Other, &extra);
         Ok(PairComparison {
             report_text,
             errors: missed.saturating_add(unknown),

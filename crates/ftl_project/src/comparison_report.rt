@@ -1,34 +1,38 @@
 //! What is told of what one file of a pair has and the other one lacks.
 ghost use Rattle.std.specs.Prelude.{◌≡◌, ◌+◌, ◌<◌, ◌^◌, IfOk, length, string_bytes};
-ghost use Rattle.ftl_project.specs.Comparing.{IsMissingPartReport, IsMissingReport, IsExtraReport, SaysMissing};
-ghost use Rattle.ftl_project.specs.Comparing.{SaysExtra};
-ghost use Rattle.ftl_project.specs.Comparing.{behind_missing};
-ghost use Rattle.ftl_project.specs.Diagnostics.{ReportsEach, location_at};
+ghost use Rattle.ftl_project.specs.Comparing.{IsMissingPartReport, IsMissingReport, IsExtraReport};
+ghost use Rattle.ftl_project.specs.Diagnostics.{ReportsEach};
 
 use crate::comparing::Pair;
-use crate::diagnostics::{Diagnostic, SourceLocation, diagnostic_text, location_of, name_in};
+use crate::diagnostics::{
+    Diagnostic, OtherPlace, SourceLocation, Subject, diagnostic_text, location_of,
+};
+use crate::differences::difference_sentence;
+use crate::entry_names::{EntryNames, name_with_hyphen};
 use crate::findings::severity_name;
 use crate::translation::Translation;
 use fluent_syntax::spans::Lines;
-use fluent_syntax_names::{Difference, MissingPart, Side};
+use fluent_syntax_names::{Difference, MissingPart, Part, Side};
 use ftl_files::Form;
 use std::alloc::{AllocError, Global};
 
 /// A pair of which is told what each file lacks: what the other file says, and the form.
 #[derive(Clone, Copy)]
-pub(crate) struct PairReporter<'a> {
+pub(crate) struct PairReporter<'a, 't> {
     pub(crate) alloc: Global,
     pub(crate) pair: &'a Pair,
-    pub(crate) translation: &'a Translation<'a, 'a>,
+    pub(crate) translation: &'a Translation<'t, 't>,
     pub(crate) form: Form,
 }
 
-impl PairReporter<'_> {
-    /// What is told of the parts that the file of this side has and the other one lacks.
+impl PairReporter<'_, '_> {
+    /// What is told of the parts that the file of this side has and the other one lacks. The names are those of the
+    /// entries that the file defines.
     pub(crate) fn report_of(
         &self,
         side: Side,
         text: &str,
+        names: &EntryNames,
         missing_parts: &[MissingPart],
     ) -> Result<String, AllocError>
         requires { length text.now + 1 < 2 ^ 64 }
@@ -39,7 +43,7 @@ impl PairReporter<'_> {
         let mut out = String::new(self.alloc);
         let mut lines = Lines::new(text);
         for missing in missing_parts {
-            let report_text = self.missing_part_report(side, text, &mut lines, missing)?;
+            let report_text = self.missing_part_report(side, text, names, &mut lines, missing)?;
             out.push_str(report_text.as_str())?;
         }
         Ok(out)
@@ -49,6 +53,7 @@ impl PairReporter<'_> {
         &self,
         side: Side,
         text: &str,
+        names: &EntryNames,
         lines: &mut Lines<'t>,
         missing: &MissingPart,
     ) -> Result<String, AllocError>
@@ -59,14 +64,15 @@ impl PairReporter<'_> {
         ensures lines { lines.new ≡ lines.old }
     {
         match side {
-            Side::Reference => self.missing_report(text, lines, missing),
-            Side::Other => self.extra_report(text, lines, missing),
+            Side::Reference => self.missing_report(text, names, lines, missing),
+            Side::Other => self.extra_report(text, names, lines, missing),
         }
     }
 
-    fn missing_report<'t>(
-        &self,
-        text: &str,
+    fn missing_report<'s, 't>(
+        &'s self,
+        text: &'s str,
+        names: &EntryNames,
         lines: &mut Lines<'t>,
         missing: &MissingPart,
     ) -> Result<String, AllocError>
@@ -79,42 +85,59 @@ impl PairReporter<'_> {
         let Some(difference) = Side::Reference.difference(missing.part) else {
             return Ok(String::new(self.alloc));
         };
-        let place = self.translation.junk_of(text, missing);
-        let is_junk = place.is_some();
+        let junk = self.translation.junk_of(text, missing);
+        let subject = subject_of(text, names, missing);
         let diagnostic = Diagnostic {
             path: self.pair.other.as_str(),
             text: self.translation.name_index.text,
-            place,
+            place: shown_place(self.form, junk, self.place_of_entry(text, names, missing)),
             kind: difference.name(),
             severity: severity_name(difference.severity()),
-            message: self.missing_message(text, location, missing, is_junk, difference)?,
+            message: self.missing_message(location, &subject, junk.is_some(), difference)?,
             error: None,
+            subject: Some(Subject {
+                other: Some(OtherPlace {
+                    path: self.pair.reference.as_str(),
+                    location,
+                }),
+                ..subject
+            }),
         };
         diagnostic_text(self.alloc, &diagnostic, self.form)
     }
 
-    fn missing_message(
+    /// Where the translation has the entry in which the reference has the part.
+    fn place_of_entry(
         &self,
         text: &str,
-        location: SourceLocation,
+        names: &EntryNames,
         missing: &MissingPart,
+    ) -> Option<SourceLocation> {
+        let entry = names.entry_of(missing.name.start)?;
+        self.translation.place_of(text, entry)
+    }
+
+    fn missing_message(
+        &self,
+        location: SourceLocation,
+        subject: &Subject<'_>,
         is_junk: bool,
         difference: Difference,
-    ) -> Result<String, AllocError>
-        requires { location ≡ location_at text.now missing.now.name }
-        ensures { IfOk result (λ message. SaysMissing (string_bytes self.now.pair.now.reference) text.now missing.now
-            is_junk difference (string_bytes message)) }
-    {
+    ) -> Result<String, AllocError> {
         let path = self.pair.reference.as_str();
-        let said = difference.sentence(self.alloc, name_in(text, missing.name))?;
         let (line, column) = (location.line, location.column);
-        let behind = behind_missing(is_junk);
-        format!(in self.alloc; "{said} of {path}:{line}:{column}{behind}")
+        let Subject { name, entry, .. } = *subject;
+        if is_junk {
+            return format!(in self.alloc; "`{name}` is junk here ({path}:{line}:{column})");
+        }
+        let said = difference_sentence(self.alloc, difference, entry.unwrap_or(name), name)?;
+        format!(in self.alloc; "{said} ({path}:{line}:{column})")
     }
 
     fn extra_report<'s, 't>(
         &'s self,
         text: &'s str,
+        names: &EntryNames,
         lines: &mut Lines<'t>,
         missing: &MissingPart,
     ) -> Result<String, AllocError>
@@ -127,33 +150,47 @@ impl PairReporter<'_> {
         let Some(difference) = Side::Other.difference(missing.part) else {
             return Ok(String::new(self.alloc));
         };
+        let subject = subject_of(text, names, missing);
+        let Subject { name, entry, .. } = subject;
         let diagnostic = Diagnostic {
             path: self.pair.other.as_str(),
             text,
             place: Some(location),
             kind: difference.name(),
             severity: severity_name(difference.severity()),
-            message: self.extra_message(text, missing, difference)?,
+            message: difference_sentence(self.alloc, difference, entry.unwrap_or(name), name)?,
             error: None,
+            subject: Some(subject),
         };
         diagnostic_text(self.alloc, &diagnostic, self.form)
     }
+}
 
-    fn extra_message(
-        &self,
-        text: &str,
-        missing: &MissingPart,
-        difference: Difference,
-    ) -> Result<String, AllocError>
-        ensures { IfOk result (λ message. SaysExtra text.now missing.now difference (string_bytes message)) }
-    {
-        difference.sentence(self.alloc, name_in(text, missing.name))
+/// What is told of the part: its name, and that of the entry that it is in.
+fn subject_of<'s>(text: &'s str, names: &EntryNames, missing: &MissingPart) -> Subject<'s> {
+    let name = name_with_hyphen(text, missing.name);
+    let entry = match missing.part {
+        Part::Entry | Part::Value => None,
+        _ => names.entry_of(missing.name.start),
+    };
+    Subject {
+        name,
+        entry: entry.map(|entry| name_with_hyphen(text, entry)),
+        other: None,
     }
 }
 
-/// What is said behind the place in the reference.
-fn behind_missing(is_junk: bool) -> &'static str
-    ensures { result.now ≡ behind_missing is_junk }
+/// The place of junk, or else of the entry. A line that has a place tells no more of what is missing, so there the
+/// entry's is left out.
+fn shown_place(
+    form: Form,
+    junk: Option<SourceLocation>,
+    entry: Option<SourceLocation>,
+) -> Option<SourceLocation>
+    ensures { form ≡ Form.Lines → result ≡ junk }
 {
-    if is_junk { " is junk here" } else { "" }
+    match form {
+        Form::Lines => junk,
+        _ => junk.or(entry),
+    }
 }

@@ -5,6 +5,7 @@ ghost use Rattle.ftl_project.specs.Diagnostics.{IsName, IsDiagnostic, place_or_p
 use crate::excerpt::push_excerpt;
 use crate::github::{push_data, push_property};
 use crate::json::{push_json_text, push_junk, push_payload};
+use crate::open_brace::open_brace;
 use crate::paint::{COLORED, PLAIN, Paint};
 use crate::terminal_text::push_shown_text;
 use fluent_syntax::parser::ParserError;
@@ -24,6 +25,26 @@ pub(crate) struct Diagnostic<'a> {
     pub(crate) message: String,
     /// The syntax error that it tells of.
     pub(crate) error: Option<&'a ParserError>,
+    /// The name that it tells of.
+    pub(crate) subject: Option<Subject<'a>>,
+}
+
+/// What a diagnostic tells of a name.
+#[derive(Clone, Copy)]
+pub(crate) struct Subject<'a> {
+    /// The name, a term's with its `-`.
+    pub(crate) name: &'a str,
+    /// The name of the message or term that it is in, if that is another and is known.
+    pub(crate) entry: Option<&'a str>,
+    /// Where the name stands first, or in the reference.
+    pub(crate) other: Option<OtherPlace<'a>>,
+}
+
+/// A place in a file.
+#[derive(Clone, Copy)]
+pub(crate) struct OtherPlace<'a> {
+    pub(crate) path: &'a str,
+    pub(crate) location: SourceLocation,
 }
 
 /// A place in a text: its line and its column in bytes, from 1, and its range in bytes, from 0.
@@ -123,10 +144,17 @@ fn push_in_full(
     write!(out, "{behind}: {before_kind}{severity}[{kind}]{behind}: ")?;
     push_shown_text(out, diagnostic.message.as_str())?;
     out.push('\n')?;
-    match diagnostic.place {
-        Some(location) => push_excerpt(out, diagnostic.text, location.start, caret),
-        None => Ok(()),
+    if let Some(location) = diagnostic.place {
+        push_excerpt(out, diagnostic.text, location.start, caret)?;
     }
+    if let Some(place) = diagnostic
+        .error
+        .and_then(|error| open_brace(diagnostic.text, error))
+    {
+        out.push_str("the brace that is still open:\n")?;
+        push_excerpt(out, diagnostic.text, place, caret)?;
+    }
+    Ok(())
 }
 
 /// An object. Its places are in bytes, counted from 0; the column too is in bytes, and counted from 1.
@@ -134,13 +162,7 @@ fn push_json(out: &mut String, diagnostic: &Diagnostic<'_>) -> Result<(), AllocE
     out.push_str("{\"path\":")?;
     push_json_text(out, diagnostic.path)?;
     if let Some(location) = diagnostic.place {
-        let (line, column) = (location.line, location.column);
-        write!(out, ",\"line\":{line},\"column\":{column}")?;
-        write!(
-            out,
-            ",\"start\":{},\"end\":{}",
-            location.start, location.end
-        )?;
+        push_location(out, location)?;
     }
     if let Some(error) = diagnostic.error {
         push_junk(out, error)?;
@@ -150,9 +172,40 @@ fn push_json(out: &mut String, diagnostic: &Diagnostic<'_>) -> Result<(), AllocE
         Some(error) => push_payload(out, &error.kind)?,
         None => write!(out, ",\"severity\":\"{}\"", diagnostic.severity)?,
     }
+    if let Some(subject) = &diagnostic.subject {
+        push_subject(out, subject)?;
+    }
     out.push_str(",\"message\":")?;
     push_json_text(out, diagnostic.message.as_str())?;
     out.push_str("}\n")
+}
+
+/// Adds the members for a place.
+fn push_location(out: &mut String, location: SourceLocation) -> Result<(), AllocError> {
+    let (line, column) = (location.line, location.column);
+    write!(out, ",\"line\":{line},\"column\":{column}")?;
+    write!(
+        out,
+        ",\"start\":{},\"end\":{}",
+        location.start, location.end
+    )
+}
+
+/// Adds the members for a name, and for the other place.
+fn push_subject(out: &mut String, subject: &Subject<'_>) -> Result<(), AllocError> {
+    out.push_str(",\"name\":")?;
+    push_json_text(out, subject.name)?;
+    if let Some(entry) = subject.entry {
+        out.push_str(",\"entry\":")?;
+        push_json_text(out, entry)?;
+    }
+    if let Some(other) = subject.other {
+        out.push_str(",\"other\":{\"path\":")?;
+        push_json_text(out, other.path)?;
+        push_location(out, other.location)?;
+        out.push('}')?;
+    }
+    Ok(())
 }
 
 fn push_github(out: &mut String, diagnostic: &Diagnostic<'_>) -> Result<(), AllocError> {

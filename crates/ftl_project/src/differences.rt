@@ -1,8 +1,11 @@
-//! Whether what is told is an error.
-ghost use Rattle.std.specs.Prelude.{◌≡◌};
-ghost use Rattle.ftl_project.specs.Differences.{is_error_severity, counts_as_error};
+//! What is told of a part that one of two files lacks, and whether it is an error.
+ghost use Rattle.std.specs.Prelude.{◌≡◌, IfOk};
+ghost use Rattle.ftl_project.specs.Differences.{counts_as_error, is_error_severity, is_part_reported, is_reported};
+ghost use Rattle.ftl_project.specs.Differences.{reported_parts};
 
-use fluent_syntax_names::{Part, Severity, Side};
+use fluent_syntax_names::{Difference, MissingPart, Part, Severity, Side};
+use ftl_files::ReportedKind;
+use std::alloc::{AllocError, Global};
 
 /// Whether a part that the file of this side has and the other one lacks is told as an error.
 pub(crate) fn counts_as_error(side: Side, part: Part) -> bool
@@ -14,6 +17,39 @@ pub(crate) fn counts_as_error(side: Side, part: Part) -> bool
     }
 }
 
+/// Those of the parts that are told, where these kinds are not.
+pub(crate) fn reported_parts(
+    alloc: Global,
+    ignored: &[ReportedKind],
+    side: Side,
+    missing_parts: &[MissingPart],
+) -> Result<Vec<MissingPart>, AllocError>
+    ensures { IfOk result (λ parts. parts.items ≡ reported_parts ignored.now side missing_parts.now) }
+{
+    missing_parts
+        .iter()
+        .copied()
+        .filter(|missing| is_part_reported(ignored, side, missing.part))
+        .collect(alloc)
+}
+
+/// Whether a part that the file of this side has and the other one lacks is told, where these kinds are not.
+fn is_part_reported(ignored: &[ReportedKind], side: Side, part: Part) -> bool
+    ensures { result ≡ is_part_reported ignored.now side part }
+{
+    match side.difference(part) {
+        Some(difference) => is_reported(ignored, difference.name()),
+        None => true,
+    }
+}
+
+/// Whether the kind of that name is told, where these are not.
+pub(crate) fn is_reported(ignored: &[ReportedKind], name: &str) -> bool
+    ensures { result ≡ is_reported ignored.now name.now }
+{
+    !ignored.iter().any(|kind| kind.name() == name)
+}
+
 /// Whether it is an error.
 pub(crate) fn is_error_severity(severity: Severity) -> bool
     ensures { result ≡ is_error_severity severity }
@@ -21,5 +57,29 @@ pub(crate) fn is_error_severity(severity: Severity) -> bool
     match severity {
         Severity::Error => true,
         Severity::Warning => false,
+    }
+}
+
+/// A sentence on the difference: `entry` is the name of the message or term, and `name` that of what one file has in
+/// it, or the same.
+pub(crate) fn difference_sentence(
+    alloc: Global,
+    difference: Difference,
+    entry: &str,
+    name: &str,
+) -> Result<String, AllocError> {
+    match difference {
+        Difference::Missing => format!(in alloc; "`{entry}` is missing"),
+        Difference::MissingValue => format!(in alloc; "the value of `{entry}` is missing"),
+        Difference::MissingAttribute => format!(in alloc;
+            "the attribute `{name}` of `{entry}` is missing"
+        ),
+        Difference::MissingReference => format!(in alloc; "`{entry}` does not refer to `{name}`"),
+        Difference::Obsolete => format!(in alloc; "the reference does not define `{entry}`"),
+        Difference::ObsoleteValue => format!(in alloc; "the reference gives `{entry}` no value"),
+        Difference::ObsoleteAttribute => format!(in alloc;
+            "the reference does not define the attribute `{name}` of `{entry}`"
+        ),
+        Difference::UnknownVariable => format!(in alloc; "the reference does not use `${name}`"),
     }
 }

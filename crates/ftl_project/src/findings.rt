@@ -5,7 +5,10 @@ ghost use Rattle.ftl_project.specs.NameIndexes.{IsShort};
 ghost use Rattle.ftl_project.specs.Diagnostics.{IsDiagnostic, ReportsEach};
 ghost use Rattle.fluent_syntax_names.specs.Severities.{name_of};
 
-use crate::diagnostics::{Diagnostic, SourceLocation, diagnostic_text, location_of, name_in};
+use crate::diagnostics::{
+    Diagnostic, OtherPlace, SourceLocation, Subject, diagnostic_text, location_of, name_in,
+};
+use crate::entry_names::name_with_hyphen;
 use crate::line_starts::LineStarts;
 use fluent_syntax::spans::{Lines, Span};
 use fluent_syntax_names::{Finding, NameIndex, Severity};
@@ -141,8 +144,30 @@ impl FileReporter<'_> {
             severity: severity_name(finding.kind.severity()),
             message: self.message(finding)?,
             error: None,
+            subject: self.subject(finding),
         };
         diagnostic_text(self.alloc, &diagnostic, self.form)
+    }
+
+    /// The name of the finding, and where it was given first.
+    fn subject(&self, finding: &Finding) -> Option<Subject<'_>> {
+        let other = finding.other.map(|first| {
+            let (line, column) = self.starts.line_column(first.span.start);
+            OtherPlace {
+                path: self.path,
+                location: SourceLocation {
+                    line,
+                    column,
+                    start: first.span.start,
+                    end: first.span.end,
+                },
+            }
+        });
+        Some(Subject {
+            name: name_with_hyphen(self.text, finding.place?),
+            entry: None,
+            other,
+        })
     }
 
     /// A sentence on the finding.

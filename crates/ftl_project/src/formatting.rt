@@ -13,6 +13,7 @@ use crate::fault::Fault;
 use crate::lossy_entry::lossy_entry_line;
 use crate::replacement::{Replacement, replacement_for};
 use crate::reporting::report;
+use crate::rewrite_counts::RewriteCounts;
 use crate::rewriting::rewrite;
 use crate::streams::{Streams, report_fault};
 use crate::tally::Tally;
@@ -29,6 +30,8 @@ use std::io::Write;
 /// - `each`: a run that ends in `Ok` came to each file, in order, and counted it by what became of it.
 /// - `normal`: where the tally has no fault then, each file that has such a normal form is that.
 ///
+/// How many were rewritten, and why others were left, is added to the counts.
+///
 /// `Err` where the run stopped: `Memory`, or `Output`.
 pub fn write_files<S: Store, O: Write, E: Write>(
     alloc: Global,
@@ -36,6 +39,7 @@ pub fn write_files<S: Store, O: Write, E: Write>(
     files: &[String],
     reading: Reading,
     tally: &mut Tally,
+    counts: &mut RewriteCounts,
     streams: &mut Streams<'_, O, E>,
 ) -> Result<(), RunFault>
     ensures reaches { AllReach reading.edition (S.bytes_at store.old) (S.bytes_at store.new) }
@@ -47,7 +51,7 @@ pub fn write_files<S: Store, O: Write, E: Write>(
     ensures output { result ≡ Err RunFault.Output → has_failed streams.new.err.now ≡ true }
 {
     for file in files {
-        write_file(alloc, store, file.as_str(), reading, tally, streams)?;
+        write_file(alloc, store, file.as_str(), reading, tally, counts, streams)?;
     }
     Ok(())
 }
@@ -58,6 +62,7 @@ fn write_file<S: Store, O: Write, E: Write>(
     path: &str,
     reading: Reading,
     tally: &mut Tally,
+    counts: &mut RewriteCounts,
     streams: &mut Streams<'_, O, E>,
 ) -> Result<(), RunFault>
     ensures reaches { AllReach reading.edition (S.bytes_at store.old) (S.bytes_at store.new) }
@@ -71,6 +76,7 @@ fn write_file<S: Store, O: Write, E: Write>(
         Err(fault) => return report_fault(alloc, tally, path, &fault, streams),
     };
     tally.count(errors_in(&replacement), is_left(&replacement));
+    counts.count(&replacement);
     match left_note(alloc, path, &replacement) {
         Ok(note) => write_all(streams.err, note.as_bytes()),
         Err(AllocError) => Err(RunFault::Memory),
@@ -130,7 +136,7 @@ impl Answering for Naming {
 }
 
 /// How many errors are counted of the text.
-fn errors_in(replacement: &Replacement) -> usize
+pub(crate) fn errors_in(replacement: &Replacement) -> usize
     ensures { result ≡ errors_in replacement.now }
 {
     match replacement {
@@ -147,14 +153,18 @@ fn is_left(replacement: &Replacement) -> bool
 }
 
 /// Whether the text is not in its normal form.
-fn is_other(replacement: &Replacement) -> bool
+pub(crate) fn is_other(replacement: &Replacement) -> bool
     ensures { result ≡ is_other replacement.now }
 {
     !matches!(replacement, Replacement::Same)
 }
 
 /// What is told of a file that is left as it is: its errors, or by which entry its normal form would not read back.
-fn left_note(alloc: Global, path: &str, replacement: &Replacement) -> Result<String, AllocError> {
+pub(crate) fn left_note(
+    alloc: Global,
+    path: &str,
+    replacement: &Replacement,
+) -> Result<String, AllocError> {
     match replacement {
         Replacement::Errors(refused) => report(alloc, path, refused, Form::Full),
         Replacement::Lossy(entry) => lossy_entry_line(alloc, path, *entry, "left as it is"),

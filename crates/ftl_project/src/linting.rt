@@ -274,9 +274,10 @@ fn is_error(finding: &Finding) -> bool
     is_error_severity(finding.kind.severity())
 }
 
-const KINDS: [Kind; 7] = [
+const KINDS: [Kind; 8] = [
     Kind::DefinedTwice,
     Kind::AttributeTwice,
+    Kind::VariantTwice,
     Kind::UndefinedMessage,
     Kind::UndefinedTerm,
     Kind::UndefinedAttribute,

@@ -3,6 +3,7 @@ ghost use Rattle.std.specs.Prelude.{◌≡◌, IfOk, string_bytes};
 ghost use Rattle.ftl_project.specs.Reports.{IsErrorReport, Reports};
 
 use crate::diagnostics::{Diagnostic, diagnostic_text, location_of};
+use crate::terminal_text::push_escaped;
 use crate::text_with_errors::TextWithErrors;
 use fluent_syntax::parser::ParserError;
 use fluent_syntax::spans::{Lines, Span};
@@ -32,12 +33,12 @@ pub fn report(
 }
 
 /// What is told of an error in the file's text.
-fn error_report<'t>(
+fn error_report<'s, 't>(
     alloc: Global,
-    path: &str,
-    text: &str,
+    path: &'s str,
+    text: &'s str,
     lines: &mut Lines<'t>,
-    error: &ParserError,
+    error: &'s ParserError,
     form: Form,
 ) -> Result<String, AllocError>
     requires { lines.old ≡ text.now }
@@ -55,8 +56,16 @@ fn error_report<'t>(
         place: Some(location_of(lines, text, span)),
         kind: error.kind.name(),
         severity: "error",
-        message: format!(in alloc; "{error}")?,
+        message: message_of(alloc, error)?,
         error: Some(error),
+        subject: None,
     };
     diagnostic_text(alloc, &diagnostic, form)
+}
+
+/// What is wrong, with its control characters escaped.
+fn message_of(alloc: Global, error: &ParserError) -> Result<String, AllocError> {
+    let mut message = String::new(alloc);
+    push_escaped(&mut message, format!(in alloc; "{error}")?.as_str())?;
+    Ok(message)
 }

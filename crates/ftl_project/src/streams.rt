@@ -6,10 +6,10 @@ ghost use Rattle.ftl_project.specs.Tally.{counted, failed};
 
 use crate::fault::Fault;
 use crate::tally::Tally;
-use crate::terminal_text::push_shown_text;
+use crate::terminal_text::{push_escaped, push_shown_text};
 use ftl::{RunFault, Watched, write_all};
 use std::alloc::{AllocError, Global};
-use std::fmt::{Display, Write as _};
+use std::fmt::Display;
 use std::io::Write;
 
 /// What a run writes to.
@@ -44,13 +44,13 @@ pub fn report_fault<O: Write, E: Write>(
 }
 
 /// `ftl: PATH: NOTE`, on a line.
-pub(crate) fn note_line<D: Display>(
-    alloc: Global,
-    path: &str,
-    note: &D,
-) -> Result<String, AllocError> {
+///
+/// `AllocError`: a growth was refused.
+pub fn note_line<D: Display>(alloc: Global, path: &str, note: &D) -> Result<String, AllocError> {
     let mut line = String::from_str(alloc, "ftl: ")?;
     push_shown_text(&mut line, path)?;
-    writeln!(line, ": {note}")?;
+    line.push_str(": ")?;
+    push_escaped(&mut line, format!(in alloc; "{note}")?.as_str())?;
+    line.push('\n')?;
     Ok(line)
 }

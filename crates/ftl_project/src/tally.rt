@@ -106,7 +106,7 @@ fn error_count(alloc: Global, errors: usize) -> Result<String, AllocError>
 }
 
 /// `1 file`, or `57 files`.
-fn file_count(alloc: Global, files: usize) -> Result<String, AllocError>
+pub(crate) fn file_count(alloc: Global, files: usize) -> Result<String, AllocError>
     ensures { IfOk result (λ text. string_bytes text ≡ file_count_of files) }
 {
     match files {

@@ -4,6 +4,7 @@ ghost use Rattle.ftl_project.specs.Excerpt.{below, below_char, is_hidden, shown,
 ghost use Rattle.ftl_project.specs.Excerpt.{window_start};
 
 use std::alloc::AllocError;
+use std::fmt::Write;
 use unicode_width::UnicodeWidthChar;
 
 /// How many characters are shown of what stands before a place, and of what stands from there on.
@@ -47,6 +48,20 @@ fn push_shown_char(out: &mut String, c: char) -> Result<(), AllocError>
         c if is_hidden(c) => out.push('\u{FFFD}'),
         c => out.push(c),
     }
+}
+
+/// Adds the text, with an escape for each control character: `\n` for a line end.
+pub(crate) fn push_escaped(out: &mut String, text: &str) -> Result<(), AllocError> {
+    for c in text.chars() {
+        match c {
+            '\n' => out.push_str("\\n")?,
+            '\r' => out.push_str("\\r")?,
+            '\t' => out.push_str("\\t")?,
+            c if is_hidden(c) => write!(out, "\\u{{{:x}}}", c as u32)?,
+            c => out.push(c)?,
+        }
+    }
+    Ok(())
 }
 
 /// Adds what stands below that window: tabs below tabs, and spaces for the columns that the others take.

@@ -7,15 +7,19 @@ ghost use Rattle.ftl_project.specs.NameIndexes.{IsShort};
 ghost use Rattle.ftl_project.specs.Diagnostics.{location_at};
 
 use crate::diagnostics::{SourceLocation, location_of};
+use crate::entry_names::name_with_hyphen;
 use fluent_syntax::spans::{Lines, Span};
 use fluent_syntax_names::{Mention, MissingPart, NameIndex, Part, RefusedNames};
 use std::alloc::{AllocError, Global};
+use std::collections::BTreeMap;
 
 /// What the file says that is to be a translation, and where it has which entries as junk.
 #[derive(Drop)]
 pub(crate) struct Translation<'o, 't> {
     pub(crate) name_index: &'o NameIndex<'t>,
     refused: RefusedNames<SourceLocation>,
+    /// Where it defines which entries first.
+    defined: BTreeMap<&'t str, SourceLocation>,
     ghost refuses: { (entry : List ℕ) → refused_place refused entry ≡ junk_location name_index.now entry },
 }
 
@@ -29,7 +33,13 @@ impl<'o, 't> Translation<'o, 't> {
         Ok(Translation {
             name_index,
             refused,
+            defined: first_locations(alloc, name_index)?,
         })
+    }
+
+    /// Where it defines the entry first whose name stands there in the text.
+    pub(crate) fn place_of(&self, text: &str, name: Span) -> Option<SourceLocation> {
+        self.defined.get(name_with_hyphen(text, name)).copied()
     }
 
     /// Where it has the part as junk that it lacks, which the other text has; only an entry can be junk.
@@ -41,6 +51,43 @@ impl<'o, 't> Translation<'o, 't> {
             _ => None,
         }
     }
+}
+
+/// Where the file defines which messages and terms first.
+fn first_locations<'t>(
+    alloc: Global,
+    name_index: &NameIndex<'t>,
+) -> Result<BTreeMap<&'t str, SourceLocation>, AllocError>
+    requires { IsShort name_index.now }
+{
+    let text = name_index.text;
+    let mut locations = BTreeMap::new(alloc);
+    let mut lines = Lines::new(text);
+    for mention in &name_index.mentions {
+        note_definition(&mut locations, text, &mut lines, mention)?;
+    }
+    Ok(locations)
+}
+
+/// Notes the mention with its place, if it defines a message or a term that was not noted before.
+fn note_definition<'l, 't>(
+    locations: &mut BTreeMap<&'t str, SourceLocation>,
+    text: &'t str,
+    lines: &mut Lines<'l>,
+    mention: &Mention<Span>,
+) -> Result<(), AllocError>
+    requires { lines.old ≡ text.now }
+    ensures lines { lines.new ≡ lines.old }
+{
+    let name = match mention {
+        Mention::Message { name, .. } | Mention::Term { name } => *name,
+        _ => return Ok(()),
+    };
+    let shown = name_with_hyphen(text, name);
+    if !locations.contains_key(shown) {
+        drop(locations.insert(shown, location_of(lines, text, name))?);
+    }
+    Ok(())
 }
 
 /// The names with which junk begins, each with the place of the first.

@@ -10,17 +10,23 @@
     ['1:5: Expected a token starting with "="']
     >>> [str(finding) for finding in dovelectern.lint("about = About { -brand }")]
     ['1:18: error[undefined-term]: no text defines the term `-brand`']
+    >>> dovelectern.set_value("# said at the door\\nhello=Hi", "hello", "Good day")
+    '# said at the door\\nhello= Good day\\n'
 """
 from . import ast
-from ._calls import check, check_file, compare, format, format_file, lint, parse, parse_file, serialize, serialize_entry
+from ._calls import check, check_file, compare, format, format_file, is_canonical, lint, parse, parse_file, serialize
+from ._calls import serialize_entry
+from ._edits import insert, remove, replace, set_value
 from ._library import NESTING, Text
-from .errors import Error, Finding, FluentError, NoTree, Place, SyntaxErrors, TooDeep
+from .errors import Error, Finding, FluentError, NoTree, NotFound, NotOneEntry, Place, ReadsOtherwise, SyntaxErrors
+from .errors import TooDeep
 from .visitor import Transformer, Visitor, joined
 
-__version__ = "1.2.0"
+__version__ = "2.4.0"
 
 __all__ = [
-    "Error", "Finding", "FluentError", "NESTING", "NoTree", "Place", "SyntaxErrors", "Text", "TooDeep", "Transformer",
-    "Visitor", "ast", "check", "check_file", "compare", "format", "format_file", "joined", "lint", "parse",
-    "parse_file", "serialize", "serialize_entry",
+    "Error", "Finding", "FluentError", "NESTING", "NoTree", "NotFound", "NotOneEntry", "Place", "ReadsOtherwise",
+    "SyntaxErrors", "Text", "TooDeep", "Transformer", "Visitor", "ast", "check", "check_file", "compare", "format",
+    "format_file", "insert", "is_canonical", "joined", "lint", "parse", "parse_file", "remove", "replace", "serialize",
+    "serialize_entry", "set_value",
 ]

@@ -2,14 +2,15 @@
 import os
 from functools import lru_cache
 from itertools import chain
-from typing import Iterable, Iterator, List, Tuple, Union
+from typing import Callable, Iterable, Iterator, List, Tuple, TypeVar, Union
 
-from . import _findings, _library, _places, _reading, _writing, ast
+from . import _findings, _library, _places, _reading, _reading_back, _writing, ast
 from ._collection import no_collection
 from ._library import NESTING, Text
 from .ast import Span
-from .errors import Error, Finding, NoTree, SyntaxErrors, TooDeep
+from .errors import Error, Finding, NoTree, ReadsOtherwise, SyntaxErrors, TooDeep
 
+Answer = TypeVar("Answer")
 Path = Union[str, "os.PathLike[str]", bytes, "os.PathLike[bytes]"]
 
 
@@ -65,16 +66,28 @@ def _named(tree: ast.Resource) -> Iterator[Union[ast.Message, ast.Term, ast.Attr
             yield from entry.attributes
 
 
-def serialize(resource: ast.Resource) -> str:
+def serialize(resource: ast.Resource, *, strict: bool = True) -> str:
     """The text of a tree, without its junk.
 
+    `ReadsOtherwise` where `parse` would not return the tree for the text, apart from junk and from where successive
+    texts are divided: a text with a brace, a name that is none. With `strict=False` that is not asked.
     `TypeError` where a field holds something else than the classes of `dovelectern.ast` say, with the way to it.
     `TooDeep`: the tree nests more deeply than the library takes trees, which is some 20 selects in one another.
     """
+    written, text = _by_json(resource, lambda written: _library.answer(_library.FROM_JSON, written, NESTING)[0])
+    if strict:
+        changed = _reading_back.first_changed(written, _library.answer(_library.JSON, text.encode(), NESTING)[0])
+        if changed is not None:
+            raise ReadsOtherwise(f"body[{changed}] would be read otherwise than as it is")
+    return text
+
+
+def _by_json(resource: ast.Resource, call: Callable[[bytes], Answer]) -> Tuple[str, Answer]:
+    """The JSON of a tree, and what the library answers for it."""
     try:
         with no_collection():
             written = _writing.json_of(resource)
-        return _library.answer(_library.FROM_JSON, written.encode(), NESTING)[0]
+        return written, call(written.encode())
     except RecursionError:
         raise TooDeep("the tree nests more deeply than Python's recursion takes") from None
     except NoTree:
@@ -83,14 +96,23 @@ def serialize(resource: ast.Resource) -> str:
         raise
 
 
-def serialize_entry(entry: ast.AnyEntry) -> str:
+def serialize_entry(entry: ast.AnyEntry, *, strict: bool = True) -> str:
     """The text of one entry, as `serialize` writes it alone."""
-    return serialize(ast.Resource([entry]))
+    return serialize(ast.Resource([entry]), strict=strict)
+
+
+def is_canonical(resource: ast.Resource, *, edition: int = 1) -> bool:
+    """Whether the tree is canonical: the text that `serialize` writes has no error and is read, by this edition, as this
+    tree, text by text. It has no junk, and a text of its own for each line. It raises what `serialize` raises, but
+    `ReadsOtherwise`; `ValueError`: no such edition.
+    """
+    number = as_edition(edition)
+    return _by_json(resource, lambda written: _library.is_canonical(written, number))[1]
 
 
 def check(text: Text, *, edition: int = 1, nesting: int = NESTING) -> List[Error]:
     """The syntax errors of a text, in order. What it raises is what `parse` raises; `ValueError`: no such edition."""
-    return _errors(_library.as_bytes(text), _as_edition(edition), _library.as_nesting(nesting))
+    return _errors(_library.as_bytes(text), as_edition(edition), _library.as_nesting(nesting))
 
 
 def format(text: Text, *, edition: int = 1, comments: bool = True, drop_junk: bool = False,
@@ -101,7 +123,7 @@ def format(text: Text, *, edition: int = 1, comments: bool = True, drop_junk: bo
     raises what `check` raises.
     """
     data, depth = _library.as_bytes(text), _library.as_nesting(nesting)
-    if _as_edition(edition) == 2 and not comments:
+    if as_edition(edition) == 2 and not comments:
         raise ValueError("texts without comments are written by edition 1 alone")
     command = _library.FORMAT_TWO if edition == 2 else _library.FORMAT if comments else _library.RUNTIME
     written, has_errors = _library.answer(command, data, depth)
@@ -117,7 +139,7 @@ def lint(texts: Union[Text, Iterable[Text]], *, edition: int = 1, nesting: int =
     """
     given = [texts] if isinstance(texts, (str, bytes, bytearray, memoryview)) else list(texts)
     data = [_library.as_bytes(text) for text in given]
-    return _findings.of_one_language(data, _as_edition(edition), _library.as_nesting(nesting))
+    return _findings.of_one_language(data, as_edition(edition), _library.as_nesting(nesting))
 
 
 def compare(reference: Text, other: Text, *, edition: int = 1, nesting: int = NESTING) -> List[Finding]:
@@ -127,7 +149,7 @@ def compare(reference: Text, other: Text, *, edition: int = 1, nesting: int = NE
     The number of the reference is 0, and that of the other text 1.
     """
     one, two = _library.as_bytes(reference), _library.as_bytes(other)
-    return _findings.between(one, two, _as_edition(edition), _library.as_nesting(nesting))
+    return _findings.between(one, two, as_edition(edition), _library.as_nesting(nesting))
 
 
 def parse_file(path: Path, *, nesting: int = NESTING, with_spans: bool = True) -> ast.Resource:
@@ -169,7 +191,7 @@ class _File:
                                      f"{error.reason} in {self.path}") from None
 
 
-def _as_edition(edition: int) -> int:
+def as_edition(edition: int) -> int:
     if edition not in (1, 2):
         raise ValueError(f"an edition is 1 or 2, not {edition!r}")
     return edition

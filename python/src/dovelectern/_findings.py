@@ -13,6 +13,7 @@ _SEVERITIES = {1: "error", 2: "warning"}
 _MESSAGES = {
     "defined-twice": "`{name}` is defined twice, first on line {line}",
     "attribute-twice": "the entry has the attribute `{name}` twice, first on line {line}",
+    "variant-twice": "the select has the variant `{name}` twice, first on line {line}",
     "undefined-message": "no text defines the message `{name}`",
     "undefined-term": "no text defines the term `-{name}`",
     "undefined-attribute": "no text defines its attribute `{name}`",

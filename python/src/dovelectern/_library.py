@@ -5,7 +5,7 @@ import os
 import struct
 from typing import Any, List, NamedTuple, Sequence, Tuple, Union
 
-from .errors import NoTree, TooDeep
+from .errors import NoTree, NotFound, NotOneEntry, ReadsOtherwise, TooDeep
 
 Text = Union[str, bytes, bytearray, memoryview]
 
@@ -16,6 +16,7 @@ GREATEST_NESTING = 1000
 
 FORMAT, RUNTIME, JSON, FORMAT_TWO, FROM_JSON = 1, 2, 3, 5, 6
 _CLEAN, _SYNTAX_ERRORS, _WRONG_ARGUMENT, _NOT_UTF8, _NO_MEMORY, _TOO_SMALL, _TOO_DEEP, _NO_TREE = range(8)
+_NOT_FOUND, _NOT_ONE_ENTRY, _READS_OTHERWISE = range(8, 11)
 
 
 class ErrorRow(NamedTuple):
@@ -77,12 +78,15 @@ def _load() -> ctypes.CDLL:
         ("ftl_answer", [size, *text]), ("ftl_errors", [size, *text]), ("ftl_names", [size, *text]),
         ("ftl_values", [size, *text]), ("ftl_error_messages", [size, *text]),
         ("ftl_findings", [size, ctypes.POINTER(_Text), size]), ("ftl_comparison", [size, *text, *text]),
-        ("ftl_kind_name", []), ("ftl_finding_kind_name", []),
+        ("ftl_kind_name", []), ("ftl_finding_kind_name", []), ("ftl_remove", [size, *text, *text]),
+        *((name, [size, *text, *text, *text]) for name in ("ftl_set_value", "ftl_replace", "ftl_insert")),
     ]
     for name, read in calls:
         call = getattr(library, name)
         call.restype = number
         call.argtypes = [number, *read, *written]
+    library.ftl_is_canonical.restype = number
+    library.ftl_is_canonical.argtypes = [number, *text, ctypes.POINTER(size)]
     return library
 
 
@@ -143,12 +147,19 @@ def _refusal(name: str, number: int, nesting: int, texts: Sequence[bytes], statu
     if status == _NO_MEMORY:
         return MemoryError("the library was refused memory")
     if status == _TOO_DEEP:
-        if name == "ftl_answer" and number == FROM_JSON:
+        if number == FROM_JSON and name in ("ftl_answer", "ftl_is_canonical"):
             return TooDeep("the tree nests more deeply than the library takes trees")
         which = "the text" if len(texts) == 1 else "one of the texts"
         return TooDeep(f"{which} nests placeables and argument lists more than {nesting} deep")
     if status == _NO_TREE:
         return NoTree("this spells no tree")
+    if status == _NOT_FOUND:
+        what = "message or term with a value" if name == "ftl_set_value" else "message or term"
+        return NotFound(f"no {what} is named {texts[1].decode()}")
+    if status == _NOT_ONE_ENTRY:
+        return NotOneEntry(f"the {'value' if name == 'ftl_set_value' else 'entry'} is not exactly one, without errors")
+    if status == _READS_OTHERWISE:
+        return ReadsOtherwise("the new text would be read otherwise than as the text with the edit made")
     return ValueError(f"{name} has no number {number}")
 
 
@@ -198,6 +209,21 @@ def comparison(reference: bytes, other: bytes, edition: int, nesting: int) -> Li
     """What the other text lacks of the reference, and behind it what is obsolete or unknown there."""
     rows, _ = _items("ftl_comparison", edition, nesting, [reference, other], FINDING_ROW.size, 16)
     return [FindingRow(*numbers) for numbers in FINDING_ROW.iter_unpack(rows)]
+
+
+def edited(call: str, texts: Sequence[bytes], edition: int, nesting: int) -> str:
+    """The first of the texts with an edit made at the entry that the second names; the third is what is new."""
+    room = 2 * sum(map(len, texts)) + 1024
+    return str(_items(call, edition, nesting, texts, 1, room)[0], "utf-8")
+
+
+def is_canonical(json: bytes, edition: int) -> bool:
+    """Whether the tree that the JSON spells is canonical."""
+    canonical = ctypes.c_size_t()
+    status = _library.ftl_is_canonical(edition, json, len(json), ctypes.byref(canonical))
+    if status != _CLEAN:
+        raise _refusal("ftl_is_canonical", FROM_JSON, 0, [json], status)
+    return canonical.value == 1
 
 
 def kind_name(kind: int) -> str:

@@ -54,7 +54,7 @@ class Finding:
     """A mistake between names: of one text, of several, or of a text beside its reference."""
 
     kind: str
-    """Which mistake it is: one of 14 names, as `undefined-term`."""
+    """Which mistake it is: one of 16 names, as `undefined-term`."""
     severity: str
     """`error`, which users see, or `warning`, which may be meant so."""
     message: str
@@ -64,7 +64,7 @@ class Finding:
     place: Optional[Place]
     """Where it is; `None` where a text has no place for what it lacks."""
     other: Optional[Place]
-    """The place that it speaks of: of a name that is given twice the first one, and where the reference has it."""
+    """The place that it speaks of: of a name or a key that is given twice the first one, and where the reference has it."""
 
     def __str__(self) -> str:
         before = f"{self.place}: " if self.place is not None else ""
@@ -92,3 +92,15 @@ class TooDeep(FluentError):
 
 class NoTree(FluentError):
     """What was to be written is no tree."""
+
+
+class ReadsOtherwise(FluentError):
+    """The text of a tree, or of an edit, would be read as another tree."""
+
+
+class NotFound(FluentError):
+    """No message or term has the name, or it has no value."""
+
+
+class NotOneEntry(FluentError):
+    """What is new is not exactly one entry, or one value, without errors."""

@@ -30,8 +30,8 @@ use Rattle.fluent_syntax_grammar.proofs.Facts.{left_true, right_true}
 use Rattle.fluent_syntax_grammar.proofs.Tests.{both}
 use Rattle.fluent_syntax_grammar.proofs.backward.Lines.{range_none, range_all}
 use Rattle.fluent_syntax_grammar.proofs.backward.Words.{IsName}
-use Rattle.fluent_syntax_grammar.proofs.backward.Rules.{Ensures, ensures_bind, ensures_then, ensures_gives}
-use Rattle.fluent_syntax_grammar.proofs.backward.Rules.{ensures_fails, ensures_at_each, ensures_either, Fine, IsPattern}
+use Rattle.fluent_syntax_grammar.proofs.backward.Rules.{Ensures, ensures_bind, ensures_then, ensures_yields}
+use Rattle.fluent_syntax_grammar.proofs.backward.Rules.{ensures_fails, ensures_peek, ensures_branch_on, Fine, IsPattern}
 use Rattle.fluent_syntax_grammar.proofs.backward.Rules.{ensures_name}
 use Rattle.fluent_syntax_grammar.proofs.backward.Family as family_back
 use Rattle.fluent_syntax_grammar.proofs.backward.Family.{fine_family}
@@ -77,11 +77,11 @@ module _ (t : List ℕ) where
   ensures_text false = ensures_then (λ u. record { on_read = line_read })
 
   ensures_rest : (o : Option ℕ) → Ensures (comment_rest t o) IsLines
-  ensures_rest None = ensures_gives refl
-  ensures_rest (Some b) = ensures_bind (ensures_at_each ensures_text) (λ s g. ensures_then (λ u. ensures_gives g))
+  ensures_rest None = ensures_yields refl
+  ensures_rest (Some b) = ensures_bind (ensures_peek ensures_text) (λ s g. ensures_then (λ u. ensures_yields g))
 
   ensures_line : (level : ℕ) → Ensures (comment_line t level) IsLines
-  ensures_line level = ensures_then (λ u. ensures_at_each ensures_rest)
+  ensures_line level = ensures_then (λ u. ensures_peek ensures_rest)
 
   lines_append : (xs ys : List Span) → IsLines xs → IsLines ys → IsLines (xs ++ ys)
   lines_append [] ys e f = f
@@ -164,7 +164,7 @@ module _ (t : List ℕ) (bare : HasNoBareCr t) (Joins : Type 0) (crs : (i : ℕ)
   ensures_with : (id : Span) (o : Option (PatternTree Span)) → IsName t id → option_every (IsPattern t Joins) o →
       Ensures (attribute_with id o) IsAttribute
   ensures_with id None n g = ensures_fails
-  ensures_with id (Some p) n g = ensures_gives (attribute_fine t Joins id p n g)
+  ensures_with id (Some p) n g = ensures_yields (attribute_fine t Joins id p n g)
 
   ensures_attribute : Ensures (attribute One t) IsAttribute
   ensures_attribute =
@@ -188,9 +188,9 @@ module _ (t : List ℕ) (bare : HasNoBareCr t) (Joins : Type 0) (crs : (i : ℕ)
       Ensures (message_with t start id o rest) (IsNotJunk t Joins)
   ensures_message_with start id None [] n g k = record { on_read = λ i j a x. elim x [ ] }
   ensures_message_with start id None (a ∷ rest) n g k =
-      ensures_gives (record { name = n; field = refl; value = value_of t Joins None g; attributes = k; comment = refl })
+      ensures_yields (record { name = n; field = refl; value = value_of t Joins None g; attributes = k; comment = refl })
   ensures_message_with start id (Some p) rest n g k =
-      ensures_gives
+      ensures_yields
       (record { name = n; field = refl; value = value_of t Joins (Some p) g; attributes = k; comment = refl })
 
   ensures_term_with : (start : ℕ) (id : Span) (o : Option (PatternTree Span)) (rest : List (AttributeTree Span)) →
@@ -198,7 +198,7 @@ module _ (t : List ℕ) (bare : HasNoBareCr t) (Joins : Type 0) (crs : (i : ℕ)
       Ensures (term_with t start id o rest) (IsNotJunk t Joins)
   ensures_term_with start id None rest n g k = record { on_read = λ i j a x. elim x [ ] }
   ensures_term_with start id (Some p) rest n g k =
-      ensures_gives (record { name = n; value = g; attributes = k; comment = refl })
+      ensures_yields (record { name = n; value = g; attributes = k; comment = refl })
 
   ensures_message : Ensures (message_entry One t) (IsNotJunk t Joins)
   ensures_message =
@@ -217,15 +217,15 @@ module _ (t : List ℕ) (bare : HasNoBareCr t) (Joins : Type 0) (crs : (i : ℕ)
 
   ensures_comment : Ensures (comment_entry t) (IsNotJunk t Joins)
   ensures_comment =
-      ensures_at_each
+      ensures_peek
       (λ level. ensures_bind (ensures_line t level)
       (λ c g. ensures_bind {Mid = IsLines t} (record { on_read = lines_read t level })
-      (λ rest k. ensures_gives (lines_append t c rest g k))))
+      (λ rest k. ensures_yields (lines_append t c rest g k))))
 
   ensures_entry_of : (o : Option ℕ) → Ensures (entry_of One t (family One t) o) (IsNotJunk t Joins)
   ensures_entry_of None = ensures_message
   ensures_entry_of (Some b) =
-      ensures_either (λ e. ensures_comment) (λ e. ensures_either (λ e. ensures_term) (λ e. ensures_message))
+      ensures_branch_on (λ e. ensures_comment) (λ e. ensures_branch_on (λ e. ensures_term) (λ e. ensures_message))
 
   pub ensures_entry : Ensures (entry_at One t) (IsNotJunk t Joins)
-  ensures_entry = ensures_at_each ensures_entry_of
+  ensures_entry = ensures_peek ensures_entry_of

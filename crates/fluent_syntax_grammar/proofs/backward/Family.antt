@@ -47,8 +47,8 @@ use Rattle.fluent_syntax_grammar.proofs.backward.Lines.{no_line as no_lines, a_l
 use Rattle.fluent_syntax_grammar.proofs.backward.Layouts.{layout_shape}
 use Rattle.fluent_syntax_grammar.proofs.backward.FirstLines.{spare}
 use Rattle.fluent_syntax_grammar.proofs.backward.Words.{number_was}
-use Rattle.fluent_syntax_grammar.proofs.backward.Rules.{Ensures, ensures_bind, ensures_then, ensures_gives}
-use Rattle.fluent_syntax_grammar.proofs.backward.Rules.{ensures_fails, ensures_at_each, ensures_either, Fine, IsPattern}
+use Rattle.fluent_syntax_grammar.proofs.backward.Rules.{Ensures, ensures_bind, ensures_then, ensures_yields}
+use Rattle.fluent_syntax_grammar.proofs.backward.Rules.{ensures_fails, ensures_peek, ensures_branch_on, Fine, IsPattern}
 use Rattle.fluent_syntax_grammar.proofs.backward.Rules.{IsKey, IsVariants, IsFineFamily, ensures_name, IsInline}
 use Rattle.fluent_syntax_grammar.proofs.backward.Rules.{ensures_placeable, inline_was, ensures_arguments, Adds}
 use Rattle.fluent_syntax_grammar.proofs.backward.Rules.{ensures_many}
@@ -263,7 +263,7 @@ module _ (t : List ℕ) (bare : HasNoBareCr t) (Joins : Type 0) (crs : (i : ℕ)
   pub ensures_pattern : Ensures (pattern One t R) (option_every (IsPattern t Joins))
   ensures_pattern =
       ensures_bind (record { on_read = λ i j y x. layout_was i j y x })
-      (λ y g. ensures_gives (pattern_fine t bare Joins crs y g))
+      (λ y g. ensures_yields (pattern_fine t bare Joins crs y g))
 
   -- ---- variants
 
@@ -273,9 +273,9 @@ module _ (t : List ℕ) (bare : HasNoBareCr t) (Joins : Type 0) (crs : (i : ℕ)
 
   ensures_key : Ensures (variant_key t) (IsKey t Joins)
   ensures_key =
-      ensures_at_each
-      (λ n. ensures_either (λ e. record { on_read = number_key_was })
-      (λ e. ensures_bind (ensures_name t Joins) (λ v g. ensures_gives g)))
+      ensures_peek
+      (λ n. ensures_branch_on (λ e. record { on_read = number_key_was })
+      (λ e. ensures_bind (ensures_name t Joins) (λ v g. ensures_yields g)))
 
   no_variant : (starred : Bool) → IsVariants t Joins starred no_variants
   no_variant starred = record { fine = record { obeys = refl; same = λ none. refl }; none = λ e. refl; one = refl }
@@ -336,7 +336,7 @@ module _ (t : List ℕ) (bare : HasNoBareCr t) (Joins : Type 0) (crs : (i : ℕ)
       Ensures (variant_of t starred star key o) (IsNext starred)
   ensures_variant starred star key None e k p = ensures_fails
   ensures_variant starred star key (Some value) e k p =
-      ensures_then (λ u. ensures_gives (λ vs g. add_variant starred star key value vs e k p g))
+      ensures_then (λ u. ensures_yields (λ vs g. add_variant starred star key value vs e k p g))
 
   ensures_after : (starred star : Bool) → (starred && star) ≡ false →
       Ensures (variant_after One t R starred star) (IsNext starred)
@@ -347,17 +347,17 @@ module _ (t : List ℕ) (bare : HasNoBareCr t) (Joins : Type 0) (crs : (i : ℕ)
       (λ u. ensures_then (λ u. ensures_bind ensures_pattern (λ o p. ensures_variant starred star key o e k p)))))
 
   ensures_only : (starred star : Bool) → Ensures (only_star starred star) (λ u. (starred && star) ≡ false)
-  ensures_only starred star = ensures_either (λ e. ensures_fails) (λ e. ensures_gives e)
+  ensures_only starred star = ensures_branch_on (λ e. ensures_fails) (λ e. ensures_yields e)
 
   ensures_end : (starred star : Bool) → Ensures (variants_end One starred star) (IsNext starred)
-  ensures_end starred star = ensures_either (λ e. ensures_gives (no_variant starred)) (λ e. ensures_fails)
+  ensures_end starred star = ensures_branch_on (λ e. ensures_yields (no_variant starred)) (λ e. ensures_fails)
 
   ensures_variants : (starred : Bool) → Ensures (more_variants One t R starred) (IsVariants t Joins starred)
   ensures_variants = ensures_many (next_variant One t R) variants no_variants (IsVariants t Joins)
       (λ starred. ensures_then (λ star.
       ensures_bind (ensures_only starred star)
       (λ u e. ensures_then
-      (λ bracket. ensures_either (λ y. ensures_after starred star e) (λ y. ensures_end starred star)))))
+      (λ bracket. ensures_branch_on (λ y. ensures_after starred star e) (λ y. ensures_end starred star)))))
 
   -- ---- expressions
 
@@ -368,15 +368,15 @@ module _ (t : List ℕ) (bare : HasNoBareCr t) (Joins : Type 0) (crs : (i : ℕ)
   ensures_select : (e : InlineTree Span) (o : Option Kind) → IsInline t Joins e → selector_fault e ≡ o →
       Ensures (select_with One t R e o) (IsRead t Joins)
   ensures_select e None f k =
-      ensures_bind ensures_variants_of (λ vs g. ensures_gives (fine_select t Joins R h e vs f k g))
+      ensures_bind ensures_variants_of (λ vs g. ensures_yields (fine_select t Joins R h e vs f k g))
   ensures_select e (Some x) f k = ensures_fails
 
   pub ensures_expression : Ensures (expression One t R) (IsRead t Joins)
   ensures_expression =
       ensures_bind (record { on_read = λ i j e x. (inline_was t Joins R h i j e x).0 })
-      (λ e f. ensures_then (λ u. ensures_then (λ arrow. ensures_either
+      (λ e f. ensures_then (λ u. ensures_then (λ arrow. ensures_branch_on
       (λ y. ensures_select e (selector_fault e) f refl)
-      (λ y. ensures_either (λ z. ensures_fails) (λ z. ensures_gives (fine_inline t Joins R h e f z))))))
+      (λ y. ensures_branch_on (λ z. ensures_fails) (λ z. ensures_yields (fine_inline t Joins R h e f z))))))
 
   fine_next : IsFineFamily t Joins (next One t R)
   fine_next = record { expression = ensures_expression; argument_list = ensures_arguments t Joins R h [] }

@@ -60,11 +60,11 @@ pub ensures_then : {A B : Type 0} {Good : B → Type 0} {c : Construct A} {f : A
     ((a : A) → Ensures (f a) Good) → Ensures (c >>= f) Good
 ensures_then g = ensures_bind {Mid = λ a. Unit {0}} (record { on_read = λ i j a x. tt }) (λ a u. g a)
 
-gives_read : {A : Type 0} (Good : A → Type 0) (a b : A) (i j : ℕ) → Good a → yields a i (Read b j) → Good b
-gives_read Good a b i j g given = g
+yields_read : {A : Type 0} (Good : A → Type 0) (a b : A) (i j : ℕ) → Good a → yields a i (Read b j) → Good b
+yields_read Good a b i j g given = g
 
-pub ensures_gives : {A : Type 0} {Good : A → Type 0} {a : A} → Good a → Ensures (yields a) Good
-ensures_gives {Good = Good} {a = a} g = record { on_read = λ i j b x. gives_read Good a b i j g x }
+pub ensures_yields : {A : Type 0} {Good : A → Type 0} {a : A} → Good a → Ensures (yields a) Good
+ensures_yields {Good = Good} {a = a} g = record { on_read = λ i j b x. yields_read Good a b i j g x }
 
 fails_read : {A : Type 0} (X : Type 0) (k : Kind) (i j : ℕ) (a : A) → fails k i (Read a j) → X
 fails_read X k i j a x = elim x [ ]
@@ -72,22 +72,22 @@ fails_read X k i j a x = elim x [ ]
 pub ensures_fails : {A : Type 0} {Good : A → Type 0} {k : Kind} → Ensures (fails k) Good
 ensures_fails {Good = Good} {k = k} = record { on_read = λ i j a x. fails_read (Good a) k i j a x }
 
-at_each_read : {A B : Type 0} (Good : B → Type 0) (look : ℕ → A) (part : A → Construct B) →
+peek_read : {A B : Type 0} (Good : B → Type 0) (look : ℕ → A) (part : A → Construct B) →
     ((a : A) → Ensures (part a) Good) → (i j : ℕ) (b : B) → peek look part i (Read b j) → Good b
-at_each_read Good look part g i j b (chosen x) = (g (look i)).on_read i j b x
+peek_read Good look part g i j b (chosen x) = (g (look i)).on_read i j b x
 
-pub ensures_at_each : {A B : Type 0} {Good : B → Type 0} {look : ℕ → A} {part : A → Construct B} →
+pub ensures_peek : {A B : Type 0} {Good : B → Type 0} {look : ℕ → A} {part : A → Construct B} →
     ((a : A) → Ensures (part a) Good) → Ensures (peek look part) Good
-ensures_at_each {Good = Good} {look = look} {part = part} g = record { on_read = at_each_read Good look part g }
+ensures_peek {Good = Good} {look = look} {part = part} g = record { on_read = peek_read Good look part g }
 
-either_read : {A : Type 0} (Good : A → Type 0) (test : Bool) (c d : Construct A) → (test ≡ true → Ensures c Good) →
+branch_on_read : {A : Type 0} (Good : A → Type 0) (test : Bool) (c d : Construct A) → (test ≡ true → Ensures c Good) →
     (test ≡ false → Ensures d Good) → (i j : ℕ) (a : A) → branch_on test c d i (Read a j) → Good a
-either_read Good test c d g h i j a (first e x) = (g e).on_read i j a x
-either_read Good test c d g h i j a (second e x) = (h e).on_read i j a x
+branch_on_read Good test c d g h i j a (first e x) = (g e).on_read i j a x
+branch_on_read Good test c d g h i j a (second e x) = (h e).on_read i j a x
 
-pub ensures_either : {A : Type 0} {Good : A → Type 0} {test : Bool} {c d : Construct A} →
+pub ensures_branch_on : {A : Type 0} {Good : A → Type 0} {test : Bool} {c d : Construct A} →
     (test ≡ true → Ensures c Good) → (test ≡ false → Ensures d Good) → Ensures (branch_on test c d) Good
-ensures_either {Good = Good} {test = test} {c = c} {d = d} g h = record { on_read = either_read Good test c d g h }
+ensures_branch_on {Good = Good} {test = test} {c = c} {d = d} g h = record { on_read = branch_on_read Good test c d g h }
 
 module _ {A S B : Type 0} (next : S → Construct (More A S)) (add : A → B → B) (none : B) (Good : S → B → Type 0) where
   -- what is asked of an item: added to what is good behind it, it is good
@@ -157,7 +157,7 @@ module _ (t : List ℕ) (Joins : Type 0) where
   pub ensures_accessor : Ensures (accessor t) IsOptionName
   ensures_accessor =
       ensures_then (λ dot.
-      ensures_either (λ e. ensures_bind ensures_name (λ a g. ensures_gives g)) (λ e. ensures_gives refl))
+      ensures_branch_on (λ e. ensures_bind ensures_name (λ a g. ensures_yields g)) (λ e. ensures_yields refl))
 
   fine_arguments : (a : ArgumentsTree Span) → IsArguments [] a →
       Fine Joins (arguments_obey (readable_rules One)) joined_arguments (arguments_map (bytes_at t) a)
@@ -188,9 +188,9 @@ module _ (t : List ℕ) (Joins : Type 0) where
   ensures_reference : (id : Span) (a : MaybeArguments Span) → IsName t id → IsMaybe a →
       Ensures (named_reference t id a) IsValue
   ensures_reference id no_arguments n f =
-      ensures_bind ensures_accessor (λ o g. ensures_gives (record { obeys = both n g; same = λ none. refl }, refl))
+      ensures_bind ensures_accessor (λ o g. ensures_yields (record { obeys = both n g; same = λ none. refl }, refl))
   ensures_reference id (some_arguments a) n f =
-      ensures_either (λ e. ensures_gives (fine_function id a n e f, refl)) (λ e. ensures_fails)
+      ensures_branch_on (λ e. ensures_yields (fine_function id a n e f, refl)) (λ e. ensures_fails)
 
   selector_same : (e : InlineTree Span) → selector_fault (joined_inline (inline_map (bytes_at t) e)) ≡ selector_fault e
   selector_same (string_literal v) = refl
@@ -234,10 +234,10 @@ start_digit (Some b) l e = digit_of (b == 34) (is_digit b) (b == 45) l (b == 36)
 
 module _ (t : List ℕ) (Joins : Type 0) (R : Family) (h : IsFineFamily t Joins R) where
   pub ensures_call : Ensures (call_arguments t R) (IsMaybe t Joins)
-  ensures_call = ensures_then (λ u. ensures_then (λ bracket. ensures_either
+  ensures_call = ensures_then (λ u. ensures_then (λ bracket. ensures_branch_on
       (λ e. ensures_bind (ensures_then (λ u. h.argument_list))
-      (λ a g. ensures_gives (fine_some t Joins a (fine_arguments t Joins a g))))
-      (λ e. ensures_gives (record { obeys = refl; same = λ none. refl }))))
+      (λ a g. ensures_yields (fine_some t Joins a (fine_arguments t Joins a g))))
+      (λ e. ensures_yields (record { obeys = refl; same = λ none. refl }))))
 
   -- ---- expressions
 
@@ -264,7 +264,7 @@ module _ (t : List ℕ) (Joins : Type 0) (R : Family) (h : IsFineFamily t Joins 
   ensures_placeable =
       ensures_then (λ u.
       ensures_then (λ u.
-      ensures_bind h.expression (λ e f. ensures_then (λ u. ensures_then (λ u. ensures_gives f)))))
+      ensures_bind h.expression (λ e f. ensures_then (λ u. ensures_then (λ u. ensures_yields f)))))
 
   -- ---- inline expressions
 
@@ -292,12 +292,12 @@ module _ (t : List ℕ) (Joins : Type 0) (R : Family) (h : IsFineFamily t Joins 
       r = ensures_then
           (λ u. ensures_bind (ensures_name t Joins)
           (λ id n. ensures_bind (ensures_accessor t Joins)
-          (λ o p. ensures_bind ensures_call (λ a f. ensures_gives (fine_term t Joins id o a n p f)))))
+          (λ o p. ensures_bind ensures_call (λ a f. ensures_yields (fine_term t Joins id o a n p f)))))
   inline_read dollar i j e s x = (r.on_read i j e x, tt)
     where
       r : Ensures (inline_of t R dollar) (IsInline t Joins)
       r = ensures_then
-          (λ u. ensures_bind (ensures_name t Joins) (λ id n. ensures_gives (record { obeys = n; same = λ none. refl })))
+          (λ u. ensures_bind (ensures_name t Joins) (λ id n. ensures_yields (record { obeys = n; same = λ none. refl })))
   inline_read letter i j e s x = r.on_read i j e x
     where
       r : Ensures (inline_of t R letter) (IsValue t Joins)
@@ -307,7 +307,7 @@ module _ (t : List ℕ) (Joins : Type 0) (R : Family) (h : IsFineFamily t Joins 
     where
       r : Ensures (inline_of t R brace) (IsInline t Joins)
       r = ensures_bind ensures_placeable
-          (λ e f. ensures_gives (record { obeys = f.obeys; same = λ none. ap inline_placeable (f.same none) }))
+          (λ e f. ensures_yields (record { obeys = f.obeys; same = λ none. ap inline_placeable (f.same none) }))
   inline_read other i j e s x = elim x [ ]
 
   pub inline_was : (i j : ℕ) (e : InlineTree Span) → inline_expression t R i (Read e j) → IsInline t Joins e ×
@@ -351,13 +351,13 @@ module _ (t : List ℕ) (Joins : Type 0) (R : Family) (h : IsFineFamily t Joins 
   ensures_named : (names : List Text) (name : Span) → IsName t name →
       Ensures (named_rest t R names name) (IsNext names)
   ensures_named names name n =
-      ensures_either (λ y. ensures_fails)
+      ensures_branch_on (λ y. ensures_fails)
       (λ y. ensures_then (λ u. ensures_then (λ u. ensures_bind (record { on_read = value_at }) (λ e f.
-      ensures_then (λ u. ensures_gives (λ a g. add_named_fine names name e a n y f g))))))
+      ensures_then (λ u. ensures_yields (λ a g. add_named_fine names name e a n y f g))))))
 
   ensures_positional : (names : List Text) (e : InlineTree Span) → IsInline t Joins e →
       Ensures (positional_rest t names e) (IsNext names)
-  ensures_positional [] e f = ensures_then (λ u. ensures_gives (λ a g. add_positional_fine e a f g))
+  ensures_positional [] e f = ensures_then (λ u. ensures_yields (λ a g. add_positional_fine e a f g))
   ensures_positional (n ∷ ns) e f = ensures_fails
 
   name_of : (e : InlineTree Span) (s : Span) → IsInline t Joins e → argument_name e ≡ Some s → IsName t s
@@ -380,9 +380,9 @@ module _ (t : List ℕ) (Joins : Type 0) (R : Family) (h : IsFineFamily t Joins 
   ensures_arguments_at : (names : List Text) (o : Option ℕ) →
       Ensures (next_argument_at t R names o) (IsNext names)
   ensures_arguments_at names None = ensures_fails
-  ensures_arguments_at names (Some b) = ensures_either
+  ensures_arguments_at names (Some b) = ensures_branch_on
       (λ y. ensures_then
-      (λ u. ensures_gives
+      (λ u. ensures_yields
       (record { obeys = refl; same = λ none. refl }, record { obeys = refl; same = λ none. refl }, refl)))
       (λ y. ensures_bind (record { on_read = λ i j e x. (inline_was i j e x).0 })
       (λ e f. ensures_then (λ colon. ensures_argument names e (argument_name e) colon refl f)))
@@ -390,4 +390,4 @@ module _ (t : List ℕ) (Joins : Type 0) (R : Family) (h : IsFineFamily t Joins 
   pub ensures_arguments : (names : List Text) → Ensures (more_arguments t R names) (IsArguments t Joins names)
   ensures_arguments =
       ensures_many (next_argument t R) add_argument (arguments no_inlines no_named) (IsArguments t Joins)
-      (λ names. ensures_at_each (ensures_arguments_at names))
+      (λ names. ensures_peek (ensures_arguments_at names))

@@ -31,8 +31,8 @@ use Rattle.fluent_syntax_grammar.proofs.Facts.{left_true, equal}
 use Rattle.fluent_syntax_grammar.proofs.Tests.{or_cases, differ}
 use Rattle.fluent_syntax_grammar.proofs.Nesting.{into_argument_list}
 use Rattle.fluent_syntax_grammar.proofs.Left.{Left, left_as, first, left_first, left_has}
-use Rattle.fluent_syntax_grammar.proofs.forward.Reading.{Reads, Passes, reads_bind, reads_gives, passes_then}
-use Rattle.fluent_syntax_grammar.proofs.forward.Reading.{reads_at_each, reads_look, reads_first, reads_second}
+use Rattle.fluent_syntax_grammar.proofs.forward.Reading.{Reads, Passes, reads_bind, reads_yields, passes_then}
+use Rattle.fluent_syntax_grammar.proofs.forward.Reading.{reads_peek, reads_look, reads_first, reads_second}
 use Rattle.fluent_syntax_grammar.proofs.forward.Reading.{reads_into, reads_present, reads_absent, passes_token}
 use Rattle.fluent_syntax_grammar.proofs.forward.Reading.{more_map, reads_end, reads_item}
 use Rattle.fluent_syntax_grammar.proofs.marks.WrittenBytes.{inline_bytes, arguments_bytes, positional_bytes}
@@ -166,8 +166,8 @@ module _ (edition : Edition) (t : List ℕ) where
     begins = λ tail. inr (refl, refl);
     back =
         λ i tail l. reads_end {f = said t} {g = λ ns. ns}
-        (reads_at_each (Some 41) (left_first l)
-        (reads_first refl (passes_then (passes_token 41 refl l) (λ j m. reads_gives refl m)))) refl;
+        (reads_peek (Some 41) (left_first l)
+        (reads_first refl (passes_then (passes_token 41 refl l) (λ j m. reads_yields refl m)))) refl;
   }
 
   -- between two arguments, or before the end of the list
@@ -266,7 +266,7 @@ module _ (edition : Edition) (t : List ℕ) where
       left →
       ReadsNext names i a left
   at_argument names i bs a left b l r =
-      (reads_at_each (Some b.byte) (left_first l ∙ ap first b.are)
+      (reads_peek (Some b.byte) (left_first l ∙ ap first b.are)
       (reads_second (differ is_start b.byte 41 b.start refl) r))
 
   pub positional_back : (level : ℕ) (e : InlineTree Text) (es : InlineTrees Text) (ns : NamedTrees Text) →
@@ -283,7 +283,7 @@ module _ (edition : Edition) (t : List ℕ) where
         (as_positional [] v (argument_name v) (has_byte t 58 j) j _ _
         (left_has (λ b. b == 58) n ∙ no_colon level es ns tail)
         (passes_then (passes_separator level [] es ns j tail more n)
-        (λ k q. reads_gives (ap (λ e. item (says_positional e) []) f) q))))))
+        (λ k q. reads_yields (ap (λ e. item (says_positional e) []) f) q))))))
         (after_names level [] es ns tail more) (λ v a f g. added_positional v a e es ns f g);
   }
 
@@ -328,14 +328,14 @@ module _ (edition : Edition) (t : List ℕ) where
       Left t i (inline_bytes level e tail) →
       Reads t (grammar.inline_expression edition t) (inline_map (bytes_at t)) i e left →
       Reads t (peek (start t) (argument_value t (family edition t))) (inline_map (bytes_at t)) i e left
-  value_at level (string_literal v) i tail left h a l r = reads_at_each quote (starts_with quote refl l) r
+  value_at level (string_literal v) i tail left h a l r = reads_peek quote (starts_with quote refl l) r
   value_at level (number_literal []) i tail left h a l r = absurd cc
   value_at level (number_literal (b ∷ bs)) i tail left h a l r =
-      reads_at_each digit (starts_with digit (digit_start b _ (left_true (is_digit b) (is_number_rest bs) a)) l) r
+      reads_peek digit (starts_with digit (digit_start b _ (left_true (is_digit b) (is_number_rest bs) a)) l) r
   value_at level (function_reference id c) i tail left h a l r =
-      reads_at_each letter (name_start edition t i id _ (left_true (is_name id) _ h) l) r
+      reads_peek letter (name_start edition t i id _ (left_true (is_name id) _ h) l) r
   value_at level (message_reference id c) i tail left h a l r =
-      reads_at_each letter (name_start edition t i id _ (left_true (is_name id) _ h) l) r
+      reads_peek letter (name_start edition t i id _ (left_true (is_name id) _ h) l) r
   value_at level (term_reference id c d) i tail left h a l r = absurd cc
   value_at level (variable_reference id) i tail left h a l r = absurd cc
   value_at level (inline_placeable x) i tail left h a l r = absurd cc
@@ -359,7 +359,7 @@ module _ (edition : Edition) (t : List ℕ) where
       reads_bind (value_at level e k rest (past e [] rest) h.obeys value n
       (h.back k [] rest (follows_positional level no_inlines ns tail) n)) (λ v p g q.
       passes_then (passes_separator level (name ∷ names) no_inlines ns p tail more (left_as (past_same e rest) q))
-      (λ y z. reads_gives (same_item v f g) z)))))
+      (λ y z. reads_yields (same_item v f g) z)))))
     where
       same_item : (v : InlineTree Span) → bytes_at t id ≡ name → inline_map (bytes_at t) v ≡ e →
           item (says_named (bytes_at t id) (inline_map (bytes_at t) v)) (bytes_at t id ∷ names) ≡
@@ -408,7 +408,7 @@ module _ (edition : Edition) (t : List ℕ) where
       (λ j m. reads_bind (reads_present 40 refl m) (λ b k e n. reads_first e
       (reads_bind (passes_then (inside k n) (λ p q.
       reads_into (λ o x. into_argument_list edition t p o x) (h.back p tail q)))
-      (λ a w x s. reads_gives (ap some_arguments x) s))))
+      (λ a w x s. reads_yields (ap some_arguments x) s))))
     where
       at_end : (ps : InlineTrees Text) (ns : NamedTrees Text) (k : ℕ) → (ps ≡ no_inlines) ×
           (ns ≡ no_named) →

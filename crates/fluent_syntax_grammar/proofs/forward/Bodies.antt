@@ -108,10 +108,10 @@ body_alone s (comment level c) (y ∷ tiles) h = cc
 body_alone s (junk x) (y ∷ tiles) h = cc
 
 -- a comment directly before it is attached to it
-pub body_attached : (i j k : ℕ) (c : List Span) (e : EntryTree Span) (tiles : List Tile) → takes_comment e ≡ true →
+pub body_attaches_comment : (i j k : ℕ) (c : List Span) (e : EntryTree Span) (tiles : List Tile) → takes_comment e ≡ true →
     body (entry (record { start = i; end = j }) (comment regular c) ∷ entry (record { start = j; end = k }) e ∷ tiles)
     ≡ with_comment c e ∷ body tiles
-body_attached i j k c e tiles h = rw (same_number j, attached_with c e h) refl
+body_attaches_comment i j k c e tiles h = rw (same_number j, attached_with c e h) refl
 
 other_number : (i j : ℕ) → i < j → (i == j) ≡ false
 other_number i j l = grind (arith, nat_tests)
@@ -200,7 +200,7 @@ module _ (edition : Edition) (t : List ℕ) where
                 (reads o.reads) n.tiled);
             no_faults = n.no_faults;
             same =
-                ap (map (entry_map (bytes_at t))) (body_attached i q.end o.end d o.value n.tiles takes)
+                ap (map (entry_map (bytes_at t))) (body_attaches_comment i q.end o.end d o.value n.tiles takes)
                 ∙ ap (λ y. y ∷ tree_of t n.tiles) (with_map (bytes_at t) d o.value ∙ spelled_with d o.value f o.spells)
                 ∙ ap (λ ys. with_comment content e ∷ ys) n.same;
           }

@@ -19,7 +19,7 @@ use Rattle.fluent_syntax_grammar.specs.Canonical.{is_plain_line, is_plain_commen
 use Rattle.fluent_syntax_grammar.proofs.Facts.{left_true, right_true, two_on}
 use Rattle.fluent_syntax_grammar.proofs.Computed.{find_here, find_on}
 use Rattle.fluent_syntax_grammar.proofs.Left.{Left, first, left_first, left_next, left_past, left_has}
-use Rattle.fluent_syntax_grammar.proofs.forward.Reading.{Reads, Passes, reads_bind, reads_gives, reads_at_each}
+use Rattle.fluent_syntax_grammar.proofs.forward.Reading.{Reads, Passes, reads_bind, reads_yields, reads_peek}
 use Rattle.fluent_syntax_grammar.proofs.forward.Reading.{reads_here, passes_then, passes_over, passes_token}
 use Rattle.fluent_syntax_grammar.proofs.forward.Reading.{reads_spanned}
 use Rattle.fluent_syntax_grammar.proofs.marks.WrittenEntries.{doubled, after_hashes, comment_bytes}
@@ -34,10 +34,10 @@ doubled_end t true i tail l = rw (left_first l, left_first (left_next l)) refl
 doubled_eol : (t : List ℕ) (b : Bool) (i : ℕ) (tail : List ℕ) → Left t i (doubled b tail) →
     Passes t (optional_eol t) i tail
 doubled_eol t false i tail l =
-    reads_at_each (Some (i + 1)) (rw (left_first l) refl)
+    reads_peek (Some (i + 1)) (rw (left_first l) refl)
     (passes_over {j = i + 1} (record { there = refl }) (left_next l))
 doubled_eol t true i tail l =
-    reads_at_each (Some (i + 2)) (rw (left_first l, left_first (left_next l)) refl)
+    reads_peek (Some (i + 2)) (rw (left_first l, left_first (left_next l)) refl)
     (passes_over {j = i + 2} (record { there = refl })
     (subst (λ n. Left t n tail) (two_on i) (left_next (left_next l))))
 
@@ -132,21 +132,21 @@ module _ (t : List ℕ) where
       Left t i (after_hashes shown line tail) →
       Reads t (peek (slice_get t) (comment_rest t)) (map (bytes_at t)) i (line ∷ []) tail
   rest_back [] false i tail blank_line e l =
-      reads_at_each (Some lf) (left_first l)
-      (reads_bind (reads_at_each true (rw (left_first l) refl) (reads_here (reads_spanned [] (lf ∷ tail) l l)))
+      reads_peek (Some lf) (left_first l)
+      (reads_bind (reads_peek true (rw (left_first l) refl) (reads_here (reads_spanned [] (lf ∷ tail) l l)))
       (λ x j f m. passes_then (doubled_eol t false j tail m)
-      (λ k n. reads_gives (one_text (bytes_at t) x [] f) n)))
+      (λ k n. reads_yields (one_text (bytes_at t) x [] f) n)))
   rest_back (b ∷ line) false i tail x e l = elim x [ ]
   rest_back line true i tail shown_line e l =
       let end = doubled (is_last cr (last_of None line)) tail in
-      reads_at_each (Some space) (left_first l)
-      (reads_bind (reads_at_each false (rw (left_first l) refl)
+      reads_peek (Some space) (left_first l)
+      (reads_bind (reads_peek false (rw (left_first l) refl)
       (passes_then (passes_token 32 refl l)
       (λ j m. reads_here
       (passes_then (passes_over (left_line t line tail j e m) (left_past line m))
       (λ k n. reads_spanned line end m n)))))
       (λ x j f m. passes_then (doubled_eol t (is_last cr (last_of None line)) j tail m)
-      (λ k n. reads_gives (one_text (bytes_at t) x line f) n)))
+      (λ k n. reads_yields (one_text (bytes_at t) x line f) n)))
 
   line_back : (level : Level) (line : Text) (i : ℕ) (tail : List ℕ) → is_plain_line line ≡ true → has_lf line ≡ false →
       Left t i (hashes_of level ++ after_hashes (is_nonblank_line line) line tail) →
@@ -202,7 +202,7 @@ module _ (t : List ℕ) where
       Reads t (comment_entry t) (entry_map (bytes_at t)) i (comment level content) tail
   comment_back level [] i tail p a e l = absurd cc
   comment_back level (line ∷ lines) i tail p a e l =
-      reads_at_each (count level)
+      reads_peek (count level)
       (hash_count t level i (after_hashes (is_nonblank_line line) line (comment_bytes (hashes_of level) lines tail))
       (after_no_hash line (is_nonblank_line line) (comment_bytes (hashes_of level) lines tail)) l)
       (reads_bind (line_back level line i (comment_bytes (hashes_of level) lines tail)
@@ -210,4 +210,4 @@ module _ (t : List ℕ) where
       (λ x j f m.
       reads_bind (lines_back level lines j tail (right_true (is_plain_line line) _ p)
       (right_true (not (has_lf line)) _ a) e m)
-      (λ y k g n. reads_gives (same_comment level x y line lines f g) n)))
+      (λ y k g n. reads_yields (same_comment level x y line lines f g) n)))

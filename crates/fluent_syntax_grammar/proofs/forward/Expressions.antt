@@ -21,8 +21,8 @@ use Rattle.fluent_syntax_grammar.proofs.Facts.{left_true, right_true, equal}
 use Rattle.fluent_syntax_grammar.proofs.Tests.{both}
 use Rattle.fluent_syntax_grammar.proofs.Nesting.{into_expression}
 use Rattle.fluent_syntax_grammar.proofs.Left.{Left, left_first, is_blank_byte}
-use Rattle.fluent_syntax_grammar.proofs.forward.Reading.{Reads, Passes, reads_bind, reads_gives, passes_then}
-use Rattle.fluent_syntax_grammar.proofs.forward.Reading.{reads_at_each, reads_look, reads_second, reads_into}
+use Rattle.fluent_syntax_grammar.proofs.forward.Reading.{Reads, Passes, reads_bind, reads_yields, passes_then}
+use Rattle.fluent_syntax_grammar.proofs.forward.Reading.{reads_peek, reads_look, reads_second, reads_into}
 use Rattle.fluent_syntax_grammar.proofs.forward.Reading.{passes_token, passes_inline_blank}
 use Rattle.fluent_syntax_grammar.proofs.marks.WrittenBytes.{expression_bytes, element_bytes, closing_indent}
 use Rattle.fluent_syntax_grammar.proofs.forward.Inline.{Follows, past, passes_blank, passes_blanks, starts_with}
@@ -117,7 +117,7 @@ module _ (edition : Edition) (t : List ℕ) where
       reads_look false (no_arrow k more n)
       (reads_second refl
       (reads_second (sym (same_attribute (bytes_at t) v) ∙ ap is_term_attribute f ∙ a)
-      (reads_gives (ap inline f) n)))))
+      (reads_yields (ap inline f) n)))))
 
   pub inline_is_back : (level : ℕ) (e : InlineTree Text) → is_term_attribute e ≡ false → InlineBack edition t level e →
       ExpressionBack edition t level (inline e)
@@ -141,7 +141,7 @@ module _ (edition : Edition) (t : List ℕ) where
       (begins_other cr b refl) m) (λ k n.
       reads_bind (reads_into (λ o x. into_expression edition t k o x) (h.back k gap more g n))
       (λ v p f o. passes_then (passes_inline_blank [] (125 ∷ more) refl refl o)
-      (λ q r. passes_then (passes_token 125 refl r) (λ y z. reads_gives f z)))))
+      (λ q r. passes_then (passes_token 125 refl r) (λ y z. reads_yields f z)))))
 
   -- the same as an inline expression
   braced : (level : ℕ) (e : ExpressionTree Text) (before gap more : List ℕ) (i : ℕ) → list_all is_space before ≡ true →
@@ -149,9 +149,9 @@ module _ (edition : Edition) (t : List ℕ) where
       Left t i (123 ∷ (before ++ expression_bytes level e (closing_indent level e ++ (gap ++ (125 ∷ more))))) →
       Reads t (inline_expression edition t) (inline_map (bytes_at t)) i (inline_placeable e) more
   braced level e before gap more i a g h l =
-      reads_at_each brace (starts_with brace refl l)
+      reads_peek brace (starts_with brace refl l)
       (reads_bind (placeable_back level e before gap more i a g h l)
-      (λ v j f m. reads_gives (ap inline_placeable f) m))
+      (λ v j f m. reads_yields (ap inline_placeable f) m))
 
   pub placeable_is_back : (level : ℕ) (e : ExpressionTree Text) →
       inline_obeys (canonical_rules edition) (inline_placeable e) ≡ true → ExpressionBack edition t level e →
@@ -171,4 +171,4 @@ module _ (edition : Edition) (t : List ℕ) where
       (expression_after (inline_placeable e) [] tail k refl refl
       (braced level e (32 ∷ []) (32 ∷ []) (125 ∷ tail) k refl refl h n)))
       (λ v p f o. passes_then (passes_inline_blank [] (125 ∷ tail) refl refl o) (λ q r.
-      passes_then (passes_token 125 refl r) (λ y z. reads_gives f z)))))
+      passes_then (passes_token 125 refl r) (λ y z. reads_yields f z)))))

@@ -21,7 +21,7 @@ use Rattle.fluent_syntax_grammar.specs.Readable.{has_field}
 use Rattle.fluent_syntax_grammar.specs.Canonical.{canonical_rules}
 use Rattle.fluent_syntax_grammar.proofs.Facts.{left_true, right_true, some_same}
 use Rattle.fluent_syntax_grammar.proofs.Left.{Left, left_next, left_past, left_no_eol_after, left_word}
-use Rattle.fluent_syntax_grammar.proofs.forward.Reading.{Reads, reads_bind, reads_gives, reads_here, passes_then}
+use Rattle.fluent_syntax_grammar.proofs.forward.Reading.{Reads, reads_bind, reads_yields, reads_here, passes_then}
 use Rattle.fluent_syntax_grammar.proofs.forward.Reading.{passes_over, passes_token, passes_inline_blank}
 use Rattle.fluent_syntax_grammar.proofs.forward.Words.{reads_name}
 use Rattle.fluent_syntax_grammar.proofs.marks.WrittenBytes.{pattern_bytes}
@@ -51,7 +51,7 @@ module _ (edition : Edition) (t : List ℕ) where
       bytes_at t id ≡ a.id → option_map (pattern_map (bytes_at t)) v ≡ Some a.value → Left t i bs →
       Reads t (attribute_with id v) (attribute_map (bytes_at t)) i a bs
   attribute_then id a None i bs e f l = absurd cc
-  attribute_then id a (Some p) i bs e f l = reads_gives (same_attribute (some_same f)) l
+  attribute_then id a (Some p) i bs e f l = reads_yields (same_attribute (some_same f)) l
     where
       same_attribute : pattern_map (bytes_at t) p ≡ a.value →
           attribute_map (bytes_at t) (record { id = id; value = p }) ≡ a
@@ -150,14 +150,14 @@ module _ (edition : Edition) (t : List ℕ) where
   message_then start id None [] x v as' i rest h e f g l = absurd cc
   message_then start id None (a ∷ more) x (Some p) as' i rest h e f g l = absurd cc
   message_then start id None (a ∷ more) x None [] i rest h e f g l = absurd cc
-  message_then start id None (a ∷ more) x None (b ∷ bs) i rest h e f g l = reads_gives (same_message e g) l
+  message_then start id None (a ∷ more) x None (b ∷ bs) i rest h e f g l = reads_yields (same_message e g) l
     where
       same_message : bytes_at t x ≡ id → map (attribute_map (bytes_at t)) (b ∷ bs) ≡ a ∷ more →
           entry_map (bytes_at t) (message (record { id = x; value = None; attributes = b ∷ bs; comment = None }))
           ≡ message (record { id = id; value = None; attributes = a ∷ more; comment = None })
       same_message e g = rw (e, g) refl
   message_then start id (Some q) more x None as' i rest h e f g l = absurd cc
-  message_then start id (Some q) more x (Some p) as' i rest h e f g l = reads_gives (same_message e (some_same f) g) l
+  message_then start id (Some q) more x (Some p) as' i rest h e f g l = reads_yields (same_message e (some_same f) g) l
     where
       same_message : bytes_at t x ≡ id → pattern_map (bytes_at t) p ≡ q → map (attribute_map (bytes_at t)) as' ≡ more →
           entry_map (bytes_at t) (message (record { id = x; value = Some p; attributes = as'; comment = None }))
@@ -191,7 +191,7 @@ module _ (edition : Edition) (t : List ℕ) where
       Reads t (term_with t start x v as') (entry_map (bytes_at t)) i
       (term (record { id = id; value = value; attributes = more; comment = None })) rest
   term_then start id value more x None as' i rest e f g l = absurd cc
-  term_then start id value more x (Some p) as' i rest e f g l = reads_gives (same_term e (some_same f) g) l
+  term_then start id value more x (Some p) as' i rest e f g l = reads_yields (same_term e (some_same f) g) l
     where
       same_term : bytes_at t x ≡ id → pattern_map (bytes_at t) p ≡ value → map (attribute_map (bytes_at t)) as' ≡ more →
           entry_map (bytes_at t) (term (record { id = x; value = p; attributes = as'; comment = None }))

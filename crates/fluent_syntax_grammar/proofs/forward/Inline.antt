@@ -24,8 +24,8 @@ use Rattle.fluent_syntax_grammar.specs.Grammar.{inline_expression, call_argument
 use Rattle.fluent_syntax_grammar.proofs.Facts.{left_true, right_true, equal}
 use Rattle.fluent_syntax_grammar.proofs.Tests.{or_cases, differ}
 use Rattle.fluent_syntax_grammar.proofs.Left.{Left, first, left_first, left_next, left_past, left_blank, is_blank_byte}
-use Rattle.fluent_syntax_grammar.proofs.forward.Reading.{Reads, Passes, reads_bind, reads_gives, passes_then}
-use Rattle.fluent_syntax_grammar.proofs.forward.Reading.{passes_over, reads_at_each, reads_first, reads_second}
+use Rattle.fluent_syntax_grammar.proofs.forward.Reading.{Reads, Passes, reads_bind, reads_yields, passes_then}
+use Rattle.fluent_syntax_grammar.proofs.forward.Reading.{passes_over, reads_peek, reads_first, reads_second}
 use Rattle.fluent_syntax_grammar.proofs.forward.Reading.{reads_present, reads_absent, passes_token}
 use Rattle.fluent_syntax_grammar.proofs.forward.Words.{reads_name, reads_number}
 use Rattle.fluent_syntax_grammar.proofs.forward.Strings.{reads_string}
@@ -103,23 +103,23 @@ module _ (edition : Edition) (t : List ℕ) where
   pub string_back : (i level : ℕ) (v more : List ℕ) → is_string v ≡ true →
       Left t i (inline_bytes level (string_literal v) more) → ReadsInline i (string_literal v) more
   string_back i level v more e l =
-      reads_at_each quote (starts_with quote refl l)
-      (reads_bind (reads_string v more e l) (λ s j f m. reads_gives (ap string_literal f) m))
+      reads_peek quote (starts_with quote refl l)
+      (reads_bind (reads_string v more e l) (λ s j f m. reads_yields (ap string_literal f) m))
 
   pub variable_back : (i level : ℕ) (id gap more : List ℕ) → is_name id ≡ true → Follows gap more →
       Left t i (inline_bytes level (variable_reference id) (gap ++ more)) →
       ReadsInline i (variable_reference id) (gap ++ more)
   variable_back i level id gap more e f l =
-      reads_at_each dollar (starts_with dollar refl l)
+      reads_peek dollar (starts_with dollar refl l)
       (passes_then (passes_token 36 refl l)
       (λ j m. reads_bind (reads_name id (gap ++ more) e f.no_name m)
-      (λ s j g n. reads_gives (ap variable_reference g) n)))
+      (λ s j g n. reads_yields (ap variable_reference g) n)))
 
   number_as : (i : ℕ) (v gap more : List ℕ) → is_number v ≡ true → Follows gap more → Left t i (v ++ (gap ++ more)) →
       Reads t (number t >>= λ v. yields (number_literal v)) (inline_map (bytes_at t)) i (number_literal v) (gap ++ more)
   number_as i v gap more e f l =
       reads_bind (reads_number v (gap ++ more) e f.no_digit f.no_point l)
-      (λ s j g m. reads_gives (ap number_literal g) m)
+      (λ s j g m. reads_yields (ap number_literal g) m)
 
   number_start : (i : ℕ) (v more : List ℕ) → is_number v ≡ true → Left t i (v ++ more) → (start t i ≡ digit) ⊎
       (start t i ≡ minus)
@@ -143,8 +143,8 @@ module _ (edition : Edition) (t : List ℕ) where
   pub number_back : (i level : ℕ) (v gap more : List ℕ) → is_number v ≡ true → Follows gap more →
       Left t i (inline_bytes level (number_literal v) (gap ++ more)) → ReadsInline i (number_literal v) (gap ++ more)
   number_back i level v gap more e f l = elim (number_start i v (gap ++ more) e l) [
-    | inl s ↦ reads_at_each digit s (number_as i v gap more e f l)
-    | inr s ↦ reads_at_each minus s (number_as i v gap more e f l)
+    | inl s ↦ reads_peek digit s (number_as i v gap more e f l)
+    | inr s ↦ reads_peek minus s (number_as i v gap more e f l)
   ]
 
   -- ---- names and arguments
@@ -157,7 +157,7 @@ module _ (edition : Edition) (t : List ℕ) where
       ReadsCall i no_arguments more
   call_none i gap more f l =
       passes_then (passes_gap gap more f l)
-      (λ j m. reads_bind (reads_absent 40 f.no_list m) (λ b k e n. reads_second e (reads_gives refl n)))
+      (λ j m. reads_bind (reads_absent 40 f.no_list m) (λ b k e n. reads_second e (reads_yields refl n)))
 
   -- no argument list, and no blank to pass
   no_list_here : (i : ℕ) (more : List ℕ) → holds is_space (first more) ≡ false →
@@ -166,7 +166,7 @@ module _ (edition : Edition) (t : List ℕ) where
       Left t i more → ReadsCall i no_arguments more
   no_list_here i more a d e f l =
       passes_then (passes_blanks [] more refl a d e l)
-      (λ j m. reads_bind (reads_absent 40 f m) (λ b k h n. reads_second h (reads_gives refl n)))
+      (λ j m. reads_bind (reads_absent 40 f m) (λ b k h n. reads_second h (reads_yields refl n)))
 
   pub name_start : (i : ℕ) (id more : List ℕ) → is_name id ≡ true → Left t i (id ++ more) → start t i ≡ letter
   name_start i [] more e l = cc
@@ -177,13 +177,13 @@ module _ (edition : Edition) (t : List ℕ) where
 
   pub no_accessor : (i : ℕ) (more : List ℕ) → holds (λ b. b == 46) (first more) ≡ false → Left t i more →
       Reads t (rules.accessor t) (option_texts (bytes_at t)) i None more
-  no_accessor i more e l = reads_bind (reads_absent 46 e l) (λ b j f m. reads_second f (reads_gives refl m))
+  no_accessor i more e l = reads_bind (reads_absent 46 e l) (λ b j f m. reads_second f (reads_yields refl m))
 
   pub some_accessor : (i : ℕ) (a more : List ℕ) → is_name a ≡ true → holds is_name_byte (first more) ≡ false →
       Left t i (46 ∷ (a ++ more)) → Reads t (rules.accessor t) (option_texts (bytes_at t)) i (Some a) more
   some_accessor i a more e f l =
       reads_bind (reads_present 46 refl l)
-      (λ b j g m. reads_first g (reads_bind (reads_name a more e f m) (λ s k h n. reads_gives (ap Some h) n)))
+      (λ b j g m. reads_first g (reads_bind (reads_name a more e f m) (λ s k h n. reads_yields (ap Some h) n)))
 
   -- a name without arguments is a message reference
   message_after :
@@ -191,13 +191,13 @@ module _ (edition : Edition) (t : List ℕ) where
       bytes_at t id ≡ name → maybe_map (bytes_at t) v ≡ no_arguments →
       Reads t (rules.accessor t) (option_texts (bytes_at t)) i attribute left →
       Reads t (rules'.named_reference t id v) (inline_map (bytes_at t)) i (message_reference name attribute) left
-  message_after id name attribute i left no_arguments e f r = reads_bind r (λ a j g m. reads_gives (cc) m)
+  message_after id name attribute i left no_arguments e f r = reads_bind r (λ a j g m. reads_yields (cc) m)
   message_after id name attribute i left (some_arguments a) e f r = absurd cc
 
   pub message_back : (i level : ℕ) (id gap more : List ℕ) → is_name id ≡ true → Follows gap more →
       Left t i (id ++ (gap ++ more)) → ReadsInline i (message_reference id None) more
   message_back i level id gap more e f l =
-      reads_at_each letter (name_start i id (gap ++ more) e l)
+      reads_peek letter (name_start i id (gap ++ more) e l)
       (reads_bind (reads_name id (gap ++ more) e f.no_name l) (λ s j g m.
       reads_bind (call_none j gap more f m)
       (λ a k h n. message_after s id None k more a g h (no_accessor k more f.no_attribute n))))
@@ -206,7 +206,7 @@ module _ (edition : Edition) (t : List ℕ) where
       Follows gap more → Left t i (id ++ (46 ∷ (a ++ (gap ++ more)))) →
       ReadsInline i (message_reference id (Some a)) (gap ++ more)
   message_attribute_back i level id a gap more e e' f l =
-      reads_at_each letter (name_start i id _ e l) (reads_bind (reads_name id _ e refl l) (λ s j g m.
+      reads_peek letter (name_start i id _ e l) (reads_bind (reads_name id _ e refl l) (λ s j g m.
       reads_bind (no_list_here j _ refl refl refl refl m)
       (λ v k h n. message_after s id (Some a) k (gap ++ more) v g h
       (some_accessor k a (gap ++ more) e' f.no_name n))))

@@ -21,7 +21,7 @@ use Rattle.fluent_syntax_grammar.specs.Inline.{is_callee_byte, named_reference}
 use Rattle.fluent_syntax_grammar.specs.Grammar.{inline_expression, call_arguments}
 use Rattle.fluent_syntax_grammar.proofs.Facts.{left_true, right_true}
 use Rattle.fluent_syntax_grammar.proofs.Left.{Left, first}
-use Rattle.fluent_syntax_grammar.proofs.forward.Reading.{Reads, reads_bind, reads_gives, passes_then, reads_at_each}
+use Rattle.fluent_syntax_grammar.proofs.forward.Reading.{Reads, reads_bind, reads_yields, passes_then, reads_peek}
 use Rattle.fluent_syntax_grammar.proofs.forward.Reading.{reads_first, passes_token}
 use Rattle.fluent_syntax_grammar.proofs.forward.Words.{reads_name}
 use Rattle.fluent_syntax_grammar.proofs.marks.WrittenBytes.{attribute_bytes, maybe_bytes}
@@ -94,7 +94,7 @@ module _ (edition : Edition) (t : List ℕ) where
       Reads t (named_reference t id v) (inline_map (bytes_at t)) i (function_reference name x) left
   function_after id name x i left no_arguments e f g l = absurd cc
   function_after id name x i left (some_arguments a) e f g l =
-      reads_first (ap (list_all is_callee_byte) e ∙ g) (reads_gives (cc) l)
+      reads_first (ap (list_all is_callee_byte) e ∙ g) (reads_yields (cc) l)
 
   pub function_is_back : (level : ℕ) (id : Text) (ps : InlineTrees Text) (ns : NamedTrees Text) →
       inline_obeys (canonical_rules edition) (function_reference id (arguments ps ns)) ≡ true →
@@ -103,7 +103,7 @@ module _ (edition : Edition) (t : List ℕ) where
     obeys = h;
     back = λ i gap rest f l.
         let is : is_name id ≡ true = left_true (is_name id) _ h in
-        reads_at_each letter (name_start edition t i id _ is l)
+        reads_peek letter (name_start edition t i id _ is l)
         (reads_bind (reads_name id _ is refl l)
         (λ s j g m. reads_bind (call_back edition t level ps ns more j (gap ++ rest) m) (λ a k x n.
         function_after s id (arguments ps ns) k (gap ++ rest) a g x
@@ -150,11 +150,11 @@ module _ (edition : Edition) (t : List ℕ) where
       let is : is_name id ≡ true = left_true (is_name id) _ h in
       let accessor_is : option_obeys is_name attribute ≡ true =
       left_true (option_obeys is_name attribute) _ (right_true (is_name id) _ h) in
-      reads_at_each term (term_start i id _ is l)
+      reads_peek term (term_start i id _ is l)
       (passes_then (passes_token 45 refl l)
       (λ j m. reads_bind (reads_name id _ is (name_before_accessor level attribute a gap more f) m) (λ s k g n.
       reads_bind (accessor_back level attribute a k gap more accessor_is f n)
-      (λ x p d o. reads_bind (b.back p gap more f o) (λ y q w r. reads_gives (cc) r)))))
+      (λ x p d o. reads_bind (b.back p gap more f o) (λ y q w r. reads_yields (cc) r)))))
 
   pub term_is_back : (level : ℕ) (id : Text) (attribute : Option Text) (a : MaybeArguments Text) →
       inline_obeys (canonical_rules edition) (term_reference id attribute a) ≡ true → MaybeBack edition t level a →

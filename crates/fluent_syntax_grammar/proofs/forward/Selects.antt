@@ -23,8 +23,8 @@ use Rattle.fluent_syntax_grammar.specs.Grammar.{family}
 use Rattle.fluent_syntax_grammar.proofs.Facts.{left_true, right_true, equal, some_same}
 use Rattle.fluent_syntax_grammar.proofs.Tests.{both, or_cases, differ}
 use Rattle.fluent_syntax_grammar.proofs.Left.{Left, left_as, left_first, left_next, left_has}
-use Rattle.fluent_syntax_grammar.proofs.forward.Reading.{Reads, Passes, reads_bind, reads_gives, passes_nothing}
-use Rattle.fluent_syntax_grammar.proofs.forward.Reading.{passes_then, passes_over, reads_at_each, reads_look}
+use Rattle.fluent_syntax_grammar.proofs.forward.Reading.{Reads, Passes, reads_bind, reads_yields, passes_nothing}
+use Rattle.fluent_syntax_grammar.proofs.forward.Reading.{passes_then, passes_over, reads_peek, reads_look}
 use Rattle.fluent_syntax_grammar.proofs.forward.Reading.{reads_first, reads_second, reads_present, more_map, reads_end}
 use Rattle.fluent_syntax_grammar.proofs.forward.Reading.{reads_item}
 use Rattle.fluent_syntax_grammar.proofs.forward.Reading.{reads_absent, passes_token, passes_two, passes_inline_blank}
@@ -129,26 +129,26 @@ module _ (edition : Edition) (t : List ℕ) where
     where
       ends_with : (d : Edition) {p : ℕ} {left : List ℕ} → Left t p left →
           Reads t (variants_end d true false) said p no_item left
-      ends_with One o = reads_first refl (reads_gives refl o)
-      ends_with Two o = reads_first refl (reads_gives refl o)
+      ends_with One o = reads_first refl (reads_yields refl o)
+      ends_with Two o = reads_first refl (reads_yields refl o)
 
   -- a key before its bracket
   key_back : (key : KeyTree Text) (i : ℕ) (tail : Text) → key_obeys' key ≡ true →
       Left t i (key_text key ++ (93 ∷ tail)) → Reads t (variant_key t) (key_map (bytes_at t)) i key (93 ∷ tail)
   key_back (name_key []) i tail e l = absurd cc
   key_back (name_key (b ∷ bs)) i tail e l =
-      reads_at_each false
+      reads_peek false
       (left_has is_number_start l ∙ no_number b (left_true (is_letter b) (list_all is_name_byte bs) e))
       (reads_second refl
-      (reads_bind (reads_name (b ∷ bs) (93 ∷ tail) e refl l) (λ s j f m. reads_gives (ap name_key f) m)))
+      (reads_bind (reads_name (b ∷ bs) (93 ∷ tail) e refl l) (λ s j f m. reads_yields (ap name_key f) m)))
     where
       no_number : (b : ℕ) → is_letter b ≡ true → is_number_start b ≡ false
       no_number b e = rw (letter_no_digit b e, differ is_letter b 45 e refl) refl
   key_back (number_key []) i tail e l = absurd cc
   key_back (number_key (b ∷ bs)) i tail e l =
-      reads_at_each true (left_has is_number_start l ∙ starts_number b bs e)
+      reads_peek true (left_has is_number_start l ∙ starts_number b bs e)
       (reads_first refl
-      (reads_bind (reads_number (b ∷ bs) (93 ∷ tail) e refl refl l) (λ s j f m. reads_gives (ap number_key f) m)))
+      (reads_bind (reads_number (b ∷ bs) (93 ∷ tail) e refl refl l) (λ s j f m. reads_yields (ap number_key f) m)))
     where
       starts_number : (b : ℕ) (bs : List ℕ) → is_number (b ∷ bs) ≡ true → is_number_start b ≡ true
       starts_number b bs e = elim (or_cases (b == 45 && is_unsigned bs) (is_unsigned (b ∷ bs)) e) [
@@ -172,7 +172,7 @@ module _ (edition : Edition) (t : List ℕ) where
   after_value level starred star key value vs k None i close more a e f l = absurd cc
   after_value level starred star key value vs k (Some v) i close more a e f l =
       passes_then (passes_indent level vs close more i a l)
-      (λ j m. reads_gives (same_variant k v e (some_same f)) m)
+      (λ j m. reads_yields (same_variant k v e (some_same f)) m)
     where
       same_variant : (k : KeyTree Span) (v : PatternTree Span) → key_map (bytes_at t) k ≡ key →
           pattern_map (bytes_at t) v ≡ value →
@@ -274,12 +274,12 @@ module _ (edition : Edition) (t : List ℕ) where
       (λ j m. passes_then (passes_inline_blank [] _ refl refl m)
       (λ k n. passes_then (line_end_passes k n)
       (λ p o. passes_then (passes_indent (level + 1) vs close more p a o)
-      (λ q x. h.back q close more a x))))) (λ ws y d z. reads_gives (same_select ws d) z))
+      (λ q x. h.back q close more a x))))) (λ ws y d z. reads_yields (same_select ws d) z))
     where
       line_end_passes : {bs : List ℕ} (k : ℕ) → Left t k (lf ∷ bs) →
           Passes t (peek (after_eol t) arrow_line_end) k bs
       line_end_passes k n =
-          reads_at_each (Some (k + 1)) (lf_after edition t n)
+          reads_peek (Some (k + 1)) (lf_after edition t n)
           (passes_over {j = k + 1} (record { there = refl }) (left_next n))
 
       same_select : (ws : VariantTrees Span) → variants_map (bytes_at t) ws ≡ vs →

@@ -14,8 +14,8 @@ use Rattle.fluent_syntax_grammar.specs.Spellings.{is_units, is_escape, is_string
 use Rattle.fluent_syntax_grammar.proofs.Facts.{left_true, right_true, equal}
 use Rattle.fluent_syntax_grammar.proofs.Tests.{both, or_cases}
 use Rattle.fluent_syntax_grammar.proofs.Left.{Left, left_as, left_first, left_next, left_past, left_has, left_each}
-use Rattle.fluent_syntax_grammar.proofs.forward.Reading.{Reads, Passes, reads_bind, reads_gives, passes_then}
-use Rattle.fluent_syntax_grammar.proofs.forward.Reading.{reads_here, reads_at_each, reads_first, reads_second}
+use Rattle.fluent_syntax_grammar.proofs.forward.Reading.{Reads, Passes, reads_bind, reads_yields, passes_then}
+use Rattle.fluent_syntax_grammar.proofs.forward.Reading.{reads_here, reads_peek, reads_first, reads_second}
 use Rattle.fluent_syntax_grammar.proofs.forward.Reading.{passes_one, passes_two, passes_token, reads_spanned}
 
 -- hexadecimal digits, so many, and units after them
@@ -95,7 +95,7 @@ module _ {t : List ℕ} where
       Passes t (escaped t (Some c)) i left → Passes t (string_unit t (Some b)) i left
   passes_escape {c = c} e l m =
       reads_second (ap (λ b. b == lf) e)
-      (reads_first (ap (λ b. b == 92) e) (reads_at_each (Some c) (left_first (left_next l)) m))
+      (reads_first (ap (λ b. b == 92) e) (reads_peek (Some c) (left_first (left_next l)) m))
 
   passes_hex_escape : {i b c : ℕ} {bs : List ℕ} (left : List ℕ) (n : ℕ) (r : HexThen n bs) →
       Left t i (b ∷ c ∷ (bs ++ left)) → Passes t (skip (Steps 2) >> hex_digits t n) i (r.more ++ left)
@@ -171,4 +171,4 @@ module _ {t : List ℕ} where
       (λ j m. reads_here
       (passes_then (units_within (length v) v more j (omega arith) e m)
       (λ k n. reads_bind (reads_spanned v (34 ∷ more) m n)
-      (λ s h f o. passes_then (passes_token 34 refl o) (λ q p. reads_gives f p)))))
+      (λ s h f o. passes_then (passes_token 34 refl o) (λ q p. reads_yields f p)))))

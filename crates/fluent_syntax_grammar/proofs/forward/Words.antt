@@ -13,7 +13,7 @@ use Rattle.fluent_syntax_grammar.proofs.Facts.{left_true, right_true, equal}
 use Rattle.fluent_syntax_grammar.proofs.Tests.{both, or_cases, differ, letter_name}
 use Rattle.fluent_syntax_grammar.proofs.Left.{Left, left_as, first, left_past, left_has, left_word}
 use Rattle.fluent_syntax_grammar.proofs.forward.Reading.{Reads, Passes, reads_bind, passes_nothing, passes_then}
-use Rattle.fluent_syntax_grammar.proofs.forward.Reading.{reads_here, passes_over, reads_at_each, reads_look}
+use Rattle.fluent_syntax_grammar.proofs.forward.Reading.{reads_here, passes_over, reads_peek, reads_look}
 use Rattle.fluent_syntax_grammar.proofs.forward.Reading.{reads_first, reads_second, reads_present, reads_absent}
 use Rattle.fluent_syntax_grammar.proofs.forward.Reading.{reads_spanned}
 
@@ -85,7 +85,7 @@ module _ {t : List ℕ} where
       Left t i (ds ++ more) → Passes t (digits t) i more
   passes_digits [] more e f l = cc
   passes_digits (d ∷ ds) more e f l =
-      reads_at_each true (left_has is_digit l ∙ left_true (is_digit d) (list_all is_digit ds) e)
+      reads_peek true (left_has is_digit l ∙ left_true (is_digit d) (list_all is_digit ds) e)
       (reads_first refl (passes_over (left_word is_digit (d ∷ ds) more e f l) (left_past (d ∷ ds) l)))
 
   -- the fraction of a number, if it has one, and what follows it

@@ -55,11 +55,11 @@ module _ (t : List ℕ) (i : ℕ) where
   Named e = is_name e ≡ true → (name : Span) × (end : ℕ) × identifier t i (Read name end) ×
       (argument_name e ≡ Some name)
 
-  gives_same : {A : Type 0} {a b : A} {i j : ℕ} → yields a i (Read b j) → b ≡ a
-  gives_same given = refl
+  yields_same : {A : Type 0} {a b : A} {i j : ℕ} → yields a i (Read b j) → b ≡ a
+  yields_same given = refl
 
   no_named : (e a : InlineTree Span) {k j : ℕ} → is_name a ≡ false → yields a k (Read e j) → Named e
-  no_named e a none h is = absurd (true≢false (sym is ∙ ap is_name (gives_same h) ∙ none))
+  no_named e a none h is = absurd (true≢false (sym is ∙ ap is_name (yields_same h) ∙ none))
 
   is_of : (id : Span) (a : Option Span) → is_name (message_reference id a) ≡ true →
       argument_name (message_reference id a) ≡ Some id
@@ -74,8 +74,8 @@ module _ (t : List ℕ) (i : ℕ) where
     id,
     m,
     read,
-    ap argument_name (gives_same h)
-        ∙ is_of id a (ap is_name (sym (gives_same h)) ∙ is),
+    ap argument_name (yields_same h)
+        ∙ is_of id a (ap is_name (sym (yields_same h)) ∙ is),
   )
 
   module _ (R : Family) where
@@ -90,8 +90,8 @@ module _ (t : List ℕ) (i : ℕ) where
     by_start brace e j (goes_on {a = v} x h) is = no_named e (inline_placeable v) refl h is
     by_start other e j h is = elim h [ ]
 
-    pub name_read : (e : InlineTree Span) (j : ℕ) → inline_expression t R i (Read e j) → Named e
-    name_read e j (chosen h) = by_start (start t i) e j h
+    pub argument_name_is_identifier : (e : InlineTree Span) (j : ℕ) → inline_expression t R i (Read e j) → Named e
+    argument_name_is_identifier e j (chosen h) = by_start (start t i) e j h
 
     -- the text of a name, by where the argument begins
     pub argument_text : (e : InlineTree Span) (j : ℕ) → inline_expression t R i (Read e j) → (name : Span) →
@@ -100,7 +100,7 @@ module _ (t : List ℕ) (i : ℕ) where
       where
         by : (b : Bool) → is_name e ≡ b → bytes_at t name ≡ name_text t i
         by true named =
-            let found = name_read e j read named in
+            let found = argument_name_is_identifier e j read named in
             let same : name ≡ found.0 = let both : Some name ≡ Some found.0 = sym is ∙ found.3 in cc in
             rw same (identifier_text t found.2)
         by false unnamed = let none : Some name ≡ None = sym is ∙ no_argument_name e unnamed in cc

@@ -17,9 +17,9 @@ use Rattle.fluent_syntax_grammar.specs.Expressions.{arrow_line_end, expression, 
 use Rattle.fluent_syntax_grammar.specs.Places.{Blank, Reaches, Steps, after_eol}
 use Rattle.fluent_syntax_grammar.specs.Variants.{only_star}
 use Rattle.fluent_syntax_grammar.specs.Tokens.{optional, token}
-use Rattle.fluent_syntax_grammar.proofs.Deeper.{deeper_first, deeper_next, deeper_yes, deeper_no, deeper_at_each}
+use Rattle.fluent_syntax_grammar.proofs.Deeper.{deeper_first, deeper_next, deeper_yes, deeper_no, deeper_peek}
 use Rattle.fluent_syntax_grammar.proofs.Deeper.{none_inside, no_list_inside}
-use Rattle.fluent_syntax_grammar.proofs.Functional.{functional, functional_at_each}
+use Rattle.fluent_syntax_grammar.proofs.Functional.{functional, functional_peek}
 use Rattle.fluent_syntax_grammar.proofs.FunctionalRules.{functional_arrow}
 use Rattle.fluent_syntax_grammar.proofs.FunctionalWords.{functional_blank, functional_optional, functional_token}
 use Rattle.fluent_syntax_parser.specs.declared.fault.ReadFault.{ReadFault}
@@ -76,16 +76,16 @@ fails_no e (refused h) = refused (λ k from to s. second e (h k from to s))
 fails_no e (too_deep h) = too_deep (deeper_no e h)
 fails_no e no_memory = no_memory
 
-pub fails_at_each : {A B : Type 0} {t : List ℕ} {look : ℕ → A} {part : A → Construct B} {i : ℕ} {f : ReadFault} →
+pub fails_peek : {A B : Type 0} {t : List ℕ} {look : ℕ → A} {part : A → Construct B} {i : ℕ} {f : ReadFault} →
     Fails t (part (look i)) i f → Fails t (peek look part) i f
-fails_at_each (refused h) = refused (λ k from to s. chosen (h k from to s))
-fails_at_each (too_deep h) = too_deep (deeper_at_each h)
-fails_at_each no_memory = no_memory
+fails_peek (refused h) = refused (λ k from to s. chosen (h k from to s))
+fails_peek (too_deep h) = too_deep (deeper_peek h)
+fails_peek no_memory = no_memory
 
 -- by what was seen at the place
 pub fails_seen : {A B : Type 0} {t : List ℕ} {look : ℕ → A} (part : A → Construct B) {i : ℕ} {f : ReadFault} (a : A) →
     a ≡ look i → Fails t (part a) i f → Fails t (peek look part) i f
-fails_seen {t = t} part {i = i} {f = f} a e h = fails_at_each (subst (λ a. Fails t (part a) i f) e h)
+fails_seen {t = t} part {i = i} {f = f} a e h = fails_peek (subst (λ a. Fails t (part a) i f) e h)
 
 -- ---- parts with one outcome at most
 
@@ -105,7 +105,7 @@ pub functional_star : (starred star : Bool) → IsFunctional (only_star starred 
 functional_star starred star = search functional depth 30
 
 pub functional_arrow_end : (t : List ℕ) → IsFunctional (peek (after_eol t) arrow_line_end)
-functional_arrow_end t = functional_at_each functional_arrow
+functional_arrow_end t = functional_peek functional_arrow
 
 -- ---- what stands inside, within one more
 
@@ -157,19 +157,19 @@ module _ (edition : Edition) (t : List ℕ) where
 
   -- ---- one that may not open
 
-  deeper_over : {B : Type 0} {W : ℕ → ℕ → Type 0} {c : Unit {0} → Construct B} {i : ℕ} →
+  deeper_skip : {B : Type 0} {W : ℕ → ℕ → Type 0} {c : Unit {0} → Construct B} {i : ℕ} →
       ((j : ℕ) → W i j → TooDeep (c tt) j) → TooDeep (skip W >>= c) i
-  deeper_over h o (stops x) = elim x [ ]
-  deeper_over h o (goes_on (passed {j = j} w) y) = h j w o y
+  deeper_skip h o (stops x) = elim x [ ]
+  deeper_skip h o (goes_on (passed {j = j} w) y) = h j w o y
 
   pub no_placeable : (n i j : ℕ) → n ≡ 0 → token t left_brace i (Read tt j) →
       TooDeep (placeable t (within edition t n)) i
   no_placeable n i j e x = subst (λ n. TooDeep (placeable t (within edition t n)) i) (sym e)
       (deeper_next (functional_token t left_brace) tt j x
-      (deeper_over (λ k w. deeper_first (none_inside edition t k))))
+      (deeper_skip (λ k w. deeper_first (none_inside edition t k))))
 
   pub no_call : (n i j k : ℕ) (found : Bool) → n ≡ 0 → Blank t i j → optional t left_parenthesis j (Read found k) →
       found ≡ true → TooDeep (call_arguments t (within edition t n)) i
   no_call n i j k found e w x f = subst (λ n. TooDeep (call_arguments t (within edition t n)) i) (sym e)
       (deeper_next (functional_blank t) tt j (passed w) (deeper_next (functional_optional t left_parenthesis) found k x
-      (deeper_yes f (deeper_first (deeper_over (λ m v. no_list_inside edition t m))))))
+      (deeper_yes f (deeper_first (deeper_skip (λ m v. no_list_inside edition t m))))))

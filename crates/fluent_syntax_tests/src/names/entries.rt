@@ -6,7 +6,8 @@ use fluent_syntax_names::{Mention, defined, mentions, references, variables};
 use std::alloc::Global;
 use std::test::Fail;
 
-const TEXT: &str = "a = { b } { $c }\n    .t = { -d.e ->\n       *[x] { F($g, k: \"v\") }\n    }\n";
+const TEXT: &str =
+    "a = { b } { $c }\n    .t = { -d.e ->\n       [x] { F($g, k: \"v\") }\n       *[1] { b.u }\n    }\n";
 
 fn push_name(out: &mut String, before: &str, span: Span) -> Result<(), Fail> {
     out.push_str(before)?;
@@ -46,6 +47,10 @@ fn push_mention(out: &mut String, mention: &Mention<Span>) -> Result<(), Fail> {
         }
         Mention::Variable { name } => push_name(out, "variable ", *name),
         Mention::Function { name } => push_name(out, "function ", *name),
+        Mention::VariantKey { key, first } => {
+            push_name(out, "variant ", *key)?;
+            push_name(out, "  of ", *first)
+        }
     }
 }
 
@@ -64,7 +69,8 @@ fn an_entry(rt: HostRuntime) -> Result<(), Fail> {
     let entry = tree.body.first().ok_or("no entry")?;
     let found = mentions_text(alloc, &mentions(alloc, entry)?)?;
     let all =
-        "message a\nto message b\nvariable c\nattribute t\nto term d\n  .e\nfunction F\nvariable g\n";
+        "message a\nto message b\nvariable c\nattribute t\nto term d\n  .e\nvariant x\n  of x\nfunction F\n\
+         variable g\nvariant 1\n  of x\nto message b\n  .u\n";
     assert_same_text(alloc, "all", found.as_str(), all)?;
     let found = mentions_text(alloc, &defined(alloc, entry)?)?;
     assert_same_text(alloc, "defined", found.as_str(), "message a\nattribute t\n")?;
@@ -73,7 +79,7 @@ fn an_entry(rt: HostRuntime) -> Result<(), Fail> {
         alloc,
         "references",
         found.as_str(),
-        "to message b\nto term d\n  .e\nfunction F\n",
+        "to message b\nto term d\n  .e\nfunction F\nto message b\n  .u\n",
     )?;
     let mut names = String::new(alloc);
     for name in &variables(alloc, entry)? {

@@ -47,6 +47,22 @@ const ROWS: &[Row] = table! {
         "undefined-message 0 x 6\nundefined-message 0 y 21\nattribute-twice 0 t 30 15\ndefined-twice 0 a 36 0\n\
          undefined-message 0 z 42\n";
 
+    // variants of one key
+    "a variant twice", &["a = { $n ->\n [o] A\n [o] B\n *[p] C\n }\n"], "variant-twice 0 o 21 14\n";
+    "a variant three times",
+        &["a = { $n ->\n [o] A\n [o] B\n *[o] C\n }\n"], "variant-twice 0 o 21 14\nvariant-twice 0 o 29 14\n";
+    "a number twice", &["a = { $n ->\n [1] A\n [1.0] B\n *[1] C\n }\n"], "variant-twice 0 1 31 14\n";
+    "variants of two selects", &["a = { $n ->\n *[o] A\n } { $m ->\n *[o] B\n }\n"], "";
+    "variants of a select in a variant",
+        &["a = { $n ->\n [o] { $m ->\n [o] A\n *[p] B\n }\n *[p] C\n }\n"], "";
+    "a variant twice, with a select between",
+        &["a = { $n ->\n [o] { $m ->\n *[o] A\n }\n *[o] B\n }\n"], "variant-twice 0 o 39 14\n";
+    "a variant twice in an attribute's argument",
+        &["a = A\n    .o = { F({ $n ->\n [o] A\n *[o] B\n }) }\n"], "variant-twice 0 o 37 29\n";
+    "a variant twice among references",
+        &["a = { $n ->\n [o] { x }\n *[o] { y }\n }\n"],
+        "undefined-message 0 x 19\nvariant-twice 0 o 26 14\nundefined-message 0 y 31\n";
+
     // what comes back
     "a message to itself", &["a = { a }\n"], "cyclic-reference 0 a 6\n";
     "two messages", &["a = { b }\nb = { a }\n"], "cyclic-reference 0 b 6\ncyclic-reference 0 a 16\n";
@@ -135,6 +151,7 @@ fn sets_of_files(rt: HostRuntime) -> Result<(), Fail> {
 const SAID: &[(Kind, &str)] = table! {
     Kind::DefinedTwice, "`a` is defined twice, first on line 3";
     Kind::AttributeTwice, "the entry has the attribute `a` twice, first on line 3";
+    Kind::VariantTwice, "the select has the variant `a` twice, first on line 3";
 };
 
 #[test]
@@ -143,7 +160,12 @@ fn sentences_and_severities(rt: HostRuntime) -> Result<(), Fail> {
     for (kind, expected) in SAID {
         let said = kind.sentence(alloc, "a", Some(3))?;
         assert_same_text(alloc, kind.name(), said.as_str(), *expected)?;
-        assert_same(alloc, kind.name(), &kind.severity(), &Severity::Error)?;
+        let severity = if *kind == Kind::VariantTwice {
+            Severity::Warning
+        } else {
+            Severity::Error
+        };
+        assert_same(alloc, kind.name(), &kind.severity(), &severity)?;
         assert_holds(alloc, kind.name(), kind.is_local())?;
     }
     Ok(())

@@ -14,6 +14,7 @@ const ROWS: &[(&str, &str, &str)] = table! {
     "no mistake", "a = { b }\nb = B\n", "";
     "a message twice", "a = A\na = B\n", "defined-twice 0 a 6 0\n";
     "an attribute twice", "a = A\n    .t = B\n    .t = C\n", "attribute-twice 0 t 22 11\n";
+    "a variant twice", "a = { $n ->\n [x] X\n [x] Y\n *[y] Z\n }\n", "variant-twice 0 x 21 14\n";
     "two messages", "a = { b }\nb = { a }\n", "cyclic-reference 0 b 6\ncyclic-reference 0 a 16\n";
     "what another file may define", "a = { b } { -c } { a.t }\n", "";
     "a value that another file may give", "a = { b }\nb =\n    .t = T\n", "";

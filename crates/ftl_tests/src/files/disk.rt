@@ -4,8 +4,8 @@ use crate::files::shelf::{Failing, Shelf, State};
 use fluent_syntax::parser::Edition;
 use fluent_syntax_tests::alike::{assert_holds, assert_same};
 use ftl::Watched;
-use ftl_files::{Disk, list};
-use ftl_project::{Reading, Streams, Tally, write_files};
+use ftl_files::{Disk, Excluded, list};
+use ftl_project::{Reading, RewriteCounts, Streams, Tally, write_files};
 use std::alloc::Global;
 use std::test::Fail;
 
@@ -30,7 +30,7 @@ fn folder(alloc: Global, failing: Failing) -> Result<State, Fail> {
 /// Formats the folder in place: what the run met, with 3 for its status where the folder was not listed whole.
 fn format(alloc: Global, state: &State) -> Result<Tally, Fail> {
     let rt = Shelf::new(state);
-    let listing = list(&rt, "/d")?;
+    let listing = list(&rt, "", "/d", &Excluded::new(alloc))?;
     let mut tally = Tally::new();
     if !listing.faults.is_empty() {
         tally.add_fault(3);
@@ -50,6 +50,7 @@ fn format(alloc: Global, state: &State) -> Result<Tally, Fail> {
         files,
         reading,
         &mut tally,
+        &mut RewriteCounts::new(),
         &mut streams,
     ) {
         Ok(()) => Ok(tally),

@@ -8,7 +8,7 @@ use std::fmt::Write;
 use std::test::Fail;
 
 /// The text, and what it says.
-const SAID: [(&str, &str); 11] = [
+const SAID: [(&str, &str); 14] = [
     ("", "none;"),
     ("# nothing\n", "none;"),
     ("reference = \"en\"\n", "en;"),
@@ -20,6 +20,15 @@ const SAID: [(&str, &str); 11] = [
     (
         "ignore = ['cyclic-reference']\nreference = ''\n",
         "; cyclic-reference",
+    ),
+    (
+        "ignore = ['obsolete', 'missing-file', 'missing-reference', 'defined-twice']",
+        "none; obsolete missing-file missing-reference defined-twice",
+    ),
+    ("exclude = []\n", "none;"),
+    (
+        "exclude = ['node_modules', \"locales/old\"]\nignore = ['undefined-term']\n",
+        "none; undefined-term exclude node_modules; exclude locales/old;",
     ),
     ("edition = 1\n", "none; edition 1;"),
     ("edition = 2\nnesting = 0\n", "none; edition 2; nesting 0;"),
@@ -33,7 +42,10 @@ const SAID: [(&str, &str); 11] = [
 
 const REFERENCE: &str = "`reference` wants a path in quotes";
 
-const IGNORE: &str = "`ignore` wants a list of names of kinds";
+const IGNORE: &str =
+    "`ignore` wants a list of kinds, as `ftl help lint` and `ftl help compare` have them";
+
+const EXCLUDE: &str = "`exclude` wants a list of names and paths in quotes";
 
 const EDITION: &str = "`edition` wants 1 or 2";
 
@@ -44,12 +56,14 @@ const NESTING: &str = "`nesting` wants a number from 0 to 4294967295";
 const COLOR: &str = "`color` wants \"auto\", \"always\" or \"never\"";
 
 /// The text, and what is told of it; nothing of a text that is no TOML, since those words are not this repository's.
-const REFUSED: [(&str, &str); 18] = [
+const REFUSED: [(&str, &str); 20] = [
     ("reference = 1\n", REFERENCE),
     ("reference = [\"en\"]\n", REFERENCE),
     ("ignore = \"defined-twice\"\n", IGNORE),
     ("ignore = [\"defined-twice\", 1]\n", IGNORE),
     ("ignore = [\"defined_twice\"]\n", IGNORE),
+    ("exclude = \"old\"\n", EXCLUDE),
+    ("exclude = ['old', 1]\n", EXCLUDE),
     ("referenc = \"en\"\n", "no setting is called `referenc`"),
     ("[reference]\n[other]\n", "no setting is called `other`"),
     ("reference = \"en\n", ""),
@@ -72,6 +86,9 @@ fn write_settings(out: &mut String, settings: &Settings) -> Result<(), AllocErro
     }
     for kind in &settings.ignored {
         write!(out, " {}", kind.name())?;
+    }
+    for exclusion in &settings.excluded {
+        write!(out, " exclude {exclusion};")?;
     }
     match settings.edition {
         Some(Edition::One) => out.push_str(" edition 1;")?,

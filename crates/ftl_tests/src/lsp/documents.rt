@@ -107,7 +107,7 @@ fn document_of(alloc: Global, text: &str) -> Result<Document, Fail> {
 }
 
 /// A text, and the kinds of what is found in it by itself, with where each begins.
-const FOUND: [(&str, &str); 6] = [
+const FOUND: [(&str, &str); 7] = [
     ("a = A\n", ""),
     ("# c\na = A\na = B\n", "defined-twice 10\n"),
     (
@@ -119,6 +119,10 @@ const FOUND: [(&str, &str); 6] = [
         "cyclic-reference 6\ncyclic-reference 17\n",
     ),
     ("a = { b } { -c } { a.t }\n", ""),
+    (
+        "a = { $n ->\n    [o] x\n    [o] y\n   *[p] z\n }\n",
+        "variant-twice 27\n",
+    ),
     ("bro ken\na = A\na = B\n", "defined-twice 14\n"),
 ];
 

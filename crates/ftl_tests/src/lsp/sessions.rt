@@ -6,7 +6,7 @@ use ftl::Watched;
 use ftl_files::Memory;
 use ftl_lsp::{
     BODY_LIMIT, Diagnostic, Document, Ending, ErrorCode, FrameFault, Framing, Method, Phase,
-    Position, Positions, first_frame, formatted_text, serve,
+    Position, Positions, RenameFault, first_frame, formatted_text, serve,
 };
 use std::alloc::Global;
 use std::io::Read;
@@ -62,22 +62,54 @@ fn positions_by_line_and_unit(rt: HostRuntime) -> Result<(), Fail> {
     Ok(())
 }
 
-/// Bytes of a text in any order, with their lines and columns.
-const ANY_ORDER: [(usize, usize, usize); 4] = [(7, 1, 3), (1, 0, 1), (8, 2, 0), (100, 2, 1)];
+/// A text, and bytes of it in any order with their lines and columns.
+type OrderRow = (&'static str, &'static [(usize, usize, usize)]);
 
-#[test]
-fn positions_in_any_order(rt: HostRuntime) -> Result<(), Fail> {
-    let mut positions = Positions::new("a\n😀b\nc");
-    for (byte, line, character) in &ANY_ORDER {
+const ANY_ORDER: [OrderRow; 2] = [
+    (
+        "a\n😀b\nc",
+        &[
+            (7, 1, 3),
+            (1, 0, 1),
+            (8, 2, 0),
+            (100, 2, 1),
+            (6, 1, 2),
+            (3, 1, 2),
+            (2, 1, 0),
+            (0, 0, 0),
+        ],
+    ),
+    // a CRLF, and then a lone CR
+    (
+        "a\r\n\rb",
+        &[
+            (5, 2, 1),
+            (4, 2, 0),
+            (2, 0, 2),
+            (3, 1, 0),
+            (1, 0, 1),
+            (3, 1, 0),
+        ],
+    ),
+];
+
+fn assert_placed_in_order(alloc: Global, row: &OrderRow) -> Result<(), Fail> {
+    let (text, places) = row;
+    let mut positions = Positions::new(*text);
+    for (byte, line, character) in *places {
         let expected = Position {
             line: *line,
             character: *character,
         };
-        assert_holds(
-            rt.alloc(),
-            "a place",
-            positions.position_or_end(*byte) == expected,
-        )?;
+        assert_holds(alloc, *text, positions.position_or_end(*byte) == expected)?;
+    }
+    Ok(())
+}
+
+#[test]
+fn positions_in_any_order(rt: HostRuntime) -> Result<(), Fail> {
+    for row in &ANY_ORDER {
+        assert_placed_in_order(rt.alloc(), row)?;
     }
     Ok(())
 }
@@ -262,12 +294,13 @@ fn methods(rt: HostRuntime) -> Result<(), Fail> {
 /// Each code, and its number.
 type CodeRow = (ErrorCode, i64);
 
-const CODES: [CodeRow; 5] = [
+const CODES: [CodeRow; 6] = [
     (ErrorCode::ParseError, -32700),
     (ErrorCode::InvalidRequest, -32600),
     (ErrorCode::MethodNotFound, -32601),
     (ErrorCode::InvalidParams, -32602),
     (ErrorCode::NotInitialized, -32002),
+    (ErrorCode::Rename(RenameFault::Taken), -32602),
 ];
 
 fn assert_numbered(alloc: Global, row: &CodeRow) -> Result<(), Fail> {

@@ -3,8 +3,8 @@
 use fluent_syntax_tests::alike::{assert_holds, assert_same, assert_same_text};
 use ftl::Watched;
 use ftl_files::{
-    FILE_LIMIT, Folders, Memory, SourceFile, is_below, original_of, path_of_uri, read_files,
-    shared_folders, uri_of_path,
+    Excluded, FILE_LIMIT, Folders, Memory, SourceFile, is_below, original_of, path_of_uri,
+    read_files, shared_folders, uri_of_path,
 };
 use ftl_lsp::{ClosedFile, NameKind, Occurrence, serve};
 use std::alloc::Global;
@@ -132,15 +132,16 @@ const FOUND: [(&str, &str); 3] = [
 fn files_of_a_folder(rt: HostRuntime) -> Result<(), Fail> {
     let alloc = rt.alloc();
     let files = some_files(alloc)?;
-    let listed = files.files_below(alloc, "/w")?;
+    let all = Excluded::new(alloc);
+    let listed = files.files_below(alloc, "/w", &all)?;
     assert_same(alloc, "listed", &listed.files.len(), &5)?;
     assert_holds(alloc, "all listed", listed.is_whole())?;
-    let found = read_files(alloc, &files, "/w")?;
+    let found = read_files(alloc, &files, "/w", &all)?;
     assert_holds(alloc, "found", are_files(&found.files, &FOUND))?;
     assert_holds(alloc, "two left out", !found.is_whole)?;
-    let whole = read_files(alloc, &files, "/w/de")?;
+    let whole = read_files(alloc, &files, "/w/de", &all)?;
     assert_holds(alloc, "none left out", whole.is_whole)?;
-    let none = read_files(alloc, &files, "/v")?;
+    let none = read_files(alloc, &files, "/v", &all)?;
     assert_holds(alloc, "none there", none.files.is_empty() && none.is_whole)
 }
 
@@ -175,10 +176,11 @@ fn names_of_a_closed_file(rt: HostRuntime) -> Result<(), Fail> {
     }
 }
 
-const INITIALIZE: &str = "{\"jsonrpc\":\"2.0\",\"id\":1,\"method\":\"initialize\",\
+pub(crate) const INITIALIZE: &str = "{\"jsonrpc\":\"2.0\",\"id\":1,\"method\":\"initialize\",\
     \"params\":{\"rootUri\":\"file:///w\",\"capabilities\":{}}}";
 
-const INITIALIZED: &str = "{\"jsonrpc\":\"2.0\",\"method\":\"initialized\",\"params\":{}}";
+pub(crate) const INITIALIZED: &str =
+    "{\"jsonrpc\":\"2.0\",\"method\":\"initialized\",\"params\":{}}";
 
 const OPENED: &str =
     "{\"jsonrpc\":\"2.0\",\"method\":\"textDocument/didOpen\",\"params\":{\"textDocument\":\
@@ -210,7 +212,7 @@ const RENAMED: [&str; 4] = [
 ];
 
 /// What a session over the files answers to the messages.
-fn answers(alloc: Global, files: &Memory, bodies: &[&str]) -> Result<String, Fail> {
+pub(crate) fn answers(alloc: Global, files: &Memory, bodies: &[&str]) -> Result<String, Fail> {
     let mut input = String::new(alloc);
     for body in bodies {
         let header = format!(in alloc; "Content-Length: {}\r\n\r\n", body.len())?;
@@ -241,7 +243,7 @@ fn a_session_over_closed_files(rt: HostRuntime) -> Result<(), Fail> {
 }
 
 /// The message that opens a document.
-fn opening(alloc: Global, uri: &str, text: &str) -> Result<String, Fail> {
+pub(crate) fn opening(alloc: Global, uri: &str, text: &str) -> Result<String, Fail> {
     let body = format!(in alloc;
         "{{\"jsonrpc\":\"2.0\",\"method\":\"textDocument/didOpen\",\"params\":\
         {{\"textDocument\":{{\"uri\":\"{uri}\",\"version\":1,\"text\":\"{text}\"}}}}}}"
@@ -460,6 +462,32 @@ fn kinds_that_are_left_out(rt: HostRuntime) -> Result<(), Fail> {
     Ok(())
 }
 
+/// The text of an `ftl.toml`, and where `old` is used that the file `/w/old/a.ftl` defines; none where that is found.
+const EXCLUSIONS: [(&str, &[(&str, usize)]); 5] = [
+    ("", &[]),
+    ("exclude = [\"a.ftl\"]\n", &[("undefined-message", 6)]),
+    ("exclude = [\"old\"]\n", &[("undefined-message", 6)]),
+    ("exclude = [\"./old/\"]\n", &[("undefined-message", 6)]),
+    ("exclude = [\"w\", \"de/old\"]\n", &[]),
+];
+
+#[test]
+fn files_that_are_left_out(rt: HostRuntime) -> Result<(), Fail> {
+    let alloc = rt.alloc();
+    let opened = opening(alloc, "file:///w/c.ftl", "c = { old }")?;
+    for (text, told) in EXCLUSIONS {
+        let mut files = Memory::new(alloc);
+        files.put("/w/old/a.ftl", b"old = Old\n")?;
+        files.put("/w/ftl.toml", text.as_bytes())?;
+        let found = last_diagnostics(alloc, &files, &[INITIALIZE, INITIALIZED, opened.as_str()])?;
+        assert_told(alloc, text, found.as_str(), told)?;
+    }
+    let mut files = Memory::new(alloc);
+    files.put("/w/.old/a.ftl", b"old = Old\n")?;
+    let found = last_diagnostics(alloc, &files, &[INITIALIZE, INITIALIZED, opened.as_str()])?;
+    assert_told(alloc, "a dot", found.as_str(), &[("undefined-message", 6)])
+}
+
 /// The folder of the reference and its name there, a path, and that of its original.
 const ORIGINALS: [(&str, &str, &str, Option<&str>); 8] = [
     ("/app", "en", "/app/de/menu.ftl", Some("/app/en/menu.ftl")),
@@ -522,7 +550,22 @@ fn documents_beside_their_original(rt: HostRuntime) -> Result<(), Fail> {
         let told = last_diagnostics(alloc, &files, &[INITIALIZE, INITIALIZED, opened.as_str()])?;
         assert_told(alloc, shows, told.as_str(), differences)?;
     }
-    Ok(())
+    files.put(
+        "/w/ftl.toml",
+        b"reference = \"l10n/en\"\nignore = [\"missing-attribute\", \"missing-file\"]\n",
+    )?;
+    let opened = opening(
+        alloc,
+        "file:///w/l10n/de/menu.ftl",
+        "hello = Hallo { $usr }",
+    )?;
+    let told = last_diagnostics(alloc, &files, &[INITIALIZE, INITIALIZED, opened.as_str()])?;
+    assert_told(
+        alloc,
+        "a kind that is left out",
+        told.as_str(),
+        &[("unknown-variable", 17)],
+    )
 }
 
 #[test]

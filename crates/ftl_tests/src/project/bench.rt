@@ -4,10 +4,10 @@ use fluent_syntax::parser::Edition;
 use fluent_syntax_names::Kind;
 use fluent_syntax_tests::alike::{assert_holds, assert_same, assert_same_text};
 use ftl::{Command, Watched};
-use ftl_files::Memory;
+use ftl_files::{Memory, ReportedKind};
 use ftl_project::{
-    Form, LintOptions, Pair, Reading, Share, Streams, Tally, check_files, compare_files,
-    convert_files, lint_files, name_files, print_files, write_files,
+    CompareOptions, Form, LintOptions, Pair, Reading, RewriteCounts, Share, Streams, Tally,
+    check_files, compare_files, convert_files, lint_files, name_files, print_files, write_files,
 };
 use std::alloc::Global;
 use std::test::Fail;
@@ -25,7 +25,7 @@ pub(crate) enum Task {
     Convert,
     Lint(Form, &'static [Kind]),
     /// The first is compared with the second, which may not be there.
-    Compare(Form),
+    Compare(Form, &'static [ReportedKind]),
 }
 
 /// Files, and what a run over them has written and counted.
@@ -35,6 +35,7 @@ pub(crate) struct Bench {
     files: Vec<String>,
     pub(crate) tally: Tally,
     pub(crate) share: Share,
+    pub(crate) counts: RewriteCounts,
     out: Watched<Vec<u8>>,
     err: Watched<Vec<u8>>,
 }
@@ -58,6 +59,7 @@ impl Bench {
                 wanted: 0,
                 missing: 0,
             },
+            counts: RewriteCounts::new(),
             out: Watched::new(Vec::new(alloc)),
             err: Watched::new(Vec::new(alloc)),
         })
@@ -78,12 +80,15 @@ impl Bench {
             files,
             tally,
             share,
+            counts,
             ..
         } = self;
         let one = reading(Edition::One);
         let ended = match task {
             Task::Check(form) => check_files(alloc, memory, files, one, form, tally, to),
-            Task::Write(edition) => write_files(alloc, memory, files, reading(edition), tally, to),
+            Task::Write(edition) => {
+                write_files(alloc, memory, files, reading(edition), tally, counts, to)
+            }
             Task::Name(edition) => name_files(alloc, memory, files, reading(edition), tally, to),
             Task::Print(command) => print_files(alloc, memory, files, command, 2, tally, to),
             Task::Convert => convert_files(alloc, memory, files, tally, to),
@@ -91,8 +96,9 @@ impl Bench {
                 let lint_options = LintOptions { form, ignored };
                 lint_files(alloc, memory, files, one, lint_options, tally, to)
             }
-            Task::Compare(form) => {
-                compare_files(alloc, memory, &pairs, one, form, tally, share, to)
+            Task::Compare(form, ignored) => {
+                let options = CompareOptions { form, ignored };
+                compare_files(alloc, memory, &pairs, one, options, tally, share, to)
             }
         };
         self.out = out;

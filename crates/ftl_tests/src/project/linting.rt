@@ -1,8 +1,9 @@
 //! What is told of mistakes between names, and of what a translation lacks.
 
 use crate::project::bench::{Bench, File, Task};
-use fluent_syntax_names::Kind;
+use fluent_syntax_names::{Difference, Kind};
 use fluent_syntax_tests::alike::{assert_same, assert_same_text};
+use ftl_files::ReportedKind;
 use ftl_project::{Form, Tally, share_line};
 use std::test::Fail;
 
@@ -14,15 +15,21 @@ hello = Hello
 only =
     .label = L
 loop = { loop }
+many = { $n ->
+    [one] x
+    [one] y
+   *[other] z
+ }
 ";
 
-const KINDS: [Kind; 6] = [
+const KINDS: [Kind; 7] = [
     Kind::UndefinedMessage,
     Kind::UndefinedTerm,
     Kind::UndefinedAttribute,
     Kind::UndefinedValue,
     Kind::CyclicReference,
     Kind::AttributeTwice,
+    Kind::VariantTwice,
 ];
 
 const TWO: [File; 2] = [("/d/a.ftl", WRONG), ("/d/b.ftl", b"b = B\n")];
@@ -48,9 +55,9 @@ const FOUND: [Found; 5] = [
         &TWO,
         "/d/a.ftl:1:11: undefined-message\n/d/a.ftl:1:22: undefined-term\n/d/a.ftl:1:34: undefined-attribute\n\
         /d/a.ftl:1:40: undefined-value\n/d/a.ftl:2:1: defined-twice\n/d/a.ftl:4:6: attribute-twice\n\
-        /d/a.ftl:7:10: cyclic-reference\n",
-        "1 defined-twice\n1 attribute-twice\n1 undefined-message\n1 undefined-term\n1 undefined-attribute\n\
-        1 undefined-value\n1 cyclic-reference\n",
+        /d/a.ftl:7:10: cyclic-reference\n/d/a.ftl:10:6: variant-twice\n",
+        "1 defined-twice\n1 attribute-twice\n1 variant-twice\n1 undefined-message\n1 undefined-term\n\
+        1 undefined-attribute\n1 undefined-value\n1 cyclic-reference\n",
         1,
     ),
     (
@@ -75,7 +82,9 @@ const FOUND: [Found; 5] = [
         &KINDS,
         &DEEP,
         "{\"path\":\"/d/a.ftl\",\"line\":2,\"column\":1,\"start\":46,\"end\":51,\"kind\":\"defined-twice\",\
-        \"severity\":\"error\",\"message\":\"`hello` is defined twice, first on line 1\"}\n",
+        \"severity\":\"error\",\"name\":\"hello\",\
+        \"other\":{\"path\":\"/d/a.ftl\",\"line\":1,\"column\":1,\"start\":0,\"end\":5},\
+        \"message\":\"`hello` is defined twice, first on line 1\"}\n",
         LEFT,
         6,
     ),
@@ -145,10 +154,10 @@ const ROWS: [Row; 5] = [
     (
         "each kind",
         OTHER,
-        "de/a.ftl: missing-reference: the reference to `brand` of en/a.ftl:1:28\n\
-        de/a.ftl: missing-attribute: `title` of en/a.ftl:2:6\n\
-        de/a.ftl: missing-value: the value of `name` of en/a.ftl:3:1\n\
-        de/a.ftl: missing: `about` of en/a.ftl:5:1\n\
+        "de/a.ftl: missing-reference: `hello` does not refer to `-brand` (en/a.ftl:1:28)\n\
+        de/a.ftl: missing-attribute: the attribute `title` of `hello` is missing (en/a.ftl:2:6)\n\
+        de/a.ftl: missing-value: the value of `name` is missing (en/a.ftl:3:1)\n\
+        de/a.ftl: missing: `about` is missing (en/a.ftl:5:1)\n\
         de/a.ftl:1:18: unknown-variable\nde/a.ftl:4:6: obsolete-attribute\nde/a.ftl:5:1: obsolete\n",
         4,
         "3 of 4 messages and terms are there\n",
@@ -163,8 +172,10 @@ const ROWS: [Row; 5] = [
     (
         "nothing",
         "\n",
-        "de/a.ftl: missing: `hello` of en/a.ftl:1:1\nde/a.ftl: missing: `name` of en/a.ftl:3:1\n\
-        de/a.ftl: missing: `about` of en/a.ftl:5:1\nde/a.ftl: missing: `brand` of en/a.ftl:6:2\n",
+        "de/a.ftl: missing: `hello` is missing (en/a.ftl:1:1)\n\
+        de/a.ftl: missing: `name` is missing (en/a.ftl:3:1)\n\
+        de/a.ftl: missing: `about` is missing (en/a.ftl:5:1)\n\
+        de/a.ftl: missing: `-brand` is missing (en/a.ftl:6:2)\n",
         4,
         "0 of 4 messages and terms are there\n",
     ),
@@ -193,7 +204,7 @@ fn compares(rt: HostRuntime) -> Result<(), Fail> {
             ("de/a.ftl", other.as_bytes()),
         ];
         let mut bench = Bench::new(alloc, &files)?;
-        bench.run(alloc, Task::Compare(Form::Lines))?;
+        bench.run(alloc, Task::Compare(Form::Lines, &[]))?;
         assert_same(alloc, *shows, &bench.tally.errors, errors)?;
         assert_same_text(
             alloc,
@@ -202,6 +213,80 @@ fn compares(rt: HostRuntime) -> Result<(), Fail> {
             *there,
         )?;
         bench.assert_told(alloc, *shows, *told, "")?;
+    }
+    Ok(())
+}
+
+/// What is left out, the other file, what is told, errors, and how much is there.
+type IgnoredRow = (
+    &'static [ReportedKind],
+    &'static str,
+    &'static str,
+    usize,
+    &'static str,
+);
+
+const IGNORED: [IgnoredRow; 4] = [
+    (
+        &[
+            ReportedKind::Difference(Difference::MissingReference),
+            ReportedKind::Difference(Difference::MissingAttribute),
+            ReportedKind::Difference(Difference::Missing),
+            ReportedKind::Difference(Difference::Obsolete),
+        ],
+        OTHER,
+        "de/a.ftl: missing-value: the value of `name` is missing (en/a.ftl:3:1)\n\
+        de/a.ftl:1:18: unknown-variable\nde/a.ftl:4:6: obsolete-attribute\n",
+        2,
+        "3 of 4 messages and terms are there\n",
+    ),
+    (
+        &[
+            ReportedKind::Difference(Difference::MissingValue),
+            ReportedKind::Difference(Difference::UnknownVariable),
+            ReportedKind::Difference(Difference::ObsoleteAttribute),
+            ReportedKind::MissingFile,
+        ],
+        OTHER,
+        "de/a.ftl: missing-reference: `hello` does not refer to `-brand` (en/a.ftl:1:28)\n\
+        de/a.ftl: missing-attribute: the attribute `title` of `hello` is missing (en/a.ftl:2:6)\n\
+        de/a.ftl: missing: `about` is missing (en/a.ftl:5:1)\nde/a.ftl:5:1: obsolete\n",
+        2,
+        "3 of 4 messages and terms are there\n",
+    ),
+    (
+        &[ReportedKind::MissingFile],
+        "",
+        "",
+        0,
+        "0 of 4 messages and terms are there\n",
+    ),
+    (
+        &[
+            ReportedKind::Difference(Difference::Missing),
+            ReportedKind::Finding(Kind::UndefinedTerm),
+        ],
+        "",
+        "de/a.ftl: missing-file: there is no such file; the reference has en/a.ftl\n",
+        1,
+        "0 of 4 messages and terms are there\n",
+    ),
+];
+
+#[test]
+fn compares_without_kinds(rt: HostRuntime) -> Result<(), Fail> {
+    let alloc = rt.alloc();
+    for (ignored, other, told, errors, there) in &IGNORED {
+        let files = [
+            ("en/a.ftl", REFERENCE.as_bytes()),
+            ("de/a.ftl", other.as_bytes()),
+        ];
+        let mut bench = Bench::new(alloc, &files)?;
+        bench.run(alloc, Task::Compare(Form::Lines, *ignored))?;
+        assert_same(alloc, *told, &bench.tally.errors, errors)?;
+        let share = share_line(alloc, &bench.share)?;
+        assert_same_text(alloc, *told, share.as_str(), *there)?;
+        bench.assert_told(alloc, *told, *told, "")?;
     }
     Ok(())
 }
@@ -237,7 +322,7 @@ fn tells_what_has_no_place(rt: HostRuntime) -> Result<(), Fail> {
             ("de/a.ftl", b"".as_slice()),
         ];
         let mut bench = Bench::new(alloc, &files)?;
-        bench.run(alloc, Task::Compare(*form))?;
+        bench.run(alloc, Task::Compare(*form, &[]))?;
         bench.assert_told(alloc, *told, *told, "")?;
     }
     Ok(())

@@ -11,7 +11,7 @@ type Row = (&'static str, &'static str, &'static str, Form, &'static str);
 
 const BROKEN: &str = "a = b\nbro ken\n";
 
-const ROWS: [Row; 7] = [
+const ROWS: [Row; 8] = [
     (
         "a line",
         "a.ftl",
@@ -56,6 +56,14 @@ const ROWS: [Row; 7] = [
         BROKEN,
         Form::Github,
         "::error file=a%3Ab%2Cc%25.ftl,line=2,col=5,title=ExpectedToken::Expected a token starting with \"=\"\n",
+    ),
+    (
+        "a brace that is open",
+        "a.ftl",
+        "first = { \"}\" } { $name\nsecond = Bye\n",
+        Form::Full,
+        "a.ftl:2:1: error[ExpectedToken]: Expected a token starting with \"}\"\nsecond = Bye\n^\n\
+        the brace that is still open:\nfirst = { \"}\" } { $name\n                ^\n",
     ),
     ("no error", "a.ftl", "a = b\n", Form::Full, ""),
 ];

@@ -19,7 +19,7 @@ loop-mention-preserved c =
     let D = knows here.known in
     let A = set_by D here.cycles.now in
     let names = place_of c.loop-mention.noted.names.table in
-    let attributes = place_of c.loop-mention.noted.attributes.table in
+    let parts = place_of c.loop-mention.noted.parts.table in
     let none : Mention Span = says.Message (record { start = 0; end = 0 }) false in
     let mention = get_or c.args.mentions.now c.loop-mention.mention-index none in
     let known = c.loop-mention.invariant.0 in
@@ -29,7 +29,7 @@ loop-mention-preserved c =
     (findings_in A here.file here.text.now nothing no_pattern c.args.mentions.now) c.args.mentions.now
     c.loop-mention.mention-index c.add_finding.new.list.items c.add_finding-in-loop-mention.new.list.items known
     c.loop-mention.pattern mention none c.in_ok-finding.finding c.in_ok-cycle.cycle c.loop-mention-test.true refl
-    (c.in_ok-finding.ensures.finding ∙ finding_known here.file here.text.now D names attributes known holds mention)
+    (c.in_ok-finding.ensures.finding ∙ finding_known here.file here.text.now D names parts known holds mention)
     c.in_ok-cycle.ensures c.loop-mention.invariant.2 c.in_ok-add_finding.ensures c.in_ok-add_finding-2.ensures in
     let noted = c.in_ok-finding.ensures.noted known holds in
     (after here.text.now known mention, noted, rw c.pattern_after-pattern.ensures left)

@@ -13,6 +13,6 @@ abbrev pub invariant-loop-mention : goal.invariant-loop-mention
 invariant-loop-mention l =
     let A = set_by (knows l.here.known) l.here.cycles.now in
     let all = findings_in A l.here.file l.here.text.now nothing no_pattern l.mentions in
-    (known : Known) × Holds (place_of l.noted.names.table) (place_of l.noted.attributes.table) known
+    (known : Known) × Holds (place_of l.noted.names.table) (place_of l.noted.parts.table) known
     × Leaves l.fn.list.items l.list.items
     (findings_in A l.here.file l.here.text.now known l.pattern (drop l.mention-index l.mentions)) all

@@ -1,6 +1,7 @@
-use Rattle.std.proofs.Common.{List, ◌∷◌, map, refl}
-use Rattle.fluent_syntax_tree.specs.Tree.{elements_of, variants_of, inlines_of, nameds_of}
-use Rattle.fluent_syntax_tree.specs.View.{element_view, variant_view, inline_view, named_view}
+use Rattle.std.proofs.Common.{List, ◌∷◌, ◌++◌, map, refl, sym, ap, ◌∙◌}
+use Rattle.std.specs.Prelude.{option_copied}
+use Rattle.fluent_syntax_tree.specs.Tree.{elements_of, inlines_of, nameds_of}
+use Rattle.fluent_syntax_tree.specs.View.{element_view, pattern_view, variant_view, inline_view, named_view}
 use Rattle.fluent_syntax_tree.specs.declared.ast.PatternElement.{PatternElement}
 use Rattle.fluent_syntax_tree.specs.declared.ast.Variant.{Variant}
 use Rattle.fluent_syntax_tree.specs.declared.ast.InlineExpression.{InlineExpression}
@@ -10,11 +11,12 @@ use Rattle.fluent_syntax_tree.proofs.Views.{view-FunctionReference, view-Message
 use Rattle.fluent_syntax_tree.proofs.Views.{view-VariableReference, view-InlinePlaceable, view-TextElement}
 use Rattle.fluent_syntax_tree.proofs.Views.{view-Placeable, view-Pattern, view-Variant, view-NamedArgument}
 use Rattle.fluent_syntax_tree.proofs.Views.{view-CallArguments}
-use Rattle.fluent_syntax_names.specs.Mentions.{pattern_mentions, variants_mentions, inlines_mentions}
+use Rattle.fluent_syntax_names.specs.Mentions.{pattern_mentions, inlines_mentions}
 use Rattle.fluent_syntax_names.specs.Mentions.{nameds_mentions, element_mentions, inline_mentions}
 use Rattle.fluent_syntax_names.specs.Mentions.{variant_mentions, named_mentions}
 use Rattle.fluent_syntax_names.specs.declared.mention.Mention.TheVariants as says
-use Rattle.fluent_syntax_names.proofs.Adding.{adds_one, adds_last, leaves_next, leaves_none}
+use Rattle.fluent_syntax_names.proofs.Adding.{adds_one, adds_both, adds_last, leaves_next, leaves_none}
+use Rattle.fluent_syntax_names.proofs.Variants.{all_variants, select_first}
 use Rattle.fluent_syntax_names.proofs.patterns.+mentions.Goals as goal
 
 pub add_pattern-returns : goal.add_pattern-returns
@@ -59,23 +61,34 @@ add_expression-returns-in-Inline g t c =
 
 pub add_variants-loop-variant-preserved : goal.add_variants-loop-variant-preserved
 add_variants-loop-variant-preserved g t c =
-    let all = λ (nodes : List (Variant g.row.X.Denot)).
-    variants_mentions (variants_of (map (variant_view (λ x. x)) nodes)) in
-    let one = λ (x : Variant g.row.X.Denot). variant_mentions (variant_view (λ x. x) x) in
+    let first = c.key_text-first.result in
+    let variant = c.variant-item.result in
+    let all = all_variants (λ x. x) first in
+    let one = λ (x : Variant g.row.X.Denot). variant_mentions first (variant_view (λ x. x) x) in
     record {
       left = leaves_next all one c.args.list.now.items c.loop-variant.list.items c.args.variants.now
-          c.loop-variant.variant-index (λ x xs tail. refl) _ c.variant-item.result c.loop-variant-test.true
+          c.loop-variant.variant-index (λ x xs tail. refl) c.add_pattern.new.list.items variant c.loop-variant-test.true
           c.variant-item.is c.loop-variant.invariant.left
-          (rw (view-Variant (λ x. x) c.variant-item.result) c.in_ok-add_pattern.ensures);
+          (rw (view-Variant (λ x. x) variant, ← c.key_text-key.ensures)
+          (adds_both c.loop-variant.list.items c.push.new.self.items c.add_pattern.new.list.items
+          (λ tail. says.VariantKey c.key_text-key.result first ∷ tail)
+          (pattern_mentions (pattern_view (λ x. x) variant.value))
+          (adds_one _ _ _ c.in_ok-push.ensures.items) c.in_ok-add_pattern.ensures));
     }
 
 pub add_variants-returns : goal.add_variants-returns
 add_variants-returns g t c =
-    let all = λ (nodes : List (Variant g.row.X.Denot)).
-    variants_mentions (variants_of (map (variant_view (λ x. x)) nodes)) in
-    let one = λ (x : Variant g.row.X.Denot). variant_mentions (variant_view (λ x. x) x) in
+    let first = c.key_text-first.result in
+    let variant = c.in-Some.first_variant.now in
+    let all = all_variants (λ x. x) first in
+    let one = λ (x : Variant g.row.X.Denot). variant_mentions first (variant_view (λ x. x) x) in
+    let there = sym c.first.ensures.value ∙ ap option_copied c.in-Some.is in
+    let adds =
     leaves_none all one c.args.list.now.items c.loop-variant.list.items c.args.variants.now c.loop-variant.variant-index
-    (λ tail. refl) c.loop-variant-test.false c.loop-variant.invariant.left
+    (λ tail. refl) c.loop-variant-test.false c.loop-variant.invariant.left in
+    λ rest. adds rest ∙ ap (λ l. c.args.list.now.items ++ l)
+    (ap (λ key. all_variants (λ x. x) key c.args.variants.now rest) c.key_text-first.ensures
+    ∙ select_first (λ x. x) c.args.variants.now variant there rest)
 
 pub add_inlines-loop-inline-preserved : goal.add_inlines-loop-inline-preserved
 add_inlines-loop-inline-preserved g t c =

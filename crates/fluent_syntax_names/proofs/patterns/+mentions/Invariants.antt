@@ -19,7 +19,7 @@ invariant-add_elements-loop-element g l =
 abbrev pub invariant-add_variants-loop-variant : goal.invariant-add_variants-loop-variant
 invariant-add_variants-loop-variant g l =
     let all = λ (nodes : List (Variant g.row.X.Denot)).
-    variants_mentions (variants_of (map (variant_view (λ x. x)) nodes)) in
+    variants_mentions l.first (variants_of (map (variant_view (λ x. x)) nodes)) in
     record { left : Leaves l.fn.list.items l.list.items (all (drop l.variant-index l.variants)) (all l.variants) }
 
 abbrev pub invariant-add_inlines-loop-inline : goal.invariant-add_inlines-loop-inline

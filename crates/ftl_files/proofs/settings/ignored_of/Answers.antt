@@ -1,11 +1,16 @@
 use Rattle.std.proofs.Common.{◌≡◌, ◌∷◌, ◌++◌, ◌+◌, ◌∙◌, [], ap, map, drop, sym}
 use Rattle.std.proofs.lemmas.List.{append-nil, drop_all, drop_more}
 use Rattle.std.proofs.lemmas.Result.{err_from_is_err_and}
-use Rattle.toml.specs.Data.{array}
 use Rattle.toml.specs.View.{items_of, view}
 use Rattle.toml.proofs.Views.{view-Array}
-use Rattle.ftl_files.proofs.KindNames.{is_ignored, named, not_ignored}
+use Rattle.ftl_files.specs.Kinds.{reported_name}
+use Rattle.ftl_files.specs.declared.kinds.ReportedKind.{ReportedKind}
+use Rattle.toml.specs.Data.{Data, array, string}
+use Rattle.ftl_files.proofs.ListedNames.{is_listed, not_listed}
 use Rattle.ftl_files.proofs.settings.ignored_of.Goals as goal
+
+abbrev named : ReportedKind → Data
+named kind = string (reported_name kind)
 
 pub returns-in_err-kind_of-clause-refused : goal.returns-in_err-kind_of-clause-refused
 returns-in_err-kind_of-clause-refused c =
@@ -24,7 +29,7 @@ returns-in_err-kind_of-clause-refused c =
     ap view c.in-Array.is ∙ view-Array c.in-Array.names
     ∙ ap (λ vs. array (items_of (map view vs))) (sym c.deref-name-items.ensures.value) in
     rw (p.1, c.in-Some.is, array)
-    (λ other kinds is. not_ignored values before value after kinds at c.in_err-kind_of.ensures.refused is)
+    (λ other kinds is. not_listed named values before value after kinds at c.in_err-kind_of.ensures.refused is)
 
 pub returns-in_err-add_kind-clause-refused : goal.returns-in_err-add_kind-clause-refused
 returns-in_err-add_kind-clause-refused c =
@@ -41,4 +46,4 @@ returns-clause-says c =
     let array : view c.in-Some.value.now ≡ array (items_of values) =
     ap view c.in-Array.is ∙ view-Array c.in-Array.names
     ∙ ap (λ vs. array (items_of (map view vs))) (sym c.deref-name-items.ensures.value) in
-    rw (c.in-Some.is, array) (is_ignored values c.loop-name.kinds.items all)
+    rw (c.in-Some.is, array) (is_listed named values c.loop-name.kinds.items all)

@@ -13,7 +13,7 @@ loop-pair-preserved g c =
     let at = g.S.Store.bytes_at in
     let written = g.O.Write.contents in
     let start = at c.args.store.now in
-    let compares = subst (λ files. Compares g.S.Store.fails c.args.reading c.args.form files c.pair-item.result
+    let compares = subst (λ files. Compares g.S.Store.fails c.args.reading c.args.options files c.pair-item.result
     c.loop-pair.tally
     c.report_pair.new.tally c.loop-pair.share c.report_pair.new.share (written (inner_of c.loop-pair.streams.out.now))
     (written (inner_of c.report_pair.new.streams.out.now))) (same_files start (at c.loop-pair.store)
@@ -21,9 +21,9 @@ loop-pair-preserved g c =
     c.in_ok-report_pair.ensures.counted in
     record {
       stand = λ path. c.report_pair.ensures.stand path ∙ c.loop-pair.invariant.stand path;
-      each = ComparesEach-more g.S.Store.fails c.args.reading c.args.form start c.args.pairs.now c.loop-pair.pair-index
-          c.pair-item.result c.args.tally.now c.loop-pair.tally c.report_pair.new.tally c.args.share.now
-          c.loop-pair.share c.report_pair.new.share (written (inner_of c.args.streams.now.out.now))
+      each = ComparesEach-more g.S.Store.fails c.args.reading c.args.options start c.args.pairs.now
+          c.loop-pair.pair-index c.pair-item.result c.args.tally.now c.loop-pair.tally c.report_pair.new.tally
+          c.args.share.now c.loop-pair.share c.report_pair.new.share (written (inner_of c.args.streams.now.out.now))
           (written (inner_of c.loop-pair.streams.out.now)) (written (inner_of c.report_pair.new.streams.out.now)) (omega
           arith) c.pair-item.is
           c.loop-pair.invariant.each compares;

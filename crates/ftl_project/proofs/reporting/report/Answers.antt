@@ -1,5 +1,5 @@
 use Rattle.std.proofs.Common.{◌++◌, ◌∙◌, ap, arith, get_or, string_bytes, subst}
-use Rattle.ftl_project.specs.Diagnostics.{ReportsEach, nothing}
+use Rattle.ftl_project.specs.Diagnostics.{nothing}
 use Rattle.ftl_project.specs.Reports.{IsErrorReport}
 use Rattle.ftl_project.proofs.InOrder.{ReportsEach-more}
 use Rattle.ftl_project.proofs.reporting.report.Goals as goal

@@ -1,6 +1,6 @@
 use Rattle.std.proofs.Common.{◌≡◌, ◌∙◌, ap, false, sym, true}
 use Rattle.fluent_syntax_grammar.specs.Grammar.{within}
-use Rattle.fluent_syntax_parser.proofs.expressions.ArgumentNames.{is_name, name_read, no_argument_name, same_name}
+use Rattle.fluent_syntax_parser.proofs.expressions.ArgumentNames.{is_name, argument_name_is_identifier, no_argument_name, same_name}
 use Rattle.fluent_syntax_parser.proofs.expressions.InlineForms.{name_of_reference, no_name_of_attribute, no_name}
 use Rattle.fluent_syntax_parser.proofs.reader.Reader.argument_name.Goals as goal
 
@@ -12,7 +12,7 @@ returns-in-None g c =
     let is : is_name e ≡ true =
     sym (same_name _ e) ∙ ap is_name (sym same) ∙ rw arm.is (name_of_reference g.M.MakeTexts.made arm.id arm.attribute
     c.in-None.is) in
-    let found = name_read t c.args.place (within c.args.self.now.edition t n) e end read is in
+    let found = argument_name_is_identifier t c.args.place (within c.args.self.now.edition t n) e end read is in
     c.name_at.ensures.name found.0 found.1 found.2 ∙ sym found.3
 
 pub returns-in-Some : goal.returns-in-Some

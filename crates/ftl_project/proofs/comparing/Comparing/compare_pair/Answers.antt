@@ -14,8 +14,8 @@ returns-then-not-pair-clause-compared g c =
     let read = of_text at c.as_str.result.now (string_bytes pair.reference) text
     (string_bytes c.in_ok-reference.reference) c.as_str.ensures.value c.as_str-then-not-pair.ensures.value
     c.in_ok-reference.ensures.text in
-    IfOk-weaker c.comparison_without_file.result _ _ (λ compared that. alone g.S.Store.fails self.reading self.form at
-    pair text
+    IfOk-weaker c.comparison_without_file.result _ _ (λ compared that. alone g.S.Store.fails self.reading self.options
+    at pair text
     compared.errors compared.share (string_bytes compared.report_text) gone read that)
     c.comparison_without_file.ensures.compared
 
@@ -34,7 +34,7 @@ returns-clause-compared g c =
     (c.read_text.ensures.stand c.as_str-2.result.now) c.in_ok-other.ensures.text in
     let other = of_text at c.as_str-2.result.now (string_bytes pair.other) more
     (string_bytes c.in_ok-other.other) c.as_str-2.ensures.value c.as_str-4.ensures.value stands in
-    IfOk-weaker c.comparison_of_texts.result _ _ (λ compared that. beside g.S.Store.fails self.reading self.form at pair
-    text more
+    IfOk-weaker c.comparison_of_texts.result _ _ (λ compared that. beside g.S.Store.fails self.reading self.options
+    at pair text more
     compared.errors compared.share (string_bytes compared.report_text) there read other that)
     c.comparison_of_texts.ensures.compared

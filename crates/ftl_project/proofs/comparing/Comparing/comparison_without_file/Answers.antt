@@ -1,14 +1,22 @@
-use Rattle.std.proofs.Common.{refl}
+use Rattle.std.proofs.Common.{◌≡◌, Bool, false, if◌then◌else◌, refl, string_bytes, subst, true}
+use Rattle.std.specs.Int.{from_bool}
+use Rattle.ftl_project.specs.Comparing.{IsFileReport}
 use Rattle.ftl_project.proofs.comparing.Comparing.comparison_without_file.Goals as goal
 
+one_if : (b : Bool) → from_bool b ≡ (if b then 1 else 0)
+one_if false = refl
+one_if true = refl
+
 pub returns-clause-compared : goal.returns-clause-compared
-returns-clause-compared c = (
-  c.in_ok-reference.reference,
-  c.in_ok-reference.ensures.name_index,
-  record {
-    report_text = c.in_ok-report_text.ensures;
-    errors_are = refl;
-    share_is =
-        rw c.entry_count-wanted.ensures refl;
-  },
-)
+returns-clause-compared c =
+    let self = c.args.self.now in
+    let report_text = string_bytes c.in_ok-report_text.report_text in (
+      c.in_ok-reference.reference,
+      c.in_ok-reference.ensures.name_index,
+      record {
+        report_text = subst (λ told. IsFileReport self.options.form c.args.pair.now told report_text)
+            c.is_reported-is_reported.ensures c.in_ok-report_text.ensures;
+        errors_are = rw (c.from.ensures, c.is_reported-is_reported.ensures) (one_if _);
+        share_is = rw c.entry_count-wanted.ensures refl;
+      },
+    )

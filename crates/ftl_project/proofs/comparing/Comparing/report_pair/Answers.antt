@@ -28,8 +28,8 @@ returns-in-Err-clause-counted g c =
     let self = c.args.self.now in
     let at = g.S.Store.bytes_at c.args.store.now in
     let written = g.O.Write.contents in
-    Compares-report_text g.S.Store.fails self.reading self.form at c.args.pair.now c.report_fault.result c.in-Err.fault
-    c.args.tally.now
+    Compares-report_text g.S.Store.fails self.reading self.options at c.args.pair.now c.report_fault.result
+    c.in-Err.fault c.args.tally.now
     c.report_fault.new.tally c.args.share.now (written (inner_of c.args.streams.now.out.now)) (written (inner_of
     c.report_fault.new.streams.out.now))
     c.in-Err.ensures.fault c.report_fault.ensures.counted

@@ -11,6 +11,6 @@ returns-clause-report_text c =
     c.args.text.now
     self.translation.now.name_index.now c.args.missing.now c.in-Some.difference c.as_str.result.now c.name.result.now
     message
-    (string_bytes report_text) c.junk_of-place.result c.is_some-is_junk.result c.as_str.ensures.value c.name.ensures
-    c.junk_of-place.ensures c.is_some-is_junk.ensures (sym c.difference.ensures ∙ c.in-Some.is)
-    c.in_ok-missing_message.ensures diagnostic) c.diagnostic_text.ensures
+    (string_bytes report_text) c.shown_place.result c.as_str.ensures.value c.name.ensures
+    (λ is. c.shown_place.ensures is ∙ c.junk_of-junk.ensures) (sym c.difference.ensures ∙ c.in-Some.is)
+    diagnostic) c.diagnostic_text.ensures

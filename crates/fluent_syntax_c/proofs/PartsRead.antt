@@ -1,0 +1,220 @@
+-- Edits: what was read of the source and of the part that is new.
+use Rattle.std.proofs.Common.{◌≡◌, ◌≢◌, ◌<◌, ◌∷◌, [], ℕ, List, Option, Some, None, Result, Ok, Err, String, IfSome}
+use Rattle.std.proofs.Common.{IfNone, IfOk, IsOkAnd, Bor, length, map}
+use Rattle.std.proofs.Common.{refl, sym, ap, ◌∙◌, subst}
+use Rattle.std.specs.Global.{Global}
+use Rattle.std.specs.Prelude.{◌↔◌, ◌⊎◌, IfErr, Vec}
+use Rattle.std.specs.Str.{IsUtf8}
+use Rattle.fluent_syntax_tree.specs.Entry.{BodyTree, EntryTree}
+use Rattle.fluent_syntax_tree.specs.Tree.{PatternTree}
+use Rattle.fluent_syntax_tree.specs.View.{entry_view, resource_view}
+use Rattle.fluent_syntax_tree.specs.declared.ast.Entry.{Entry}
+use Rattle.fluent_syntax_tree.specs.declared.edition.Edition.{Edition}
+use Rattle.fluent_syntax_tree.specs.declared.edition.Edition.TheVariants.{One, Two}
+use Rattle.fluent_syntax_grammar.specs.Body.{faults}
+use Rattle.fluent_syntax_grammar.specs.RoundTrip.{ReadsAs, tree_of}
+use Rattle.fluent_syntax_grammar.specs.Tiling.{Fault}
+use Rattle.fluent_syntax_grammar.specs.Written.{Text}
+use Rattle.fluent_syntax_grammar.proofs.OneTiling.{one_tiling}
+use Rattle.fluent_syntax_edits.specs.Changes.{Change, inserts, replaces}
+use Rattle.fluent_syntax_edits.specs.Edits.{Answers}
+use Rattle.fluent_syntax_edits.specs.declared.fault.EditFault.{EditFault}
+use Rattle.ftl.specs.Answer.{outcome_of, outcome_with}
+use Rattle.ftl.specs.declared.outcome.Outcome.{Outcome}
+use Rattle.ftl.specs.declared.outcome.Outcome.TheVariants.{Clean, SyntaxErrors}
+use Rattle.fluent_syntax_c.specs.Arguments.{IsNoEdition, edition_number}
+use Rattle.fluent_syntax_c.specs.Depth.{EditionReadsDeeper}
+use Rattle.fluent_syntax_c.specs.Edits.{GivesEdit, IsEdited, IsEditionTextTree, IsNotEdited, IsTextTree, SetsValue}
+use Rattle.fluent_syntax_c.specs.Edits.{Spells, part_source, place_of, value_message}
+use Rattle.fluent_syntax_c.specs.Output.{LeavesOutput}
+use Rattle.fluent_syntax_c.specs.Status.{EndsAs, edit_refusal_number, refusal_number}
+use Rattle.fluent_syntax_c.specs.declared.status.EditRefusal.{EditRefusal}
+use Rattle.fluent_syntax_c.specs.declared.status.Refusal.{Refusal}
+use Rattle.fluent_syntax_c.specs.declared.status.Refusal.TheVariants.{Argument, Input, Depth, Tree}
+use Rattle.fluent_syntax_c.proofs.Statuses.{either_absurd, gives_edited, not_edited_of}
+use Rattle.fluent_syntax_c.specs.declared.edited.Action.{Action}
+use Rattle.fluent_syntax_c.specs.declared.edited.Action.TheVariants.{SetValue, Replace, Insert}
+use Rattle.fluent_syntax_c.specs.declared.text_trees.TextTree.{TextTree}
+
+-- no two editions have one number
+pub same_edition : (a b : Edition) → edition_number a ≡ edition_number b → a ≡ b
+same_edition One One e = refl
+same_edition One Two e = cc
+same_edition Two One e = cc
+same_edition Two Two e = refl
+
+-- what has no errors has no faults
+clean_faults : (fs : List Fault) → outcome_with fs ≡ Clean → fs ≡ []
+clean_faults [] e = refl
+clean_faults (f ∷ fs) e = cc
+
+module _ (edition : Edition) (t : List ℕ) (read : TextTree) (is : IsTextTree edition t read) where
+  -- a text without errors reads as its tree
+  pub reads_clean : (tree : BodyTree Text) → read.outcome ≡ Clean →
+      resource_view (λ text. text.now) read.tree ≡ tree → ReadsAs edition t tree
+  reads_clean tree clean same = record {
+    tiles = is.tiles;
+    tiling = is.has_tiles;
+    no_faults = clean_faults (faults is.tiles) (sym is.outcome_is ∙ clean);
+    same = sym is.tree_is ∙ same;
+  }
+
+  -- what a text reads as without errors is its tree
+  pub tree_read : (tree : BodyTree Text) → ReadsAs edition t tree →
+      resource_view (λ text. text.now) read.tree ≡ tree
+  tree_read tree reads =
+      let same = one_tiling edition t is.tiles reads.tiles is.has_tiles reads.tiling in
+      is.tree_is ∙ ap (tree_of t) same ∙ reads.same
+
+  pub clean_read : (tree : BodyTree Text) → ReadsAs edition t tree → read.outcome ≡ Clean
+  clean_read tree reads =
+      let same = one_tiling edition t is.tiles reads.tiles is.has_tiles reads.tiling in
+      is.outcome_is ∙ ap outcome_of same ∙ ap outcome_with reads.no_faults
+
+  -- the only entry of a text without errors is what it reads as
+  pub entry_reads : (answer : Option (Bor (Entry (Bor (List ℕ))))) (entries : List (Entry (Bor (List ℕ)))) →
+      entries ≡ read.tree.body.items → read.outcome ≡ Clean →
+      IfSome answer (λ entry. map (entry_view (λ text. text.now)) entries ≡ entry_view (λ text. text.now) entry.now ∷ []) →
+      IfSome answer (λ entry. ReadsAs edition t (entry_view (λ text. text.now) entry.now ∷ []))
+  entry_reads (Some entry) entries same clean found =
+      reads_clean _ clean (ap (map (entry_view (λ text. text.now))) (sym same) ∙ found)
+  entry_reads None entries same clean found = found
+
+  pub no_entry_reads : (answer : Option (Bor (Entry (Bor (List ℕ))))) (entries : List (Entry (Bor (List ℕ)))) →
+      entries ≡ read.tree.body.items →
+      IfNone answer ((e : EntryTree Text) → map (entry_view (λ text. text.now)) entries ≡ e ∷ [] → ⊥) →
+      IfNone answer ((e : EntryTree Text) → ReadsAs edition t (e ∷ []) → ⊥)
+  no_entry_reads None entries same none = λ e reads.
+      none e (ap (map (entry_view (λ text. text.now))) same ∙ tree_read (e ∷ []) reads)
+  no_entry_reads (Some entry) entries same none = none
+
+  pub errors_read_none : read.outcome ≡ SyntaxErrors → (e : EntryTree Text) → ReadsAs edition t (e ∷ []) → ⊥
+  errors_read_none errors e reads = let clean = clean_read (e ∷ []) reads in cc
+
+-- a text reads as one tree
+pub one_read : (edition : Edition) (t : List ℕ) (e other : EntryTree Text) → ReadsAs edition t (e ∷ []) →
+    ReadsAs edition t (other ∷ []) → e ≡ other
+one_read edition t e other reads again =
+    let same = one_tiling edition t reads.tiles again.tiles reads.tiling again.tiling in
+    let trees : e ∷ [] ≡ other ∷ [] = sym reads.same ∙ ap (tree_of t) same ∙ again.same in cc
+
+-- what is said of nothing, where there is nothing
+pub none_from : {X : Type 0} {P : Type 0} (answer : Option X) → answer ≡ None → P → IfNone answer P
+none_from answer e p = rw e p
+
+pub none_on : {X : Type 0} {P Q : Type 0} (answer : Option X) → (P → Q) → IfNone answer P → IfNone answer Q
+none_on None to p = to p
+none_on (Some x) to p = p
+
+module _ (action : Action) (edition : Edition) (p : Text) (part : TextTree)
+    (is : IsTextTree edition (part_source action p) part) where
+  -- what has no value spells no change of one, and what has no entry no change of one
+  pub value_unspelled : action ≡ SetValue → ((edition : Edition) (t : List ℕ) → IsTextTree edition t part →
+      (v : PatternTree Text) → ReadsAs edition t (value_message v ∷ []) → ⊥) → (change : Change) →
+      Spells edition action p change → ⊥
+  value_unspelled e none change spells =
+      let own = subst (λ a. Spells edition a p change) e spells in
+      none edition (part_source SetValue p) (subst (λ a. IsTextTree edition (part_source a p) part) e is) own.0 own.1
+
+  pub replace_unspelled : action ≡ Replace → ((edition : Edition) (t : List ℕ) → IsTextTree edition t part →
+      (e : EntryTree Text) → ReadsAs edition t (e ∷ []) → ⊥) → (change : Change) → Spells edition action p change → ⊥
+  replace_unspelled e none change spells =
+      let own = subst (λ a. Spells edition a p change) e spells in
+      none edition p (subst (λ a. IsTextTree edition (part_source a p) part) e is) own.0 own.1
+
+  pub insert_unspelled : action ≡ Insert → ((edition : Edition) (t : List ℕ) → IsTextTree edition t part →
+      (e : EntryTree Text) → ReadsAs edition t (e ∷ []) → ⊥) → (change : Change) → Spells edition action p change → ⊥
+  insert_unspelled e none change spells =
+      let own = subst (λ a. Spells edition a p change) e spells in
+      none edition p (subst (λ a. IsTextTree edition (part_source a p) part) e is) own.0 own.1
+
+  module _ (t : List ℕ) (source : TextTree) (read : IsTextTree edition t source) (n : ℕ)
+      (answer : Result (String Global) EditFault) where
+    answered : (change : Change) → Answers source.edition source.text.now n change answer →
+        Answers edition t n change answer
+    answered change answers =
+        subst (λ u. Answers edition u n change answer) read.text_is
+        (subst (λ by. Answers by source.text.now n change answer) read.edition_is answers)
+
+    -- the change that a part spells, and what is answered for it
+    pub value_spelled : action ≡ SetValue → (v : PatternTree Text) → ((edition : Edition) (t : List ℕ) →
+        IsTextTree edition t part → ReadsAs edition t (value_message v ∷ [])) → (change : Change) →
+        Answers source.edition source.text.now n change answer → SetsValue change v →
+        (change : Change) × Spells edition action p change × Answers edition t n change answer
+    value_spelled e v reads change answers sets =
+        let own = reads edition (part_source SetValue p) (subst (λ a. IsTextTree edition (part_source a p) part) e is) in
+        (change, subst (λ a. Spells edition a p change) (sym e) (v, own, sets), answered change answers)
+
+    pub replace_spelled : action ≡ Replace → (entry : EntryTree Text) → ((edition : Edition) (t : List ℕ) →
+        IsTextTree edition t part → ReadsAs edition t (entry ∷ [])) →
+        Answers source.edition source.text.now n (replaces entry) answer →
+        (change : Change) × Spells edition action p change × Answers edition t n change answer
+    replace_spelled e entry reads answers =
+        let own = reads edition p (subst (λ a. IsTextTree edition (part_source a p) part) e is) in (
+          replaces entry,
+          subst (λ a. Spells edition a p (replaces entry)) (sym e) (entry, own, refl),
+          answered (replaces entry) answers,
+        )
+
+    pub insert_spelled : action ≡ Insert → (entry : EntryTree Text) → ((edition : Edition) (t : List ℕ) →
+        IsTextTree edition t part → ReadsAs edition t (entry ∷ [])) →
+        Answers source.edition source.text.now n (inserts entry) answer →
+        (change : Change) × Spells edition action p change × Answers edition t n change answer
+    insert_spelled e entry reads answers =
+        let own = reads edition p (subst (λ a. IsTextTree edition (part_source a p) part) e is) in (
+          inserts entry,
+          subst (λ a. Spells edition a p (inserts entry)) (sym e) (entry, own, refl),
+          answered (inserts entry) answers,
+        )
+
+-- where the edit is made, by the tree that was read
+pub place_read : (edition : Edition) (t : List ℕ) (source : TextTree) (is : IsTextTree edition t source)
+    (action : Action) (name : Text) (place found : Option ℕ) →
+    place ≡ place_of action name (resource_view (λ text. text.now) source.tree) → place ≡ found →
+    place_of action name (tree_of t is.tiles) ≡ found
+place_read edition t source is action name place found told e =
+    ap (place_of action name) (sym is.tree_is) ∙ sym told ∙ e
+
+-- what holds by the edition by which two texts were read, holds by its number
+pub reads_both : (number : ℕ) (input : List ℕ) (action : Action) (source other : TextTree) (u p : List ℕ) →
+    IsEditionTextTree number input source → IsEditionTextTree number u other → u ≡ part_source action p →
+    (P : ℕ → Type 0) → ((edition : Edition) → IsTextTree edition input source →
+    IsTextTree edition (part_source action p) other → P (edition_number edition)) → P number
+reads_both number input action source other u p one two same P call =
+    let editions : two.0 ≡ one.0 = same_edition two.0 one.0 (two.1 ∙ sym one.1) in
+    let text = subst (λ t. IsTextTree two.0 t other) same two.2 in
+    let part = subst (λ e. IsTextTree e (part_source action p) other) editions text in
+    subst P one.1 (call one.0 one.2 part)
+
+-- what holds anyway, where there is an answer of which something is known
+pub ok_on : {X E P : Type 0} (Q : X → Type 0) (answer : Result X E) → IfOk answer Q → P → IfOk answer (λ x. P)
+ok_on Q (Ok x) q p = p
+ok_on Q (Err e) q p = q
+
+-- The edit that was made, or the reason why it was not, is given.
+pub gives_edit : (number nesting : ℕ) (t name : List ℕ) (action : Action) (part : List ℕ)
+    (answer : Result (Result (Vec ℕ Global × Outcome) EditRefusal) Refusal) (before after : List ℕ)
+    (count status : ℕ) →
+    IfOk answer (λ made. IfOk made (λ given. IsEdited number t name action part given.0.items given.1)) →
+    IfOk answer (λ made. IfErr made (IsNotEdited number t name action part)) →
+    ((answer ≡ Err Argument) ↔ IsNoEdition number) →
+    (¬ (IsNoEdition number) → ((answer ≡ Err Input) ↔ ¬ (IsUtf8 t × IsUtf8 name × IsUtf8 part))) →
+    (answer ≡ Err Depth → (nesting < length t) ⊎ (nesting < length (part_source action part))) →
+    (answer ≡ Err Depth → EditionReadsDeeper number t nesting
+    ⊎ EditionReadsDeeper number (part_source action part) nesting) →
+    IfOk answer (λ made. EditionReadsDeeper number t nesting
+    ⊎ EditionReadsDeeper number (part_source action part) nesting → ⊥) → answer ≢ Err Tree →
+    EndsAs status
+    (LeavesOutput (λ items found. IsOkAnd answer (λ made. IsOkAnd made
+    (λ given. (given.0.items ≡ items) × (given.1 ≡ found)))) before after count) →
+    ((why : Refusal) → (status ≡ refusal_number why) ↔ (answer ≡ Err why)) →
+    ((why : EditRefusal) → status ≡ edit_refusal_number why → answer ≡ Ok (Err why)) →
+    GivesEdit number t name action part nesting before after count status
+gives_edit number nesting t name action part answer before after count status edited not_edited argument input deep
+    deeper shallow tree leaves refused told = record {
+      gives =
+          gives_edited number (IsEdited number t name action part) _ _ _ answer before after count status edited argument
+          input deep deeper shallow
+          (λ none nests. either_absurd (λ d. none d.0 d.1) (λ d. none d.0 d.1) nests) tree leaves refused;
+      not_edited = λ why is. not_edited_of (IsNotEdited number t name action part) answer why (told why is) not_edited;
+    }

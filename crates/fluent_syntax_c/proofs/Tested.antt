@@ -1,0 +1,10 @@
+-- What a test of an optional value answers.
+use Rattle.std.proofs.Common.{◌≡◌, Bool, true, false, Option, Some, None, not, refl}
+use Rattle.std.specs.Prelude.{is_none, is_some}
+
+-- what is answered is whether there is none
+pub none_tested : {X : Type 0} (found : Option X) (is : Bool) → is_some found ≡ not is → is ≡ is_none found
+none_tested None true e = refl
+none_tested None false e = cc
+none_tested (Some x) true e = cc
+none_tested (Some x) false e = refl

@@ -1,0 +1,52 @@
+use Rattle.std.proofs.Common.{Some, None, ap, refl, subst, sym, ◌∙◌}
+use Rattle.fluent_syntax_edits.specs.Edits.{Answers}
+use Rattle.fluent_syntax_c.specs.Edits.{not_found, not_one_entry, refused}
+use Rattle.fluent_syntax_c.proofs.PartsRead.{place_read}
+use Rattle.fluent_syntax_c.proofs.edits.edited_text.Goals as goal
+
+pub returns-in-Some-Ok-clause-edited : goal.returns-in-Some-Ok-clause-edited
+returns-in-Some-Ok-clause-edited c = λ edition t p read is.
+    let x = c.in-Some-Ok.ensures.some edition t p read is in
+    record {
+      edition = edition;
+      tiles = read.tiles;
+      n = c.in-Some.index;
+      change = x.0;
+      asks = record {
+        has_number = refl;
+        has_tiles = read.has_tiles;
+        place =
+            place_read edition t c.args.source.now read c.args.action c.args.name.now c.place_of.result
+            (Some c.in-Some.index) c.place_of.ensures c.in-Some.is;
+        spells = x.1;
+      };
+      made = c.in-Some-Ok.text;
+      answers = subst (λ r. Answers edition t c.in-Some.index x.0 r) c.in-Some-Ok.field-0-is x.2;
+      text_is = ap (λ bytes. bytes.items) c.into_bytes.ensures.value;
+      outcome_is = read.outcome_is;
+    }
+
+pub returns-in-Some-edit_refusal-clause-not_edited : goal.returns-in-Some-edit_refusal-clause-not_edited
+returns-in-Some-edit_refusal-clause-not_edited c = λ edition t p read is.
+    let x = c.in-Some-Err.ensures.some edition t p read is in
+    refused edition read.tiles c.in-Some.index x.0 c.in-Some-Err.fault
+    (record {
+      has_number = refl;
+      has_tiles = read.has_tiles;
+      place =
+          place_read edition t c.args.source.now read c.args.action c.args.name.now c.place_of.result
+          (Some c.in-Some.index) c.place_of.ensures c.in-Some.is;
+      spells = x.1;
+    })
+    (subst (λ r. Answers edition t c.in-Some.index x.0 r) c.in-Some-Err.field-0-is x.2)
+    (sym c.edit_refusal.ensures ∙ c.in-Some-edit_refusal.is)
+
+pub returns-in-None-edited-clause-not_edited : goal.returns-in-None-edited-clause-not_edited
+returns-in-None-edited-clause-not_edited c = λ edition t p read is.
+    not_one_entry edition refl (c.in-None-edited.ensures.none edition p is)
+
+pub returns-in-None-clause-not_edited : goal.returns-in-None-clause-not_edited
+returns-in-None-clause-not_edited c = λ edition t p read is.
+    not_found edition read.tiles refl read.has_tiles
+    (place_read edition t c.args.source.now read c.args.action c.args.name.now c.place_of.result None
+    c.place_of.ensures c.in-None.is)

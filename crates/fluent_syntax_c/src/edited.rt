@@ -1,0 +1,156 @@
+//! A text with one entry changed.
+ghost use Rattle.std.specs.Prelude.{◌≡◌, ◌∷◌, [], List, ℕ, map, Some, None, Err, IfErr, IfOk, IfSome, IfNone};
+ghost use Rattle.std.specs.Prelude.{string_bytes, true};
+ghost use Rattle.fluent_syntax_tree.specs.Entry.{EntryTree};
+ghost use Rattle.fluent_syntax_tree.specs.Tree.{PatternTree};
+ghost use Rattle.fluent_syntax_tree.specs.View.{entry_view, pattern_view, resource_view};
+ghost use Rattle.fluent_syntax_tree.specs.declared.edition.Edition.{Edition as ByEdition};
+ghost use Rattle.fluent_syntax_grammar.specs.RoundTrip.{ReadsAs};
+ghost use Rattle.fluent_syntax_edits.specs.Changes.{Change};
+ghost use Rattle.fluent_syntax_edits.specs.Edits.{Answers};
+ghost use Rattle.fluent_syntax_c.specs.Edits.{IsTextTree, Spells, first_called, is_called, part_source, place_of};
+ghost use Rattle.fluent_syntax_c.specs.Edits.{value_message};
+
+use crate::text_trees::TextTree;
+use fluent_syntax::ast::{Entry, Pattern, Resource};
+use fluent_syntax_edits::{EditFault, insert, remove, replace, set_value};
+use ftl::Outcome;
+use std::alloc::{AllocError, Global};
+
+/// What is done at an entry.
+#[derive(Clone, Copy)]
+pub enum Action {
+    SetValue,
+    Replace,
+    Insert,
+    Remove,
+}
+
+/// What is read of the part that is new.
+pub(crate) fn part_source(alloc: Global, action: Action, part: &str) -> Result<String, AllocError>
+    ensures { IfOk result (λ text. string_bytes text ≡ part_source action part.now) }
+{
+    match action {
+        Action::SetValue => {
+            let mut text = String::from_str(alloc, "a =")?;
+            text.push_str(part)?;
+            Ok(text)
+        }
+        Action::Replace | Action::Insert | Action::Remove => String::from_str(alloc, part),
+    }
+}
+
+/// Whether it is the message of that name, or the term, whose name is written with its `-`.
+fn is_called(name: &str, entry: &Entry<&str>) -> bool
+    ensures { result ≡ is_called name.now (entry_view (λ text. text.now) entry.now) }
+{
+    match entry {
+        Entry::Message(message) => message.id.name == name,
+        Entry::Term(term) => match name.as_bytes().split_first() {
+            Some((b'-', own)) => term.id.name.as_bytes() == own,
+            _ => false,
+        },
+        Entry::Comment(_)
+        | Entry::GroupComment(_)
+        | Entry::ResourceComment(_)
+        | Entry::Junk { .. } => false,
+    }
+}
+
+/// The number of the first entry of that name, from 0.
+fn first_called(tree: &Resource<&str>, name: &str) -> Option<usize>
+    ensures { result ≡ first_called name.now (map (entry_view (λ text. text.now)) tree.now.body.items) }
+{
+    for (number, entry) in tree.body.iter().enumerate() {
+        if is_called(name, entry) {
+            return Some(number);
+        }
+    }
+    None
+}
+
+/// Where the edit is made: the number of an entry, or that behind all.
+pub(crate) fn place_of(action: Action, name: &str, tree: &Resource<&str>) -> Option<usize>
+    ensures { result ≡ place_of action name.now (map (entry_view (λ text. text.now)) tree.now.body.items) }
+{
+    match action {
+        Action::Insert if name.is_empty() => Some(tree.body.len()),
+        _ => first_called(tree, name),
+    }
+}
+
+/// The only entry, if there is one alone.
+fn only_entry<'p, 't>(entries: &'p [Entry<&'t str>]) -> Option<&'p Entry<&'t str>>
+    ensures some { IfSome result (λ entry. map (entry_view (λ text. text.now)) entries.now
+        ≡ entry_view (λ text. text.now) entry.now ∷ []) }
+    ensures none { IfNone result ((e : EntryTree (List ℕ)) →
+        map (entry_view (λ text. text.now)) entries.now ≡ e ∷ [] → ⊥) }
+{
+    match entries {
+        [entry] => Some(entry),
+        _ => None,
+    }
+}
+
+/// The only entry of a text without errors.
+fn one_entry<'p, 't>(part: &'p TextTree<'t>) -> Option<&'p Entry<&'t str>>
+    ensures some { (edition : ByEdition) (t : List ℕ) → IsTextTree edition t part.now →
+        IfSome result (λ entry. ReadsAs edition t (entry_view (λ text. text.now) entry.now ∷ [])) }
+    ensures none { (edition : ByEdition) (t : List ℕ) → IsTextTree edition t part.now →
+        IfNone result ((e : EntryTree (List ℕ)) → ReadsAs edition t (e ∷ []) → ⊥) }
+{
+    match part.outcome {
+        Outcome::Clean => only_entry(part.tree.body.as_slice()),
+        Outcome::SyntaxErrors => None,
+    }
+}
+
+/// The value that stands behind `a =`, as the only part of the only entry of a text without errors.
+fn one_value<'p, 't>(part: &'p TextTree<'t>) -> Option<&'p Pattern<&'t str>>
+    ensures some { (edition : ByEdition) (t : List ℕ) → IsTextTree edition t part.now →
+        IfSome result (λ value.
+        ReadsAs edition t (value_message (pattern_view (λ text. text.now) value.now) ∷ [])) }
+    ensures none { (edition : ByEdition) (t : List ℕ) → IsTextTree edition t part.now →
+        IfNone result ((v : PatternTree (List ℕ)) → ReadsAs edition t (value_message v ∷ []) → ⊥) }
+{
+    own_value(one_entry(part)?)
+}
+
+/// The value of a message `a` that has nothing else.
+fn own_value<'p, 't>(entry: &'p Entry<&'t str>) -> Option<&'p Pattern<&'t str>>
+    ensures some { IfSome result (λ value. entry_view (λ text. text.now) entry.now
+        ≡ value_message (pattern_view (λ text. text.now) value.now)) }
+    ensures none { IfNone result ((v : PatternTree (List ℕ)) →
+        entry_view (λ text. text.now) entry.now ≡ value_message v → ⊥) }
+{
+    match entry {
+        Entry::Message(message)
+            if message.id.name == "a"
+                && message.attributes.is_empty()
+                && message.comment.is_none() => { message.value.as_ref() }
+        _ => None,
+    }
+}
+
+/// The source with the change that the part spells, made at the entry of that number; `None` where it spells none.
+pub(crate) fn edited(
+    alloc: Global,
+    source: &TextTree<'_>,
+    index: usize,
+    action: Action,
+    part: &TextTree<'_>,
+) -> Option<Result<String, EditFault>>
+    ensures some { (edition : ByEdition) (t p : List ℕ) → IsTextTree edition t source.now →
+        IsTextTree edition (part_source action p) part.now →
+        IfSome result (λ made. (change : Change) × Spells edition action p change × Answers edition t index change made) }
+    ensures none { (edition : ByEdition) (p : List ℕ) → IsTextTree edition (part_source action p) part.now →
+        IfNone result ((change : Change) → Spells edition action p change → ⊥) }
+{
+    let (text, edition) = (source.text, source.edition);
+    match action {
+        Action::SetValue => Some(set_value(alloc, text, edition, index, one_value(part)?)),
+        Action::Replace => Some(replace(alloc, text, edition, index, one_entry(part)?)),
+        Action::Insert => Some(insert(alloc, text, edition, index, one_entry(part)?)),
+        Action::Remove => Some(remove(alloc, text, edition, index)),
+    }
+}

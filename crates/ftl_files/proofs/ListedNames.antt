@@ -1,0 +1,43 @@
+-- Lists of names.
+use Rattle.std.proofs.Common.{◌≡◌, ◌≢◌, ◌∙◌, List, [], ◌∷◌, ◌++◌, Some, inl, inr, map, refl, sym}
+use Rattle.toml.specs.Data.{Data, array}
+use Rattle.toml.specs.View.{items_of}
+use Rattle.ftl_files.specs.Settings.{IsListed}
+
+same_items : (xs ys : List Data) → items_of xs ≡ items_of ys → xs ≡ ys
+same_items [] [] same = refl
+same_items [] (y ∷ ys) same = cc
+same_items (x ∷ xs) [] same = cc
+same_items (x ∷ xs) (y ∷ ys) same =
+    let others : items_of xs ≡ items_of ys = cc in
+    let behind = same_items xs ys others in
+    cc
+
+module _ {A : Type 0} (named : A → Data) where
+  -- each value of a list of names is a name
+  no_other : (before : List Data) (value : Data) (after : List Data) (things : List A) →
+      before ++ value ∷ after ≡ map named things → ((thing : A) → value ≢ named thing) → ⊥
+  no_other [] value after [] same other = cc
+  no_other (x ∷ before) value after [] same other = cc
+  no_other [] value after (k ∷ things) same other =
+      let here : value ≡ named k = cc in
+      other k here
+  no_other (x ∷ before) value after (k ∷ things) same other =
+      let others : before ++ value ∷ after ≡ map named things = cc in
+      no_other before value after things others other
+
+  -- no things are listed where one value is no name
+  pub not_listed : (values : List Data) (before : List A) (value : Data) (after : List Data) (things : List A) →
+      values ≡ map named before ++ value ∷ after → ((thing : A) → value ≢ named thing) →
+      IsListed named (Some (array (items_of values))) things → ⊥
+  not_listed values before value after things at other (inl none) = cc
+  not_listed values before value after things at other (inr same) =
+      let items : items_of values ≡ items_of (map named things) = cc in
+      no_other (map named before) value after things (sym at ∙ same_items values (map named things) items) other
+
+  pub is_listed : (values : List Data) (things : List A) → values ≡ map named things →
+      IsListed named (Some (array (items_of values))) things
+  is_listed values things same = rw same (inr refl)
+
+pub same_some : {X : Type 0} (x y : X) → Some x ≡ Some y → x ≡ y
+same_some x y same = cc

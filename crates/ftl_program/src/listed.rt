@@ -1,0 +1,99 @@
+//! Which files the paths of the words name.
+
+use crate::project::Project;
+use ftl::{RunFault, Watched};
+use ftl_files::{SeenPaths, list};
+use ftl_project::{Fault, Streams, Tally, report_fault};
+use std::alloc::AllocError;
+use std::io;
+
+/// The files that paths name in a project, each once, however often it is named.
+#[derive(Drop)]
+pub(crate) struct NamedFiles<'p> {
+    project: &'p Project,
+    seen: SeenPaths,
+}
+
+impl<'p> NamedFiles<'p> {
+    /// None so far.
+    pub(crate) fn new(rt: &HostRuntime, project: &'p Project) -> Self {
+        NamedFiles {
+            project,
+            seen: SeenPaths::new(rt.alloc()),
+        }
+    }
+
+    /// The files that the path names, without those that an earlier one named. What can't be listed is told.
+    pub(crate) fn files_at(
+        &mut self,
+        rt: &HostRuntime,
+        path: &str,
+        tally: &mut Tally,
+    ) -> Result<Vec<String>, RunFault> {
+        let mut files = Vec::new(rt.alloc());
+        for file in named_at(rt, self.project, path, tally)?.files {
+            if self.is_new(rt, file.as_str())? && files.push(file).is_err() {
+                return Err(RunFault::Memory);
+            }
+        }
+        Ok(files)
+    }
+
+    /// Notes the path; whether no earlier one is the same.
+    pub(crate) fn is_new(&mut self, rt: &HostRuntime, path: &str) -> Result<bool, RunFault> {
+        match self
+            .seen
+            .add(rt.alloc(), self.project.current.as_str(), path)
+        {
+            Ok(is_new) => Ok(is_new),
+            Err(AllocError) => Err(RunFault::Memory),
+        }
+    }
+}
+
+/// What a path names.
+#[derive(Drop)]
+pub(crate) struct Named {
+    /// The file, or the files below the folder.
+    pub(crate) files: Vec<String>,
+    /// Whether it is a file.
+    pub(crate) is_file: bool,
+    /// Whether it could not be listed at all.
+    pub(crate) has_failed: bool,
+}
+
+/// What the path names. What can't be listed is told.
+pub(crate) fn named_at(
+    rt: &HostRuntime,
+    project: &Project,
+    path: &str,
+    tally: &mut Tally,
+) -> Result<Named, RunFault> {
+    let Ok(listing) = list(rt, project.current.as_str(), path, &project.excluded) else {
+        return Err(RunFault::Memory);
+    };
+    let is_file = listing.is_of_file(path);
+    let has_failed = listing.has_failed(path);
+    for (path, error) in listing.faults {
+        report_listing_fault(rt, path.as_str(), &Fault::Read(error), tally)?;
+    }
+    Ok(Named {
+        files: listing.files,
+        is_file,
+        has_failed,
+    })
+}
+
+/// Tells why what has the path was not answered, and counts it.
+fn report_listing_fault(
+    rt: &HostRuntime,
+    path: &str,
+    fault: &Fault,
+    tally: &mut Tally,
+) -> Result<(), RunFault> {
+    let mut streams = Streams {
+        out: &mut Watched::new(io::writer(rt)),
+        err: &mut Watched::new(rt.stderr()),
+    };
+    report_fault(rt.alloc(), tally, path, fault, &mut streams)
+}

@@ -1,0 +1,104 @@
+"""Edits of a text, and whether trees are canonical."""
+import unittest
+from typing import Any, Callable
+
+import dovelectern
+from dovelectern import ast
+from texts import all_texts
+
+TEXT = "# c\nhello   = Hi\n    .title = T\n\n\n-brand = B\nbro ken\nnone =\n    .a = é\nlast = L\n"
+
+
+def message(name: str, *texts: str) -> ast.Message:
+    return ast.Message(ast.Identifier(name), ast.Pattern([ast.TextElement(it) for it in texts]))
+
+
+class Edits(unittest.TestCase):
+    def test_set_value(self) -> None:
+        for value in (" New { $x }", "New { $x }\n", b"New {$x}", bytearray(b"\n  New { $x }")):
+            self.assertEqual(dovelectern.set_value(TEXT, "hello", value), TEXT.replace(" Hi", " New { $x }"))
+        lines = ast.Pattern([ast.TextElement("a\n"), ast.TextElement("b")])
+        self.assertEqual(dovelectern.set_value(TEXT.encode(), "-brand", lines),
+                         TEXT.replace("-brand = B", "-brand =\n    a\n    b"))
+        self.assertEqual(dovelectern.set_value("a = b", "a", "c"), "a = c\n")
+
+    def test_entries(self) -> None:
+        head, _, tail = TEXT.partition("-brand = B\n")
+        self.assertEqual(dovelectern.replace(TEXT, "-brand", "# d\nnew = N"), f"{head}# d\nnew = N\n{tail}")
+        self.assertEqual(dovelectern.replace(TEXT, "-brand", message("new", "N")), f"{head}new = N\n{tail}")
+        self.assertEqual(dovelectern.insert(TEXT, message("new", "N"), before="-brand"),
+                         f"{head}new = N\n-brand = B\n{tail}")
+        self.assertEqual(dovelectern.insert(TEXT, "new=N"), TEXT + "new = N\n")
+        self.assertEqual(dovelectern.insert("", "new=N"), "new = N\n")
+        self.assertEqual(dovelectern.remove(TEXT, "-brand"), head + tail)
+        self.assertEqual(dovelectern.remove(TEXT, "hello"), TEXT[TEXT.index("-brand"):])
+
+    def test_refused(self) -> None:
+        call: Callable[[], Any]
+        for error, told, call in (
+            (dovelectern.NotFound, "with a value is named none", lambda: dovelectern.set_value(TEXT, "none", "N")),
+            (dovelectern.NotFound, "no message or term is named brand", lambda: dovelectern.remove(TEXT, "brand")),
+            (dovelectern.NotFound, "is named hello.title", lambda: dovelectern.replace(TEXT, "hello.title", "a = b")),
+            (dovelectern.NotFound, "", lambda: dovelectern.insert(TEXT, "a = b", before="")),
+            (dovelectern.NotOneEntry, "the value", lambda: dovelectern.set_value(TEXT, "hello", "N\nb = B")),
+            (dovelectern.NotOneEntry, "the entry", lambda: dovelectern.replace(TEXT, "hello", "bro ken")),
+            (dovelectern.NotOneEntry, "the entry", lambda: dovelectern.insert(TEXT, ast.Junk("junk"))),
+            (dovelectern.ReadsOtherwise, "the new text", lambda: dovelectern.insert("a = b", "c = d")),
+            (dovelectern.ReadsOtherwise, r"body\[0\]", lambda: dovelectern.replace(TEXT, "hello", message("a", "{"))),
+            (dovelectern.TooDeep, "one of the texts", lambda: dovelectern.set_value(TEXT, "hello", "{{ $a }}", nesting=1)),
+            (ValueError, "an edition", lambda: dovelectern.remove(TEXT, "hello", edition=3)),
+            (UnicodeDecodeError, "", lambda: dovelectern.remove(b"\xff", "hello")),
+            (UnicodeEncodeError, "", lambda: dovelectern.remove(TEXT, "\ud800")),
+        ):
+            with self.subTest(error=error, told=told), self.assertRaisesRegex(error, told):
+                call()
+
+    def test_texts(self) -> None:
+        """Of each text all but the value stays, its errors too; and the new text has the value."""
+        changed = 0
+        for text, _ in all_texts()[::4]:
+            for name in ("key", "-t", "foo"):
+                with self.subTest(text=text, name=name):
+                    try:
+                        made = dovelectern.set_value(text, name, "{ $new }")
+                    except (dovelectern.NotFound, dovelectern.ReadsOtherwise):
+                        continue
+                    changed += 1
+                    kinds = [it.kind for it in dovelectern.check(text)]
+                    self.assertEqual([it.kind for it in dovelectern.check(made)], kinds)
+                    tree, new = dovelectern.parse(text), dovelectern.parse(made)
+                    (entry,) = [it for it, other in zip(tree.body, new.body) if it != other] or [None]
+                    self.assertEqual(len(tree.body), len(new.body))
+                    if isinstance(entry, (ast.Message, ast.Term)):
+                        self.assertEqual(entry.id.name, name.lstrip("-"))
+        self.assertGreater(changed, 100)
+
+
+class Canonical(unittest.TestCase):
+    def test_canonical(self) -> None:
+        for tree, wanted in (
+            (ast.Resource(), True), (ast.Resource([message("a", "b\n", "c")]), True),
+            (ast.Resource([message("a", "b\nc")]), False), (ast.Resource([message("a", "{")]), False),
+            (ast.Resource([message("a", "b"), ast.Junk("junk")]), False), (ast.Resource([ast.Comment("  ")]), False),
+        ):
+            for edition in (1, 2):
+                self.assertIs(dovelectern.is_canonical(tree, edition=edition), wanted)
+        wrong: Any = ast.Resource([5])
+        with self.assertRaisesRegex(TypeError, r"body\[0\] is int"):
+            dovelectern.is_canonical(wrong)
+        with self.assertRaises(ValueError):
+            dovelectern.is_canonical(ast.Resource(), edition=3)
+
+    def test_reads_back(self) -> None:
+        """A canonical tree is what its text is read as."""
+        count = 0
+        for text, _ in all_texts():
+            tree = dovelectern.parse(text)
+            if dovelectern.is_canonical(tree):
+                count += 1
+                self.assertEqual(dovelectern.parse(dovelectern.serialize(tree)), tree)
+        self.assertGreater(count, 300)
+
+
+if __name__ == "__main__":
+    unittest.main()
