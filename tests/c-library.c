@@ -358,7 +358,7 @@ static void kind_names(void)
     size_t count;
     for (uint32_t kind = FTL_EXPECTED_TOKEN; kind <= FTL_EXPECTED_LITERAL; kind++)
         kind_name(ftl_kind_name, kind);
-    for (uint32_t kind = FTL_FINDING_DEFINED_TWICE; kind <= FTL_FINDING_CYCLIC_REFERENCE; kind++)
+    for (uint32_t kind = FTL_FINDING_DEFINED_TWICE; kind <= FTL_FINDING_VARIANT_TWICE; kind++)
         kind_name(ftl_finding_kind_name, kind);
     for (uint32_t kind = FTL_FINDING_MISSING; kind <= FTL_FINDING_UNKNOWN_VARIABLE; kind++)
         kind_name(ftl_finding_kind_name, kind);

@@ -197,9 +197,9 @@ class Findings(unittest.TestCase):
                 call()
 
     def test_kinds(self) -> None:
-        names = [_library.finding_kind_name(number) for number in [*range(1, 8), *range(101, 109)]]
+        names = [_library.finding_kind_name(number) for number in [*range(1, 9), *range(101, 109)]]
         self.assertEqual(names, list(SEVERITIES))
-        for number in (0, 8, 100, 109, 2**32 - 1):
+        for number in (0, 9, 100, 109, 2**32 - 1):
             with self.assertRaises(ValueError):
                 _library.finding_kind_name(number)
 
