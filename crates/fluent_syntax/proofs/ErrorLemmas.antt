@@ -11,8 +11,8 @@ use Rattle.fluent_syntax_tree.specs.declared.errors.ParserError.{ParserError}
 use Rattle.fluent_syntax_tree.specs.declared.edition.Edition.{Edition}
 use Rattle.fluent_syntax_grammar.specs.Tiling.{Fault, Tile}
 use Rattle.fluent_syntax_grammar.specs.Body.{body, faults}
-use Rattle.fluent_syntax_grammar.specs.Laws.{junk_slice, fault_slice}
-use Rattle.fluent_syntax_grammar.specs.Laws as laws
+use Rattle.fluent_syntax_grammar.specs.UniqueReading.{junk_slice, fault_slice}
+use Rattle.fluent_syntax_grammar.specs.UniqueReading as laws
 use Rattle.fluent_syntax_grammar.proofs.JunkAndSpans.{junk_of_errors, runtime_junk_of_errors, errors_ascend}
 use Rattle.fluent_syntax_grammar.proofs.JunkAndSpans.{runtime_errors_ascend}
 use Rattle.fluent_syntax_parser.specs.Faults.{fault_of}

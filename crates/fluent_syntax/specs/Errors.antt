@@ -5,7 +5,7 @@ use Rattle.fluent_syntax_tree.specs.Entry.{BodyTree}
 use Rattle.fluent_syntax_tree.specs.View.{resource_view}
 use Rattle.fluent_syntax_tree.specs.declared.ast.Resource.{Resource}
 use Rattle.fluent_syntax_tree.specs.declared.errors.ParserError.{ParserError}
-use Rattle.fluent_syntax_grammar.specs.Laws.{Ascend, junk_slice}
+use Rattle.fluent_syntax_grammar.specs.UniqueReading.{Ascend, junk_slice}
 use Rattle.fluent_syntax_grammar.specs.Tiling.{Fault}
 use Rattle.fluent_syntax_parser.specs.Faults.{fault_of}
 use Rattle.fluent_syntax_parser.specs.declared.fault.ParseFault.{ParseFault}

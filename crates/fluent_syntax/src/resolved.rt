@@ -2,7 +2,7 @@
 ghost use Rattle.std.specs.Prelude.{◌≡◌, [], IsOk, IfOk};
 ghost use Rattle.fluent_syntax_tree.specs.Entry.{body_map, entry_map};
 ghost use Rattle.fluent_syntax_tree.specs.Every.{body_every, entry_every};
-ghost use Rattle.fluent_syntax_tree.specs.Spans.{IsPart, bytes_at};
+ghost use Rattle.fluent_syntax_tree.specs.Spans.{IsTextRange, bytes_at};
 ghost use Rattle.fluent_syntax_tree.specs.View.{entry_view, resource_view};
 
 use fluent_syntax_tree::ast::{Entry, Resource};
@@ -18,7 +18,7 @@ use std::marker::PhantomData;
 struct Parts<'a, 's, S>(&'a S, PhantomData<&'s ()>);
 
 impl<'a, 's, S: Slice<'s>> CopyTexts<Span, S> for Parts<'a, 's, S> {
-    ghost can = { λ parts span. IsPart (S.text parts.0.now) span };
+    ghost can = { λ parts span. IsTextRange (S.text parts.0.now) span };
 
     ghost source = { λ parts span. bytes_at (S.text parts.0.now) span };
 
@@ -36,7 +36,7 @@ pub fn resolve_entry<'s, S: Slice<'s>>(
     source: &S,
     entry: &Entry<Span>,
 ) -> Result<Entry<S>, AllocError>
-    requires parts { entry_every (IsPart (S.text source.now)) (entry_view (λ s. s) entry.now) }
+    requires parts { entry_every (IsTextRange (S.text source.now)) (entry_view (λ s. s) entry.now) }
     ensures texts { IfOk result (λ made. entry_view S.text made
         ≡ entry_map (bytes_at (S.text source.now)) (entry_view (λ s. s) entry.now)) }
 {
@@ -51,7 +51,7 @@ pub fn resolve<'s, S: Slice<'s>>(
     source: &S,
     tree: &Resource<Span>,
 ) -> Result<Resource<S>, AllocError>
-    requires parts { body_every (IsPart (S.text source.now)) (resource_view (λ s. s) tree.now) }
+    requires parts { body_every (IsTextRange (S.text source.now)) (resource_view (λ s. s) tree.now) }
     ensures texts { IfOk result (λ resource. resource_view S.text resource
         ≡ body_map (bytes_at (S.text source.now)) (resource_view (λ s. s) tree.now)) }
     ensures empty { tree.now.body.items ≡ [] → IsOk result }

@@ -7,7 +7,7 @@ use Rattle.std.specs.Str.{IsCharBoundary, IsUtf8}
 use Rattle.std.proofs.lemmas.Str.{IsCharBoundary-start}
 use Rattle.fluent_syntax_tree.specs.Entry.{junk}
 use Rattle.fluent_syntax_tree.specs.Every.{attribute_every, entry_every, list_every}
-use Rattle.fluent_syntax_tree.specs.Spans.{IsPart}
+use Rattle.fluent_syntax_tree.specs.Spans.{IsTextRange}
 use Rattle.fluent_syntax_tree.specs.View.{attribute_view}
 use Rattle.fluent_syntax_tree.specs.declared.ast.Attribute.{Attribute}
 use Rattle.fluent_syntax_tree.specs.declared.ast.Entry.{Entry}
@@ -20,7 +20,7 @@ use Rattle.fluent_syntax_grammar.specs.Tiling.{Tile, Tiled, TileAt, Tiling, done
 use Rattle.fluent_syntax_grammar.proofs.Boundaries.{boundary_cuts}
 use Rattle.fluent_syntax_grammar.proofs.Cuts.{block_place}
 use Rattle.fluent_syntax_grammar.proofs.OneTiling.{one_tiling}
-use Rattle.fluent_syntax_grammar.proofs.SoundTiling.{EndedTile, GoodTile, tile_good}
+use Rattle.fluent_syntax_grammar.proofs.SoundTiling.{EndedTile, IsTileWellFormed, tile_good}
 use Rattle.fluent_syntax_parser.specs.Rest.{tree_of}
 use Rattle.fluent_syntax_parser.specs.Tiles.{TileTo}
 use Rattle.fluent_syntax_parser.specs.declared.tiles.SpannedTile.{SpannedTile}
@@ -29,11 +29,11 @@ use Rattle.fluent_syntax_c.specs.declared.names.FtlName.{FtlName}
 
 -- the name of an attribute of a tree of the text lies within the text
 pub attribute_inside : (t s : List ℕ) (attributes items : List (Attribute Span)) (i : ℕ) (a : Attribute Span) →
-    list_every (attribute_every (IsPart t)) (map (attribute_view (λ s. s)) attributes) → items ≡ attributes →
+    list_every (attribute_every (IsTextRange t)) (map (attribute_view (λ s. s)) attributes) → items ≡ attributes →
     i < length items → a ≡ get_or items i a → s ≡ t → a.id.name.start ≤ length s
 attribute_inside t s attributes items i a all same l is text =
-    let h : attribute_every (IsPart t) (attribute_view (λ s. s) a) =
-    every_item (attribute_every (IsPart t)) (attribute_view (λ s. s)) attributes items i a all same l is in
+    let h : attribute_every (IsTextRange t) (attribute_view (λ s. s) a) =
+    every_item (attribute_every (IsTextRange t)) (attribute_view (λ s. s)) attributes items i a all same l is in
     subst (λ u. a.id.name.start ≤ length u) (sym text) h.0.1.0
 
 -- one more tile's rows
@@ -84,15 +84,15 @@ module _ (edition : Edition) (t : List ℕ) where
 
     parts_given : (tile : Tile) → TileAt edition t found.span.start found.span.end tile →
         alone tile ≡ tree_of found.entry ∷ [] →
-        GoodTile edition t (IsCharBoundary t) (boundary_cuts t utf8) tile →
-        entry_every (IsPart t) (tree_of found.entry)
+        IsTileWellFormed edition t (IsCharBoundary t) (boundary_cuts t utf8) tile →
+        entry_every (IsTextRange t) (tree_of found.entry)
     parts_given tile (reads {e = v} r) given good =
-        let same : v ≡ tree_of found.entry = cc in subst (entry_every (IsPart t)) same good.2
+        let same : v ≡ tree_of found.entry = cc in subst (entry_every (IsTextRange t)) same good.2
     parts_given tile (refuses r end) given good =
-        let same : junk found.span ≡ tree_of found.entry = cc in subst (entry_every (IsPart t)) same good.1
+        let same : junk found.span ≡ tree_of found.entry = cc in subst (entry_every (IsTextRange t)) same good.1
 
     -- the texts of what was found are parts of the source
-    pub parts_found : entry_every (IsPart t) (tree_of found.entry)
+    pub parts_found : entry_every (IsTextRange t) (tree_of found.entry)
     parts_found = parts_given to.tile to.stands to.yields.entry ends_there.good
 
     -- its rows behind those before it

@@ -24,22 +24,22 @@ status_at n =
     (cond (n == 6) (Refused Depth) (cond (n == 7) (Refused Tree) (cond (n == 8) (NotEdited NotFound)
     (cond (n == 9) (NotEdited NotOneEntry) (NotEdited ReadsOtherwise))))))))))
 
-number_back : (status : Status) → status_at (status_number status) ≡ status
-number_back Clean = refl
-number_back SyntaxErrors = refl
-number_back TooSmall = refl
-number_back (Refused Argument) = refl
-number_back (Refused Input) = refl
-number_back (Refused Memory) = refl
-number_back (Refused Depth) = refl
-number_back (Refused Tree) = refl
-number_back (NotEdited NotFound) = refl
-number_back (NotEdited NotOneEntry) = refl
-number_back (NotEdited ReadsOtherwise) = refl
+number_reads_back : (status : Status) → status_at (status_number status) ≡ status
+number_reads_back Clean = refl
+number_reads_back SyntaxErrors = refl
+number_reads_back TooSmall = refl
+number_reads_back (Refused Argument) = refl
+number_reads_back (Refused Input) = refl
+number_reads_back (Refused Memory) = refl
+number_reads_back (Refused Depth) = refl
+number_reads_back (Refused Tree) = refl
+number_reads_back (NotEdited NotFound) = refl
+number_reads_back (NotEdited NotOneEntry) = refl
+number_reads_back (NotEdited ReadsOtherwise) = refl
 
 -- no two statuses have one number
 same_status : (a b : Status) → status_number a ≡ status_number b → a ≡ b
-same_status a b e = sym (number_back a) ∙ ap status_at e ∙ number_back b
+same_status a b e = sym (number_reads_back a) ∙ ap status_at e ∙ number_reads_back b
 
 -- The number of a refusal is told exactly where the answer is that refusal.
 pub refusal_exactly : {X : Type 0} (answer : Result X Refusal) (number : ℕ) (status : Status) →

@@ -44,23 +44,23 @@ IsEditionTextTree number t read = (edition : Edition) × (edition_number edition
 -- ---- which entry
 
 -- whether it is the message of that name, or the term, whose name is written with its `-`
-abbrev pub is_called : Text → EntryTree Text → Bool
-is_called name (message m) = bytes_eq m.id name
-is_called name (term m) = bytes_eq (45 ∷ m.id) name
-is_called name (comment level lines) = false
-is_called name (junk content) = false
+abbrev pub has_entry_name : Text → EntryTree Text → Bool
+has_entry_name name (message m) = bytes_eq m.id name
+has_entry_name name (term m) = bytes_eq (45 ∷ m.id) name
+has_entry_name name (comment level lines) = false
+has_entry_name name (junk content) = false
 
 -- the number of the first one of that name
-abbrev pub first_called : Text → BodyTree Text → Option ℕ
-first_called name body = position_from (is_called name) 0 body
+abbrev pub first_entry_named : Text → BodyTree Text → Option ℕ
+first_entry_named name body = position_from (has_entry_name name) 0 body
 
 -- where the edit is made: at the entry of that name; what is inserted before no name comes behind all
 abbrev pub place_of : Action → Text → BodyTree Text → Option ℕ
-place_of SetValue name body = first_called name body
-place_of Replace name body = first_called name body
-place_of Remove name body = first_called name body
+place_of SetValue name body = first_entry_named name body
+place_of Replace name body = first_entry_named name body
+place_of Remove name body = first_entry_named name body
 place_of Insert [] body = Some (length body)
-place_of Insert (byte ∷ name) body = first_called (byte ∷ name) body
+place_of Insert (byte ∷ name) body = first_entry_named (byte ∷ name) body
 
 -- ---- which change
 

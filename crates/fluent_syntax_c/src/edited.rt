@@ -8,7 +8,7 @@ ghost use Rattle.fluent_syntax_tree.specs.declared.edition.Edition.{Edition as B
 ghost use Rattle.fluent_syntax_grammar.specs.RoundTrip.{ReadsAs};
 ghost use Rattle.fluent_syntax_edits.specs.Changes.{Change};
 ghost use Rattle.fluent_syntax_edits.specs.Edits.{Answers};
-ghost use Rattle.fluent_syntax_c.specs.Edits.{IsTextTree, Spells, first_called, is_called, part_source, place_of};
+ghost use Rattle.fluent_syntax_c.specs.Edits.{IsTextTree, Spells, first_entry_named, has_entry_name, part_source, place_of};
 ghost use Rattle.fluent_syntax_c.specs.Edits.{value_message};
 
 use crate::text_trees::TextTree;
@@ -41,8 +41,8 @@ pub(crate) fn part_source(alloc: Global, action: Action, part: &str) -> Result<S
 }
 
 /// Whether it is the message of that name, or the term, whose name is written with its `-`.
-fn is_called(name: &str, entry: &Entry<&str>) -> bool
-    ensures { result ≡ is_called name.now (entry_view (λ text. text.now) entry.now) }
+fn has_entry_name(name: &str, entry: &Entry<&str>) -> bool
+    ensures { result ≡ has_entry_name name.now (entry_view (λ text. text.now) entry.now) }
 {
     match entry {
         Entry::Message(message) => message.id.name == name,
@@ -58,11 +58,11 @@ fn is_called(name: &str, entry: &Entry<&str>) -> bool
 }
 
 /// The number of the first entry of that name, from 0.
-fn first_called(tree: &Resource<&str>, name: &str) -> Option<usize>
-    ensures { result ≡ first_called name.now (map (entry_view (λ text. text.now)) tree.now.body.items) }
+fn first_entry_named(tree: &Resource<&str>, name: &str) -> Option<usize>
+    ensures { result ≡ first_entry_named name.now (map (entry_view (λ text. text.now)) tree.now.body.items) }
 {
     for (number, entry) in tree.body.iter().enumerate() {
-        if is_called(name, entry) {
+        if has_entry_name(name, entry) {
             return Some(number);
         }
     }
@@ -75,7 +75,7 @@ pub(crate) fn place_of(action: Action, name: &str, tree: &Resource<&str>) -> Opt
 {
     match action {
         Action::Insert if name.is_empty() => Some(tree.body.len()),
-        _ => first_called(tree, name),
+        _ => first_entry_named(tree, name),
     }
 }
 
@@ -113,11 +113,11 @@ fn one_value<'p, 't>(part: &'p TextTree<'t>) -> Option<&'p Pattern<&'t str>>
     ensures none { (edition : ByEdition) (t : List ℕ) → IsTextTree edition t part.now →
         IfNone result ((v : PatternTree (List ℕ)) → ReadsAs edition t (value_message v ∷ []) → ⊥) }
 {
-    own_value(one_entry(part)?)
+    only_value(one_entry(part)?)
 }
 
 /// The value of a message `a` that has nothing else.
-fn own_value<'p, 't>(entry: &'p Entry<&'t str>) -> Option<&'p Pattern<&'t str>>
+fn only_value<'p, 't>(entry: &'p Entry<&'t str>) -> Option<&'p Pattern<&'t str>>
     ensures some { IfSome result (λ value. entry_view (λ text. text.now) entry.now
         ≡ value_message (pattern_view (λ text. text.now) value.now)) }
     ensures none { IfNone result ((v : PatternTree (List ℕ)) →
@@ -133,7 +133,7 @@ fn own_value<'p, 't>(entry: &'p Entry<&'t str>) -> Option<&'p Pattern<&'t str>>
 }
 
 /// The source with the change that the part spells, made at the entry of that number; `None` where it spells none.
-pub(crate) fn edited(
+pub(crate) fn edited_source(
     alloc: Global,
     source: &TextTree<'_>,
     index: usize,

@@ -8,7 +8,7 @@ ghost use Rattle.fluent_syntax_c.specs.Edits.{GivesEdit, IsEdited, IsNotEdited, 
 ghost use Rattle.fluent_syntax_c.specs.Edits.{part_source};
 
 use crate::arguments::edition_of;
-use crate::edited::{Action, edited, part_source, place_of};
+use crate::edited::{Action, edited_source, part_source, place_of};
 use crate::outputs::give_edited;
 use crate::status::{EditRefusal, Refusal};
 use crate::text_trees::{TextTree, text_tree};
@@ -168,7 +168,7 @@ fn edited_text(
     ensures memory { IfErr result (λ refusal. refusal ≡ Refusal.Memory) }
 {
     match place_of(action, name, &source.tree) {
-        Some(index) => match edited(alloc, source, index, action, part) {
+        Some(index) => match edited_source(alloc, source, index, action, part) {
             Some(Ok(text)) => Ok(Ok((text.into_bytes(), source.outcome))),
             Some(Err(fault)) => match edit_refusal(fault) {
                 Some(refusal) => Ok(Err(refusal)),

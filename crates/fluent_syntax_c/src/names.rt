@@ -2,7 +2,7 @@
 ghost use Rattle.std.specs.Prelude.{◌≡◌, ◌+◌, ◌++◌, ◌<◌, ◌≤◌, ◌^◌, length, map, vec_len, IfOk, OnOk};
 ghost use Rattle.std.specs.Str.{IsUtf8};
 ghost use Rattle.fluent_syntax_tree.specs.Every.{attribute_every, entry_every, list_every};
-ghost use Rattle.fluent_syntax_tree.specs.Spans.{IsPart};
+ghost use Rattle.fluent_syntax_tree.specs.Spans.{IsTextRange};
 ghost use Rattle.fluent_syntax_tree.specs.View.{attribute_view};
 ghost use Rattle.fluent_syntax_parser.specs.Rest.{tree_of};
 ghost use Rattle.fluent_syntax_c.specs.Depth.{EditionReadsDeeper};
@@ -128,7 +128,7 @@ fn add_tile<'t>(
     positions: &mut Positions<'t>,
     found: SpannedTile,
 ) -> Result<(), AllocError>
-    requires { entry_every (IsPart positions.old) (tree_of found.entry) }
+    requires { entry_every (IsTextRange positions.old) (tree_of found.entry) }
     ensures rows { OnOk result (rows.new.items
         ≡ rows.old.items ++ entry_rows positions.old (vec_len rows.old) found.span (tree_of found.entry)) }
     ensures text { positions.new ≡ positions.old }
@@ -143,7 +143,7 @@ fn add_entry<'t>(
     whole: Span,
     entry: &Entry<Span>,
 ) -> Result<(), AllocError>
-    requires { entry_every (IsPart positions.old) (tree_of entry.now) }
+    requires { entry_every (IsTextRange positions.old) (tree_of entry.now) }
     ensures rows { OnOk result (rows.new.items
         ≡ rows.old.items ++ entry_rows positions.old (vec_len rows.old) whole (tree_of entry.now)) }
     ensures text { positions.new ≡ positions.old }
@@ -181,7 +181,7 @@ fn add_owner<'t>(
     attributes: &Vec<Attribute<Span>>,
 ) -> Result<(), AllocError>
     requires name { name.start ≤ length positions.old }
-    requires attributes { list_every (attribute_every (IsPart positions.old))
+    requires attributes { list_every (attribute_every (IsTextRange positions.old))
         (map (attribute_view (λ s. s)) attributes.now.items) }
     ensures rows { OnOk result (rows.new.items ≡ rows.old.items ++
         owner_rows positions.old named (vec_len rows.old) whole name

@@ -34,7 +34,7 @@ pub(crate) fn replay<R: Files + Print + AllocGlobal>(rt: &R) -> anyhow::Result<(
     for line in table.lines() {
         texts = texts.saturating_add(1);
         let text = text_of(rt.alloc(), line)?;
-        let different = differing(rt.alloc(), text.as_str(), line)?;
+        let different = count_differing(rt.alloc(), text.as_str(), line)?;
         if different > 0 {
             println!(rt; "{different} answers differ: {line}")?;
         }
@@ -63,7 +63,7 @@ fn print_round_trips<R: Print>(rt: &R, edition: &str, counted: RoundTrips) -> an
 }
 
 /// How many answers of a line differ from those that the engine gives for its text.
-fn differing(alloc: Global, text: &str, line: &str) -> anyhow::Result<u64> {
+fn count_differing(alloc: Global, text: &str, line: &str) -> anyhow::Result<u64> {
     let mut fields = line.split('\t').skip(1);
     let mut different = 0u64;
     for command in COMMANDS {

@@ -56,8 +56,8 @@ is_field OtherComment = false
 is_field Junk = false
 
 -- whether the first is a comment of level 1 that ends where the second, a message or a term, begins
-abbrev pub attaches_on : EntryPlace → EntryPlace → Bool
-attaches_on x y = is_comment x.kind && is_field y.kind && x.span.end == y.span.start
+abbrev pub attaches_to : EntryPlace → EntryPlace → Bool
+attaches_to x y = is_comment x.kind && is_field y.kind && x.span.end == y.span.start
 
 -- The place read last, and those of the tiles behind it. A message or a term has one place with the comment that hangs
 -- on it.
@@ -66,7 +66,7 @@ entry_places_behind None [] = []
 entry_places_behind (Some p) [] = p ∷ []
 entry_places_behind None (x ∷ tiles) = entry_places_behind (Some (entry_place_of x)) tiles
 entry_places_behind (Some p) (x ∷ tiles) =
-    if attaches_on p (entry_place_of x)
+    if attaches_to p (entry_place_of x)
     then entry_places_behind (Some (record (entry_place_of x) { start = p.start })) tiles
     else p ∷ entry_places_behind (Some (entry_place_of x)) tiles
 

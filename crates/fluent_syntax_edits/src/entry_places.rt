@@ -1,6 +1,6 @@
 //! Where the entries of a text stand.
 ghost use Rattle.std.specs.Prelude.{◌≡◌, ◌∷◌, ◌++◌, List, Some, IfOk};
-ghost use Rattle.fluent_syntax_edits.specs.EntryPlaces.{HasEntryPlaces, attaches_on, kind_of, entry_place};
+ghost use Rattle.fluent_syntax_edits.specs.EntryPlaces.{HasEntryPlaces, attaches_to, kind_of, entry_place};
 ghost use Rattle.fluent_syntax_edits.specs.EntryPlaces.{entry_place_of};
 ghost use Rattle.fluent_syntax_edits.specs.EntryPlaces.{entry_places_behind};
 ghost use Rattle.fluent_syntax_grammar.specs.Tiling.{Tile};
@@ -56,8 +56,8 @@ fn entry_place(found: SpannedTile) -> EntryPlace
     }
 }
 
-fn attaches_on(comment: EntryPlace, place: EntryPlace) -> bool
-    ensures { result ≡ attaches_on comment place }
+fn attaches_to(comment: EntryPlace, place: EntryPlace) -> bool
+    ensures { result ≡ attaches_to comment place }
 {
     comment.kind == EntryKind::Comment
         && place.kind == EntryKind::Field
@@ -76,7 +76,7 @@ fn add_place(
         ++ entry_places_behind last (tile ∷ more)) }
 {
     match last {
-        Some(comment) if attaches_on(comment, next) => Ok(EntryPlace {
+        Some(comment) if attaches_to(comment, next) => Ok(EntryPlace {
             start: comment.start,
             ..next
         }),

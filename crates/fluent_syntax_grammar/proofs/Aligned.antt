@@ -22,7 +22,7 @@ use Rattle.fluent_syntax_grammar.specs.Tiling.{RuntimeTiling}
 use Rattle.fluent_syntax_tree.specs.declared.edition.Edition.{Edition}
 use Rattle.fluent_syntax_tree.specs.declared.spans.Span.{Span}
 use Rattle.fluent_syntax_grammar.proofs.Functional.{single_block}
-use Rattle.fluent_syntax_grammar.proofs.Holds.{gave}
+use Rattle.fluent_syntax_grammar.proofs.HoareTriple.{gave}
 use Rattle.fluent_syntax_grammar.proofs.OneTiling.{one_tile, junk_same, functional_whole_line}
 use Rattle.fluent_syntax_grammar.proofs.Cuts.{block_forward}
 use Rattle.fluent_syntax_grammar.proofs.Sound.{IsPlain}

@@ -13,15 +13,15 @@ use Rattle.fluent_syntax_grammar.specs.Tiling.{Tile, Tiled, done, next, entry_of
 use Rattle.fluent_syntax_grammar.specs.Tiling.{drops, stands}
 use Rattle.fluent_syntax_tree.specs.declared.edition.Edition.{Edition}
 use Rattle.fluent_syntax_tree.specs.declared.spans.Span.{Span}
-use Rattle.fluent_syntax_grammar.proofs.Holds.{Holds, holds_bind, holds_yields, holds_fails_from}
+use Rattle.fluent_syntax_grammar.proofs.HoareTriple.{HoareTriple, holds_bind, holds_yields, holds_fails_from}
 use Rattle.fluent_syntax_grammar.proofs.Runtime.{IsBare, IsBareTile}
 use Rattle.fluent_syntax_grammar.proofs.Facts.{differs}
 
-abbrev Anywhere : ℕ → Type 0
-Anywhere i = Unit {0}
+abbrev AnyPlace : ℕ → Type 0
+AnyPlace i = Unit {0}
 
-abbrev Anything : {A : Type 0} → A → ℕ → Type 0
-Anything a i = Unit {0}
+abbrev AnyValue : {A : Type 0} → A → ℕ → Type 0
+AnyValue a i = Unit {0}
 
 abbrev AnyFault : Kind → ℕ → ℕ → Type 0
 AnyFault k from to = Unit {0}
@@ -29,53 +29,53 @@ AnyFault k from to = Unit {0}
 abbrev Bare : EntryTree Span → ℕ → Type 0
 Bare e j = IsBare e
 
-any : {A : Type 0} {c : Construct A} → Holds Anywhere c Anything AnyFault
+any : {A : Type 0} {c : Construct A} → HoareTriple AnyPlace c AnyValue AnyFault
 any = record { on_read = λ i j a p x. tt; on_refused = λ i from to k p x. tt }
 
 module _ (edition : Edition) (t : List ℕ) where
   bare_message : (start : ℕ) (id : Span) (value : Option (PatternTree Span)) (rest : List (AttributeTree Span)) →
-      Holds Anywhere (message_with t start id value rest) Bare AnyFault
+      HoareTriple AnyPlace (message_with t start id value rest) Bare AnyFault
   bare_message start id None [] = holds_fails_from (λ i p. tt)
   bare_message start id None (a ∷ rest) = holds_yields (λ i p. refl)
   bare_message start id (Some value) rest = holds_yields (λ i p. refl)
 
   bare_term : (start : ℕ) (id : Span) (value : Option (PatternTree Span)) (rest : List (AttributeTree Span)) →
-      Holds Anywhere (term_with t start id value rest) Bare AnyFault
+      HoareTriple AnyPlace (term_with t start id value rest) Bare AnyFault
   bare_term start id None rest = holds_fails_from (λ i p. tt)
   bare_term start id (Some value) rest = holds_yields (λ i p. refl)
 
-  pub message_bare : Holds Anywhere (message_entry edition t) Bare AnyFault
+  pub message_bare : HoareTriple AnyPlace (message_entry edition t) Bare AnyFault
   message_bare =
-      holds_bind {mid = Anything} any
-      (λ start. holds_bind {mid = Anything} any
-      (λ id. holds_bind {mid = Anything} any (λ u. holds_bind {mid = Anything} any (λ v.
-      holds_bind {mid = Anything} any
-      (λ value. holds_bind {mid = Anything} any
-      (λ w. holds_bind {mid = Anything} any (λ rest. bare_message start id value rest)))))))
+      holds_bind {mid = AnyValue} any
+      (λ start. holds_bind {mid = AnyValue} any
+      (λ id. holds_bind {mid = AnyValue} any (λ u. holds_bind {mid = AnyValue} any (λ v.
+      holds_bind {mid = AnyValue} any
+      (λ value. holds_bind {mid = AnyValue} any
+      (λ w. holds_bind {mid = AnyValue} any (λ rest. bare_message start id value rest)))))))
 
-  pub term_bare : Holds Anywhere (term_entry edition t) Bare AnyFault
+  pub term_bare : HoareTriple AnyPlace (term_entry edition t) Bare AnyFault
   term_bare =
-      holds_bind {mid = Anything} any
-      (λ start. holds_bind {mid = Anything} any
-      (λ z. holds_bind {mid = Anything} any
-      (λ id. holds_bind {mid = Anything} any (λ u. holds_bind {mid = Anything} any (λ v.
-      holds_bind {mid = Anything} any
-      (λ value. holds_bind {mid = Anything} any
-      (λ w. holds_bind {mid = Anything} any (λ rest. bare_term start id value rest))))))))
+      holds_bind {mid = AnyValue} any
+      (λ start. holds_bind {mid = AnyValue} any
+      (λ z. holds_bind {mid = AnyValue} any
+      (λ id. holds_bind {mid = AnyValue} any (λ u. holds_bind {mid = AnyValue} any (λ v.
+      holds_bind {mid = AnyValue} any
+      (λ value. holds_bind {mid = AnyValue} any
+      (λ w. holds_bind {mid = AnyValue} any (λ rest. bare_term start id value rest))))))))
 
   a_hash : (i b : ℕ) (o : Option ℕ) → o ≡ Some b → (b == 35) ≡ true → holds (λ c. c == 35) o ≡ true
   a_hash i b o e f = rw e f
 
-  bare_of : (i j : ℕ) (e : EntryTree Span) (o : Option ℕ) → slice_get t i ≡ o → has_byte t 35 i ≡ false →
+  entry_is_bare : (i j : ℕ) (e : EntryTree Span) (o : Option ℕ) → slice_get t i ≡ o → has_byte t 35 i ≡ false →
       entry_of edition t (family edition t) o i (Read e j) → IsBare e
-  bare_of i j e None p h x = message_bare.on_read i j e tt x
-  bare_of i j e (Some b) p h (first f x) = differs (a_hash i b (slice_get t i) p f) h
-  bare_of i j e (Some b) p h (second f (first g x)) = term_bare.on_read i j e tt x
-  bare_of i j e (Some b) p h (second f (second g x)) = message_bare.on_read i j e tt x
+  entry_is_bare i j e None p h x = message_bare.on_read i j e tt x
+  entry_is_bare i j e (Some b) p h (first f x) = differs (a_hash i b (slice_get t i) p f) h
+  entry_is_bare i j e (Some b) p h (second f (first g x)) = term_bare.on_read i j e tt x
+  entry_is_bare i j e (Some b) p h (second f (second g x)) = message_bare.on_read i j e tt x
 
   -- where no `#` stands the tile is none of a comment
   pub bare_tile_at : (i j : ℕ) (tile : Tile) → has_byte t 35 i ≡ false → TileAt edition t i j tile → IsBareTile tile
-  bare_tile_at i j tile h (reads {e = e} (chosen x)) = bare_of i j e (slice_get t i) refl h x
+  bare_tile_at i j tile h (reads {e = e} (chosen x)) = entry_is_bare i j e (slice_get t i) refl h x
   bare_tile_at i j tile h (refuses x y) = tt
 
   bare_runtime_tile : (i j : ℕ) (tile : Tile) → RuntimeTileAt edition t i j tile → IsBareTile tile

@@ -3,10 +3,10 @@ use Rattle.std.proofs.Common.{ℕ, ◌<◌, List, get_or, arith}
 use Rattle.std.specs.Str.{IsUtf8, IsCharBoundary}
 use Rattle.std.proofs.lemmas.Option.{slice_get_within, get_or_from_slice_get}
 use Rattle.std.proofs.lemmas.Str.{IsCharBoundary-end, IsCharBoundary-before_ascii, IsCharBoundary-after_ascii}
-use Rattle.fluent_syntax_grammar.proofs.Cuts.{AsciiAt, IsCuts}
+use Rattle.fluent_syntax_grammar.proofs.Cuts.{AsciiAt, AreBoundaries}
 use Rattle.fluent_syntax_grammar.proofs.SoundStrings.{InText}
 
-pub text_cuts : (t : List ℕ) → IsCuts t (InText t)
+pub text_cuts : (t : List ℕ) → AreBoundaries t (InText t)
 text_cuts t = record {
   in_text = λ i p. p;
   before = λ i a. let l = slice_get_within t i a.byte a.stands in omega arith;
@@ -17,7 +17,7 @@ text_cuts t = record {
 small_there : (t : List ℕ) (i : ℕ) → AsciiAt t i → get_or t i 0 < 128
 small_there t i a = let e = get_or_from_slice_get t i a.byte 0 a.stands in let s = a.ascii in omega arith
 
-pub boundary_cuts : (t : List ℕ) → IsUtf8 t → IsCuts t (IsCharBoundary t)
+pub boundary_cuts : (t : List ℕ) → IsUtf8 t → AreBoundaries t (IsCharBoundary t)
 boundary_cuts t u = record {
   in_text = λ i p. p.0;
   before = λ i a. IsCharBoundary-before_ascii t i (slice_get_within t i a.byte a.stands) (small_there t i a);

@@ -7,8 +7,8 @@ use Rattle.fluent_syntax_grammar.specs.Construct.{Refused, chosen}
 use Rattle.fluent_syntax_grammar.specs.Tokens.{identifier, spanned, token, past_eol, optional_eol, rest_of_line}
 use Rattle.fluent_syntax_grammar.specs.Comments.{hashes, comment_text, comment_rest, comment_lines, comment_of}
 use Rattle.fluent_syntax_grammar.specs.Comments.{comment_entry}
-use Rattle.fluent_syntax_grammar.proofs.Holds.{Holds, holds_weaker, holds_bind, holds_yields, holds_here, holds_fails}
-use Rattle.fluent_syntax_grammar.proofs.Holds.{holds_skip, holds_peek, holds_branch_on}
+use Rattle.fluent_syntax_grammar.proofs.HoareTriple.{HoareTriple, holds_weaker, holds_bind, holds_yields, holds_here, holds_fails}
+use Rattle.fluent_syntax_grammar.proofs.HoareTriple.{holds_skip, holds_peek, holds_branch_on}
 use Rattle.fluent_syntax_grammar.proofs.Sound.{IsPlain}
 
 -- refused at the place, for a kind that no message and no term lacks its field by
@@ -16,11 +16,11 @@ pub record IsAt (p : ℕ) (k : Kind) (from to : ℕ) : Type 0 where
   pub at : from ≡ p
   pub plain : IsPlain k
 
-abbrev Anywhere : ℕ → Type 0
-Anywhere i = Unit {0}
+abbrev AnyPlace : ℕ → Type 0
+AnyPlace i = Unit {0}
 
-abbrev Anything : {A : Type 0} → A → ℕ → Type 0
-Anything a i = Unit {0}
+abbrev AnyValue : {A : Type 0} → A → ℕ → Type 0
+AnyValue a i = Unit {0}
 
 true_false : {X : Type 0} → true ≡ false → X
 true_false e = cc
@@ -35,48 +35,48 @@ some_hashes true true false e = omega arith
 some_hashes true true true e = omega arith
 
 module _ (t : List ℕ) (F : Kind → ℕ → ℕ → Type 0) where
-  never_spanned : (start : ℕ) → Holds Anywhere (spanned start) Anything F
-  never_spanned start = holds_bind {mid = Anything} (holds_here (λ i p. tt)) (λ end. holds_yields (λ i p. tt))
+  never_spanned : (start : ℕ) → HoareTriple AnyPlace (spanned start) AnyValue F
+  never_spanned start = holds_bind {mid = AnyValue} (holds_here (λ i p. tt)) (λ end. holds_yields (λ i p. tt))
 
-  never_past : (o : Option ℕ) → Holds (λ i. Anywhere i × (after_eol t i ≡ o)) (past_eol o) Anything F
+  never_past : (o : Option ℕ) → HoareTriple (λ i. AnyPlace i × (after_eol t i ≡ o)) (past_eol o) AnyValue F
   never_past None = holds_yields (λ i p. tt)
   never_past (Some k) = holds_skip (λ i j p w. tt)
 
-  never_eol : Holds Anywhere (optional_eol t) Anything F
+  never_eol : HoareTriple AnyPlace (optional_eol t) AnyValue F
   never_eol = holds_peek never_past
 
-  never_line : Holds Anywhere (rest_of_line t) Anything F
+  never_line : HoareTriple AnyPlace (rest_of_line t) AnyValue F
   never_line =
-      holds_bind {mid = Anything} (holds_here (λ i p. tt))
-      (λ start. holds_bind {mid = Anything} (holds_skip (λ i j p w. tt)) (λ u. never_spanned start))
+      holds_bind {mid = AnyValue} (holds_here (λ i p. tt))
+      (λ start. holds_bind {mid = AnyValue} (holds_skip (λ i j p w. tt)) (λ u. never_spanned start))
 
-  never_lines : (level : ℕ) → Holds Anywhere (comment_lines t level) Anything F
+  never_lines : (level : ℕ) → HoareTriple AnyPlace (comment_lines t level) AnyValue F
   never_lines level =
       record { on_read = λ i j a p x. tt; on_refused = λ i from to k p x. no_fault (F k from to) t level i from to k x }
 
 module _ (t : List ℕ) (p : ℕ) where
-  token_at : (b : ℕ) → Holds (λ i. i ≡ p) (token t b) Anything (IsAt p)
+  token_at : (b : ℕ) → HoareTriple (λ i. i ≡ p) (token t b) AnyValue (IsAt p)
   token_at b = holds_bind {mid = λ found i. found ≡ false → i ≡ p} (holds_peek (λ found. holds_branch_on
-      (λ e. holds_bind {mid = Anything} (holds_skip (λ i j q w. tt)) (λ u. holds_yields (λ i q no. true_false no)))
+      (λ e. holds_bind {mid = AnyValue} (holds_skip (λ i j q w. tt)) (λ u. holds_yields (λ i q no. true_false no)))
       (λ e. holds_yields (λ i q no. q.0))))
       (λ found. holds_branch_on (λ e. holds_yields (λ i q. tt))
       (λ e. holds_fails (λ i q. record { at = q e; plain = tt })))
 
-  text_at : (eol : Bool) → Holds (λ i. i ≡ p) (comment_text t eol) Anything (IsAt p)
-  text_at true = holds_bind {mid = Anything} (holds_here (λ i q. tt)) (λ i. never_spanned t (IsAt p) i)
+  text_at : (eol : Bool) → HoareTriple (λ i. i ≡ p) (comment_text t eol) AnyValue (IsAt p)
+  text_at true = holds_bind {mid = AnyValue} (holds_here (λ i q. tt)) (λ i. never_spanned t (IsAt p) i)
   text_at false = holds_bind (token_at 32) (λ u. never_line t (IsAt p))
 
-  rest_at : (o : Option ℕ) → Holds (λ i. i ≡ p) (comment_rest t o) Anything (IsAt p)
+  rest_at : (o : Option ℕ) → HoareTriple (λ i. i ≡ p) (comment_rest t o) AnyValue (IsAt p)
   rest_at None = holds_yields (λ i q. tt)
   rest_at (Some b) =
-      holds_bind {mid = Anything}
+      holds_bind {mid = AnyValue}
       (holds_peek
       (λ eol. holds_weaker {pre = λ i. i ≡ p} (λ i q. q.0) (λ a j x. x) (λ k from to x. x) (text_at eol)))
       (λ content. holds_bind (never_eol t (IsAt p)) (λ u. holds_yields (λ i q. tt)))
 
 module _ (t : List ℕ) where
-  comment_at : (i level : ℕ) → Holds (λ j. j ≡ i) (comment_of t level) Anything (IsAt (i + level))
-  comment_at i level = holds_bind {mid = Anything}
+  comment_at : (i level : ℕ) → HoareTriple (λ j. j ≡ i) (comment_of t level) AnyValue (IsAt (i + level))
+  comment_at i level = holds_bind {mid = AnyValue}
       (holds_bind {mid = λ u j. j ≡ i + level} (holds_skip (λ j m e w. let by = w.by in omega arith))
       (λ u. holds_peek
       (λ o. holds_weaker {pre = λ j. j ≡ i + level} (λ j q. q.0) (λ a j x. x) (λ k from to x. x)
@@ -92,12 +92,12 @@ module _ (t : List ℕ) where
   pub some_hash : (i : ℕ) → has_byte t 35 i ≡ true → 1 ≤ hashes t i
   some_hash i e = some_hashes (has_byte t 35 i) (has_byte t 35 (i + 1)) (has_byte t 35 (i + 2)) e
 
-  name_at : (p : ℕ) → Holds (λ i. i ≡ p) (identifier t) Anything (IsAt p)
+  name_at : (p : ℕ) → HoareTriple (λ i. i ≡ p) (identifier t) AnyValue (IsAt p)
   name_at p =
       holds_bind {mid = λ start i. i ≡ p} (holds_here (λ i q. q))
       (λ start. holds_bind {mid = λ letter i. i ≡ p} (holds_peek (λ letter. holds_yields (λ i q. q.0)))
       (λ letter. holds_branch_on
-      (λ e. holds_bind {mid = Anything} (holds_skip (λ i j q w. tt)) (λ u. never_spanned t (IsAt p) start))
+      (λ e. holds_bind {mid = AnyValue} (holds_skip (λ i j q w. tt)) (λ u. never_spanned t (IsAt p) start))
       (λ e. holds_fails (λ i q. record { at = q; plain = tt }))))
 
   -- a name is refused at its place

@@ -2,7 +2,7 @@
 use Rattle.std.proofs.Common.{◌≡◌, ℕ, zero, suc, ◌+◌, ◌<◌, ◌≤◌, Option, Some, None, Bool, true, false, refl, sym, subst}
 use Rattle.std.proofs.Common.{arith, inl, inr}
 use Rattle.fluent_syntax_tree.specs.Kind.{Kind}
-use Rattle.fluent_syntax_grammar.specs.Places.{LongestRun, Steps, Reaches}
+use Rattle.fluent_syntax_grammar.specs.Places.{LongestRun, Steps, JumpsTo}
 use Rattle.fluent_syntax_grammar.specs.Construct.{Outcome, Read, Refused, Construct, ◌>>=◌, stops, goes_on, yields}
 use Rattle.fluent_syntax_grammar.specs.Construct.{given, here, at_place, fails, failed, fails_from, failed_from, skip}
 use Rattle.fluent_syntax_grammar.specs.Construct.{passed, peek, chosen, branch_on, first, second, More, no_item, item}
@@ -14,7 +14,7 @@ pub record Computed {A : Type 0} (c : Construct A) : Type 0 where
   pub run : ℕ → Option (Outcome A)
   pub sound : (i : ℕ) (o : Outcome A) → run i ≡ Some o → c i o
 
-pub record ComputedWord (W : ℕ → ℕ → Type 0) : Type 0 where
+pub record ComputedRelation (W : ℕ → ℕ → Type 0) : Type 0 where
   pub run : ℕ → Option ℕ
   pub sound : (i j : ℕ) → run i ≡ Some j → W i j
 
@@ -74,12 +74,12 @@ abbrev pub skip_run : Option ℕ → Option (Outcome (Unit {0}))
 skip_run None = None
 skip_run (Some j) = Some (Read tt j)
 
-pub skip_sound : (W : ℕ → ℕ → Type 0) (w : ComputedWord W) (i : ℕ) (o : Outcome (Unit {0})) (r : Option ℕ) →
+pub skip_sound : (W : ℕ → ℕ → Type 0) (w : ComputedRelation W) (i : ℕ) (o : Outcome (Unit {0})) (r : Option ℕ) →
     w.run i ≡ r → skip_run r ≡ Some o → skip W i o
 skip_sound W w i o None e h = cc
 skip_sound W w i o (Some j) e h = let same : Read tt j ≡ o = cc in subst (λ o. skip W i o) same (passed (w.sound i j e))
 
-abbrev pub computed_skip : {W : ℕ → ℕ → Type 0} → ComputedWord W → Computed (skip W)
+abbrev pub computed_skip : {W : ℕ → ℕ → Type 0} → ComputedRelation W → Computed (skip W)
 computed_skip {W = W} w = record { run = λ i. skip_run (w.run i); sound = λ i o h. skip_sound W w i o (w.run i) refl h }
 
 abbrev pub computed_peek : {A B : Type 0} {look : ℕ → A} {part : A → Construct B} → ((a : A) → Computed (part a)) →
@@ -119,10 +119,10 @@ module _ {A S B : Type 0} (next : S → Construct (More A S)) (add : A → B →
 
 -- ---- words
 
-abbrev pub computed_steps : {n : ℕ} → ComputedWord (Steps n)
+abbrev pub computed_steps : {n : ℕ} → ComputedRelation (Steps n)
 computed_steps {n = n} = record { run = λ i. Some (i + n); sound = λ i j h. record { by = sym (some_same h) } }
 
-abbrev pub computed_reaches : {k : ℕ} → ComputedWord (Reaches k)
+abbrev pub computed_reaches : {k : ℕ} → ComputedRelation (JumpsTo k)
 computed_reaches {k = k} = record { run = λ i. Some k; sound = λ i j h. record { there = sym (some_same h) } }
 
 abbrev pub find : (ℕ → Bool) → (fuel : ℕ) → ℕ → Option ℕ
@@ -148,10 +148,10 @@ find_sound test n i j false e h = find_here test i j e h
 find_sound test zero i j true e h = cc
 find_sound test (suc n) i j true e h = find_on test i j e (find_sound test n (i + 1) j (test (i + 1)) refl h)
 
-pub found_stretch : (test : ℕ → Bool) (n i j : ℕ) → find test n i ≡ Some j → LongestRun test i j
-found_stretch test zero i j h = cc
-found_stretch test (suc n) i j h = find_sound test n i j (test i) refl h
+pub found_longest_run : (test : ℕ → Bool) (n i j : ℕ) → find test n i ≡ Some j → LongestRun test i j
+found_longest_run test zero i j h = cc
+found_longest_run test (suc n) i j h = find_sound test n i j (test i) refl h
 
 -- the longest stretch, within so many places
-abbrev pub computed_stretch : {test : ℕ → Bool} → ℕ → ComputedWord (LongestRun test)
-computed_stretch {test = test} n = record { run = λ i. find test n i; sound = λ i j h. found_stretch test n i j h }
+abbrev pub computed_longest_run : {test : ℕ → Bool} → ℕ → ComputedRelation (LongestRun test)
+computed_longest_run {test = test} n = record { run = λ i. find test n i; sound = λ i j h. found_longest_run test n i j h }

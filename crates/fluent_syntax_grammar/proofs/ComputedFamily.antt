@@ -28,8 +28,8 @@ use Rattle.fluent_syntax_tree.specs.declared.edition.Edition.{Edition}
 use Rattle.fluent_syntax_tree.specs.declared.spans.Span.{Span}
 use Rattle.fluent_syntax_grammar.proofs.Computed.{Computed, choose, computed_bind, computed_yields, computed_here}
 use Rattle.fluent_syntax_grammar.proofs.Computed.{computed_fails, computed_skip, computed_peek, computed_branch_on}
-use Rattle.fluent_syntax_grammar.proofs.Computed.{computed_steps, computed_reaches, computed_stretch, find}
-use Rattle.fluent_syntax_grammar.proofs.Computed.{found_stretch, none_some, computed_many}
+use Rattle.fluent_syntax_grammar.proofs.Computed.{computed_steps, computed_reaches, computed_longest_run, find}
+use Rattle.fluent_syntax_grammar.proofs.Computed.{found_longest_run, none_some, computed_many}
 use Rattle.fluent_syntax_grammar.proofs.ComputedRules.{computed_optional, computed_token, computed_inline_blank}
 use Rattle.fluent_syntax_grammar.proofs.ComputedRules.{computed_blank, computed_blank_block, computed_identifier}
 use Rattle.fluent_syntax_grammar.proofs.ComputedRules.{computed_number, computed_string}
@@ -155,7 +155,7 @@ module _ (t : List ℕ) (n : ℕ) (R : Family) (h : ComputedFamily R) where
       (computed_bind computed_placeable (λ e. computed_yields))
       (computed_bind
       (computed_bind computed_here
-      (λ from. computed_bind (computed_skip (computed_stretch n)) (λ u. computed_bind computed_here (λ to.
+      (λ from. computed_bind (computed_skip (computed_longest_run n)) (λ u. computed_bind computed_here (λ to.
       computed_yields))))
       (λ p. computed_yields)))))
 
@@ -182,14 +182,14 @@ module _ (t : List ℕ) (n : ℕ) (R : Family) (h : ComputedFamily R) where
   lines_choose : (i k b : ℕ) (own : Bool) (o : Outcome (More Line (Unit {0}))) → find (has t is_space) n i ≡ Some k →
       slice_get t k ≡ Some b → belongs t (nat_lt i k) k ≡ own →
       choose own (λ u. computed_own.run i) (λ u. Some (Read no_item i)) ≡ Some o → next_line t R i o
-  lines_choose i k b true o e f g x = own_line (found_stretch (has t is_space) n i k e) f g (computed_own.sound i o x)
+  lines_choose i k b true o e f g x = own_line (found_longest_run (has t is_space) n i k e) f g (computed_own.sound i o x)
   lines_choose i k b false o e f g x = let same : Read no_item i ≡ o = cc in
-      subst (λ o. next_line t R i o) same (other_line (found_stretch (has t is_space) n i k e) f g)
+      subst (λ o. next_line t R i o) same (other_line (found_longest_run (has t is_space) n i k e) f g)
 
   lines_byte : (i k : ℕ) (b : Option ℕ) (o : Outcome (More Line (Unit {0}))) → find (has t is_space) n i ≡ Some k →
       slice_get t k ≡ b → lines_at i k b ≡ Some o → next_line t R i o
   lines_byte i k None o e f x = let same : Read no_item k ≡ o = cc in
-      subst (λ o. next_line t R i o) same (no_byte (found_stretch (has t is_space) n i k e) f)
+      subst (λ o. next_line t R i o) same (no_byte (found_longest_run (has t is_space) n i k e) f)
   lines_byte i k (Some b) o e f x = lines_choose i k b (belongs t (nat_lt i k) k) o e f refl x
 
   lines_sound : (i : ℕ) (k : Option ℕ) (o : Outcome (More Line (Unit {0}))) → find (has t is_space) n i ≡ k →

@@ -13,10 +13,10 @@ use Rattle.fluent_syntax_grammar.specs.Tokens.{optional_eol, rest_of_line, digit
 use Rattle.fluent_syntax_grammar.specs.Strings.{HexDigits, hex_digits, all_there, too_few, after_character, escaped}
 use Rattle.fluent_syntax_grammar.specs.Strings.{string_unit, string_units, before_quote, unit_and_more, bad_unit}
 use Rattle.fluent_syntax_grammar.specs.Strings.{string_literal}
-use Rattle.fluent_syntax_grammar.proofs.Computed.{Computed, ComputedWord, choose, computed_bind, computed_yields}
+use Rattle.fluent_syntax_grammar.proofs.Computed.{Computed, ComputedRelation, choose, computed_bind, computed_yields}
 use Rattle.fluent_syntax_grammar.proofs.Computed.{computed_here, computed_fails, computed_skip, computed_peek}
 use Rattle.fluent_syntax_grammar.proofs.Computed.{computed_branch_on, computed_steps, computed_reaches}
-use Rattle.fluent_syntax_grammar.proofs.Computed.{computed_stretch, find, found_stretch}
+use Rattle.fluent_syntax_grammar.proofs.Computed.{computed_longest_run, find, found_longest_run}
 use Rattle.fluent_syntax_grammar.proofs.Facts.{equal, here_or_on}
 
 abbrev pub computed_spanned : {start : ℕ} → Computed (spanned start)
@@ -43,10 +43,10 @@ module _ (t : List ℕ) (n : ℕ) where
   computed_token b = computed_bind (computed_optional b) (λ found. computed_branch_on computed_yields computed_fails)
 
   abbrev pub computed_inline_blank : Computed (inline_blank t)
-  computed_inline_blank = computed_skip (computed_stretch n)
+  computed_inline_blank = computed_skip (computed_longest_run n)
 
   abbrev pub computed_blank : Computed (blank t)
-  computed_blank = computed_skip (computed_stretch n)
+  computed_blank = computed_skip (computed_longest_run n)
 
   -- ---- blank blocks
 
@@ -68,8 +68,8 @@ module _ (t : List ℕ) (n : ℕ) where
       block_line f k m i (find_block f) ≡ Some j → BlankBlock t i j
   block_step i j f None m e g more h = cc
   block_step i j f (Some k) None e g more h = let same : i ≡ j = cc in
-      subst (λ j. BlankBlock t i j) same (no_line (found_stretch (has t is_space) n i k e) g)
-  block_step i j f (Some k) (Some m) e g more h = line (found_stretch (has t is_space) n i k e) g (more m h)
+      subst (λ j. BlankBlock t i j) same (no_line (found_longest_run (has t is_space) n i k e) g)
+  block_step i j f (Some k) (Some m) e g more h = line (found_longest_run (has t is_space) n i k e) g (more m h)
 
   pub found_block : (fuel i j : ℕ) → find_block fuel i ≡ Some j → BlankBlock t i j
   found_block zero i j h = cc
@@ -77,7 +77,7 @@ module _ (t : List ℕ) (n : ℕ) where
       block_step i j f (find (has t is_space) n i) (eol_at (find (has t is_space) n i)) refl refl
       (λ m x. found_block f m j x) h
 
-  abbrev pub block_word : ComputedWord (BlankBlock t)
+  abbrev pub block_word : ComputedRelation (BlankBlock t)
   block_word = record { run = find_block n; sound = λ i j h. found_block n i j h }
 
   abbrev pub computed_blank_block : Computed (blank_block t)
@@ -88,15 +88,15 @@ module _ (t : List ℕ) (n : ℕ) where
 
   abbrev pub computed_rest_of_line : Computed (rest_of_line t)
   computed_rest_of_line =
-      computed_bind computed_here (λ start. computed_bind (computed_skip (computed_stretch n)) (λ u. computed_spanned))
+      computed_bind computed_here (λ start. computed_bind (computed_skip (computed_longest_run n)) (λ u. computed_spanned))
 
   abbrev pub computed_digits : Computed (digits t)
-  computed_digits = computed_peek (λ found. computed_branch_on (computed_skip (computed_stretch n)) computed_fails)
+  computed_digits = computed_peek (λ found. computed_branch_on (computed_skip (computed_longest_run n)) computed_fails)
 
   abbrev pub computed_identifier : Computed (identifier t)
   computed_identifier =
       computed_bind computed_here (λ start. computed_bind (computed_peek (λ letter. computed_yields)) (λ letter.
-      computed_branch_on (computed_bind (computed_skip (computed_stretch n)) (λ u. computed_spanned)) computed_fails))
+      computed_branch_on (computed_bind (computed_skip (computed_longest_run n)) (λ u. computed_spanned)) computed_fails))
 
   abbrev pub computed_number : Computed (number t)
   computed_number =

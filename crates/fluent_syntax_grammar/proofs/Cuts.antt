@@ -10,7 +10,7 @@ use Rattle.fluent_syntax_grammar.specs.Places.{holds, LongestRun, ByteRun, has, 
 use Rattle.fluent_syntax_grammar.specs.Places.{is_line_place}
 use Rattle.fluent_syntax_grammar.specs.Places.{is_blank_place, Blank, BlankBlock, no_line, line}
 use Rattle.fluent_syntax_grammar.specs.Lines.{is_run_place}
-use Rattle.fluent_syntax_grammar.proofs.Facts.{byte_found, stretch_in_text, two_on, add_one, has_inside, some_none}
+use Rattle.fluent_syntax_grammar.proofs.Facts.{byte_found, longest_run_in_text, two_on, add_one, has_inside, some_none}
 use Rattle.fluent_syntax_grammar.proofs.Tests.{or_cases}
 
 -- an ASCII byte stands there
@@ -20,7 +20,7 @@ pub record AsciiAt (t : List ℕ) (i : ℕ) : Type 0 where
   pub ascii : byte < 128
 
 -- Places of a kind: they lie in the text; before and after each ASCII byte is one, and the text's end is one.
-pub record IsCuts (t : List ℕ) (P : ℕ → Type 0) : Type 0 where
+pub record AreBoundaries (t : List ℕ) (P : ℕ → Type 0) : Type 0 where
   pub in_text : (i : ℕ) → P i → i ≤ length t
   pub before : (i : ℕ) → AsciiAt t i → P i
   pub after : (i : ℕ) → AsciiAt t i → P (i + 1)
@@ -147,12 +147,12 @@ block_forward t i j (no_line a b) = omega arith
 block_forward t i j (line {k = k} {m = m} a b c) = let f = a.forward in let g = eol_forward t k m b in
     let h = block_forward t m j c in omega arith
 
-module _ (t : List ℕ) (P : ℕ → Type 0) (cuts : IsCuts t P) where
+module _ (t : List ℕ) (P : ℕ → Type 0) (cuts : AreBoundaries t P) where
   -- every place of a stretch over ASCII bytes
-  pub stretch_places : (test : ℕ → Bool) → ((k : ℕ) → test k ≡ true → AsciiAt t k) → (i j : ℕ) → P i →
+  pub longest_run_places : (test : ℕ → Bool) → ((k : ℕ) → test k ≡ true → AsciiAt t k) → (i j : ℕ) → P i →
       LongestRun test i j → (k : ℕ) → i ≤ k → k ≤ j → P k
-  stretch_places test ascii i j p s zero a b = let e : i ≡ 0 = omega arith in subst P e p
-  stretch_places test ascii i j p s (suc k) a b =
+  longest_run_places test ascii i j p s zero a b = let e : i ≡ 0 = omega arith in subst P e p
+  longest_run_places test ascii i j p s (suc k) a b =
       let split : (i ≤ k) ⊎ (i ≡ suc k) = grind arith in
       elim split [
         | inl l ↦ subst P (add_one k) (cuts.after k (ascii k (s.each k l (omega arith))))
@@ -160,10 +160,10 @@ module _ (t : List ℕ) (P : ℕ → Type 0) (cuts : IsCuts t P) where
       ]
 
   pub word_place : (set : ℕ → Bool) → IsAsciiSet set → (i j : ℕ) → P i → ByteRun t set i j → P j
-  word_place set s i j p w = stretch_places (has t set) (λ k e. ascii_has t set k s e) i j p w j w.forward (omega arith)
+  word_place set s i j p w = longest_run_places (has t set) (λ k e. ascii_has t set k s e) i j p w j w.forward (omega arith)
 
   pub blank_place : (i j : ℕ) → P i → Blank t i j → P j
-  blank_place i j p w = stretch_places (is_blank_place t) (λ k e. ascii_blank t k e) i j p w j w.forward (omega arith)
+  blank_place i j p w = longest_run_places (is_blank_place t) (λ k e. ascii_blank t k e) i j p w j w.forward (omega arith)
 
   pub eol_place : (i k : ℕ) → after_eol t i ≡ Some k → P k
   eol_place i k e =
@@ -191,11 +191,11 @@ module _ (t : List ℕ) (P : ℕ → Type 0) (cuts : IsCuts t P) where
   -- the rest of a line stops at a line end or at the text's end
   pub line_stop : (i j : ℕ) → P i → LongestRun (is_line_place t) i j → P j
   line_stop i j p s =
-      stop_place j (stretch_in_text (length t) (is_line_place t) (line_inside t) i j (cuts.in_text i p) s)
+      stop_place j (longest_run_in_text (length t) (is_line_place t) (line_inside t) i j (cuts.in_text i p) s)
       (line_ends t j s.longest)
 
   -- a run stops at a line end, a brace or the text's end
   pub run_stop : (i j : ℕ) → P i → LongestRun (is_run_place t) i j → P j
   run_stop i j p s =
-      stop_place j (stretch_in_text (length t) (is_run_place t) (run_inside t) i j (cuts.in_text i p) s)
+      stop_place j (longest_run_in_text (length t) (is_run_place t) (run_inside t) i j (cuts.in_text i p) s)
       (run_ends t j s.longest)

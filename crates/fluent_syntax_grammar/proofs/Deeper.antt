@@ -14,7 +14,7 @@ use Rattle.fluent_syntax_grammar.specs.Expressions.{expression, placeable}
 use Rattle.fluent_syntax_grammar.specs.Places.{Blank}
 use Rattle.fluent_syntax_grammar.specs.Tokens.{optional, token}
 use Rattle.fluent_syntax_grammar.proofs.FunctionalWords.{functional_blank, functional_optional, functional_token}
-use Rattle.fluent_syntax_grammar.specs.Laws.{IsFunctional}
+use Rattle.fluent_syntax_grammar.specs.UniqueReading.{IsFunctional}
 use Rattle.fluent_syntax_grammar.specs.Nesting.{TooDeep}
 
 -- ---- the formers

@@ -17,7 +17,7 @@ use Rattle.fluent_syntax_grammar.specs.Comments.{comment_entry, other_level, no_
 use Rattle.fluent_syntax_grammar.specs.Tiling.{entry_of, entry_at}
 use Rattle.fluent_syntax_tree.specs.declared.edition.Edition.{Edition}
 use Rattle.fluent_syntax_tree.specs.declared.spans.Span.{Span}
-use Rattle.fluent_syntax_grammar.specs.Laws.{IsFunctional}
+use Rattle.fluent_syntax_grammar.specs.UniqueReading.{IsFunctional}
 use Rattle.fluent_syntax_grammar.proofs.Functional.{functional}
 use Rattle.fluent_syntax_grammar.proofs.FunctionalWords.{functional_token, functional_identifier}
 use Rattle.fluent_syntax_grammar.proofs.FunctionalWords.{functional_optional_eol, functional_rest_of_line}
@@ -50,22 +50,22 @@ module _ (edition : Edition) (t : List ℕ) (R : Family) (h : IsFunctionalFamily
   pub functional_attribute_of : IsFunctional (attribute_of edition t R)
   functional_attribute_of = search (words, functional_attribute_with, functional_pattern_of) depth 30
 
-  attributes_same : (i : ℕ) (o p : Outcome (List (AttributeTree Span))) → attributes_of edition t R i o →
+  attributes_unique : (i : ℕ) (o p : Outcome (List (AttributeTree Span))) → attributes_of edition t R i o →
       attributes_of edition t R i p → o ≡ p
-  attributes_same i o p (no_more a) (no_more b) = refl
-  attributes_same i o p (no_more a) (one_more b c) = let h = functional_attribute_of.same i _ _ a b in cc
-  attributes_same i o p (one_more a b) (no_more c) = let h = functional_attribute_of.same i _ _ a c in cc
-  attributes_same i o p (one_more {j = j} {end = e} {a = x} {rest = xs} a b)
+  attributes_unique i o p (no_more a) (no_more b) = refl
+  attributes_unique i o p (no_more a) (one_more b c) = let h = functional_attribute_of.same i _ _ a b in cc
+  attributes_unique i o p (one_more a b) (no_more c) = let h = functional_attribute_of.same i _ _ a c in cc
+  attributes_unique i o p (one_more {j = j} {end = e} {a = x} {rest = xs} a b)
       (one_more {j = k} {end = f} {a = y} {rest = ys} c d) =
       let h = functional_attribute_of.same i _ _ a c in
       let same_j : j ≡ k = cc in
       let same_x : x ≡ y = cc in
       let rest : Read xs e ≡ Read ys f =
-      attributes_same j _ _ b (subst (λ k. attributes_of edition t R k (Read ys f)) (sym same_j) d) in
+      attributes_unique j _ _ b (subst (λ k. attributes_of edition t R k (Read ys f)) (sym same_j) d) in
       cc
 
   functional_attributes_of : IsFunctional (attributes_of edition t R)
-  functional_attributes_of = record { same = attributes_same }
+  functional_attributes_of = record { same = attributes_unique }
 
   functional_message_of : IsFunctional (message_of edition t R)
   functional_message_of =
@@ -86,29 +86,29 @@ module _ (t : List ℕ) where
   pub functional_comment_line : (level : ℕ) → IsFunctional (comment_line t level)
   functional_comment_line level = search (words, functional_comment_rest) depth 30
 
-  comment_lines_same : (level i : ℕ) (o p : Outcome (List Span)) → comment_lines t level i o →
+  comment_lines_unique : (level i : ℕ) (o p : Outcome (List Span)) → comment_lines t level i o →
       comment_lines t level i p → o ≡ p
-  comment_lines_same level i o p (other_level a) (other_level b) = refl
-  comment_lines_same level i o p (other_level a) (no_comment_line b c) = refl
-  comment_lines_same level i o p (other_level a) (comments.one_more b c d) = absurd (a b)
-  comment_lines_same level i o p (no_comment_line a b) (other_level c) = refl
-  comment_lines_same level i o p (no_comment_line a b) (no_comment_line c d) = refl
-  comment_lines_same level i o p (no_comment_line a b) (comments.one_more c d e) =
+  comment_lines_unique level i o p (other_level a) (other_level b) = refl
+  comment_lines_unique level i o p (other_level a) (no_comment_line b c) = refl
+  comment_lines_unique level i o p (other_level a) (comments.one_more b c d) = absurd (a b)
+  comment_lines_unique level i o p (no_comment_line a b) (other_level c) = refl
+  comment_lines_unique level i o p (no_comment_line a b) (no_comment_line c d) = refl
+  comment_lines_unique level i o p (no_comment_line a b) (comments.one_more c d e) =
       let h = (functional_comment_line level).same i _ _ b d in cc
-  comment_lines_same level i o p (comments.one_more a b c) (other_level d) = absurd (d a)
-  comment_lines_same level i o p (comments.one_more a b c) (no_comment_line d e) =
+  comment_lines_unique level i o p (comments.one_more a b c) (other_level d) = absurd (d a)
+  comment_lines_unique level i o p (comments.one_more a b c) (no_comment_line d e) =
       let h = (functional_comment_line level).same i _ _ b e in cc
-  comment_lines_same level i o p (comments.one_more {j = j} {end = m} {content = x} {rest = xs} a b c)
+  comment_lines_unique level i o p (comments.one_more {j = j} {end = m} {content = x} {rest = xs} a b c)
       (comments.one_more {j = k} {end = n} {content = y} {rest = ys} d e f) =
       let h = (functional_comment_line level).same i _ _ b e in
       let same_j : j ≡ k = cc in
       let same_x : x ≡ y = cc in
       let rest : Read xs m ≡ Read ys n =
-      comment_lines_same level j _ _ c (subst (λ k. comment_lines t level k (Read ys n)) (sym same_j) f) in
+      comment_lines_unique level j _ _ c (subst (λ k. comment_lines t level k (Read ys n)) (sym same_j) f) in
       cc
 
   pub functional_comment_lines : (level : ℕ) → IsFunctional (comment_lines t level)
-  functional_comment_lines level = record { same = comment_lines_same level }
+  functional_comment_lines level = record { same = comment_lines_unique level }
 
   functional_comment_of : (level : ℕ) → IsFunctional (comment_of t level)
   functional_comment_of level = search (words, functional_comment_line, functional_comment_lines) depth 30

@@ -19,8 +19,8 @@ use Rattle.fluent_syntax_grammar.specs.Variants.{variant_key, variant_of, next_v
 use Rattle.fluent_syntax_grammar.specs.Grammar.{next}
 use Rattle.fluent_syntax_tree.specs.declared.edition.Edition.{Edition}
 use Rattle.fluent_syntax_tree.specs.declared.spans.Span.{Span}
-use Rattle.fluent_syntax_grammar.specs.Laws.{IsFunctional}
-use Rattle.fluent_syntax_grammar.proofs.Functional.{functional, functional_many, single_stretch}
+use Rattle.fluent_syntax_grammar.specs.UniqueReading.{IsFunctional}
+use Rattle.fluent_syntax_grammar.proofs.Functional.{functional, functional_many, longest_run_functional}
 use Rattle.fluent_syntax_grammar.proofs.FunctionalWords.{functional_optional, functional_token, functional_identifier}
 use Rattle.fluent_syntax_grammar.proofs.FunctionalWords.{functional_number, functional_string}
 
@@ -129,24 +129,24 @@ module _ (t : List ℕ) (R : Family) (h : IsFunctionalFamily R) where
   pub functional_line : IsFunctional (line t R)
   functional_line = search (words, functional_ending, functional_pieces) depth 30
 
-  own_same : IsFunctional {A = More Line (Unit {0})} (line t R >>= λ l. yields (item l tt))
-  own_same = search (words, functional_line) depth 30
+  own_unique : IsFunctional {A = More Line (Unit {0})} (line t R >>= λ l. yields (item l tt))
+  own_unique = search (words, functional_line) depth 30
 
-  line_same : (i : ℕ) (o p : Outcome (More Line (Unit {0}))) → next_line t R i o → next_line t R i p → o ≡ p
-  line_same i o p (no_byte a b) (no_byte c d) = let h = single_stretch.same i _ _ a c in cc
-  line_same i o p (no_byte a b) (other_line c d e) = let h = single_stretch.same i _ _ a c in cc
-  line_same i o p (no_byte a b) (own_line c d e f) = let h = single_stretch.same i _ _ a c in cc
-  line_same i o p (other_line a b c) (no_byte d e) = let h = single_stretch.same i _ _ a d in cc
-  line_same i o p (other_line a b c) (other_line d e f) = refl
-  line_same i o p (other_line {k = k} a b c) (own_line {k = m} d e f g) =
-      let h : k ≡ m = single_stretch.same i _ _ a d in cc
-  line_same i o p (own_line a b c d) (no_byte e f) = let h = single_stretch.same i _ _ a e in cc
-  line_same i o p (own_line {k = k} a b c d) (other_line {k = m} e f g) =
-      let h : k ≡ m = single_stretch.same i _ _ a e in cc
-  line_same i o p (own_line a b c d) (own_line e f g x) = own_same.same i o p d x
+  line_unique : (i : ℕ) (o p : Outcome (More Line (Unit {0}))) → next_line t R i o → next_line t R i p → o ≡ p
+  line_unique i o p (no_byte a b) (no_byte c d) = let h = longest_run_functional.same i _ _ a c in cc
+  line_unique i o p (no_byte a b) (other_line c d e) = let h = longest_run_functional.same i _ _ a c in cc
+  line_unique i o p (no_byte a b) (own_line c d e f) = let h = longest_run_functional.same i _ _ a c in cc
+  line_unique i o p (other_line a b c) (no_byte d e) = let h = longest_run_functional.same i _ _ a d in cc
+  line_unique i o p (other_line a b c) (other_line d e f) = refl
+  line_unique i o p (other_line {k = k} a b c) (own_line {k = m} d e f g) =
+      let h : k ≡ m = longest_run_functional.same i _ _ a d in cc
+  line_unique i o p (own_line a b c d) (no_byte e f) = let h = longest_run_functional.same i _ _ a e in cc
+  line_unique i o p (own_line {k = k} a b c d) (other_line {k = m} e f g) =
+      let h : k ≡ m = longest_run_functional.same i _ _ a e in cc
+  line_unique i o p (own_line a b c d) (own_line e f g x) = own_unique.same i o p d x
 
   pub functional_next_line : IsFunctional (next_line t R)
-  functional_next_line = record { same = line_same }
+  functional_next_line = record { same = line_unique }
 
   pub functional_lines : IsFunctional (more_lines t R)
   functional_lines = functional_many (λ u. functional_next_line)

@@ -10,7 +10,7 @@ use Rattle.fluent_syntax_grammar.specs.Readable.{readable_rules, is_readable, is
 use Rattle.fluent_syntax_grammar.specs.Readable.{are_arguments, are_lines, is_message}
 use Rattle.fluent_syntax_grammar.specs.Canonical.{canonical_rules, further_rules, is_canonical, has_one_default}
 use Rattle.fluent_syntax_grammar.specs.Canonical.{is_flush, is_plain_comment}
-use Rattle.fluent_syntax_grammar.proofs.RulesTogether.{ArePartsOf, body_meets}
+use Rattle.fluent_syntax_grammar.proofs.RuleConjunction.{ArePartsOf, body_obeys_each}
 
 and_true : (x : Bool) → x ≡ (x && true)
 and_true true = refl
@@ -36,7 +36,7 @@ module _ (edition : Edition) where
   pub readable_further : (es : BodyTree Text) → is_readable edition es ≡ true →
       is_canonical edition es ≡ body_obeys (further_rules edition) es
   readable_further es h =
-      body_meets (readable_rules edition ∷ further_rules edition ∷ []) (λ rules. rules) (canonical_rules edition)
+      body_obeys_each (readable_rules edition ∷ further_rules edition ∷ []) (λ rules. rules) (canonical_rules edition)
       canonical_parts es
       ∙ ap (λ b. b && (body_obeys (further_rules edition) es && true)) h
       ∙ sym (and_true (body_obeys (further_rules edition) es))

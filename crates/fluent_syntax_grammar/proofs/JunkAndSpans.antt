@@ -14,15 +14,15 @@ use Rattle.fluent_syntax_grammar.specs.Comments.{comment_entry, level_of, hashes
 use Rattle.fluent_syntax_grammar.specs.Tiling.{Fault, Tile, entry, refused, dropped, Tiled, done, next, entry_of}
 use Rattle.fluent_syntax_grammar.specs.Tiling.{TileAt, reads, refuses, RuntimeTileAt, drops, stands}
 use Rattle.fluent_syntax_grammar.specs.Body.{faults, attached, attached_entry, alone, or_attached, body}
-use Rattle.fluent_syntax_grammar.specs.Laws.{Ascend, junk_slice, fault_slice, JunkOfErrors, RuntimeJunkOfErrors}
-use Rattle.fluent_syntax_grammar.specs.Laws.{ErrorsAscend, RuntimeErrorsAscend, BodyInText, RuntimeBodyInText}
+use Rattle.fluent_syntax_grammar.specs.UniqueReading.{Ascend, junk_slice, fault_slice, JunkOfErrors, RuntimeJunkOfErrors}
+use Rattle.fluent_syntax_grammar.specs.UniqueReading.{ErrorsAscend, RuntimeErrorsAscend, BodyInText, RuntimeBodyInText}
 use Rattle.fluent_syntax_tree.specs.declared.edition.Edition.{Edition}
 use Rattle.fluent_syntax_tree.specs.declared.spans.Span.{Span}
-use Rattle.fluent_syntax_grammar.proofs.Holds.{gave}
-use Rattle.fluent_syntax_grammar.proofs.Cuts.{IsCuts, block_forward}
+use Rattle.fluent_syntax_grammar.proofs.HoareTriple.{gave}
+use Rattle.fluent_syntax_grammar.proofs.Cuts.{AreBoundaries, block_forward}
 use Rattle.fluent_syntax_grammar.proofs.Sound.{IsSpan}
 use Rattle.fluent_syntax_grammar.proofs.SoundStrings.{InText}
-use Rattle.fluent_syntax_grammar.proofs.SoundTiling.{GoodTile, tile_good, line_end, tiled_good, runtime_good}
+use Rattle.fluent_syntax_grammar.proofs.SoundTiling.{IsTileWellFormed, tile_good, line_end, tiled_good, runtime_good}
 use Rattle.fluent_syntax_grammar.proofs.Boundaries.{text_cuts, boundary_cuts}
 use Rattle.fluent_syntax_grammar.proofs.BareEntries.{message_bare, term_bare}
 use Rattle.fluent_syntax_grammar.proofs.Runtime.{IsBare}
@@ -31,35 +31,35 @@ use Rattle.fluent_syntax_grammar.proofs.Facts.{append_nothing, flat_append}
 -- ---- the texts of a body
 
 module _ (P : ℕ → Type 0) where
-  abbrev pub GoodEntry : EntryTree Span → Type 0
-  GoodEntry = entry_every (IsSpan P)
+  abbrev pub EntrySpansInBounds : EntryTree Span → Type 0
+  EntrySpansInBounds = entry_every (IsSpan P)
 
-  abbrev pub GoodBody : BodyTree Span → Type 0
-  GoodBody = list_every GoodEntry
+  abbrev pub BodySpansInBounds : BodyTree Span → Type 0
+  BodySpansInBounds = list_every EntrySpansInBounds
 
-  abbrev pub GoodGiven : Tile → Type 0
-  GoodGiven (entry s e) = GoodEntry e
-  GoodGiven (refused f) = IsSpan P f.slice
-  GoodGiven dropped = Unit {0}
+  abbrev pub TileSpansInBounds : Tile → Type 0
+  TileSpansInBounds (entry s e) = EntrySpansInBounds e
+  TileSpansInBounds (refused f) = IsSpan P f.slice
+  TileSpansInBounds dropped = Unit {0}
 
   good_attached : (content : List Span) (e : EntryTree Span) (o : Option (EntryTree Span)) → attached content e ≡ o →
-      list_every (IsSpan P) content → GoodEntry e → (h : EntryTree Span) → o ≡ Some h → GoodEntry h
+      list_every (IsSpan P) content → EntrySpansInBounds e → (h : EntryTree Span) → o ≡ Some h → EntrySpansInBounds h
   good_attached content (message m) o p c (a, b, d, f) h q =
-      let same : message (record m { comment = Some content }) ≡ h = cc in subst GoodEntry same (a, b, d, c)
+      let same : message (record m { comment = Some content }) ≡ h = cc in subst EntrySpansInBounds same (a, b, d, c)
   good_attached content (term m) o p c (a, b, d, f) h q = let same : term (record m { comment = Some content }) ≡ h =
       cc in
-      subst GoodEntry same (a, b, d, c)
+      subst EntrySpansInBounds same (a, b, d, c)
   good_attached content (comment level x) o p c g h q = cc
   good_attached content (junk s) o p c g h q = cc
 
-  good_if : (b : Bool) (content : List Span) (e h : EntryTree Span) → list_every (IsSpan P) content → GoodEntry e →
-      (if b then attached content e else None) ≡ Some h → GoodEntry h
-  good_if true content e h c g p = good_attached content e (attached content e) refl c g h p
-  good_if false content e h c g p = cc
+  if_in_bounds : (b : Bool) (content : List Span) (e h : EntryTree Span) → list_every (IsSpan P) content → EntrySpansInBounds e →
+      (if b then attached content e else None) ≡ Some h → EntrySpansInBounds h
+  if_in_bounds true content e h c g p = good_attached content e (attached content e) refl c g h p
+  if_in_bounds false content e h c g p = cc
 
-  good_attaches : (x y : Tile) (h : EntryTree Span) → GoodGiven x → GoodGiven y → attached_entry x y ≡ Some h
-      → GoodEntry h
-  good_attaches (entry s (comment regular c)) (entry r e) h g k p = good_if (s.end == r.start) c e h g k p
+  good_attaches : (x y : Tile) (h : EntryTree Span) → TileSpansInBounds x → TileSpansInBounds y → attached_entry x y ≡ Some h
+      → EntrySpansInBounds h
+  good_attaches (entry s (comment regular c)) (entry r e) h g k p = if_in_bounds (s.end == r.start) c e h g k p
   good_attaches (entry s (comment regular c)) (refused f) h g k p = cc
   good_attaches (entry s (comment regular c)) dropped h g k p = cc
   good_attaches (entry s (comment group c)) y h g k p = cc
@@ -70,34 +70,34 @@ module _ (P : ℕ → Type 0) where
   good_attaches (refused f) y h g k p = cc
   good_attaches dropped y h g k p = cc
 
-  good_alone : (x : Tile) → GoodGiven x → GoodBody (alone x)
+  good_alone : (x : Tile) → TileSpansInBounds x → BodySpansInBounds (alone x)
   good_alone (entry s e) g = (g, tt)
   good_alone (refused f) g = (g, tt)
   good_alone dropped g = tt
 
-  good_append : (xs ys : BodyTree Span) → GoodBody xs → GoodBody ys → GoodBody (xs ++ ys)
+  good_append : (xs ys : BodyTree Span) → BodySpansInBounds xs → BodySpansInBounds ys → BodySpansInBounds (xs ++ ys)
   good_append [] ys g h = h
   good_append (x ∷ xs) ys (g, k) h = (g, good_append xs ys k h)
 
   good_joined : (x y : Tile) (others after : BodyTree Span) (o : Option (EntryTree Span)) → attached_entry x y ≡ o →
-      GoodGiven x → GoodGiven y → GoodBody others → GoodBody after → GoodBody (or_attached o (alone x) others after)
+      TileSpansInBounds x → TileSpansInBounds y → BodySpansInBounds others → BodySpansInBounds after → BodySpansInBounds (or_attached o (alone x) others after)
   good_joined x y others after None e g h p q = good_append (alone x) others (good_alone x g) p
   good_joined x y others after (Some z) e g h p q = (good_attaches x y z g h e, q)
 
-  pub good_body : (xs : List Tile) → list_every GoodGiven xs → GoodBody (body xs)
+  pub good_body : (xs : List Tile) → list_every TileSpansInBounds xs → BodySpansInBounds (body xs)
   good_body [] g = tt
   good_body (x ∷ []) (g, h) = good_alone x g
   good_body (x ∷ y ∷ tiles) (g, (h, k)) =
       good_joined x y (body (y ∷ tiles)) (body tiles) (attached_entry x y) refl g h (good_body (y ∷ tiles) (h, k))
       (good_body tiles k)
 
-module _ (edition : Edition) (t : List ℕ) (P : ℕ → Type 0) (cuts : IsCuts t P) where
-  given : (x : Tile) → GoodTile edition t P cuts x → GoodGiven P x
+module _ (edition : Edition) (t : List ℕ) (P : ℕ → Type 0) (cuts : AreBoundaries t P) where
+  given : (x : Tile) → IsTileWellFormed edition t P cuts x → TileSpansInBounds P x
   given (entry s e) g = g.2
   given (refused f) g = g.1
   given dropped g = tt
 
-  pub all_given : (xs : List Tile) → list_every (GoodTile edition t P cuts) xs → list_every (GoodGiven P) xs
+  pub all_given : (xs : List Tile) → list_every (IsTileWellFormed edition t P cuts) xs → list_every (TileSpansInBounds P) xs
   all_given [] g = tt
   all_given (x ∷ xs) (g, h) = (given x g, all_given xs h)
 

@@ -9,7 +9,7 @@ use Rattle.fluent_syntax_grammar.proofs.Nesting.{functional_family}
 use Rattle.fluent_syntax_grammar.specs.Tiling.{Tile, failing_place, JunkEnd, whole_line, Tiled, done, next, TileAt}
 use Rattle.fluent_syntax_grammar.specs.Tiling.{reads, refuses, RuntimeTileAt, drops, stands, Tiling, RuntimeTiling}
 use Rattle.fluent_syntax_tree.specs.declared.edition.Edition.{Edition}
-use Rattle.fluent_syntax_grammar.specs.Laws.{IsFunctional}
+use Rattle.fluent_syntax_grammar.specs.UniqueReading.{IsFunctional}
 use Rattle.fluent_syntax_grammar.proofs.Functional.{functional, single_block}
 use Rattle.fluent_syntax_grammar.proofs.FunctionalWords.{functional_rest_of_line, functional_optional_eol}
 use Rattle.fluent_syntax_grammar.proofs.FunctionalEntries.{functional_entry_in}

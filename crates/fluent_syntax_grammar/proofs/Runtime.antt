@@ -6,7 +6,7 @@ use Rattle.fluent_syntax_tree.specs.Entry.{EntryTree, message, term, comment, ju
 use Rattle.fluent_syntax_tree.specs.Every.{list_every}
 use Rattle.fluent_syntax_grammar.specs.Tiling.{Tile, entry, refused, dropped}
 use Rattle.fluent_syntax_grammar.specs.Body.{faults, attached, attached_entry, alone, or_attached, body}
-use Rattle.fluent_syntax_grammar.specs.Laws.{bare, without_comments, named, messages_and_terms}
+use Rattle.fluent_syntax_grammar.specs.UniqueReading.{bare, without_comments, named, messages_and_terms}
 use Rattle.fluent_syntax_tree.specs.declared.spans.Span.{Span}
 use Rattle.fluent_syntax_grammar.proofs.Aligned.{Aligned, nothing, both, comment_left, dropped_right, junk_left}
 use Rattle.fluent_syntax_grammar.proofs.Aligned.{junk_both}

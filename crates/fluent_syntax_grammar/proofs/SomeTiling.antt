@@ -17,7 +17,7 @@ use Rattle.fluent_syntax_grammar.proofs.Boundaries.{text_cuts}
 use Rattle.fluent_syntax_grammar.proofs.WholeLines.{IsLine, line_to, line_in_text, hashes_onward}
 use Rattle.fluent_syntax_grammar.proofs.CommentFaults.{some_hash}
 use Rattle.fluent_syntax_grammar.proofs.ComputedTiling.{end_start, end_text, end_on}
-use Rattle.fluent_syntax_grammar.proofs.TotalWords.{stretch_word, block_word}
+use Rattle.fluent_syntax_grammar.proofs.TotalWords.{longest_run_word, block_word}
 use Rattle.fluent_syntax_grammar.proofs.TotalFamily.{pattern_everywhere}
 use Rattle.fluent_syntax_grammar.proofs.Facts.{lt_or_same}
 use Rattle.fluent_syntax_grammar.proofs.Included.{IsIncludedFamily, included_same}
@@ -42,7 +42,7 @@ module _ (t : List ℕ) where
   line_end i k s (Some j) e = (j, record { end = k; stretch = s; eol = inl e })
 
   line_exists : (i : ℕ) → i ≤ length t → (j : ℕ) × IsLine t i j
-  line_exists i l = let w = (stretch_word t (is_line_place t) (line_inside t)).exists i l in
+  line_exists i l = let w = (longest_run_word t (is_line_place t) (line_inside t)).exists i l in
       line_end i w.0 w.1 (after_eol t w.0) refl
 
 module _ (edition : Edition) (t : List ℕ) where

@@ -11,9 +11,9 @@ use Rattle.fluent_syntax_grammar.specs.Tokens.{spanned, inline_blank, blank, bla
 use Rattle.fluent_syntax_grammar.specs.Tokens.{rest_of_line}
 use Rattle.fluent_syntax_grammar.specs.Meaning.{kind_means}
 use Rattle.fluent_syntax_tree.specs.declared.spans.Span.{Span}
-use Rattle.fluent_syntax_grammar.proofs.Holds.{Holds, holds_weaker, holds_bind, holds_yields, holds_fails, holds_skip}
-use Rattle.fluent_syntax_grammar.proofs.Holds.{holds_peek, holds_branch_on, holds_many}
-use Rattle.fluent_syntax_grammar.proofs.Cuts.{IsCuts, IsAsciiSet, ascii_space, word_place, blank_place, block_place}
+use Rattle.fluent_syntax_grammar.proofs.HoareTriple.{HoareTriple, holds_weaker, holds_bind, holds_yields, holds_fails, holds_skip}
+use Rattle.fluent_syntax_grammar.proofs.HoareTriple.{holds_peek, holds_branch_on, holds_many}
+use Rattle.fluent_syntax_grammar.proofs.Cuts.{AreBoundaries, IsAsciiSet, ascii_space, word_place, blank_place, block_place}
 use Rattle.fluent_syntax_grammar.proofs.Cuts.{block_forward, eol_forward, eol_place, line_stop, run_stop}
 
 -- an ordered range between two places of the kind
@@ -47,7 +47,7 @@ pub record IsFault (t : List ℕ) (s : ℕ) (k : Kind) (from to : ℕ) : Type 0 
 
 -- The construct is sound from the place s on, and every value that it spells is good.
 pub record Sound {A : Type 0} (t : List ℕ) (P : ℕ → Type 0) (s : ℕ) (c : Construct A) (Good : A → Type 0) : Type 0 where
-  pub holds : Holds (Inside P s) c (Ended P s Good) (IsFault t s)
+  pub holds : HoareTriple (Inside P s) c (Ended P s Good) (IsFault t s)
 
 -- a relation between places that leads on to places of the kind
 pub record IsOnward (P : ℕ → Type 0) (W : ℕ → ℕ → Type 0) : Type 0 where
@@ -79,17 +79,17 @@ here_refused t P s Good f g i from to k p (goes_on at_place y) =
     ((g i p).holds.on_refused i from to k (record { late = omega arith; place = p.place }) y)
 
 module _ {t : List ℕ} {P : ℕ → Type 0} {s : ℕ} where
-  pub known : {A B : Type 0} {Mid : A → Type 0} {Good : B → Type 0} {a : A} {c : Construct B} →
-      (Mid a → Sound t P s c Good) → Holds (Ended P s Mid a) c (Ended P s Good) (IsFault t s)
+  pub known : {A B : Type 0} {ReadsMidLine : A → Type 0} {Good : B → Type 0} {a : A} {c : Construct B} →
+      (ReadsMidLine a → Sound t P s c Good) → HoareTriple (Ended P s ReadsMidLine a) c (Ended P s Good) (IsFault t s)
   known f = record {
     on_read = λ i j b p x. (f p.good).holds.on_read i j b (record { late = p.late; place = p.place }) x;
     on_refused =
         λ i from to k p x. (f p.good).holds.on_refused i from to k (record { late = p.late; place = p.place }) x;
   }
 
-  pub sound_bind : {A B : Type 0} {Mid : A → Type 0} {Good : B → Type 0} {c : Construct A} {f : A → Construct B} →
-      Sound t P s c Mid → ((a : A) → Mid a → Sound t P s (f a) Good) → Sound t P s (c >>= f) Good
-  sound_bind {Mid = Mid} x g = record { holds = holds_bind x.holds (λ a. known {Mid = Mid} (g a)) }
+  pub sound_bind : {A B : Type 0} {ReadsMidLine : A → Type 0} {Good : B → Type 0} {c : Construct A} {f : A → Construct B} →
+      Sound t P s c ReadsMidLine → ((a : A) → ReadsMidLine a → Sound t P s (f a) Good) → Sound t P s (c >>= f) Good
+  sound_bind {ReadsMidLine = ReadsMidLine} x g = record { holds = holds_bind x.holds (λ a. known {ReadsMidLine = ReadsMidLine} (g a)) }
 
   pub sound_yields : {A : Type 0} {Good : A → Type 0} {a : A} → Good a → Sound t P s (yields a) Good
   sound_yields g = record { holds = holds_yields (λ i p. record { late = p.late; place = p.place; good = g }) }
@@ -147,7 +147,7 @@ sound_many {Good = Good} h e g =
 pub sound_spanned : {t : List ℕ} {P : ℕ → Type 0} {s : ℕ} → P s → Sound t P s (spanned s) (IsSpan P)
 sound_spanned p = sound_here (λ m q. sound_yields (q.late, p, q.place))
 
-module _ (t : List ℕ) (P : ℕ → Type 0) (cuts : IsCuts t P) where
+module _ (t : List ℕ) (P : ℕ → Type 0) (cuts : AreBoundaries t P) where
   pub onward_word : {set : ℕ → Bool} → IsAsciiSet set → IsOnward P (ByteRun t set)
   onward_word {set = set} a =
       record { forward = λ i j w. w.forward; place = λ i j p w. word_place t P cuts set a i j p w }
@@ -177,7 +177,7 @@ module _ (t : List ℕ) (P : ℕ → Type 0) (cuts : IsCuts t P) where
   sound_rest_of_line = sound_here (λ m q. sound_bind (sound_skip onward_line) (λ u v. sound_spanned q.place))
 
   past_holds : (s : ℕ) (o : Option ℕ) →
-      Holds (λ i. Inside P s i × (after_eol t i ≡ o)) (past_eol o) (Ended P s (λ u. Unit {0})) (IsFault t s)
+      HoareTriple (λ i. Inside P s i × (after_eol t i ≡ o)) (past_eol o) (Ended P s (λ u. Unit {0})) (IsFault t s)
   past_holds s None = holds_yields (λ i p. let q = p.0 in record { late = q.late; place = q.place; good = tt })
   past_holds s (Some k) =
       holds_skip (λ i j p w. let q = p.0 in let l = q.late in let f = eol_forward t i k p.1 in let e = w.there in

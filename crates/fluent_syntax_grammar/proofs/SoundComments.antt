@@ -9,8 +9,8 @@ use Rattle.fluent_syntax_grammar.specs.Construct.{Read, Refused, chosen}
 use Rattle.fluent_syntax_grammar.specs.Comments.{hashes, comment_text, comment_rest, comment_line, comment_lines}
 use Rattle.fluent_syntax_grammar.specs.Comments.{other_level, no_comment_line, one_more, comment_of, comment_entry}
 use Rattle.fluent_syntax_tree.specs.declared.spans.Span.{Span}
-use Rattle.fluent_syntax_grammar.proofs.Holds.{Holds, holds_bind, holds_skip}
-use Rattle.fluent_syntax_grammar.proofs.Cuts.{IsCuts, ascii_byte}
+use Rattle.fluent_syntax_grammar.proofs.HoareTriple.{HoareTriple, holds_bind, holds_skip}
+use Rattle.fluent_syntax_grammar.proofs.Cuts.{AreBoundaries, ascii_byte}
 use Rattle.fluent_syntax_grammar.proofs.Sound.{IsSpan, Inside, Ended, IsFault, Sound, sound_bind, sound_yields}
 use Rattle.fluent_syntax_grammar.proofs.Sound.{sound_peek, sound_here, sound_spanned, known, sound_rest_of_line}
 use Rattle.fluent_syntax_grammar.proofs.Sound.{sound_optional_eol}
@@ -30,7 +30,7 @@ hashes_place P i true true true p f g h = h refl
 plus_one : (i m n : ℕ) → m + 1 ≡ n → (i + m) + 1 ≡ i + n
 plus_one i m n e = omega arith
 
-module _ (t : List ℕ) (P : ℕ → Type 0) (cuts : IsCuts t P) where
+module _ (t : List ℕ) (P : ℕ → Type 0) (cuts : AreBoundaries t P) where
   hash_after : (i m n : ℕ) → m + 1 ≡ n → has_byte t 35 (i + m) ≡ true → P (i + n)
   hash_after i m n e h = subst P (plus_one i m n e) (cuts.after (i + m) (ascii_byte t 35 (i + m) (omega arith) h))
 
@@ -51,7 +51,7 @@ module _ (t : List ℕ) (P : ℕ → Type 0) (cuts : IsCuts t P) where
 
   -- a comment line, from a place with that many hashes
   pub line_from : (s i level : ℕ) → s ≤ i + level → P i → hashes t i ≡ level →
-      Holds (λ j. j ≡ i) (comment_line t level) (Ended P s (list_every (IsSpan P))) (IsFault t s)
+      HoareTriple (λ j. j ≡ i) (comment_line t level) (Ended P s (list_every (IsSpan P))) (IsFault t s)
   line_from s i level l p e = holds_bind {mid = λ u. Inside P s}
       (holds_skip (λ j m q w. let by = w.by in let same : i + hashes t i ≡ m = omega arith in
       record { late = omega arith; place = subst P same (after_hashes i p) }))
@@ -81,9 +81,9 @@ module _ (t : List ℕ) (P : ℕ → Type 0) (cuts : IsCuts t P) where
       }
 
   comment_from : (i level : ℕ) → P i → hashes t i ≡ level →
-      Holds (λ j. j ≡ i) (comment_of t level) (Ended P (i + level) (entry_every (IsSpan P))) (IsFault t (i + level))
+      HoareTriple (λ j. j ≡ i) (comment_of t level) (Ended P (i + level) (entry_every (IsSpan P))) (IsFault t (i + level))
   comment_from i level p e = holds_bind (line_from (i + level) i level (omega arith) p e) (λ content.
-      known {Mid = list_every (IsSpan P)}
+      known {ReadsMidLine = list_every (IsSpan P)}
       (λ g. sound_bind (sound_lines level) (λ rest k. sound_yields (every-append (IsSpan P) content rest g k))))
 
   pub comment_read : (i j : ℕ) (a : EntryTree Span) → P i → has_byte t 35 i ≡ true → comment_entry t i (Read a j) →

@@ -19,9 +19,9 @@ use Rattle.fluent_syntax_grammar.specs.Meaning.{kind_means}
 use Rattle.fluent_syntax_grammar.specs.Tiling.{failing_place}
 use Rattle.fluent_syntax_tree.specs.declared.edition.Edition.{Edition}
 use Rattle.fluent_syntax_tree.specs.declared.spans.Span.{Span}
-use Rattle.fluent_syntax_grammar.proofs.Holds.{Holds, holds_weaker, holds_bind, holds_yields, holds_fails}
-use Rattle.fluent_syntax_grammar.proofs.Holds.{holds_fails_from, holds_skip, holds_peek, holds_branch_on}
-use Rattle.fluent_syntax_grammar.proofs.Cuts.{IsCuts, word_place, ascii_name, ascii_byte}
+use Rattle.fluent_syntax_grammar.proofs.HoareTriple.{HoareTriple, holds_weaker, holds_bind, holds_yields, holds_fails}
+use Rattle.fluent_syntax_grammar.proofs.HoareTriple.{holds_fails_from, holds_skip, holds_peek, holds_branch_on}
+use Rattle.fluent_syntax_grammar.proofs.Cuts.{AreBoundaries, word_place, ascii_name, ascii_byte}
 use Rattle.fluent_syntax_grammar.proofs.Sound.{IsSpan, IsPlain, Inside, Ended, IsFault, Sound, sound_bind, sound_yields}
 use Rattle.fluent_syntax_grammar.proofs.Sound.{sound_fails, sound_inline_blank, sound_blank_block}
 use Rattle.fluent_syntax_grammar.proofs.SoundWords.{sound_token, sound_identifier}
@@ -59,30 +59,30 @@ earlier_fault t i s s' l k from to f = let o = f.onward in
 -- sound from s on, in an entry that begins at i
 pub record SoundEntry {A : Type 0} (t : List ℕ) (P : ℕ → Type 0) (i s : ℕ) (c : Construct A) (Good : A → Type 0) :
     Type 0 where
-  pub holds : Holds (Inside P s) c (Ended P s Good) (IsEntryFault t i s)
+  pub holds : HoareTriple (Inside P s) c (Ended P s Good) (IsEntryFault t i s)
 
 module _ {t : List ℕ} {P : ℕ → Type 0} {i s : ℕ} where
-  pub known_entry : {A B : Type 0} {Mid : A → Type 0} {Good : B → Type 0} {a : A} {c : Construct B} →
-      (Mid a → SoundEntry t P i s c Good) → Holds (Ended P s Mid a) c (Ended P s Good) (IsEntryFault t i s)
+  pub known_entry : {A B : Type 0} {ReadsMidLine : A → Type 0} {Good : B → Type 0} {a : A} {c : Construct B} →
+      (ReadsMidLine a → SoundEntry t P i s c Good) → HoareTriple (Ended P s ReadsMidLine a) c (Ended P s Good) (IsEntryFault t i s)
   known_entry f = record {
     on_read = λ i j b p x. (f p.good).holds.on_read i j b (record { late = p.late; place = p.place }) x;
     on_refused =
         λ i from to k p x. (f p.good).holds.on_refused i from to k (record { late = p.late; place = p.place }) x;
   }
 
-  pub entry_bind : {A B : Type 0} {Mid : A → Type 0} {Good : B → Type 0} {c : Construct A} {f : A → Construct B} →
-      i ≤ s → Sound t P s c Mid → ((a : A) → Mid a → SoundEntry t P i s (f a) Good) → SoundEntry t P i s (c >>= f) Good
-  entry_bind {Mid = Mid} l x g =
+  pub entry_bind : {A B : Type 0} {ReadsMidLine : A → Type 0} {Good : B → Type 0} {c : Construct A} {f : A → Construct B} →
+      i ≤ s → Sound t P s c ReadsMidLine → ((a : A) → ReadsMidLine a → SoundEntry t P i s (f a) Good) → SoundEntry t P i s (c >>= f) Good
+  entry_bind {ReadsMidLine = ReadsMidLine} l x g =
       record {
         holds =
             holds_bind (holds_weaker (λ i p. p) (λ a j e. e) (entry_fault t i s l) x.holds)
-            (λ a. known_entry {Mid = Mid} (g a));
+            (λ a. known_entry {ReadsMidLine = ReadsMidLine} (g a));
       }
 
   pub entry_yields : {A : Type 0} {Good : A → Type 0} {a : A} → Good a → SoundEntry t P i s (yields a) Good
   entry_yields g = record { holds = holds_yields (λ i p. record { late = p.late; place = p.place; good = g }) }
 
-module _ (edition : Edition) (t : List ℕ) (P : ℕ → Type 0) (cuts : IsCuts t P) where
+module _ (edition : Edition) (t : List ℕ) (P : ℕ → Type 0) (cuts : AreBoundaries t P) where
   pub sound_pattern : {s : ℕ} → Sound t P s (pattern edition t) (option_every (pattern_every (IsSpan P)))
   sound_pattern = lines.sound_pattern edition t P cuts (family edition t) (sound_family edition t P cuts)
 
@@ -180,7 +180,7 @@ name_goes_on t i j e w =
     let there = implies is_letter is_name_byte (slice_get t i) letter_name e in
     elim split [ inl l ↦ l | inr same ↦ differs (subst (λ k. has t is_name_byte k ≡ true) same there) w.longest ]
 
-module _ (t : List ℕ) (P : ℕ → Type 0) (cuts : IsCuts t P) where
+module _ (t : List ℕ) (P : ℕ → Type 0) (cuts : AreBoundaries t P) where
   pub identifier_advances : (i j : ℕ) (a : Span) → P i → identifier t i (Read a j) → Ended P (i + 1) (IsSpan P) a j
   identifier_advances i j a p
       (goes_on at_place (goes_on (chosen given) (first e (goes_on (passed w) (goes_on at_place given))))) =
@@ -204,7 +204,7 @@ module _ (t : List ℕ) (P : ℕ → Type 0) (cuts : IsCuts t P) where
   at_name i j a p e m x = identifier_advances i m a p (subst (λ j. identifier t j (Read a m)) e x)
 
   -- a name that begins at i, or none
-  name_holds : (i : ℕ) → P i → Holds (λ j. j ≡ i) (identifier t) (Ended P (i + 1) (IsSpan P)) (IsEntryFault t i i)
+  name_holds : (i : ℕ) → P i → HoareTriple (λ j. j ≡ i) (identifier t) (Ended P (i + 1) (IsSpan P)) (IsEntryFault t i i)
   name_holds i p = record {
     on_read = λ j m a e x. at_name i j a p e m x;
     on_refused = λ j from to k e x.
@@ -214,7 +214,7 @@ module _ (t : List ℕ) (P : ℕ → Type 0) (cuts : IsCuts t P) where
   }
 
   name_there : (i : ℕ) → P i → has t is_letter i ≡ true →
-      Holds (λ j. j ≡ i) (identifier t) (Ended P (i + 1) (IsSpan P)) (IsEntryFault t i (i + 1))
+      HoareTriple (λ j. j ≡ i) (identifier t) (Ended P (i + 1) (IsSpan P)) (IsEntryFault t i (i + 1))
   name_there i p l = record {
     on_read = λ j m a e x. at_name i j a p e m x;
     on_refused =
@@ -223,7 +223,7 @@ module _ (t : List ℕ) (P : ℕ → Type 0) (cuts : IsCuts t P) where
 
   -- a byte that stands there is read
   token_there : (b i : ℕ) → b < 128 → has_byte t b i ≡ true → (F : Kind → ℕ → ℕ → Type 0) →
-      Holds (λ j. j ≡ i) (token t b) (λ u. Inside P (i + 1)) F
+      HoareTriple (λ j. j ≡ i) (token t b) (λ u. Inside P (i + 1)) F
   token_there b i l h F = holds_bind {mid = λ found j. (found ≡ true) × Inside P (i + 1) j}
       (holds_peek (λ found. holds_branch_on
       (λ e. holds_bind {mid = λ u. Inside P (i + 1)}
@@ -233,9 +233,9 @@ module _ (t : List ℕ) (P : ℕ → Type 0) (cuts : IsCuts t P) where
       (λ e. holds_yields (λ j p. differs (subst (λ j. has_byte t b j ≡ true) (sym p.0) h) (p.1 ∙ e)))))
       (λ found. holds_branch_on (λ e. holds_yields (λ j p. p.1)) (λ e. holds_fails (λ j p. differs p.0 e)))
 
-module _ (edition : Edition) (t : List ℕ) (P : ℕ → Type 0) (cuts : IsCuts t P) where
-  abbrev IsGood : EntryTree Span → Type 0
-  IsGood = entry_every (IsSpan P)
+module _ (edition : Edition) (t : List ℕ) (P : ℕ → Type 0) (cuts : AreBoundaries t P) where
+  abbrev EntrySpansInBounds : EntryTree Span → Type 0
+  EntrySpansInBounds = entry_every (IsSpan P)
 
   abbrev NameAndMore : ℕ → Construct (EntryTree Span)
   NameAndMore i = identifier t >>= λ id. AfterName edition t P cuts i id (message_with t i)
@@ -244,18 +244,18 @@ module _ (edition : Edition) (t : List ℕ) (P : ℕ → Type 0) (cuts : IsCuts 
   NameTerm i = identifier t >>= λ id. AfterName edition t P cuts i id (term_with t i)
 
   message_from : (i s : ℕ) → s ≤ i + 1 →
-      Holds (λ j. j ≡ i) (identifier t) (Ended P (i + 1) (IsSpan P)) (IsEntryFault t i s) →
-      Holds (λ j. j ≡ i) (NameAndMore i) (Ended P (i + 1) IsGood) (IsEntryFault t i s)
+      HoareTriple (λ j. j ≡ i) (identifier t) (Ended P (i + 1) (IsSpan P)) (IsEntryFault t i s) →
+      HoareTriple (λ j. j ≡ i) (NameAndMore i) (Ended P (i + 1) EntrySpansInBounds) (IsEntryFault t i s)
   message_from i s l name =
       holds_bind name
       (λ id. holds_weaker {pre = Ended P (i + 1) (IsSpan P) id} (λ j p. p) (λ a j x. x)
       (earlier_fault t i (i + 1) s l)
-      (known_entry {Mid = IsSpan P}
+      (known_entry {ReadsMidLine = IsSpan P}
       (λ f. after_name edition t P cuts i id (message_with t i) f
       (λ value rest g k. sound_message_with edition t P cuts i id value rest f g k))))
 
   pub message_read : (i j : ℕ) (a : EntryTree Span) → P i → message_entry edition t i (Read a j) →
-      Ended P (i + 1) IsGood a j
+      Ended P (i + 1) EntrySpansInBounds a j
   message_read i j a p (goes_on at_place x) =
       (message_from i i (omega arith) (name_holds t P cuts i p)).on_read i j a refl x
 
@@ -272,14 +272,14 @@ module _ (edition : Edition) (t : List ℕ) (P : ℕ → Type 0) (cuts : IsCuts 
       (message_from i (i + 1) (omega arith) (name_there t P cuts i p l)).on_refused i from to k refl x
 
   term_from : (i : ℕ) → has_byte t 45 i ≡ true →
-      Holds (λ j. j ≡ i) (token t 45 >> NameTerm i) (Ended P (i + 1) IsGood) (IsEntryFault t i (i + 1))
+      HoareTriple (λ j. j ≡ i) (token t 45 >> NameTerm i) (Ended P (i + 1) EntrySpansInBounds) (IsEntryFault t i (i + 1))
   term_from i e = holds_bind (token_there t P cuts 45 i (omega arith) e (IsEntryFault t i (i + 1)))
       (λ u. (entry_bind (omega arith) (sound_identifier t P cuts)
       (λ id f. after_name edition t P cuts i id (term_with t i) f
       (λ value rest g k. sound_term_with edition t P cuts i id value rest f g k))).holds)
 
   pub term_read : (i j : ℕ) (a : EntryTree Span) → has_byte t 45 i ≡ true → term_entry edition t i (Read a j) →
-      Ended P (i + 1) IsGood a j
+      Ended P (i + 1) EntrySpansInBounds a j
   term_read i j a e (goes_on at_place x) = (term_from i e).on_read i j a refl x
 
   pub term_refused : (i from to : ℕ) (k : Kind) → has_byte t 45 i ≡ true → term_entry edition t i (Refused k from to) →

@@ -24,36 +24,36 @@ use Rattle.fluent_syntax_grammar.specs.Variants.{variant_of, variant_after, next
 use Rattle.fluent_syntax_grammar.specs.Grammar.{next, within, family}
 use Rattle.fluent_syntax_tree.specs.declared.edition.Edition.{Edition}
 use Rattle.fluent_syntax_tree.specs.declared.spans.Span.{Span}
-use Rattle.fluent_syntax_grammar.proofs.Holds.{Holds, gave, holds_weaker, holds_bind, holds_yields, holds_fails}
-use Rattle.fluent_syntax_grammar.proofs.Holds.{holds_skip, holds_peek, holds_branch_on}
-use Rattle.fluent_syntax_grammar.proofs.Cuts.{IsCuts, ascii_byte, ascii_has, ascii_space, eol_cases, eol_forward}
-use Rattle.fluent_syntax_grammar.proofs.Cuts.{eol_place, stretch_places, word_place}
+use Rattle.fluent_syntax_grammar.proofs.HoareTriple.{HoareTriple, gave, holds_weaker, holds_bind, holds_yields, holds_fails}
+use Rattle.fluent_syntax_grammar.proofs.HoareTriple.{holds_skip, holds_peek, holds_branch_on}
+use Rattle.fluent_syntax_grammar.proofs.Cuts.{AreBoundaries, ascii_byte, ascii_has, ascii_space, eol_cases, eol_forward}
+use Rattle.fluent_syntax_grammar.proofs.Cuts.{eol_place, longest_run_places, word_place}
 use Rattle.fluent_syntax_grammar.proofs.Sound.{IsSpan, Inside, Ended, IsFault, Sound, weaker_fault, sound_bind}
 use Rattle.fluent_syntax_grammar.proofs.Sound.{sound_yields, sound_fails, sound_branch_on, sound_here, known, IsPlain}
 use Rattle.fluent_syntax_grammar.proofs.Sound.{good_more, sound_many}
 use Rattle.fluent_syntax_grammar.proofs.Sound.{sound_inline_blank, sound_blank, sound_blank_block, onward_run}
 use Rattle.fluent_syntax_grammar.proofs.SoundWords.{sound_optional, sound_token}
-use Rattle.fluent_syntax_grammar.proofs.GoodLayout.{GoodPiece, GoodEnding, GoodLine, GoodLayout, later_piece}
-use Rattle.fluent_syntax_grammar.proofs.GoodLayout.{earlier_pieces, good_pattern}
+use Rattle.fluent_syntax_grammar.proofs.LayoutInBounds.{PieceInBounds, EndingInBounds, LineInBounds, LayoutInBounds, later_piece}
+use Rattle.fluent_syntax_grammar.proofs.LayoutInBounds.{earlier_pieces, pattern_in_bounds}
 use Rattle.fluent_syntax_grammar.proofs.SoundRules.{IsSoundFamily, sound_key, sound_only, sound_end, plain_fault}
 use Rattle.fluent_syntax_grammar.proofs.SoundRules.{sound_arrow, AtArrow, after_arrow, sound_placeable, sound_inline}
 use Rattle.fluent_syntax_grammar.proofs.SoundRules.{sound_arguments}
 use Rattle.fluent_syntax_grammar.proofs.Facts.{byte_holds, two_on, two_on_as_one, not_next}
 
-good_ending_if : (P : ℕ → Type 0) (s i : ℕ) (test : Bool) → (test ≡ true → GoodEnding P s (lf_at i)) →
-    (test ≡ false → GoodEnding P s (crlf_at i)) → GoodEnding P s (if test then lf_at i else crlf_at i)
+good_ending_if : (P : ℕ → Type 0) (s i : ℕ) (test : Bool) → (test ≡ true → EndingInBounds P s (lf_at i)) →
+    (test ≡ false → EndingInBounds P s (crlf_at i)) → EndingInBounds P s (if test then lf_at i else crlf_at i)
 good_ending_if P s i true f g = f refl
 good_ending_if P s i false f g = g refl
 
-module _ (t : List ℕ) (P : ℕ → Type 0) (cuts : IsCuts t P) where
-  lf_good : (s i k : ℕ) → Inside P s i → after_eol t i ≡ Some k → (k == i + 1) ≡ true → GoodEnding P s (lf_at i)
+module _ (t : List ℕ) (P : ℕ → Type 0) (cuts : AreBoundaries t P) where
+  lf_good : (s i k : ℕ) → Inside P s i → after_eol t i ≡ Some k → (k == i + 1) ≡ true → EndingInBounds P s (lf_at i)
   lf_good s i k p e f =
       elim (eol_cases t i k e) [
         | inl x ↦ (p.late, p.place, cuts.after i (ascii_byte t lf i (omega arith) x.0))
         | inr x ↦ absurd (two_on_as_one i k x.2 f)
       ]
 
-  crlf_good : (s i k : ℕ) → Inside P s i → after_eol t i ≡ Some k → (k == i + 1) ≡ false → GoodEnding P s (crlf_at i)
+  crlf_good : (s i k : ℕ) → Inside P s i → after_eol t i ≡ Some k → (k == i + 1) ≡ false → EndingInBounds P s (crlf_at i)
   crlf_good s i k p e f = elim (eol_cases t i k e) [
     | inl x ↦ absurd (not_next i k x.1 f)
     | inr x ↦ (let a = ascii_byte t lf (i + 1) (omega arith) x.1 in
@@ -61,7 +61,7 @@ module _ (t : List ℕ) (P : ℕ → Type 0) (cuts : IsCuts t P) where
   ]
 
   ending_at : (s i j : ℕ) (x : Ending) → Inside P s i → (o : Option ℕ) → after_eol t i ≡ o →
-      ending_of t i o i (Read x j) → Ended P s (GoodEnding P s) x j
+      ending_of t i o i (Read x j) → Ended P s (EndingInBounds P s) x j
   ending_at s i j x p None e given = record { late = p.late; place = p.place; good = tt }
   ending_at s i j x p (Some k) e (goes_on {j = m} (passed w) y) =
       let late = p.late in
@@ -74,11 +74,11 @@ module _ (t : List ℕ) (P : ℕ → Type 0) (cuts : IsCuts t P) where
         late = omega arith;
         place = subst P place (eol_place t P cuts i k e);
         good =
-            subst (GoodEnding P s) value.0 (good_ending_if P s i (k == i + 1) (lf_good s i k p e)
+            subst (EndingInBounds P s) value.0 (good_ending_if P s i (k == i + 1) (lf_good s i k p e)
             (crlf_good s i k p e));
       }
 
-  ending_read : (s i j : ℕ) (x : Ending) → Inside P s i → ending t i (Read x j) → Ended P s (GoodEnding P s) x j
+  ending_read : (s i j : ℕ) (x : Ending) → Inside P s i → ending t i (Read x j) → Ended P s (EndingInBounds P s) x j
   ending_read s i j x p (goes_on at_place (chosen y)) = ending_at s i j x p (after_eol t i) refl y
 
   no_end_fault : (X : Type 0) (i from to : ℕ) (k : Kind) (o : Option ℕ) → ending_of t i o i (Refused k from to) → X
@@ -90,7 +90,7 @@ module _ (t : List ℕ) (P : ℕ → Type 0) (cuts : IsCuts t P) where
   ending_refused X i from to k (stops x) = elim x [ ]
   ending_refused X i from to k (goes_on at_place (chosen y)) = no_end_fault X i from to k (after_eol t i) y
 
-  pub ending_holds : (s : ℕ) → Holds (Inside P s) (ending t) (Ended P s (GoodEnding P s)) (IsFault t s)
+  pub ending_holds : (s : ℕ) → HoareTriple (Inside P s) (ending t) (Ended P s (EndingInBounds P s)) (IsFault t s)
   ending_holds s =
       record {
         on_read = λ i j x p y. ending_read s i j x p y;
@@ -101,15 +101,15 @@ module _ (t : List ℕ) (P : ℕ → Type 0) (cuts : IsCuts t P) where
 pub record EndedPieces (P : ℕ → Type 0) (s : ℕ) (ps : List Piece) (j : ℕ) : Type 0 where
   pub late : s ≤ j
   pub place : P j
-  pub good : list_every (GoodPiece P s j) ps
+  pub good : list_every (PieceInBounds P s j) ps
 
-module _ (t : List ℕ) (P : ℕ → Type 0) (cuts : IsCuts t P) (R : Family) (h : IsSoundFamily t P R) where
+module _ (t : List ℕ) (P : ℕ → Type 0) (cuts : AreBoundaries t P) (R : Family) (h : IsSoundFamily t P R) where
   -- a piece that lies between a place and where its reading ended
   abbrev EndedPiece : ℕ → More Piece (Unit {0}) → ℕ → Type 0
   EndedPiece s no_item j = Inside P s j
-  EndedPiece s (item p u) j = Inside P s j × GoodPiece P s j p
+  EndedPiece s (item p u) j = Inside P s j × PieceInBounds P s j p
 
-  run_read : (s i j : ℕ) (p : Piece) → Inside P s i → text_run t i (Read p j) → Inside P s j × GoodPiece P s j p
+  run_read : (s i j : ℕ) (p : Piece) → Inside P s i → text_run t i (Read p j) → Inside P s j × PieceInBounds P s j p
   run_read s i j p q (goes_on at_place (goes_on (passed {j = to} w) (goes_on at_place given))) =
       let late = q.late in
       let forward = w.forward in
@@ -123,14 +123,14 @@ module _ (t : List ℕ) (P : ℕ → Type 0) (cuts : IsCuts t P) (R : Family) (h
   run_refused X i from to k (goes_on at_place (goes_on (passed w) (goes_on at_place x))) = elim x [ ]
 
   run_holds : (s : ℕ) →
-      Holds (Inside P s) (text_run t) (λ p j. Inside P s j × GoodPiece P s j p) (IsFault t s)
+      HoareTriple (Inside P s) (text_run t) (λ p j. Inside P s j × PieceInBounds P s j p) (IsFault t s)
   run_holds s = record {
     on_read = λ i j p q x. run_read s i j p q x;
     on_refused = λ i from to k q x. run_refused (IsFault t s k from to) i from to k x;
   }
 
   piece_holds : (s : ℕ) (o : Option ℕ) →
-      Holds (λ i. Inside P s i × (slice_get t i ≡ o)) (next_piece_at t R o) (EndedPiece s) (IsFault t s)
+      HoareTriple (λ i. Inside P s i × (slice_get t i ≡ o)) (next_piece_at t R o) (EndedPiece s) (IsFault t s)
   piece_holds s None = holds_yields (λ i p. p.0)
   piece_holds s (Some b) = holds_peek (λ eol. holds_branch_on
       (λ e. holds_yields (λ i p. p.0.0))
@@ -153,7 +153,7 @@ module _ (t : List ℕ) (P : ℕ → Type 0) (cuts : IsCuts t P) (R : Family) (h
       (holds_weaker {pre = Inside P s} (λ i p. p.0.0) (λ a j x. x) (λ k from to x. x) (run_holds s))
       (λ x. holds_yields (λ i p. p))))))
 
-  next_piece_holds : (s : ℕ) → Holds (Inside P s) (next_piece t R) (EndedPiece s) (IsFault t s)
+  next_piece_holds : (s : ℕ) → HoareTriple (Inside P s) (next_piece t R) (EndedPiece s) (IsFault t s)
   next_piece_holds s = holds_peek (piece_holds s)
 
   pieces_read : (u : Unit {0}) (s i j : ℕ) (ps : List Piece) → Inside P s i →
@@ -177,7 +177,7 @@ module _ (t : List ℕ) (P : ℕ → Type 0) (cuts : IsCuts t P) (R : Family) (h
   pieces_refused u s i from to k p (stops_later {later = v} {j = m} {a = piece} x y) =
       let q = (next_piece_holds s).on_read i m _ p x in pieces_refused v s m from to k q.0 y
 
-  pub sound_pieces : (s : ℕ) → Holds (Inside P s) (more_pieces t R) (EndedPieces P s) (IsFault t s)
+  pub sound_pieces : (s : ℕ) → HoareTriple (Inside P s) (more_pieces t R) (EndedPieces P s) (IsFault t s)
   sound_pieces s = record {
     on_read = λ i j ps p x. pieces_read tt s i j ps p x;
     on_refused = λ i from to k p x. pieces_refused tt s i from to k p x;
@@ -185,10 +185,10 @@ module _ (t : List ℕ) (P : ℕ → Type 0) (cuts : IsCuts t P) (R : Family) (h
 
   leading_places : (i f m : ℕ) → P i → InlineBlank t i f → m ≤ f - i → P (i + m)
   leading_places i f m p w l = let forward = w.forward in
-      stretch_places t P cuts (has t is_space) (λ k e. ascii_has t is_space k ascii_space e) i f p w (i + m)
+      longest_run_places t P cuts (has t is_space) (λ k e. ascii_has t is_space k ascii_space e) i f p w (i + m)
       (omega arith) (omega arith)
 
-  line_read : (s i j : ℕ) (l : Line) → Inside P s i → line t R i (Read l j) → Ended P s (GoodLine P) l j
+  line_read : (s i j : ℕ) (l : Line) → Inside P s i → line t R i (Read l j) → Ended P s (LineInBounds P) l j
   line_read s i j l p
       (goes_on at_place
       (goes_on (passed {j = f} w) (goes_on at_place (goes_on {j = m} {a = ps} x (goes_on {j = n} {a = e} y z))))) =
@@ -204,7 +204,7 @@ module _ (t : List ℕ) (P : ℕ → Type 0) (cuts : IsCuts t P) (R : Family) (h
       record {
         late = omega arith;
         place = subst P same q.place;
-        good = subst (GoodLine P) value.0 (record {
+        good = subst (LineInBounds P) value.0 (record {
           leading = λ m l. leading_places i f m p.place w l;
           end = m;
           late = omega arith;
@@ -229,14 +229,14 @@ module _ (t : List ℕ) (P : ℕ → Type 0) (cuts : IsCuts t P) (R : Family) (h
   line_refused s i from to k p (goes_on at_place (goes_on (passed w) (goes_on at_place (goes_on x (goes_on y z))))) =
       elim z [ ]
 
-  sound_line : {s : ℕ} → Sound t P s (line t R) (GoodLine P)
+  sound_line : {s : ℕ} → Sound t P s (line t R) (LineInBounds P)
   sound_line {s = s} = record { holds = record { on_read = line_read s; on_refused = line_refused s } }
 
-  sound_own : {s : ℕ} → Sound t P s (line t R >>= λ l. yields (item l tt)) (good_more {S = Unit {0}} (GoodLine P))
+  sound_own : {s : ℕ} → Sound t P s (line t R >>= λ l. yields (item l tt)) (good_more {S = Unit {0}} (LineInBounds P))
   sound_own = sound_bind sound_line (λ l g. sound_yields g)
 
   next_line_read : (s i j : ℕ) (l : More Line (Unit {0})) → Inside P s i → next_line t R i (Read l j) →
-      Ended P s (good_more (GoodLine P)) l j
+      Ended P s (good_more (LineInBounds P)) l j
   next_line_read s i j l p (no_byte w e) = let late = p.late in let forward = w.forward in
       record { late = omega arith; place = word_place t P cuts is_space ascii_space i j p.place w; good = tt }
   next_line_read s i j l p (other_line w e f) = record { late = p.late; place = p.place; good = tt }
@@ -246,14 +246,14 @@ module _ (t : List ℕ) (P : ℕ → Type 0) (cuts : IsCuts t P) (R : Family) (h
       IsFault t s k from to
   next_line_refused s i from to k p (own_line w e f x) = sound_own.holds.on_refused i from to k p x
 
-  pub sound_lines : {s : ℕ} → Sound t P s (more_lines t R) (list_every (GoodLine P))
+  pub sound_lines : {s : ℕ} → Sound t P s (more_lines t R) (list_every (LineInBounds P))
   sound_lines {s = s} =
       sound_many
       (λ u. record { holds = record { on_read = next_line_read s; on_refused = next_line_refused s } })
       tt (λ l ls g k. (g, k))
 
   opening_good : (start end : ℕ) (ps : List Piece) (e : Ending) → P start → EndedPieces P start ps end →
-      GoodEnding P end e → GoodLine P (record { start = start; spaces = 0; pieces = ps; ending = e })
+      EndingInBounds P end e → LineInBounds P (record { start = start; spaces = 0; pieces = ps; ending = e })
   opening_good start end ps e p r g =
       let on = r.late in
       record {
@@ -268,7 +268,7 @@ module _ (t : List ℕ) (P : ℕ → Type 0) (cuts : IsCuts t P) (R : Family) (h
   Opening start ps e = record { start = start; spaces = 0; pieces = ps; ending = e }
 
   after_pieces : (m : ℕ) (ps : List Piece) → P m →
-      Holds (EndedPieces P m ps) (ending t) (Ended P m (λ e. GoodLine P (Opening m ps e))) (IsFault t m)
+      HoareTriple (EndedPieces P m ps) (ending t) (Ended P m (λ e. LineInBounds P (Opening m ps e))) (IsFault t m)
   after_pieces m ps pm = record {
     on_read = λ i j e p y.
         (let late = p.late in
@@ -279,11 +279,11 @@ module _ (t : List ℕ) (P : ℕ → Type 0) (cuts : IsCuts t P) (R : Family) (h
   }
 
   layout_holds : (s : ℕ) (o : Option ℕ) →
-      Holds (λ i. Inside P s i × (after_eol t i ≡ o)) (layout_at t R o) (Ended P s (GoodLayout P)) (IsFault t s)
+      HoareTriple (λ i. Inside P s i × (after_eol t i ≡ o)) (layout_at t R o) (Ended P s (LayoutInBounds P)) (IsFault t s)
   layout_holds s None = holds_weaker {pre = Inside P s} (λ i p. p.0) (λ a j x. x) (λ k from to x. x)
       (sound_here (λ m q. record {
         holds = holds_bind (sound_pieces m) (λ ps. holds_bind (after_pieces m ps q.place) (λ e.
-            known {Mid = λ e. GoodLine P (Opening m ps e)}
+            known {ReadsMidLine = λ e. LineInBounds P (Opening m ps e)}
             (λ g. sound_bind sound_lines (λ ls k. sound_yields (record { opening = g; lines = k })))));
       })).holds
   layout_holds s (Some k) = holds_bind {mid = λ u. Inside P s}
@@ -293,14 +293,14 @@ module _ (t : List ℕ) (P : ℕ → Type 0) (cuts : IsCuts t P) (R : Family) (h
       (λ u. (sound_bind (sound_blank_block t P cuts)
       (λ u v. sound_bind sound_lines (λ ls g. sound_yields (record { opening = tt; lines = g })))).holds)
 
-  pub sound_layout : {s : ℕ} → Sound t P s (layout t R) (GoodLayout P)
+  pub sound_layout : {s : ℕ} → Sound t P s (layout t R) (LayoutInBounds P)
   sound_layout {s = s} =
       sound_bind (sound_inline_blank t P cuts) (λ u v. record { holds = holds_peek (layout_holds s) })
 
-module _ (edition : Edition) (t : List ℕ) (P : ℕ → Type 0) (cuts : IsCuts t P) (R : Family) (h : IsSoundFamily t P R)
+module _ (edition : Edition) (t : List ℕ) (P : ℕ → Type 0) (cuts : AreBoundaries t P) (R : Family) (h : IsSoundFamily t P R)
   where
     pub sound_pattern : {s : ℕ} → Sound t P s (pattern edition t R) (option_every (pattern_every (IsSpan P)))
-    sound_pattern = sound_bind (sound_layout t P cuts R h) (λ y g. sound_yields (good_pattern t P cuts edition y g))
+    sound_pattern = sound_bind (sound_layout t P cuts R h) (λ y g. sound_yields (pattern_in_bounds t P cuts edition y g))
 
     sound_variant_of : {s : ℕ} (starred star : Bool) (key : KeyTree Span) (p : Option (PatternTree Span)) →
         key_every (IsSpan P) key → option_every (pattern_every (IsSpan P)) p →
@@ -328,7 +328,7 @@ module _ (edition : Edition) (t : List ℕ) (P : ℕ → Type 0) (cuts : IsCuts 
     sound_variants starred = sound_many sound_next_variant tt (λ v vs g k. (g, k))
 
     variants_holds : (s : ℕ) →
-        Holds (AtArrow t P cuts s true) (variants_of_select edition t R) (Ended P s (variants_every (IsSpan P)))
+        HoareTriple (AtArrow t P cuts s true) (variants_of_select edition t R) (Ended P s (variants_every (IsSpan P)))
         (IsFault t s)
     variants_holds s = holds_bind {mid = λ u. Inside P s} (holds_skip (after_arrow t P cuts s))
         (λ u. (sound_bind (sound_inline_blank t P cuts)
@@ -337,7 +337,7 @@ module _ (edition : Edition) (t : List ℕ) (P : ℕ → Type 0) (cuts : IsCuts 
 
     select_holds : (s : ℕ) (e : InlineTree Span) → inline_every (IsSpan P) e → (o : Option Kind) →
         ((k : Kind) → o ≡ Some k → (i : ℕ) → IsPlain k × kind_means t k i) →
-        Holds (AtArrow t P cuts s true) (select_with edition t R e o) (Ended P s (expression_every (IsSpan P)))
+        HoareTriple (AtArrow t P cuts s true) (select_with edition t R e o) (Ended P s (expression_every (IsSpan P)))
         (IsFault t s)
     select_holds s e g None m =
         holds_bind (variants_holds s)
@@ -347,7 +347,7 @@ module _ (edition : Edition) (t : List ℕ) (P : ℕ → Type 0) (cuts : IsCuts 
         record { late = q.late; in_text = cuts.in_text i q.place; one = refl; plain = n.0; means = n.1 })
 
     after_blank : (s : ℕ) (e : InlineTree Span) → inline_every (IsSpan P) e → (arrow : Bool) →
-        Holds (AtArrow t P cuts s arrow)
+        HoareTriple (AtArrow t P cuts s arrow)
         (branch_on arrow (select_with edition t R e (selector_fault e))
         (branch_on (is_term_attribute e) (fails TermAttributeAsPlaceable) (yields (inline e))))
         (Ended P s (expression_every (IsSpan P))) (IsFault t s)
@@ -369,7 +369,7 @@ module _ (edition : Edition) (t : List ℕ) (P : ℕ → Type 0) (cuts : IsCuts 
     sound_next =
         record { expression = λ s. sound_expression; argument_list = λ s. sound_arguments t P cuts R h [] }
 
-module _ (edition : Edition) (t : List ℕ) (P : ℕ → Type 0) (cuts : IsCuts t P) where
+module _ (edition : Edition) (t : List ℕ) (P : ℕ → Type 0) (cuts : AreBoundaries t P) where
   sound_nothing : IsSoundFamily t P (within edition t zero)
   unfolding within
   sound_nothing = record {

@@ -22,9 +22,9 @@ use Rattle.fluent_syntax_grammar.specs.Inline.{named_reference, inline_of, inlin
 use Rattle.fluent_syntax_grammar.specs.Variants.{variant_key, only_star, variants_end}
 use Rattle.fluent_syntax_tree.specs.declared.edition.Edition.{Edition}
 use Rattle.fluent_syntax_tree.specs.declared.spans.Span.{Span}
-use Rattle.fluent_syntax_grammar.proofs.Holds.{Holds, holds_weaker, holds_fails, holds_skip}
-use Rattle.fluent_syntax_grammar.proofs.Holds.{holds_peek}
-use Rattle.fluent_syntax_grammar.proofs.Cuts.{IsCuts, ascii_byte, eol_forward, eol_place}
+use Rattle.fluent_syntax_grammar.proofs.HoareTriple.{HoareTriple, holds_weaker, holds_fails, holds_skip}
+use Rattle.fluent_syntax_grammar.proofs.HoareTriple.{holds_peek}
+use Rattle.fluent_syntax_grammar.proofs.Cuts.{AreBoundaries, ascii_byte, eol_forward, eol_place}
 use Rattle.fluent_syntax_grammar.proofs.Sound.{IsSpan, IsPlain, Inside, Ended, IsFault, Sound, sound_bind, sound_yields}
 use Rattle.fluent_syntax_grammar.proofs.Sound.{sound_fails, sound_peek, sound_branch_on, sound_inline_blank}
 use Rattle.fluent_syntax_grammar.proofs.Sound.{sound_blank, good_more, sound_many}
@@ -40,7 +40,7 @@ sound_look : {A : Type 0} {t : List ℕ} {P : ℕ → Type 0} {s : ℕ} {look : 
     Sound t P s (peek look yields) (λ a. Unit {0})
 sound_look = sound_peek (λ a. sound_yields tt)
 
-module _ (t : List ℕ) (P : ℕ → Type 0) (cuts : IsCuts t P) where
+module _ (t : List ℕ) (P : ℕ → Type 0) (cuts : AreBoundaries t P) where
   pub sound_accessor : {s : ℕ} → Sound t P s (accessor t) (option_every (IsSpan P))
   sound_accessor =
       sound_bind (sound_optional t P cuts 46 refl)
@@ -109,9 +109,9 @@ plain_fault t (variable_reference id) k h i = cc
 plain_fault t (inline_placeable e) k h i = let e : ExpectedSimpleExpressionAsSelector ≡ k = cc in
     subst (λ k. IsPlain k × kind_means t k i) e (tt, tt)
 
-module _ (t : List ℕ) (P : ℕ → Type 0) (cuts : IsCuts t P) where
+module _ (t : List ℕ) (P : ℕ → Type 0) (cuts : AreBoundaries t P) where
   arrow_holds : (s : ℕ) (o : Option ℕ) →
-      Holds (λ i. Inside P s i × (after_eol t i ≡ o)) (arrow_line_end o) (Ended P s (λ u. Unit {0})) (IsFault t s)
+      HoareTriple (λ i. Inside P s i × (after_eol t i ≡ o)) (arrow_line_end o) (Ended P s (λ u. Unit {0})) (IsFault t s)
   arrow_holds s None =
       holds_fails (λ i p. let q = p.0 in
       record { late = q.late; in_text = cuts.in_text i q.place; one = refl; plain = tt; means = tt })
@@ -138,7 +138,7 @@ module _ (t : List ℕ) (P : ℕ → Type 0) (cuts : IsCuts t P) where
             (ascii_byte t 62 (i + 1) (omega arith) (right_true (has_byte t 45 i) (has_byte t 62 (i + 1)) p.1)));
       }
 
-module _ (t : List ℕ) (P : ℕ → Type 0) (cuts : IsCuts t P) (R : Family) (h : IsSoundFamily t P R) where
+module _ (t : List ℕ) (P : ℕ → Type 0) (cuts : AreBoundaries t P) (R : Family) (h : IsSoundFamily t P R) where
   pub sound_call : {s : ℕ} → Sound t P s (call_arguments t R) (maybe_every (IsSpan P))
   sound_call {s = s} =
       sound_bind (sound_blank t P cuts)
@@ -201,7 +201,7 @@ module _ (t : List ℕ) (P : ℕ → Type 0) (cuts : IsCuts t P) (R : Family) (h
   sound_argument_rest names e (Some n) false g k = sound_positional_rest names e g
 
   argument_holds : (s : ℕ) (names : List (List ℕ)) (o : Option ℕ) →
-      Holds (λ i. Inside P s i × (slice_get t i ≡ o)) (next_argument_at t R names o)
+      HoareTriple (λ i. Inside P s i × (slice_get t i ≡ o)) (next_argument_at t R names o)
       (Ended P s (good_more (good_argument P))) (IsFault t s)
   argument_holds s names None =
       holds_fails (λ i p. let q = p.0 in

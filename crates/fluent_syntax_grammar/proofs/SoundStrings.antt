@@ -10,9 +10,9 @@ use Rattle.fluent_syntax_grammar.specs.Places.{has_byte, Steps}
 use Rattle.fluent_syntax_grammar.specs.Construct.{Read, Refused}
 use Rattle.fluent_syntax_grammar.specs.Strings.{HexDigits, hex_digits, all_there, too_few, escaped, string_unit}
 use Rattle.fluent_syntax_grammar.specs.Strings.{string_units, before_quote, unit_and_more, bad_unit, string_literal}
-use Rattle.fluent_syntax_grammar.proofs.Holds.{Holds, holds_weaker, holds_bind, holds_fails, holds_skip, holds_peek}
-use Rattle.fluent_syntax_grammar.proofs.Holds.{holds_branch_on}
-use Rattle.fluent_syntax_grammar.proofs.Cuts.{AsciiAt, IsCuts, ascii_has, ascii_byte, ascii_hex}
+use Rattle.fluent_syntax_grammar.proofs.HoareTriple.{HoareTriple, holds_weaker, holds_bind, holds_fails, holds_skip, holds_peek}
+use Rattle.fluent_syntax_grammar.proofs.HoareTriple.{holds_branch_on}
+use Rattle.fluent_syntax_grammar.proofs.Cuts.{AsciiAt, AreBoundaries, ascii_has, ascii_byte, ascii_hex}
 use Rattle.fluent_syntax_grammar.proofs.Sound.{IsSpan, Inside, Ended, IsFault, Sound, sound_bind, sound_yields}
 use Rattle.fluent_syntax_grammar.proofs.Sound.{sound_here, sound_spanned}
 use Rattle.fluent_syntax_grammar.proofs.SoundWords.{sound_token}
@@ -52,7 +52,7 @@ module _ (t : List ℕ) where
   hex_refused s w i from to k p (too_few h l e) = let f = h.forward in let late = p.late in
       record { late = omega arith; in_text = hex_in_text i w from p.place h; one = e; plain = tt; means = tt }
 
-  hex_holds : (s w : ℕ) → Holds (Inside (InText t) s) (hex_digits t w) (Ended (InText t) s Any) (IsFault t s)
+  hex_holds : (s w : ℕ) → HoareTriple (Inside (InText t) s) (hex_digits t w) (Ended (InText t) s Any) (IsFault t s)
   hex_holds s w = record { on_read = hex_read s w; on_refused = hex_refused s w }
 
   -- two bytes on
@@ -62,7 +62,7 @@ module _ (t : List ℕ) where
       record { late = omega arith; place = omega arith }
 
   escaped_holds : (s : ℕ) (o : Option ℕ) →
-      Holds (λ i. Inside (InText t) s i × (slice_get t (i + 1) ≡ o)) (escaped t o) (Ended (InText t) s Any)
+      HoareTriple (λ i. Inside (InText t) s i × (slice_get t (i + 1) ≡ o)) (escaped t o) (Ended (InText t) s Any)
       (IsFault t s)
   escaped_holds s None =
       holds_fails (λ i p. let q = p.0 in
@@ -84,7 +84,7 @@ module _ (t : List ℕ) where
   abbrev AtUnit : ℕ → Option ℕ → ℕ → Type 0
   AtUnit s o i = Inside (InText t) s i × (slice_get t i ≡ o) × (has_byte t 34 i ≡ false)
 
-  pub unit_holds : (s : ℕ) (o : Option ℕ) → Holds (AtUnit s o) (string_unit t o) (Ended (InText t) s Any) (IsFault t s)
+  pub unit_holds : (s : ℕ) (o : Option ℕ) → HoareTriple (AtUnit s o) (string_unit t o) (Ended (InText t) s Any) (IsFault t s)
   unit_holds s None =
       holds_fails (λ i p. let q = p.0 in
       record { late = q.late; in_text = q.place; one = refl; plain = tt; means = p.2 })
@@ -121,7 +121,7 @@ module _ (t : List ℕ) where
       units_refused s m from to k (record { late = q.late; place = q.place }) y
   units_refused s i from to k p (bad_unit e x) = (unit_holds s (slice_get t i)).on_refused i from to k (p, refl, e) x
 
-module _ (t : List ℕ) (P : ℕ → Type 0) (cuts : IsCuts t P) where
+module _ (t : List ℕ) (P : ℕ → Type 0) (cuts : AreBoundaries t P) where
   to_text : (s i : ℕ) → Inside P s i → Inside (InText t) s i
   to_text s i p = record { late = p.late; place = cuts.in_text i p.place }
 

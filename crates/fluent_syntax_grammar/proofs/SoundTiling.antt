@@ -17,7 +17,7 @@ use Rattle.fluent_syntax_grammar.specs.Tiling.{starts_entry, JunkEnd, whole_line
 use Rattle.fluent_syntax_grammar.specs.Tiling.{TileAt, reads, refuses, RuntimeTileAt, drops, stands}
 use Rattle.fluent_syntax_tree.specs.declared.edition.Edition.{Edition}
 use Rattle.fluent_syntax_tree.specs.declared.spans.Span.{Span}
-use Rattle.fluent_syntax_grammar.proofs.Cuts.{IsAsciiSet, IsCuts, ascii_has, block_place}
+use Rattle.fluent_syntax_grammar.proofs.Cuts.{IsAsciiSet, AreBoundaries, ascii_has, block_place}
 use Rattle.fluent_syntax_grammar.proofs.Sound.{IsSpan, Inside, Ended, sound_bind, sound_rest_of_line}
 use Rattle.fluent_syntax_grammar.proofs.Sound.{sound_optional_eol}
 use Rattle.fluent_syntax_grammar.proofs.SoundEntries.{IsEntryFault, earlier_fault, message_read, message_refused}
@@ -37,12 +37,12 @@ no_byte_of test o e f = false≢true (rw e at f)
 weaker : {t : List ℕ} (i from to : ℕ) (k : Kind) → IsEntryFault t i (i + 1) k from to → IsEntryFault t i i k from to
 weaker {t = t} i from to k f = earlier_fault t i (i + 1) i (omega arith) k from to f
 
-module _ (edition : Edition) (t : List ℕ) (P : ℕ → Type 0) (cuts : IsCuts t P) where
-  abbrev IsGood : EntryTree Span → Type 0
-  IsGood = entry_every (IsSpan P)
+module _ (edition : Edition) (t : List ℕ) (P : ℕ → Type 0) (cuts : AreBoundaries t P) where
+  abbrev EntrySpansInBounds : EntryTree Span → Type 0
+  EntrySpansInBounds = entry_every (IsSpan P)
 
   entry_read_of : (i j : ℕ) (a : EntryTree Span) (o : Option ℕ) → slice_get t i ≡ o → P i →
-      entry_of edition t (family edition t) o i (Read a j) → Ended P (i + 1) IsGood a j
+      entry_of edition t (family edition t) o i (Read a j) → Ended P (i + 1) EntrySpansInBounds a j
   entry_read_of i j a None e p x = message_read edition t P cuts i j a p x
   entry_read_of i j a (Some b) e p (first f x) =
       comment_read t P cuts i j a p (byte_holds (λ c. c == 35) (slice_get t i) b e f) x
@@ -51,7 +51,7 @@ module _ (edition : Edition) (t : List ℕ) (P : ℕ → Type 0) (cuts : IsCuts 
   entry_read_of i j a (Some b) e p (second f (second g x)) = message_read edition t P cuts i j a p x
 
   -- an entry that is read passes over a byte at least, and its texts lie in the source
-  pub entry_read : (i j : ℕ) (a : EntryTree Span) → P i → entry_at edition t i (Read a j) → Ended P (i + 1) IsGood a j
+  pub entry_read : (i j : ℕ) (a : EntryTree Span) → P i → entry_at edition t i (Read a j) → Ended P (i + 1) EntrySpansInBounds a j
   entry_read i j a p (chosen x) = entry_read_of i j a (slice_get t i) refl p x
 
   entry_refused_of : (i from to : ℕ) (k : Kind) (o : Option ℕ) → slice_get t i ≡ o → P i →
@@ -86,17 +86,17 @@ module _ (edition : Edition) (t : List ℕ) (P : ℕ → Type 0) (cuts : IsCuts 
   entry_onward i from to k p h (chosen x) = entry_onward_of i from to k (slice_get t i) refl p h x
 
   -- what holds of a tile that reaches from i to j
-  abbrev pub GoodTile : Tile → Type 0
-  GoodTile (entry s e) = (s.start < s.end) × IsSpan P s × IsGood e
-  GoodTile (refused f) =
+  abbrev pub IsTileWellFormed : Tile → Type 0
+  IsTileWellFormed (entry s e) = (s.start < s.end) × IsSpan P s × EntrySpansInBounds e
+  IsTileWellFormed (refused f) =
       (f.slice.start < f.slice.end) × IsSpan P f.slice × (f.slice.start ≤ f.pos.start) × (f.pos.start ≤ f.slice.end) ×
       kind_means t f.kind f.pos.start
-  GoodTile dropped = Unit {0}
+  IsTileWellFormed dropped = Unit {0}
 
   pub record EndedTile (i j : ℕ) (tile : Tile) : Type 0 where
     pub onward : i < j
     pub place : P j
-    pub good : GoodTile tile
+    pub good : IsTileWellFormed tile
 
   junk_place : (place j : ℕ) → JunkEnd t place j → P j
   junk_place place j e = elim e.stop [
@@ -114,9 +114,9 @@ module _ (edition : Edition) (t : List ℕ) (P : ℕ → Type 0) (cuts : IsCuts 
   ]
 
   -- junk is not empty
-  junk_onward : (i j place : ℕ) → i < length t → i ≤ place → (has t is_entry_byte i ≡ true → i + 1 ≤ place) →
+  junk_nonempty : (i j place : ℕ) → i < length t → i ≤ place → (has t is_entry_byte i ≡ true → i + 1 ≤ place) →
       JunkEnd t place j → i < j
-  junk_onward i j place l m f e =
+  junk_nonempty i j place l m f e =
       let forward = e.forward in
       elim (lt_or_same i j (omega arith)) [ inl x ↦ x | inr same ↦ junk_not_empty i j place l f same forward e.stop ]
 
@@ -130,7 +130,7 @@ module _ (edition : Edition) (t : List ℕ) (P : ℕ → Type 0) (cuts : IsCuts 
       let late = f.late in
       let ordered = f.ordered in
       let forward = e.forward in
-      let on = junk_onward i j (failing_place k from to) l f.onward (λ h. (entry_onward i from to k p h x).onward) e in
+      let on = junk_nonempty i j (failing_place k from to) l f.onward (λ h. (entry_onward i from to k p h x).onward) e in
       let place = junk_place (failing_place k from to) j e in
       record { onward = on; place = place; good = (on, (omega arith, p, place), late, omega arith, f.means) }
 
@@ -141,14 +141,14 @@ module _ (edition : Edition) (t : List ℕ) (P : ℕ → Type 0) (cuts : IsCuts 
       (record { late = omega arith; place = p }) x in
       record { late = q.late; place = q.place }
 
-  pub tiled_good : (i : ℕ) (tiles : List Tile) → P i → Tiled t (TileAt edition t) i tiles → list_every GoodTile tiles
+  pub tiled_good : (i : ℕ) (tiles : List Tile) → P i → Tiled t (TileAt edition t) i tiles → list_every IsTileWellFormed tiles
   tiled_good i tiles p (done b) = tt
   tiled_good i tiles p (next {start = start} {end = end} {tile = tile} {tiles = more} b l x y) =
       let q = tile_good start end tile (block_place t P cuts i start p b) l x in
       (q.good, tiled_good end more q.place y)
 
   pub runtime_good : (i : ℕ) (tiles : List Tile) → P i → Tiled t (RuntimeTileAt edition t) i tiles →
-      list_every GoodTile tiles
+      list_every IsTileWellFormed tiles
   runtime_good i tiles p (done b) = tt
   runtime_good i tiles p (next {start = start} {end = end} {tiles = more} b l (drops h x) y) =
       let q = line_end start end (block_place t P cuts i start p b) x in

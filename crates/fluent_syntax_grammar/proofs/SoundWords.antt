@@ -6,9 +6,9 @@ use Rattle.fluent_syntax_tree.specs.Kind.{ExpectedCharRange}
 use Rattle.fluent_syntax_grammar.specs.Places.{has_byte}
 use Rattle.fluent_syntax_grammar.specs.Construct.{fails}
 use Rattle.fluent_syntax_grammar.specs.Tokens.{optional, token, digits, identifier, number}
-use Rattle.fluent_syntax_grammar.proofs.Holds.{Holds, holds_weaker, holds_bind, holds_yields, holds_fails, holds_skip}
-use Rattle.fluent_syntax_grammar.proofs.Holds.{holds_peek, holds_branch_on}
-use Rattle.fluent_syntax_grammar.proofs.Cuts.{IsCuts, ascii_byte, ascii_digit, ascii_name}
+use Rattle.fluent_syntax_grammar.proofs.HoareTriple.{HoareTriple, holds_weaker, holds_bind, holds_yields, holds_fails, holds_skip}
+use Rattle.fluent_syntax_grammar.proofs.HoareTriple.{holds_peek, holds_branch_on}
+use Rattle.fluent_syntax_grammar.proofs.Cuts.{AreBoundaries, ascii_byte, ascii_digit, ascii_name}
 use Rattle.fluent_syntax_grammar.proofs.Sound.{IsSpan, Inside, IsFault, Sound, sound_bind, sound_yields, sound_fails}
 use Rattle.fluent_syntax_grammar.proofs.Sound.{sound_skip, sound_peek, sound_branch_on, sound_here, sound_spanned}
 use Rattle.fluent_syntax_grammar.proofs.Sound.{onward_word}
@@ -19,14 +19,14 @@ is_small b e = grind (arith, nat_tests)
 true_false : true ≡ false → ⊥
 true_false e = cc
 
-module _ (t : List ℕ) (P : ℕ → Type 0) (cuts : IsCuts t P) where
+module _ (t : List ℕ) (P : ℕ → Type 0) (cuts : AreBoundaries t P) where
   -- after an optional byte that was not there, it does not stand there
   pub record AfterOptional (s b : ℕ) (found : Bool) (j : ℕ) : Type 0 where
     pub inside : Inside P s j
     pub missing : found ≡ false → has_byte t b j ≡ false
 
   pub optional_holds : (s b : ℕ) → nat_lt b 128 ≡ true →
-      Holds (Inside P s) (optional t b) (AfterOptional s b) (IsFault t s)
+      HoareTriple (Inside P s) (optional t b) (AfterOptional s b) (IsFault t s)
   optional_holds s b l = holds_peek (λ found. holds_branch_on
       (λ e. holds_bind {mid = λ u. Inside P s}
       (holds_skip (λ i j p w. let q = p.0 in let late = q.late in let by = w.by in
@@ -72,12 +72,12 @@ module _ (t : List ℕ) (P : ℕ → Type 0) (cuts : IsCuts t P) where
   pub sound_identifier : {s : ℕ} → Sound t P s (identifier t) (IsSpan P)
   sound_identifier =
       sound_here (λ m q.
-      sound_bind {Mid = λ letter. Unit {0}} (sound_peek (λ letter. sound_yields tt)) (λ letter u. sound_branch_on
+      sound_bind {ReadsMidLine = λ letter. Unit {0}} (sound_peek (λ letter. sound_yields tt)) (λ letter u. sound_branch_on
       (λ e. sound_bind (sound_skip (onward_word t P cuts ascii_name)) (λ u v. sound_spanned q.place))
       (λ e. sound_range (codes "a-zA-Z"))))
 
   pub sound_number : {s : ℕ} → Sound t P s (number t) (IsSpan P)
   sound_number = sound_here (λ m q. sound_bind (sound_optional 45 refl) (λ x u. sound_bind sound_digits (λ x u.
       sound_bind (sound_optional 46 refl)
-      (λ point u. sound_bind {Mid = λ u. Unit {0}} (sound_branch_on (λ e. sound_digits) (λ e. sound_yields tt))
+      (λ point u. sound_bind {ReadsMidLine = λ u. Unit {0}} (sound_branch_on (λ e. sound_digits) (λ e. sound_yields tt))
       (λ x u. sound_spanned q.place)))))

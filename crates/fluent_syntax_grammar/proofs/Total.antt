@@ -5,8 +5,8 @@ use Rattle.fluent_syntax_grammar.specs.Construct.{Outcome, Read, Refused, Constr
 use Rattle.fluent_syntax_grammar.specs.Construct.{given, here, at_place, fails, failed, fails_from, failed_from, skip}
 use Rattle.fluent_syntax_grammar.specs.Construct.{passed, peek, chosen, branch_on, first, second, More, no_item, item}
 use Rattle.fluent_syntax_grammar.specs.Construct.{many, list_ends, list_stops, item_and_more, stops_later}
-use Rattle.fluent_syntax_grammar.proofs.Holds.{Holds, holds_weaker, holds_bind, holds_yields, holds_here, holds_fails}
-use Rattle.fluent_syntax_grammar.proofs.Holds.{holds_fails_from, holds_skip, holds_peek, holds_branch_on}
+use Rattle.fluent_syntax_grammar.proofs.HoareTriple.{HoareTriple, holds_weaker, holds_bind, holds_yields, holds_here, holds_fails}
+use Rattle.fluent_syntax_grammar.proofs.HoareTriple.{holds_fails_from, holds_skip, holds_peek, holds_branch_on}
 
 -- a place of the text from s on
 pub record From (t : List ℕ) (s i : ℕ) : Type 0 where
@@ -21,25 +21,25 @@ pub record Total {A : Type 0} (pre : ℕ → Type 0) (c : Construct A) : Type 0 
   pub has : (i : ℕ) → pre i → (o : Outcome A) × c i o
 
 -- it has an outcome from each place from s on, and is read to such a place
-pub record Both {A : Type 0} (t : List ℕ) (s : ℕ) (c : Construct A) : Type 0 where
+pub record TotalOnward {A : Type 0} (t : List ℕ) (s : ℕ) (c : Construct A) : Type 0 where
   pub total : Total (From t s) c
-  pub on : Holds (From t s) c (λ a j. From t s j) AnyFault
+  pub on : HoareTriple (From t s) c (λ a j. From t s j) AnyFault
 
 -- the same, and where it is read it goes on
-pub record Strict {A : Type 0} (t : List ℕ) (s : ℕ) (c : Construct A) : Type 0 where
+pub record TotalConsuming {A : Type 0} (t : List ℕ) (s : ℕ) (c : Construct A) : Type 0 where
   pub total : Total (From t s) c
-  pub on : Holds (From t s) c (λ a j. From t (s + 1) j) AnyFault
+  pub on : HoareTriple (From t s) c (λ a j. From t (s + 1) j) AnyFault
 
 -- ---- the formers
 
 bind_has : {A B : Type 0} (pre : ℕ → Type 0) (mid : A → ℕ → Type 0) (c : Construct A) (f : A → Construct B) →
-    Holds pre c mid AnyFault → ((a : A) → Total (mid a) (f a)) →
+    HoareTriple pre c mid AnyFault → ((a : A) → Total (mid a) (f a)) →
     (i : ℕ) → pre i → (o : Outcome A) → c i o → (p : Outcome B) × (c >>= f) i p
 bind_has pre mid c f h g i p (Read a j) x = let z = (g a).has j (h.on_read i j a p x) in (z.0, goes_on x z.1)
 bind_has pre mid c f h g i p (Refused k from to) x = (Refused k from to, stops x)
 
 pub total_bind : {A B : Type 0} {pre : ℕ → Type 0} {mid : A → ℕ → Type 0} {c : Construct A} {f : A → Construct B} →
-    Total pre c → Holds pre c mid AnyFault → ((a : A) → Total (mid a) (f a)) → Total pre (c >>= f)
+    Total pre c → HoareTriple pre c mid AnyFault → ((a : A) → Total (mid a) (f a)) → Total pre (c >>= f)
 total_bind {pre = pre} {mid = mid} {c = c} {f = f} x h g =
     record { has = λ i p. let y = x.has i p in bind_has pre mid c f h g i p y.0 y.1 }
 
@@ -78,76 +78,76 @@ total_branch_on {pre = pre} {test = test} {c = c} {d = d} g h = record { has = b
 -- ---- from a place on
 
 -- a relation that leads on from each place of the text, within it
-pub record IsWord (t : List ℕ) (W : ℕ → ℕ → Type 0) : Type 0 where
+pub record IsTotalRelation (t : List ℕ) (W : ℕ → ℕ → Type 0) : Type 0 where
   pub exists : (i : ℕ) → i ≤ length t → (j : ℕ) × W i j
   pub forward : (i j : ℕ) → W i j → i ≤ j
   pub in_text : (i j : ℕ) → i ≤ length t → W i j → j ≤ length t
 
 module _ {t : List ℕ} {s : ℕ} where
-  pub both_bind : {A B : Type 0} {c : Construct A} {f : A → Construct B} → Both t s c → ((a : A) → Both t s (f a)) →
-      Both t s (c >>= f)
-  both_bind x g = record { total = total_bind x.total x.on (λ a. (g a).total); on = holds_bind x.on (λ a. (g a).on) }
+  pub onward_bind : {A B : Type 0} {c : Construct A} {f : A → Construct B} → TotalOnward t s c → ((a : A) → TotalOnward t s (f a)) →
+      TotalOnward t s (c >>= f)
+  onward_bind x g = record { total = total_bind x.total x.on (λ a. (g a).total); on = holds_bind x.on (λ a. (g a).on) }
 
-  pub both_yields : {A : Type 0} {a : A} → Both t s (yields a)
-  both_yields = record { total = total_yields; on = holds_yields (λ i p. p) }
+  pub onward_yields : {A : Type 0} {a : A} → TotalOnward t s (yields a)
+  onward_yields = record { total = total_yields; on = holds_yields (λ i p. p) }
 
-  pub both_here : Both t s here
-  both_here = record { total = total_here; on = holds_here (λ i p. p) }
+  pub onward_here : TotalOnward t s here
+  onward_here = record { total = total_here; on = holds_here (λ i p. p) }
 
-  pub both_fails : {A : Type 0} {k : Kind} → Both t s (fails {A = A} k)
-  both_fails = record { total = total_fails; on = holds_fails (λ i p. tt) }
+  pub onward_fails : {A : Type 0} {k : Kind} → TotalOnward t s (fails {A = A} k)
+  onward_fails = record { total = total_fails; on = holds_fails (λ i p. tt) }
 
-  pub both_fails_from : {A : Type 0} {k : Kind} {start : ℕ} → Both t s (fails_from {A = A} k start)
-  both_fails_from = record { total = total_fails_from; on = holds_fails_from (λ i p. tt) }
+  pub onward_fails_from : {A : Type 0} {k : Kind} {start : ℕ} → TotalOnward t s (fails_from {A = A} k start)
+  onward_fails_from = record { total = total_fails_from; on = holds_fails_from (λ i p. tt) }
 
-  pub both_skip : {W : ℕ → ℕ → Type 0} → IsWord t W → Both t s (skip W)
-  both_skip w = record {
+  pub onward_skip : {W : ℕ → ℕ → Type 0} → IsTotalRelation t W → TotalOnward t s (skip W)
+  onward_skip w = record {
     total = total_skip (λ i p. w.exists i p.in_text);
     on =
         holds_skip (λ i j p x. let late = p.late in let f = w.forward i j x in
         record { late = omega arith; in_text = w.in_text i j p.in_text x });
   }
 
-  pub both_peek : {A B : Type 0} {look : ℕ → A} {part : A → Construct B} → ((a : A) → Both t s (part a)) →
-      Both t s (peek look part)
-  both_peek g = record {
+  pub onward_peek : {A B : Type 0} {look : ℕ → A} {part : A → Construct B} → ((a : A) → TotalOnward t s (part a)) →
+      TotalOnward t s (peek look part)
+  onward_peek g = record {
     total = total_peek (λ a. total_weaker (λ i p. p.0) (g a).total);
     on = holds_peek (λ a. holds_weaker (λ i p. p.0) (λ b j x. x) (λ k from to x. x) (g a).on);
   }
 
-  pub both_branch_on : {A : Type 0} {test : Bool} {c d : Construct A} → Both t s c → Both t s d →
-      Both t s (branch_on test c d)
-  both_branch_on x y =
+  pub onward_branch_on : {A : Type 0} {test : Bool} {c d : Construct A} → TotalOnward t s c → TotalOnward t s d →
+      TotalOnward t s (branch_on test c d)
+  onward_branch_on x y =
       record { total = total_branch_on (λ e. x.total) (λ e. y.total); on = holds_branch_on (λ e. x.on) (λ e. y.on) }
 
   pub earlier : (i : ℕ) → From t (s + 1) i → From t s i
   earlier i p = let late = p.late in record { late = omega arith; in_text = p.in_text }
 
-  pub both_strict : {A : Type 0} {c : Construct A} → Strict t s c → Both t s c
-  both_strict x =
+  pub onward_strict : {A : Type 0} {c : Construct A} → TotalConsuming t s c → TotalOnward t s c
+  onward_strict x =
       record { total = x.total; on = holds_weaker (λ i p. p) (λ a j p. earlier j p) (λ k from to p. p) x.on }
 
-  pub strict_first : {A B : Type 0} {c : Construct A} {f : A → Construct B} → Strict t s c →
-      ((a : A) → Both t (s + 1) (f a)) → Strict t s (c >>= f)
-  strict_first x g = record { total = total_bind x.total x.on (λ a. (g a).total); on = holds_bind x.on (λ a. (g a).on) }
+  pub consuming_first : {A B : Type 0} {c : Construct A} {f : A → Construct B} → TotalConsuming t s c →
+      ((a : A) → TotalOnward t (s + 1) (f a)) → TotalConsuming t s (c >>= f)
+  consuming_first x g = record { total = total_bind x.total x.on (λ a. (g a).total); on = holds_bind x.on (λ a. (g a).on) }
 
-  pub strict_then : {A B : Type 0} {c : Construct A} {f : A → Construct B} → Both t s c → ((a : A) → Strict t s (f a)) →
-      Strict t s (c >>= f)
-  strict_then x g = record { total = total_bind x.total x.on (λ a. (g a).total); on = holds_bind x.on (λ a. (g a).on) }
+  pub consuming_then : {A B : Type 0} {c : Construct A} {f : A → Construct B} → TotalOnward t s c → ((a : A) → TotalConsuming t s (f a)) →
+      TotalConsuming t s (c >>= f)
+  consuming_then x g = record { total = total_bind x.total x.on (λ a. (g a).total); on = holds_bind x.on (λ a. (g a).on) }
 
-  pub strict_fails : {A : Type 0} {k : Kind} → Strict t s (fails {A = A} k)
-  strict_fails = record { total = total_fails; on = holds_fails (λ i p. tt) }
+  pub consuming_fails : {A : Type 0} {k : Kind} → TotalConsuming t s (fails {A = A} k)
+  consuming_fails = record { total = total_fails; on = holds_fails (λ i p. tt) }
 
-  pub strict_peek : {A B : Type 0} {look : ℕ → A} {part : A → Construct B} → ((a : A) → Strict t s (part a)) →
-      Strict t s (peek look part)
-  strict_peek g = record {
+  pub consuming_peek : {A B : Type 0} {look : ℕ → A} {part : A → Construct B} → ((a : A) → TotalConsuming t s (part a)) →
+      TotalConsuming t s (peek look part)
+  consuming_peek g = record {
     total = total_peek (λ a. total_weaker (λ i p. p.0) (g a).total);
     on = holds_peek (λ a. holds_weaker (λ i p. p.0) (λ b j x. x) (λ k from to x. x) (g a).on);
   }
 
-  pub strict_branch_on : {A : Type 0} {test : Bool} {c d : Construct A} → Strict t s c → Strict t s d →
-      Strict t s (branch_on test c d)
-  strict_branch_on x y =
+  pub consuming_branch_on : {A : Type 0} {test : Bool} {c d : Construct A} → TotalConsuming t s c → TotalConsuming t s d →
+      TotalConsuming t s (branch_on test c d)
+  consuming_branch_on x y =
       record { total = total_branch_on (λ e. x.total) (λ e. y.total); on = holds_branch_on (λ e. x.on) (λ e. y.on) }
 
 -- ---- lists
@@ -158,23 +158,23 @@ more_on t s no_item j = From t s j
 more_on t s (item a r) j = From t (s + 1) j
 
 -- It has an outcome from each place from s on, and where it reads an item it goes on.
-pub record Going {A S : Type 0} (t : List ℕ) (s : ℕ) (c : Construct (More A S)) : Type 0 where
+pub record TotalConsumingItem {A S : Type 0} (t : List ℕ) (s : ℕ) (c : Construct (More A S)) : Type 0 where
   pub total : Total (From t s) c
-  pub on : Holds (From t s) c (more_on t s) AnyFault
+  pub on : HoareTriple (From t s) c (more_on t s) AnyFault
 
 pub more_earlier : {A S : Type 0} (t : List ℕ) (s : ℕ) (x : More A S) (j : ℕ) → From t (s + 1) j → more_on t s x j
 more_earlier t s no_item j p = earlier j p
 more_earlier t s (item a r) j p = p
 
-pub going_strict : {A S : Type 0} {t : List ℕ} {s : ℕ} {c : Construct (More A S)} → Strict t s c → Going t s c
-going_strict {t = t} {s = s} x =
+pub consuming_item_strict : {A S : Type 0} {t : List ℕ} {s : ℕ} {c : Construct (More A S)} → TotalConsuming t s c → TotalConsumingItem t s c
+consuming_item_strict {t = t} {s = s} x =
     record { total = x.total; on = holds_weaker (λ i p. p) (more_earlier t s) (λ k from to p. p) x.on }
 
-pub going_then : {A B S : Type 0} {t : List ℕ} {s : ℕ} {c : Construct A} {f : A → Construct (More B S)} → Both t s c →
-    ((a : A) → Going t s (f a)) → Going t s (c >>= f)
-going_then x g = record { total = total_bind x.total x.on (λ a. (g a).total); on = holds_bind x.on (λ a. (g a).on) }
+pub consuming_item_then : {A B S : Type 0} {t : List ℕ} {s : ℕ} {c : Construct A} {f : A → Construct (More B S)} → TotalOnward t s c →
+    ((a : A) → TotalConsumingItem t s (f a)) → TotalConsumingItem t s (c >>= f)
+consuming_item_then x g = record { total = total_bind x.total x.on (λ a. (g a).total); on = holds_bind x.on (λ a. (g a).on) }
 
-pub past_end : {A : Type 0} {t : List ℕ} {c : Construct A} (s : ℕ) → length t < s → Both t s c
+pub past_end : {A : Type 0} {t : List ℕ} {c : Construct A} (s : ℕ) → length t < s → TotalOnward t s c
 past_end s l = record {
   total = record { has = λ i p. (let late = p.late in let inside = p.in_text in absurd (omega arith)) };
   on =
@@ -185,8 +185,8 @@ past_end s l = record {
 }
 
 module _ {A S B : Type 0} (t : List ℕ) (next : S → Construct (More A S)) (add : A → B → B) (none : B) (low : ℕ)
-    (h : (s : ℕ) → low ≤ s → (r : S) → Going t s (next r)) where
-  module _ (s : ℕ) (r : S) (l : low ≤ s) (g : (r : S) → Both t (s + 1) (many next add none r)) where
+    (h : (s : ℕ) → low ≤ s → (r : S) → TotalConsumingItem t s (next r)) where
+  module _ (s : ℕ) (r : S) (l : low ≤ s) (g : (r : S) → TotalOnward t (s + 1) (many next add none r)) where
     after_item : (i : ℕ) (x : More A S) (j : ℕ) → next r i (Read x j) → more_on t s x j → (o : Outcome B) ×
         many next add none r i o
     after_item i no_item j x p = (Read none j, list_ends x)
@@ -206,16 +206,16 @@ module _ {A S B : Type 0} (t : List ℕ) (next : S → Construct (More A S)) (ad
     many_on i j b p (item_and_more {later = q} {j = m} x y) =
         earlier j ((g q).on.on_read m j _ ((h s l r).on.on_read i m _ p x) y)
 
-    one_both : Both t s (many next add none r)
+    one_both : TotalOnward t s (many next add none r)
     one_both = record {
       total = record { has = λ i p. one_has i p ((h s l r).total.has i p) };
       on = record { on_read = many_on; on_refused = λ i from to k p x. tt };
     }
 
-  many_from : (m s : ℕ) → low ≤ s → length t < s + m → (r : S) → Both t s (many next add none r)
+  many_from : (m s : ℕ) → low ≤ s → length t < s + m → (r : S) → TotalOnward t s (many next add none r)
   many_from zero s l e r = past_end s (omega arith)
   many_from (suc m) s l e r = one_both s r l (λ r. many_from m (s + 1) (omega arith) (omega arith) r)
 
   -- a list whose items go on, by induction on the bytes that are left
-  pub both_many : (s : ℕ) → low ≤ s → (r : S) → Both t s (many next add none r)
-  both_many s l r = many_from (length t + 1) s l (omega arith) r
+  pub onward_many : (s : ℕ) → low ≤ s → (r : S) → TotalOnward t s (many next add none r)
+  onward_many s l r = many_from (length t + 1) s l (omega arith) r

@@ -17,18 +17,18 @@ use Rattle.fluent_syntax_grammar.specs.Comments.{other_level, no_comment_line, c
 use Rattle.fluent_syntax_grammar.specs.Tiling.{entry_of}
 use Rattle.fluent_syntax_tree.specs.declared.edition.Edition.{Edition}
 use Rattle.fluent_syntax_tree.specs.declared.spans.Span.{Span}
-use Rattle.fluent_syntax_grammar.proofs.Holds.{holds_skip}
+use Rattle.fluent_syntax_grammar.proofs.HoareTriple.{holds_skip}
 use Rattle.fluent_syntax_grammar.proofs.SoundStrings.{InText}
 use Rattle.fluent_syntax_grammar.proofs.SoundEntries.{sound_attributes}
 use Rattle.fluent_syntax_grammar.proofs.SoundComments.{after_hashes, line_from}
 use Rattle.fluent_syntax_grammar.proofs.Boundaries.{text_cuts}
 use Rattle.fluent_syntax_grammar.proofs.CommentFaults.{some_hash}
-use Rattle.fluent_syntax_grammar.proofs.Total.{From, Both, Strict, total_bind, total_skip, both_bind, both_yields}
-use Rattle.fluent_syntax_grammar.proofs.Total.{both_here, both_fails, both_fails_from, both_peek, both_strict}
-use Rattle.fluent_syntax_grammar.proofs.Total.{strict_first, strict_then}
-use Rattle.fluent_syntax_grammar.proofs.TotalWords.{on_sound, both_inline_blank}
-use Rattle.fluent_syntax_grammar.proofs.TotalWords.{both_blank_block, both_optional_eol, both_spanned}
-use Rattle.fluent_syntax_grammar.proofs.TotalWords.{both_rest_of_line, strict_token, strict_identifier}
+use Rattle.fluent_syntax_grammar.proofs.Total.{From, TotalOnward, TotalConsuming, total_bind, total_skip, onward_bind, onward_yields}
+use Rattle.fluent_syntax_grammar.proofs.Total.{onward_here, onward_fails, onward_fails_from, onward_peek, onward_strict}
+use Rattle.fluent_syntax_grammar.proofs.Total.{consuming_first, consuming_then}
+use Rattle.fluent_syntax_grammar.proofs.TotalWords.{on_sound, onward_inline_blank}
+use Rattle.fluent_syntax_grammar.proofs.TotalWords.{onward_blank_block, onward_optional_eol, onward_spanned}
+use Rattle.fluent_syntax_grammar.proofs.TotalWords.{onward_rest_of_line, consuming_token, consuming_identifier}
 use Rattle.fluent_syntax_grammar.proofs.Facts.{equal, unequal}
 use Rattle.std.proofs.Common.{◌-◌}
 use Rattle.std.specs.Prelude.{◌⊎◌}
@@ -38,39 +38,39 @@ use Rattle.fluent_syntax_grammar.specs.Grammar.{within}
 use Rattle.fluent_syntax_grammar.specs.Nesting.{TooDeep}
 use Rattle.fluent_syntax_grammar.specs.Patterns.{pattern}
 use Rattle.fluent_syntax_grammar.specs.Tiling.{entry_in}
-use Rattle.fluent_syntax_grammar.proofs.Holds.{Holds}
+use Rattle.fluent_syntax_grammar.proofs.HoareTriple.{HoareTriple}
 use Rattle.fluent_syntax_grammar.proofs.Included.{IsIncludedFamily}
 use Rattle.fluent_syntax_grammar.proofs.IncludedEntries.{included_attributes}
 use Rattle.fluent_syntax_grammar.proofs.Nesting.{within_family}
 use Rattle.fluent_syntax_grammar.proofs.Total.{AnyFault}
 use Rattle.fluent_syntax_grammar.proofs.TotalFamily.{pattern_within}
 
-both_with : {t : List ℕ} {s : ℕ} (id : Span) (value : Option (PatternTree Span)) → Both t s (attribute_with id value)
-both_with id None = both_fails
-both_with id (Some value) = both_yields
+onward_with : {t : List ℕ} {s : ℕ} (id : Span) (value : Option (PatternTree Span)) → TotalOnward t s (attribute_with id value)
+onward_with id None = onward_fails
+onward_with id (Some value) = onward_yields
 
-both_message_with :
+onward_message_with :
     {s : ℕ} (t : List ℕ) (start : ℕ) (id : Span) (value : Option (PatternTree Span))
-    (rest : List (AttributeTree Span)) → Both t s (message_with t start id value rest)
-both_message_with t start id None [] = both_fails_from
-both_message_with t start id None (a ∷ rest) = both_yields
-both_message_with t start id (Some value) rest = both_yields
+    (rest : List (AttributeTree Span)) → TotalOnward t s (message_with t start id value rest)
+onward_message_with t start id None [] = onward_fails_from
+onward_message_with t start id None (a ∷ rest) = onward_yields
+onward_message_with t start id (Some value) rest = onward_yields
 
-both_term_with :
+onward_term_with :
     {s : ℕ} (t : List ℕ) (start : ℕ) (id : Span) (value : Option (PatternTree Span))
-    (rest : List (AttributeTree Span)) → Both t s (term_with t start id value rest)
-both_term_with t start id None rest = both_fails_from
-both_term_with t start id (Some value) rest = both_yields
+    (rest : List (AttributeTree Span)) → TotalOnward t s (term_with t start id value rest)
+onward_term_with t start id None rest = onward_fails_from
+onward_term_with t start id (Some value) rest = onward_yields
 
 module _ (edition : Edition) (t : List ℕ) (R : Family) (h : IsIncludedFamily R (family edition t)) (low : ℕ)
-    (patterns : (s : ℕ) → low ≤ s → Both t s (pattern edition t R)) where
-  strict_attribute : (s : ℕ) → low ≤ s → Strict t s (attribute_of edition t R)
-  strict_attribute s l =
-      strict_then (both_inline_blank t)
-      (λ u. strict_first (strict_token t 46)
-      (λ u. both_bind (both_strict (strict_identifier t)) (λ id. both_bind (both_inline_blank t) (λ u.
-      both_bind (both_strict (strict_token t 61))
-      (λ u. both_bind (patterns (s + 1) (omega arith)) (λ value. both_with id value))))))
+    (patterns : (s : ℕ) → low ≤ s → TotalOnward t s (pattern edition t R)) where
+  consuming_attribute : (s : ℕ) → low ≤ s → TotalConsuming t s (attribute_of edition t R)
+  consuming_attribute s l =
+      consuming_then (onward_inline_blank t)
+      (λ u. consuming_first (consuming_token t 46)
+      (λ u. onward_bind (onward_strict (consuming_identifier t)) (λ id. onward_bind (onward_inline_blank t) (λ u.
+      onward_bind (onward_strict (consuming_token t 61))
+      (λ u. onward_bind (patterns (s + 1) (omega arith)) (λ value. onward_with id value))))))
 
   -- a list of attributes, and where it ends
   record Attributes (i : ℕ) : Type 0 where
@@ -82,21 +82,21 @@ module _ (edition : Edition) (t : List ℕ) (R : Family) (h : IsIncludedFamily R
       (o : Outcome (AttributeTree Span)) → attribute_of edition t R i o → Attributes i
   attributes_at i b l more (Refused k from to) x = record { list = []; end = i; read = no_more x }
   attributes_at i b l more (Read a j) x =
-      let p = (strict_attribute i b).on.on_read i j a (record { late = omega arith; in_text = l }) x in
+      let p = (consuming_attribute i b).on.on_read i j a (record { late = omega arith; in_text = l }) x in
       let late = p.late in
       let r = more j (omega arith) p.in_text in
       record { list = a ∷ r.list; end = r.end; read = one_more x r.read }
 
   attributes_exist : (m i : ℕ) → length t ≤ i + m → low ≤ i → i ≤ length t → Attributes i
   attributes_exist zero i a b l =
-      let x = (strict_attribute i b).total.has i (record { late = omega arith; in_text = l }) in
+      let x = (consuming_attribute i b).total.has i (record { late = omega arith; in_text = l }) in
       attributes_at i b l (λ j d c. absurd (omega arith)) x.0 x.1
   attributes_exist (suc m) i a b l =
-      let x = (strict_attribute i b).total.has i (record { late = omega arith; in_text = l }) in
+      let x = (consuming_attribute i b).total.has i (record { late = omega arith; in_text = l }) in
       attributes_at i b l (λ j d c. attributes_exist m j (omega arith) (omega arith) c) x.0 x.1
 
   -- the list goes on as that of the grammar does
-  attributes_on : (s : ℕ) → Holds (From t s) (attributes_of edition t R) (λ a j. From t s j) AnyFault
+  attributes_on : (s : ℕ) → HoareTriple (From t s) (attributes_of edition t R) (λ a j. From t s j) AnyFault
   attributes_on s =
       let part = included_attributes edition t R (family edition t) h in
       let whole = on_sound (sound_attributes edition t (InText t) (text_cuts t) {s = s}) in
@@ -105,8 +105,8 @@ module _ (edition : Edition) (t : List ℕ) (R : Family) (h : IsIncludedFamily R
         on_refused = λ i from to k p x. whole.on_refused i from to k p (part.part i _ x);
       }
 
-  both_attributes : (s : ℕ) → low ≤ s → Both t s (attributes_of edition t R)
-  both_attributes s l = record {
+  onward_attributes : (s : ℕ) → low ≤ s → TotalOnward t s (attributes_of edition t R)
+  onward_attributes s l = record {
     total =
         record {
           has = λ i p. (let late = p.late in let r =
@@ -116,33 +116,33 @@ module _ (edition : Edition) (t : List ℕ) (R : Family) (h : IsIncludedFamily R
     on = attributes_on s;
   }
 
-  both_message : (s : ℕ) → low ≤ s → Both t s (message_of edition t R)
-  both_message s l =
-      both_bind both_here
-      (λ start. both_bind (both_strict (strict_identifier t))
-      (λ id. both_bind (both_inline_blank t) (λ u. both_bind (both_strict (strict_token t 61)) (λ u.
-      both_bind (patterns s l)
-      (λ value. both_bind (both_blank_block t)
-      (λ u. both_bind (both_attributes s l) (λ rest. both_message_with t start id value rest)))))))
+  onward_message : (s : ℕ) → low ≤ s → TotalOnward t s (message_of edition t R)
+  onward_message s l =
+      onward_bind onward_here
+      (λ start. onward_bind (onward_strict (consuming_identifier t))
+      (λ id. onward_bind (onward_inline_blank t) (λ u. onward_bind (onward_strict (consuming_token t 61)) (λ u.
+      onward_bind (patterns s l)
+      (λ value. onward_bind (onward_blank_block t)
+      (λ u. onward_bind (onward_attributes s l) (λ rest. onward_message_with t start id value rest)))))))
 
-  both_term : (s : ℕ) → low ≤ s → Both t s (term_of edition t R)
-  both_term s l =
-      both_bind both_here
-      (λ start. both_bind (both_strict (strict_token t 45))
-      (λ u. both_bind (both_strict (strict_identifier t))
-      (λ id. both_bind (both_inline_blank t) (λ u. both_bind (both_strict (strict_token t 61)) (λ u.
-      both_bind (patterns s l)
-      (λ value. both_bind (both_blank_block t)
-      (λ u. both_bind (both_attributes s l) (λ rest. both_term_with t start id value rest))))))))
+  onward_term : (s : ℕ) → low ≤ s → TotalOnward t s (term_of edition t R)
+  onward_term s l =
+      onward_bind onward_here
+      (λ start. onward_bind (onward_strict (consuming_token t 45))
+      (λ u. onward_bind (onward_strict (consuming_identifier t))
+      (λ id. onward_bind (onward_inline_blank t) (λ u. onward_bind (onward_strict (consuming_token t 61)) (λ u.
+      onward_bind (patterns s l)
+      (λ value. onward_bind (onward_blank_block t)
+      (λ u. onward_bind (onward_attributes s l) (λ rest. onward_term_with t start id value rest))))))))
 
 module _ (t : List ℕ) where
-  both_text : {s : ℕ} (eol : Bool) → Both t s (comment_text t eol)
-  both_text true = both_bind both_here (λ i. both_spanned t)
-  both_text false = both_bind (both_strict (strict_token t 32)) (λ u. both_rest_of_line t)
+  onward_text : {s : ℕ} (eol : Bool) → TotalOnward t s (comment_text t eol)
+  onward_text true = onward_bind onward_here (λ i. onward_spanned t)
+  onward_text false = onward_bind (onward_strict (consuming_token t 32)) (λ u. onward_rest_of_line t)
 
-  both_rest : {s : ℕ} (b : Option ℕ) → Both t s (comment_rest t b)
-  both_rest None = both_yields
-  both_rest (Some b) = both_bind (both_peek both_text) (λ content. both_bind (both_optional_eol t) (λ u. both_yields))
+  onward_rest : {s : ℕ} (b : Option ℕ) → TotalOnward t s (comment_rest t b)
+  onward_rest None = onward_yields
+  onward_rest (Some b) = onward_bind (onward_peek onward_text) (λ content. onward_bind (onward_optional_eol t) (λ u. onward_yields))
 
   line_has : (i level : ℕ) → i ≤ length t → hashes t i ≡ level → (o : Outcome (List Span)) × comment_line t level i o
   line_has i level l e =
@@ -150,7 +150,7 @@ module _ (t : List ℕ) where
       let whole =
       total_bind {pre = λ j. j ≡ i} {mid = λ u. From t 0} (total_skip (λ j p. (j + level, record { by = refl })))
       (holds_skip (λ j m p w. let by = w.by in record { late = omega arith; in_text = omega arith }))
-      (λ u. (both_peek both_rest).total) in
+      (λ u. (onward_peek onward_rest).total) in
       whole.has i refl
 
   record Lines (level i : ℕ) : Type 0 where
@@ -197,17 +197,17 @@ module _ (t : List ℕ) where
       (y.0, chosen y.1)
 
 module _ (edition : Edition) (t : List ℕ) (R : Family) (h : IsIncludedFamily R (family edition t)) (low : ℕ)
-    (patterns : (s : ℕ) → low ≤ s → Both t s (pattern edition t R)) where
+    (patterns : (s : ℕ) → low ≤ s → TotalOnward t s (pattern edition t R)) where
   hash_holds : (i b : ℕ) → slice_get t i ≡ Some b → (b == 35) ≡ true → has_byte t 35 i ≡ true
   hash_holds i b e f = rw e f
 
   entry_other : (i b : ℕ) (minus : Bool) → low ≤ i → i ≤ length t → (b == 45) ≡ minus → (o : Outcome (EntryTree Span)) ×
       branch_on (b == 45) (term_of edition t R) (message_of edition t R) i o
   entry_other i b true g l e =
-      let x = (both_term edition t R h low patterns i g).total.has i (record { late = omega arith; in_text = l }) in
+      let x = (onward_term edition t R h low patterns i g).total.has i (record { late = omega arith; in_text = l }) in
       (x.0, first e x.1)
   entry_other i b false g l e =
-      let x = (both_message edition t R h low patterns i g).total.has i (record { late = omega arith; in_text = l }) in
+      let x = (onward_message edition t R h low patterns i g).total.has i (record { late = omega arith; in_text = l }) in
       (x.0, second e x.1)
 
   entry_choice : (i b : ℕ) (hash : Bool) → low ≤ i → i ≤ length t → slice_get t i ≡ Some b → (b == 35) ≡ hash →
@@ -218,7 +218,7 @@ module _ (edition : Edition) (t : List ℕ) (R : Family) (h : IsIncludedFamily R
   entry_has_of : (i : ℕ) (o : Option ℕ) → low ≤ i → i ≤ length t → slice_get t i ≡ o → (p : Outcome (EntryTree Span)) ×
       entry_of edition t R o i p
   entry_has_of i None g l e =
-      (both_message edition t R h low patterns i g).total.has i (record { late = omega arith; in_text = l })
+      (onward_message edition t R h low patterns i g).total.has i (record { late = omega arith; in_text = l })
   entry_has_of i (Some b) g l e = entry_choice i b (b == 35) g l e refl
 
   pub entry_has : (i : ℕ) → low ≤ i → i ≤ length t → (o : Outcome (EntryTree Span)) × entry_in edition t R i o
@@ -231,7 +231,7 @@ too_deep_left edition t n i l d =
     elim (below n (length t - i)) [
       | inl e ↦ e
       | inr e ↦ (
-          let patterns : (s : ℕ) → i ≤ s → Both t s (pattern edition t (within edition t n)) =
+          let patterns : (s : ℕ) → i ≤ s → TotalOnward t s (pattern edition t (within edition t n)) =
           λ s g. pattern_within edition t n s (omega arith) in
           let has = entry_has edition t (within edition t n) (within_family edition t n) i patterns i (omega arith) l in
           absurd (d has.0 has.1)

@@ -22,34 +22,34 @@ use Rattle.fluent_syntax_grammar.specs.Variants.{only_star, variants_end, varian
 use Rattle.fluent_syntax_grammar.specs.Variants.{more_variants}
 use Rattle.fluent_syntax_tree.specs.declared.edition.Edition.{Edition}
 use Rattle.fluent_syntax_tree.specs.declared.spans.Span.{Span}
-use Rattle.fluent_syntax_grammar.proofs.Functional.{single_stretch}
-use Rattle.fluent_syntax_grammar.proofs.Holds.{Holds, gave, holds_weaker, holds_bind, holds_yields, holds_fails}
-use Rattle.fluent_syntax_grammar.proofs.Holds.{holds_skip, holds_peek, holds_branch_on}
+use Rattle.fluent_syntax_grammar.proofs.Functional.{longest_run_functional}
+use Rattle.fluent_syntax_grammar.proofs.HoareTriple.{HoareTriple, gave, holds_weaker, holds_bind, holds_yields, holds_fails}
+use Rattle.fluent_syntax_grammar.proofs.HoareTriple.{holds_skip, holds_peek, holds_branch_on}
 use Rattle.fluent_syntax_grammar.proofs.Cuts.{eol_forward, eol_text}
 use Rattle.fluent_syntax_grammar.proofs.Facts.{has_inside, right_true}
 use Rattle.fluent_syntax_grammar.proofs.SoundStrings.{InText}
 use Rattle.fluent_syntax_grammar.proofs.SoundLines.{sound_family}
 use Rattle.fluent_syntax_grammar.proofs.Boundaries.{text_cuts}
-use Rattle.fluent_syntax_grammar.proofs.Total.{From, AnyFault, Total, Both, total_bind, total_weaker, total_yields}
-use Rattle.fluent_syntax_grammar.proofs.Total.{total_fails, total_skip, total_peek, total_branch_on, both_bind}
-use Rattle.fluent_syntax_grammar.proofs.Total.{both_yields, both_here, both_fails, both_branch_on, both_strict, more_on}
-use Rattle.fluent_syntax_grammar.proofs.Total.{more_earlier, Going, going_then, past_end, both_many}
-use Rattle.fluent_syntax_grammar.proofs.TotalWords.{both_blank, both_blank_block, both_inline_blank, both_optional}
-use Rattle.fluent_syntax_grammar.proofs.TotalWords.{on_sound, optional_on, strict_token, total_optional}
+use Rattle.fluent_syntax_grammar.proofs.Total.{From, AnyFault, Total, TotalOnward, total_bind, total_weaker, total_yields}
+use Rattle.fluent_syntax_grammar.proofs.Total.{total_fails, total_skip, total_peek, total_branch_on, onward_bind}
+use Rattle.fluent_syntax_grammar.proofs.Total.{onward_yields, onward_here, onward_fails, onward_branch_on, onward_strict, more_on}
+use Rattle.fluent_syntax_grammar.proofs.Total.{more_earlier, TotalConsumingItem, consuming_item_then, past_end, onward_many}
+use Rattle.fluent_syntax_grammar.proofs.TotalWords.{total_onward_blank, onward_blank_block, onward_inline_blank, onward_optional}
+use Rattle.fluent_syntax_grammar.proofs.TotalWords.{on_sound, optional_on, consuming_token, total_optional}
 use Rattle.fluent_syntax_grammar.proofs.TotalWords.{word_of}
-use Rattle.fluent_syntax_grammar.proofs.TotalRules.{BothFamily, both_key, both_arrow, both_ending, strict_inline}
-use Rattle.fluent_syntax_grammar.proofs.TotalRules.{both_arguments, both_pieces, more_read, ending_after}
+use Rattle.fluent_syntax_grammar.proofs.TotalRules.{TotalOnwardFamily, onward_key, onward_arrow, onward_ending, consuming_inline}
+use Rattle.fluent_syntax_grammar.proofs.TotalRules.{onward_arguments, onward_pieces, more_read, ending_after}
 
 -- from a place on, over a family that has outcomes from there on
-module _ (edition : Edition) (t : List ℕ) (R : Family) (low : ℕ) (h : (s : ℕ) → low ≤ s → BothFamily t s R) where
+module _ (edition : Edition) (t : List ℕ) (R : Family) (low : ℕ) (h : (s : ℕ) → low ≤ s → TotalOnwardFamily t s R) where
   -- ---- lines
 
-  both_line : (s : ℕ) → low ≤ s + 1 → Both t s (line t R)
-  both_line s l =
-      both_bind both_here
-      (λ start. both_bind (both_inline_blank t)
-      (λ u. both_bind both_here
-      (λ first. both_bind (both_pieces t R low h s l) (λ ps. both_bind (both_ending t) (λ e. both_yields)))))
+  total_onward_line : (s : ℕ) → low ≤ s + 1 → TotalOnward t s (line t R)
+  total_onward_line s l =
+      onward_bind onward_here
+      (λ start. onward_bind (onward_inline_blank t)
+      (λ u. onward_bind onward_here
+      (λ first. onward_bind (onward_pieces t R low h s l) (λ ps. onward_bind (onward_ending t) (λ e. onward_yields)))))
 
   line_on : (s : ℕ) → low ≤ s + 1 → (i j k b : ℕ) (x : Line) → From t s i → InlineBlank t i k →
       slice_get t k ≡ Some b → line t R i (Read x j) → From t (s + 1) j
@@ -57,7 +57,7 @@ module _ (edition : Edition) (t : List ℕ) (R : Family) (low : ℕ) (h : (s : �
       (goes_on at_place
       (goes_on (passed {j = f} v) (goes_on at_place (goes_on {j = m} {a = ps} y (goes_on {j = n} {a = end} z g))))) =
       let late = p.late in
-      let same : k ≡ f = single_stretch.same i k f w v in
+      let same : k ≡ f = longest_run_functional.same i k f w v in
       let forward = v.forward in
       let at_f : slice_get t f ≡ Some b = subst (λ k. slice_get t k ≡ Some b) same e in
       let inside = (word_of t is_space).in_text i f p.in_text v in
@@ -69,7 +69,7 @@ module _ (edition : Edition) (t : List ℕ) (R : Family) (low : ℕ) (h : (s : �
   own_total : (s : ℕ) → low ≤ s + 1 → (i : ℕ) → From t s i → (o : Outcome (More Line (Unit {0}))) ×
       (line t R >>= λ x. yields (item x tt)) i o
   own_total s l i p =
-      let whole = total_bind (both_line s l).total (both_line s l).on (λ x. total_yields {a = item x tt}) in
+      let whole = total_bind (total_onward_line s l).total (total_onward_line s l).on (λ x. total_yields {a = item x tt}) in
       whole.has i p
 
   lines_own : (s : ℕ) → low ≤ s + 1 → (i k b : ℕ) (own : Bool) → From t s i → InlineBlank t i k →
@@ -93,8 +93,8 @@ module _ (edition : Edition) (t : List ℕ) (R : Family) (low : ℕ) (h : (s : �
       subst (λ x. more_on t s x j) same.0
       (subst (λ j. From t (s + 1) j) same.1 (line_on s l i m k b y p w e z))
 
-  going_line : (s : ℕ) → low ≤ s + 1 → Going t s (next_line t R)
-  going_line s l = record {
+  consuming_item_line : (s : ℕ) → low ≤ s + 1 → TotalConsumingItem t s (next_line t R)
+  consuming_item_line s l = record {
     total =
         record {
           has =
@@ -104,21 +104,21 @@ module _ (edition : Edition) (t : List ℕ) (R : Family) (low : ℕ) (h : (s : �
     on = record { on_read = next_line_on s l; on_refused = λ i from to k p x. tt };
   }
 
-  both_lines : (s : ℕ) → low ≤ s + 1 → Both t s (more_lines t R)
-  both_lines s l = both_many t (λ u. next_line t R) _ _ s (λ m k u. going_line m (omega arith)) s (omega arith) tt
+  onward_lines : (s : ℕ) → low ≤ s + 1 → TotalOnward t s (more_lines t R)
+  onward_lines s l = onward_many t (λ u. next_line t R) _ _ s (λ m k u. consuming_item_line m (omega arith)) s (omega arith) tt
 
   -- ---- patterns and variants
 
   layout_rest : (s : ℕ) → low ≤ s + 1 →
-      Both {A = Layout} t s
+      TotalOnward {A = Layout} t s
       (blank_block t >>= λ u. more_lines t R >>= λ ls. yields (record { opening = None; lines = ls }))
-  layout_rest s l = both_bind (both_blank_block t) (λ u. both_bind (both_lines s l) (λ ls. both_yields))
+  layout_rest s l = onward_bind (onward_blank_block t) (λ u. onward_bind (onward_lines s l) (λ ls. onward_yields))
 
-  layout_open : (s : ℕ) → low ≤ s + 1 → Both t s (layout_at t R None)
+  layout_open : (s : ℕ) → low ≤ s + 1 → TotalOnward t s (layout_at t R None)
   layout_open s l =
-      both_bind both_here
-      (λ start. both_bind (both_pieces t R low h s l)
-      (λ ps. both_bind (both_ending t) (λ e. both_bind (both_lines s l) (λ ls. both_yields))))
+      onward_bind onward_here
+      (λ start. onward_bind (onward_pieces t R low h s l)
+      (λ ps. onward_bind (onward_ending t) (λ e. onward_bind (onward_lines s l) (λ ls. onward_yields))))
 
   reach : (s k i j : ℕ) → From t s i × (after_eol t i ≡ Some k) → j ≡ k → From t s j
   reach s k i j p e = let q = p.0 in let late = q.late in let f = eol_forward t i k p.1 in
@@ -132,34 +132,34 @@ module _ (edition : Edition) (t : List ℕ) (R : Family) (low : ℕ) (h : (s : �
       (holds_skip (λ i j p w. reach s k i j p w.there)) (λ u. (layout_rest s l).total)
 
   layout_on : (s : ℕ) → low ≤ s + 1 → (o : Option ℕ) →
-      Holds (λ i. From t s i × (after_eol t i ≡ o)) (layout_at t R o) (λ y. From t s) AnyFault
+      HoareTriple (λ i. From t s i × (after_eol t i ≡ o)) (layout_at t R o) (λ y. From t s) AnyFault
   layout_on s l None = holds_weaker (λ i p. p.0) (λ a j x. x) (λ k from to x. x) (layout_open s l).on
   layout_on s l (Some k) =
       holds_bind {mid = λ u. From t s} (holds_skip (λ i j p w. reach s k i j p w.there)) (λ u. (layout_rest s l).on)
 
-  both_layout : (s : ℕ) → low ≤ s + 1 → Both t s (layout t R)
-  both_layout s l =
-      both_bind (both_inline_blank t)
+  onward_layout : (s : ℕ) → low ≤ s + 1 → TotalOnward t s (layout t R)
+  onward_layout s l =
+      onward_bind (onward_inline_blank t)
       (λ u. record { total = total_peek (layout_total s l); on = holds_peek (layout_on s l) })
 
-  pub both_pattern : (s : ℕ) → low ≤ s + 1 → Both t s (pattern edition t R)
-  both_pattern s l = both_bind (both_layout s l) (λ y. both_yields)
+  pub onward_pattern : (s : ℕ) → low ≤ s + 1 → TotalOnward t s (pattern edition t R)
+  onward_pattern s l = onward_bind (onward_layout s l) (λ y. onward_yields)
 
-  both_variant_of : (s : ℕ) (starred star : Bool) (key : KeyTree Span) (p : Option (PatternTree Span)) →
-      Both t s (variant_of t starred star key p)
-  both_variant_of s starred star key None = both_fails
-  both_variant_of s starred star key (Some p) = both_bind (both_blank t) (λ u. both_yields)
+  onward_variant_of : (s : ℕ) (starred star : Bool) (key : KeyTree Span) (p : Option (PatternTree Span)) →
+      TotalOnward t s (variant_of t starred star key p)
+  onward_variant_of s starred star key None = onward_fails
+  onward_variant_of s starred star key (Some p) = onward_bind (total_onward_blank t) (λ u. onward_yields)
 
-  both_after : (s : ℕ) → low ≤ s + 1 → (starred star : Bool) → Both t s (variant_after edition t R starred star)
-  both_after s l starred star =
-      both_bind (both_blank t)
-      (λ u. both_bind (both_key t)
-      (λ key. both_bind (both_blank t)
-      (λ u. both_bind (both_strict (strict_token t 93))
-      (λ u. both_bind (both_pattern s l) (λ value. both_variant_of s starred star key value)))))
+  onward_after : (s : ℕ) → low ≤ s + 1 → (starred star : Bool) → TotalOnward t s (variant_after edition t R starred star)
+  onward_after s l starred star =
+      onward_bind (total_onward_blank t)
+      (λ u. onward_bind (onward_key t)
+      (λ key. onward_bind (total_onward_blank t)
+      (λ u. onward_bind (onward_strict (consuming_token t 93))
+      (λ u. onward_bind (onward_pattern s l) (λ value. onward_variant_of s starred star key value)))))
 
   end_on : (s : ℕ) (starred star : Bool) →
-      Holds (From t s) (variants_end edition starred star) (more_on {S = Bool} t s) AnyFault
+      HoareTriple (From t s) (variants_end edition starred star) (more_on {S = Bool} t s) AnyFault
   end_on s starred star = holds_branch_on (λ e. holds_yields (λ i p. p)) (λ e. holds_fails (λ i p. tt))
 
   -- where `[` stands, the variant goes on after it
@@ -168,28 +168,28 @@ module _ (edition : Edition) (t : List ℕ) (R : Family) (low : ℕ) (h : (s : �
       optional t 91 >>= λ bracket.
       branch_on bracket (variant_after edition t R starred star) (variants_end edition starred star)
 
-  going_bracket : (s : ℕ) → low ≤ s + 1 → (starred star : Bool) → Going t s (Bracket starred star)
-  going_bracket s l starred star = record {
+  consuming_item_bracket : (s : ℕ) → low ≤ s + 1 → (starred star : Bool) → TotalConsumingItem t s (Bracket starred star)
+  consuming_item_bracket s l starred star = record {
     total = total_bind (total_optional t 91) (optional_on t s 91) (λ bracket. total_branch_on
-        (λ e. total_weaker (λ i p. p.past e) (both_after (s + 1) (omega arith) starred star).total)
+        (λ e. total_weaker (λ i p. p.past e) (onward_after (s + 1) (omega arith) starred star).total)
         (λ e. total_branch_on (λ y. total_yields) (λ y. total_fails)));
     on = holds_bind (optional_on t s 91) (λ bracket. holds_branch_on
         (λ e. holds_weaker (λ i p. p.past e) (more_earlier t s) (λ k from to x. x)
-        (both_after (s + 1) (omega arith) starred star).on)
+        (onward_after (s + 1) (omega arith) starred star).on)
         (λ e. holds_weaker (λ i p. p.at) (λ a j x. x) (λ k from to x. x) (end_on s starred star)));
   }
 
-  both_only : (s : ℕ) (starred star : Bool) → Both t s (only_star starred star)
-  both_only s starred star = both_branch_on both_fails both_yields
+  onward_only : (s : ℕ) (starred star : Bool) → TotalOnward t s (only_star starred star)
+  onward_only s starred star = onward_branch_on onward_fails onward_yields
 
-  going_variant : (s : ℕ) → low ≤ s + 1 → (starred : Bool) → Going t s (next_variant edition t R starred)
-  going_variant s l starred =
-      going_then (both_optional t 42)
-      (λ star. going_then (both_only s starred star) (λ u. going_bracket s l starred star))
+  consuming_item_variant : (s : ℕ) → low ≤ s + 1 → (starred : Bool) → TotalConsumingItem t s (next_variant edition t R starred)
+  consuming_item_variant s l starred =
+      consuming_item_then (onward_optional t 42)
+      (λ star. consuming_item_then (onward_only s starred star) (λ u. consuming_item_bracket s l starred star))
 
-  both_variants : (s : ℕ) → low ≤ s + 1 → (starred : Bool) → Both t s (more_variants edition t R starred)
-  both_variants s l starred =
-      both_many t (next_variant edition t R) _ _ s (λ m k starred. going_variant m (omega arith) starred) s
+  onward_variants : (s : ℕ) → low ≤ s + 1 → (starred : Bool) → TotalOnward t s (more_variants edition t R starred)
+  onward_variants s l starred =
+      onward_many t (next_variant edition t R) _ _ s (λ m k starred. consuming_item_variant m (omega arith) starred) s
       (omega arith)
       starred
 
@@ -209,12 +209,12 @@ module _ (edition : Edition) (t : List ℕ) (R : Family) (low : ℕ) (h : (s : �
       record { late = omega arith; in_text = omega arith }
 
   after_two : (s : ℕ) → low ≤ s + 1 →
-      Both t s
+      TotalOnward t s
       (inline_blank t >>= λ u. peek (after_eol t) arrow_line_end >>= λ u. blank t >>= λ u.
       more_variants edition t R false)
   after_two s l =
-      both_bind (both_inline_blank t)
-      (λ u. both_bind (both_arrow t) (λ u. both_bind (both_blank t) (λ u. both_variants s l false)))
+      onward_bind (onward_inline_blank t)
+      (λ u. onward_bind (onward_arrow t) (λ u. onward_bind (total_onward_blank t) (λ u. onward_variants s l false)))
 
   variants_total : (s : ℕ) → low ≤ s + 1 → Total (AtArrow s true) (variants_of_select edition t R)
   variants_total s l =
@@ -222,7 +222,7 @@ module _ (edition : Edition) (t : List ℕ) (R : Family) (low : ℕ) (h : (s : �
       (λ u. (after_two s l).total)
 
   variants_on : (s : ℕ) → low ≤ s + 1 →
-      Holds (AtArrow s true) (variants_of_select edition t R) (λ vs. From t s) AnyFault
+      HoareTriple (AtArrow s true) (variants_of_select edition t R) (λ vs. From t s) AnyFault
   variants_on s l = holds_bind (holds_skip (after_arrow s)) (λ u. (after_two s l).on)
 
   select_total : (s : ℕ) → low ≤ s + 1 → (e : InlineTree Span) (o : Option Kind) →
@@ -231,13 +231,13 @@ module _ (edition : Edition) (t : List ℕ) (R : Family) (low : ℕ) (h : (s : �
   select_total s l e (Some k) = total_fails
 
   select_on : (s : ℕ) → low ≤ s + 1 → (e : InlineTree Span) (o : Option Kind) →
-      Holds (AtArrow s true) (select_with edition t R e o) (λ x. From t s) AnyFault
+      HoareTriple (AtArrow s true) (select_with edition t R e o) (λ x. From t s) AnyFault
   select_on s l e None = holds_bind (variants_on s l) (λ vs. holds_yields (λ i p. p))
   select_on s l e (Some k) = holds_fails (λ i p. tt)
 
   no_select : (s : ℕ) (e : InlineTree Span) →
-      Both t s (branch_on (is_term_attribute e) (fails TermAttributeAsPlaceable) (yields (inline e)))
-  no_select s e = both_branch_on both_fails both_yields
+      TotalOnward t s (branch_on (is_term_attribute e) (fails TermAttributeAsPlaceable) (yields (inline e)))
+  no_select s e = onward_branch_on onward_fails onward_yields
 
   abbrev AfterBlank : InlineTree Span → Bool → Construct (ExpressionTree Span)
   AfterBlank e arrow =
@@ -245,7 +245,7 @@ module _ (edition : Edition) (t : List ℕ) (R : Family) (low : ℕ) (h : (s : �
       (branch_on (is_term_attribute e) (fails TermAttributeAsPlaceable) (yields (inline e)))
 
   arrow_at : (s : ℕ) → low ≤ s + 1 → (e : InlineTree Span) →
-      Both t s (peek (has_arrow t) yields >>= λ arrow. AfterBlank e arrow)
+      TotalOnward t s (peek (has_arrow t) yields >>= λ arrow. AfterBlank e arrow)
   arrow_at s l e = record {
     total =
         total_bind {mid = AtArrow s} (total_peek (λ a. total_yields)) (holds_peek (λ a. holds_yields (λ i p. p)))
@@ -258,39 +258,39 @@ module _ (edition : Edition) (t : List ℕ) (R : Family) (low : ℕ) (h : (s : �
         (λ y. holds_weaker (λ i p. p.0) (λ a j x. x) (λ k from to x. x) (no_select s e).on));
   }
 
-  pub both_expression : (s : ℕ) → low ≤ s + 1 → Both t s (expression edition t R)
-  both_expression s l =
-      both_bind (both_strict (strict_inline t R low h s l)) (λ e. both_bind (both_blank t) (λ u. arrow_at s l e))
+  pub onward_expression : (s : ℕ) → low ≤ s + 1 → TotalOnward t s (expression edition t R)
+  onward_expression s l =
+      onward_bind (onward_strict (consuming_inline t R low h s l)) (λ e. onward_bind (total_onward_blank t) (λ u. arrow_at s l e))
 
 -- ---- the family
 
 module _ (edition : Edition) (t : List ℕ) where
-  nothing_left : (s : ℕ) → length t < s → BothFamily t s (within edition t zero)
+  nothing_left : (s : ℕ) → length t < s → TotalOnwardFamily t s (within edition t zero)
   nothing_left s l = record { expression = past_end s l; argument_list = past_end s l }
 
-  next_has : (n s : ℕ) → ((m : ℕ) → s + 1 ≤ m → BothFamily t m (within edition t n)) →
-      BothFamily t s (within edition t (suc n))
+  next_has : (n s : ℕ) → ((m : ℕ) → s + 1 ≤ m → TotalOnwardFamily t m (within edition t n)) →
+      TotalOnwardFamily t s (within edition t (suc n))
   unfolding within
   next_has n s h = record {
-    expression = both_expression edition t (within edition t n) (s + 1) h s (omega arith);
-    argument_list = both_arguments t (within edition t n) (s + 1) h s (omega arith) [];
+    expression = onward_expression edition t (within edition t n) (s + 1) h s (omega arith);
+    argument_list = onward_arguments t (within edition t n) (s + 1) h s (omega arith) [];
   }
 
   -- What nests no deeper than a number has an outcome at each place behind which no more bytes are left than the
   -- number.
-  pub within_has : (n s : ℕ) → length t < s + n → BothFamily t s (within edition t n)
+  pub within_has : (n s : ℕ) → length t < s + n → TotalOnwardFamily t s (within edition t n)
   within_has zero s l = nothing_left s (omega arith)
   within_has (suc n) s l = next_has n s (λ m k. within_has n m (omega arith))
 
   -- so a pattern has
-  pub pattern_within : (n s : ℕ) → length t ≤ s + n → Both t s (pattern edition t (within edition t n))
+  pub pattern_within : (n s : ℕ) → length t ≤ s + n → TotalOnward t s (pattern edition t (within edition t n))
   pattern_within n s l =
-      both_pattern edition t (within edition t n) (s + 1) (λ m k. within_has n m (omega arith)) s (omega arith)
+      onward_pattern edition t (within edition t n) (s + 1) (λ m k. within_has n m (omega arith)) s (omega arith)
 
   -- what nests has an outcome at each place of the text
-  both_family : (s : ℕ) → BothFamily t s (family edition t)
+  onward_family : (s : ℕ) → TotalOnwardFamily t s (family edition t)
   unfolding family
-  both_family s =
+  onward_family s =
       let w = within_has (length t + 1) s (omega arith) in
       let u = sound_family edition t (InText t) (text_cuts t) in
       record {
@@ -305,5 +305,5 @@ module _ (edition : Edition) (t : List ℕ) where
       }
 
   -- a pattern has an outcome at each place of the text
-  pub pattern_everywhere : {s : ℕ} → Both t s (grammar.pattern edition t)
-  pattern_everywhere {s = s} = both_pattern edition t (family edition t) 0 (λ s l. both_family s) s (omega arith)
+  pub pattern_everywhere : {s : ℕ} → TotalOnward t s (grammar.pattern edition t)
+  pattern_everywhere {s = s} = onward_pattern edition t (family edition t) 0 (λ s l. onward_family s) s (omega arith)

@@ -21,62 +21,62 @@ use Rattle.fluent_syntax_grammar.specs.Lines.{is_run_place, ending_of, ending, t
 use Rattle.fluent_syntax_grammar.specs.Lines.{more_pieces}
 use Rattle.fluent_syntax_grammar.specs.Variants.{variant_key}
 use Rattle.fluent_syntax_tree.specs.declared.spans.Span.{Span}
-use Rattle.fluent_syntax_grammar.proofs.Holds.{Holds, gave, holds_weaker, holds_bind, holds_yields, holds_here}
-use Rattle.fluent_syntax_grammar.proofs.Holds.{holds_fails, holds_skip, holds_peek, holds_branch_on}
+use Rattle.fluent_syntax_grammar.proofs.HoareTriple.{HoareTriple, gave, holds_weaker, holds_bind, holds_yields, holds_here}
+use Rattle.fluent_syntax_grammar.proofs.HoareTriple.{holds_fails, holds_skip, holds_peek, holds_branch_on}
 use Rattle.fluent_syntax_grammar.proofs.Cuts.{eol_forward, eol_text}
 use Rattle.fluent_syntax_grammar.proofs.SoundStrings.{InText}
 use Rattle.fluent_syntax_grammar.proofs.SoundLines.{ending_holds}
 use Rattle.fluent_syntax_grammar.proofs.Boundaries.{text_cuts}
-use Rattle.fluent_syntax_grammar.proofs.Total.{From, AnyFault, Total, Both, Strict, total_bind, total_weaker}
+use Rattle.fluent_syntax_grammar.proofs.Total.{From, AnyFault, Total, TotalOnward, TotalConsuming, total_bind, total_weaker}
 use Rattle.fluent_syntax_grammar.proofs.Total.{total_yields, total_here, total_fails, total_skip, total_peek}
-use Rattle.fluent_syntax_grammar.proofs.Total.{total_branch_on, both_bind, both_yields, both_here, both_fails}
-use Rattle.fluent_syntax_grammar.proofs.Total.{both_peek}
-use Rattle.fluent_syntax_grammar.proofs.Total.{both_branch_on, both_strict, strict_first, strict_fails, strict_peek}
-use Rattle.fluent_syntax_grammar.proofs.Total.{strict_branch_on, Going, more_on, more_earlier, going_strict, both_many}
-use Rattle.fluent_syntax_grammar.proofs.TotalWords.{both_blank, both_inline_blank, both_optional, run_word}
-use Rattle.fluent_syntax_grammar.proofs.TotalWords.{strict_identifier, strict_number, strict_string, strict_token}
-use Rattle.fluent_syntax_grammar.proofs.Facts.{differs, stretch_onward}
+use Rattle.fluent_syntax_grammar.proofs.Total.{total_branch_on, onward_bind, onward_yields, onward_here, onward_fails}
+use Rattle.fluent_syntax_grammar.proofs.Total.{onward_peek}
+use Rattle.fluent_syntax_grammar.proofs.Total.{onward_branch_on, onward_strict, consuming_first, consuming_fails, consuming_peek}
+use Rattle.fluent_syntax_grammar.proofs.Total.{consuming_branch_on, TotalConsumingItem, more_on, more_earlier, consuming_item_strict, onward_many}
+use Rattle.fluent_syntax_grammar.proofs.TotalWords.{total_onward_blank, onward_inline_blank, onward_optional, run_word}
+use Rattle.fluent_syntax_grammar.proofs.TotalWords.{consuming_identifier, consuming_number, consuming_string, consuming_token}
+use Rattle.fluent_syntax_grammar.proofs.Facts.{differs, longest_run_nonempty}
 
 -- each construct of the family has an outcome at each place from s on
-pub record BothFamily (t : List ℕ) (s : ℕ) (R : Family) : Type 0 where
-  pub expression : Both t s R.expression
-  pub argument_list : Both t s R.argument_list
+pub record TotalOnwardFamily (t : List ℕ) (s : ℕ) (R : Family) : Type 0 where
+  pub expression : TotalOnward t s R.expression
+  pub argument_list : TotalOnward t s R.argument_list
 
-both_look : {A : Type 0} {t : List ℕ} {s : ℕ} {look : ℕ → A} → Both t s (peek look yields)
-both_look = both_peek (λ a. both_yields)
+onward_look : {A : Type 0} {t : List ℕ} {s : ℕ} {look : ℕ → A} → TotalOnward t s (peek look yields)
+onward_look = onward_peek (λ a. onward_yields)
 
 module _ (t : List ℕ) where
-  both_accessor : {s : ℕ} → Both t s (accessor t)
-  both_accessor =
-      both_bind (both_optional t 46)
-      (λ dot. both_branch_on (both_bind (both_strict (strict_identifier t)) (λ a. both_yields)) both_yields)
+  onward_accessor : {s : ℕ} → TotalOnward t s (accessor t)
+  onward_accessor =
+      onward_bind (onward_optional t 46)
+      (λ dot. onward_branch_on (onward_bind (onward_strict (consuming_identifier t)) (λ a. onward_yields)) onward_yields)
 
-  both_separator : {s : ℕ} → Both t s (separator t)
-  both_separator = both_bind (both_blank t) (λ u. both_bind (both_optional t 44) (λ u. both_blank t))
+  onward_separator : {s : ℕ} → TotalOnward t s (separator t)
+  onward_separator = onward_bind (total_onward_blank t) (λ u. onward_bind (onward_optional t 44) (λ u. total_onward_blank t))
 
-  both_named : {s : ℕ} (id : Span) (a : MaybeArguments Span) → Both t s (named_reference t id a)
-  both_named id no_arguments = both_bind both_accessor (λ a. both_yields)
-  both_named id (some_arguments a) = both_branch_on both_yields both_fails
+  onward_named : {s : ℕ} (id : Span) (a : MaybeArguments Span) → TotalOnward t s (named_reference t id a)
+  onward_named id no_arguments = onward_bind onward_accessor (λ a. onward_yields)
+  onward_named id (some_arguments a) = onward_branch_on onward_yields onward_fails
 
-  pub both_key : {s : ℕ} → Both t s (variant_key t)
-  both_key =
-      both_peek (λ n.
-      both_branch_on (both_bind (both_strict (strict_number t)) (λ v. both_yields))
-      (both_bind (both_strict (strict_identifier t)) (λ v. both_yields)))
+  pub onward_key : {s : ℕ} → TotalOnward t s (variant_key t)
+  onward_key =
+      onward_peek (λ n.
+      onward_branch_on (onward_bind (onward_strict (consuming_number t)) (λ v. onward_yields))
+      (onward_bind (onward_strict (consuming_identifier t)) (λ v. onward_yields)))
 
   arrow_total : (s : ℕ) (o : Option ℕ) → Total (λ i. From t s i × (after_eol t i ≡ o)) (arrow_line_end o)
   arrow_total s None = total_fails
   arrow_total s (Some k) = total_skip (λ i p. (k, record { there = refl }))
 
   arrow_on : (s : ℕ) (o : Option ℕ) →
-      Holds (λ i. From t s i × (after_eol t i ≡ o)) (arrow_line_end o) (λ u. From t s) AnyFault
+      HoareTriple (λ i. From t s i × (after_eol t i ≡ o)) (arrow_line_end o) (λ u. From t s) AnyFault
   arrow_on s None = holds_fails (λ i p. tt)
   arrow_on s (Some k) =
       holds_skip (λ i j p w. let q = p.0 in let late = q.late in let there = w.there in let f = eol_forward t i k p.1 in
       let l = eol_text t i k p.1 in record { late = omega arith; in_text = omega arith })
 
-  pub both_arrow : {s : ℕ} → Both t s (peek (after_eol t) arrow_line_end)
-  both_arrow {s = s} = record { total = total_peek (arrow_total s); on = holds_peek (arrow_on s) }
+  pub onward_arrow : {s : ℕ} → TotalOnward t s (peek (after_eol t) arrow_line_end)
+  onward_arrow {s = s} = record { total = total_peek (arrow_total s); on = holds_peek (arrow_on s) }
 
   -- ---- endings
 
@@ -86,8 +86,8 @@ module _ (t : List ℕ) where
       total_bind {mid = λ u j. Unit {0}} (total_skip (λ j p. (k, record { there = refl }))) (holds_skip (λ j m p w. tt))
       (λ u. total_yields)
 
-  pub both_ending : {s : ℕ} → Both t s (ending t)
-  both_ending {s = s} = record {
+  pub onward_ending : {s : ℕ} → TotalOnward t s (ending t)
+  onward_ending {s = s} = record {
     total =
         total_bind {mid = λ i j. Unit {0}} total_here (holds_here (λ i p. tt))
         (λ i. total_peek (λ o. ending_of_total i o));
@@ -143,84 +143,84 @@ module _ (t : List ℕ) where
       (byte_is i b lf h (no_line_feed (has_byte t lf i) (has_byte t cr i) (has_byte t lf (i + 1)) e)) y z
 
 -- from a place on, over a family that has outcomes from there on
-module _ (t : List ℕ) (R : Family) (low : ℕ) (h : (s : ℕ) → low ≤ s → BothFamily t s R) where
-  both_call : (s : ℕ) → low ≤ s → Both t s (call_arguments t R)
-  both_call s l =
-      both_bind (both_blank t)
-      (λ u. both_bind (both_optional t 40)
-      (λ bracket. both_branch_on (both_bind (both_bind (both_blank t) (λ u. (h s l).argument_list)) (λ a. both_yields))
-      both_yields))
+module _ (t : List ℕ) (R : Family) (low : ℕ) (h : (s : ℕ) → low ≤ s → TotalOnwardFamily t s R) where
+  onward_call : (s : ℕ) → low ≤ s → TotalOnward t s (call_arguments t R)
+  onward_call s l =
+      onward_bind (total_onward_blank t)
+      (λ u. onward_bind (onward_optional t 40)
+      (λ bracket. onward_branch_on (onward_bind (onward_bind (total_onward_blank t) (λ u. (h s l).argument_list)) (λ a. onward_yields))
+      onward_yields))
 
-  pub strict_placeable : (s : ℕ) → low ≤ s + 1 → Strict t s (placeable t R)
-  strict_placeable s l =
-      strict_first (strict_token t 123)
-      (λ u. both_bind (both_blank t)
-      (λ u. both_bind (h (s + 1) l).expression
-      (λ e. both_bind (both_inline_blank t)
-      (λ u. both_bind (both_strict (strict_token t 125)) (λ u. both_yields)))))
+  pub consuming_placeable : (s : ℕ) → low ≤ s + 1 → TotalConsuming t s (placeable t R)
+  consuming_placeable s l =
+      consuming_first (consuming_token t 123)
+      (λ u. onward_bind (total_onward_blank t)
+      (λ u. onward_bind (h (s + 1) l).expression
+      (λ e. onward_bind (onward_inline_blank t)
+      (λ u. onward_bind (onward_strict (consuming_token t 125)) (λ u. onward_yields)))))
 
-  strict_inline_of : (s : ℕ) → low ≤ s + 1 → (x : Start) → Strict t s (inline_of t R x)
-  strict_inline_of s l quote = strict_first (strict_string t) (λ v. both_yields)
-  strict_inline_of s l digit = strict_first (strict_number t) (λ v. both_yields)
-  strict_inline_of s l minus = strict_first (strict_number t) (λ v. both_yields)
-  strict_inline_of s l term =
-      strict_first (strict_token t 45)
-      (λ u. both_bind (both_strict (strict_identifier t))
-      (λ id. both_bind (both_accessor t) (λ a. both_bind (both_call (s + 1) l) (λ c. both_yields))))
-  strict_inline_of s l dollar =
-      strict_first (strict_token t 36) (λ u. both_bind (both_strict (strict_identifier t)) (λ id. both_yields))
-  strict_inline_of s l letter =
-      strict_first (strict_identifier t) (λ id. both_bind (both_call (s + 1) l) (λ a. both_named t id a))
-  strict_inline_of s l brace = strict_first (strict_placeable s l) (λ e. both_yields)
-  strict_inline_of s l other = strict_fails
+  consuming_inline_of : (s : ℕ) → low ≤ s + 1 → (x : Start) → TotalConsuming t s (inline_of t R x)
+  consuming_inline_of s l quote = consuming_first (consuming_string t) (λ v. onward_yields)
+  consuming_inline_of s l digit = consuming_first (consuming_number t) (λ v. onward_yields)
+  consuming_inline_of s l minus = consuming_first (consuming_number t) (λ v. onward_yields)
+  consuming_inline_of s l term =
+      consuming_first (consuming_token t 45)
+      (λ u. onward_bind (onward_strict (consuming_identifier t))
+      (λ id. onward_bind (onward_accessor t) (λ a. onward_bind (onward_call (s + 1) l) (λ c. onward_yields))))
+  consuming_inline_of s l dollar =
+      consuming_first (consuming_token t 36) (λ u. onward_bind (onward_strict (consuming_identifier t)) (λ id. onward_yields))
+  consuming_inline_of s l letter =
+      consuming_first (consuming_identifier t) (λ id. onward_bind (onward_call (s + 1) l) (λ a. onward_named t id a))
+  consuming_inline_of s l brace = consuming_first (consuming_placeable s l) (λ e. onward_yields)
+  consuming_inline_of s l other = consuming_fails
 
-  pub strict_inline : (s : ℕ) → low ≤ s + 1 → Strict t s (inline_expression t R)
-  strict_inline s l = strict_peek (strict_inline_of s l)
+  pub consuming_inline : (s : ℕ) → low ≤ s + 1 → TotalConsuming t s (inline_expression t R)
+  consuming_inline s l = consuming_peek (consuming_inline_of s l)
 
   -- ---- arguments
 
-  both_value : (s : ℕ) → low ≤ s + 1 → (x : Start) → Both t s (argument_value t R x)
-  both_value s l quote = both_strict (strict_inline s l)
-  both_value s l digit = both_strict (strict_inline s l)
-  both_value s l letter = both_strict (strict_inline s l)
-  both_value s l minus = both_fails
-  both_value s l term = both_fails
-  both_value s l dollar = both_fails
-  both_value s l brace = both_fails
-  both_value s l other = both_fails
+  onward_value : (s : ℕ) → low ≤ s + 1 → (x : Start) → TotalOnward t s (argument_value t R x)
+  onward_value s l quote = onward_strict (consuming_inline s l)
+  onward_value s l digit = onward_strict (consuming_inline s l)
+  onward_value s l letter = onward_strict (consuming_inline s l)
+  onward_value s l minus = onward_fails
+  onward_value s l term = onward_fails
+  onward_value s l dollar = onward_fails
+  onward_value s l brace = onward_fails
+  onward_value s l other = onward_fails
 
-  both_named_rest : (s : ℕ) → low ≤ s + 1 → (names : List (List ℕ)) (name : Span) →
-      Both t s (named_rest t R names name)
-  both_named_rest s l names name =
-      both_branch_on both_fails
-      (both_bind (both_strict (strict_token t 58))
-      (λ u. both_bind (both_blank t) (λ u. both_bind (both_peek (both_value s l)) (λ e.
-      both_bind (both_separator t) (λ u. both_yields)))))
+  onward_named_rest : (s : ℕ) → low ≤ s + 1 → (names : List (List ℕ)) (name : Span) →
+      TotalOnward t s (named_rest t R names name)
+  onward_named_rest s l names name =
+      onward_branch_on onward_fails
+      (onward_bind (onward_strict (consuming_token t 58))
+      (λ u. onward_bind (total_onward_blank t) (λ u. onward_bind (onward_peek (onward_value s l)) (λ e.
+      onward_bind (onward_separator t) (λ u. onward_yields)))))
 
-  both_positional_rest : (s : ℕ) (names : List (List ℕ)) (e : InlineTree Span) →
-      Both t s (positional_rest t names e)
-  both_positional_rest s [] e = both_bind (both_separator t) (λ u. both_yields)
-  both_positional_rest s (m ∷ ms) e = both_fails
+  onward_positional_rest : (s : ℕ) (names : List (List ℕ)) (e : InlineTree Span) →
+      TotalOnward t s (positional_rest t names e)
+  onward_positional_rest s [] e = onward_bind (onward_separator t) (λ u. onward_yields)
+  onward_positional_rest s (m ∷ ms) e = onward_fails
 
-  both_argument_rest : (s : ℕ) → low ≤ s + 1 → (names : List (List ℕ)) (e : InlineTree Span) (o : Option Span)
-      (colon : Bool) → Both t s (argument_rest t R names e o colon)
-  both_argument_rest s l names e None colon = both_positional_rest s names e
-  both_argument_rest s l names e (Some m) true = both_named_rest s l names m
-  both_argument_rest s l names e (Some m) false = both_positional_rest s names e
+  onward_argument_rest : (s : ℕ) → low ≤ s + 1 → (names : List (List ℕ)) (e : InlineTree Span) (o : Option Span)
+      (colon : Bool) → TotalOnward t s (argument_rest t R names e o colon)
+  onward_argument_rest s l names e None colon = onward_positional_rest s names e
+  onward_argument_rest s l names e (Some m) true = onward_named_rest s l names m
+  onward_argument_rest s l names e (Some m) false = onward_positional_rest s names e
 
-  strict_argument_at : (s : ℕ) → low ≤ s + 1 → (names : List (List ℕ)) (b : Option ℕ) →
-      Strict t s (next_argument_at t R names b)
-  strict_argument_at s l names None = strict_fails
-  strict_argument_at s l names (Some b) =
-      strict_branch_on (strict_first (strict_token t 41) (λ u. both_yields))
-      (strict_first (strict_inline s l)
-      (λ e. both_bind both_look
-      (λ colon. both_argument_rest (s + 1) (omega arith) names e (argument_name e) colon)))
+  consuming_argument_at : (s : ℕ) → low ≤ s + 1 → (names : List (List ℕ)) (b : Option ℕ) →
+      TotalConsuming t s (next_argument_at t R names b)
+  consuming_argument_at s l names None = consuming_fails
+  consuming_argument_at s l names (Some b) =
+      consuming_branch_on (consuming_first (consuming_token t 41) (λ u. onward_yields))
+      (consuming_first (consuming_inline s l)
+      (λ e. onward_bind onward_look
+      (λ colon. onward_argument_rest (s + 1) (omega arith) names e (argument_name e) colon)))
 
-  pub both_arguments : (s : ℕ) → low ≤ s + 1 → (names : List (List ℕ)) → Both t s (more_arguments t R names)
-  both_arguments s l names =
-      both_many t (next_argument t R) _ _ s
-      (λ m k names. going_strict (strict_peek (strict_argument_at m (omega arith) names))) s (omega arith) names
+  pub onward_arguments : (s : ℕ) → low ≤ s + 1 → (names : List (List ℕ)) → TotalOnward t s (more_arguments t R names)
+  onward_arguments s l names =
+      onward_many t (next_argument t R) _ _ s
+      (λ m k names. consuming_item_strict (consuming_peek (consuming_argument_at m (omega arith) names))) s (omega arith) names
 
   -- ---- pieces
 
@@ -229,11 +229,11 @@ module _ (t : List ℕ) (R : Family) (low : ℕ) (h : (s : ℕ) → low ≤ s �
     AtRun i = From t s i × (is_run_place t i ≡ true)
 
     past_run : (i j : ℕ) → AtRun i → LongestRun (is_run_place t) i j → From t (s + 1) j
-    past_run i j p w = let q = p.0 in let late = q.late in let on = stretch_onward (is_run_place t) i j p.1 w in
+    past_run i j p w = let q = p.0 in let late = q.late in let on = longest_run_nonempty (is_run_place t) i j p.1 w in
         record { late = omega arith; in_text = (run_word t).in_text i j q.in_text w }
 
-    after_run : (from : ℕ) → Both {A = Piece} t (s + 1) (here >>= λ to. yields (run from to))
-    after_run from = both_bind both_here (λ to. both_yields)
+    after_run : (from : ℕ) → TotalOnward {A = Piece} t (s + 1) (here >>= λ to. yields (run from to))
+    after_run from = onward_bind onward_here (λ to. onward_yields)
 
     run_total : Total AtRun (text_run t)
     run_total =
@@ -241,13 +241,13 @@ module _ (t : List ℕ) (R : Family) (low : ℕ) (h : (s : ℕ) → low ≤ s �
         (λ from. total_bind (total_skip (λ i p. (run_word t).exists i (p.0).in_text)) (holds_skip past_run)
         (λ u. (after_run from).total))
 
-    run_read_on : Holds AtRun (text_run t) (λ p. From t (s + 1)) AnyFault
+    run_read_on : HoareTriple AtRun (text_run t) (λ p. From t (s + 1)) AnyFault
     run_read_on =
         holds_bind {mid = λ from. AtRun} (holds_here (λ i p. p))
         (λ from. holds_bind (holds_skip past_run) (λ u. (after_run from).on))
 
-    placed_piece : Strict {A = More Piece (Unit {0})} t s (placeable t R >>= λ e. yields (item (placed e) tt))
-    placed_piece = strict_first (strict_placeable s l) (λ e. both_yields)
+    placed_piece : TotalConsuming {A = More Piece (Unit {0})} t s (placeable t R >>= λ e. yields (item (placed e) tt))
+    placed_piece = consuming_first (consuming_placeable s l) (λ e. onward_yields)
 
     -- a byte stands there that begins no line end
     abbrev AtByte : ℕ → ℕ → Type 0
@@ -265,7 +265,7 @@ module _ (t : List ℕ) (R : Family) (low : ℕ) (h : (s : ℕ) → low ≤ s �
         (λ y. total_weaker (λ i p. (p.0, run_place t i b p.1 p.2 y x))
         (total_bind run_total run_read_on (λ p. total_yields))))
 
-    rest_on : (b : ℕ) → Holds (AtByte b) (AlignedRest b) (λ p. From t (s + 1)) AnyFault
+    rest_on : (b : ℕ) → HoareTriple (AtByte b) (AlignedRest b) (λ p. From t (s + 1)) AnyFault
     rest_on b = holds_branch_on (λ x. holds_fails (λ i p. tt)) (λ x. holds_branch_on
         (λ y. holds_weaker (λ i p. p.0) (λ a j z. z) (λ k from to z. z) placed_piece.on)
         (λ y. holds_weaker (λ i p. (p.0, run_place t i b p.1 p.2 y x)) (λ a j z. z) (λ k from to z. z)
@@ -278,18 +278,18 @@ module _ (t : List ℕ) (R : Family) (low : ℕ) (h : (s : ℕ) → low ≤ s �
         (λ eol. total_branch_on (λ e. total_yields) (λ e. total_weaker (λ i p. (p.0.0, p.0.1, p.1 ∙ e)) (rest_total b)))
 
     piece_on : (o : Option ℕ) →
-        Holds (λ i. From t s i × (slice_get t i ≡ o)) (next_piece_at t R o) (more_on t s) AnyFault
+        HoareTriple (λ i. From t s i × (slice_get t i ≡ o)) (next_piece_at t R o) (more_on t s) AnyFault
     piece_on None = holds_yields (λ i p. p.0)
     piece_on (Some b) =
         holds_peek
         (λ eol. holds_branch_on (λ e. holds_yields (λ i p. p.0.0))
         (λ e. holds_weaker (λ i p. (p.0.0, p.0.1, p.1 ∙ e)) (more_earlier t s) (λ k from to z. z) (rest_on b)))
 
-    going_piece : Going t s (next_piece t R)
-    going_piece = record { total = total_peek piece_total; on = holds_peek piece_on }
+    consuming_item_piece : TotalConsumingItem t s (next_piece t R)
+    consuming_item_piece = record { total = total_peek piece_total; on = holds_peek piece_on }
 
     -- from a byte that begins no line end, a piece goes on
-    piece_past : (b : ℕ) → Holds (AtByte b) (next_piece_at t R (Some b)) (λ p. From t (s + 1)) AnyFault
+    piece_past : (b : ℕ) → HoareTriple (AtByte b) (next_piece_at t R (Some b)) (λ p. From t (s + 1)) AnyFault
     piece_past b =
         holds_peek
         (λ eol. holds_branch_on (λ e. holds_yields (λ i p. differs (p.1 ∙ e) p.0.2))
@@ -316,19 +316,19 @@ module _ (t : List ℕ) (R : Family) (low : ℕ) (h : (s : ℕ) → low ≤ s �
     next_read i j b p q e (chosen x) =
         piece_read i j b p (has_eol t i) q e refl (subst (λ o. next_piece_at t R o i (Read p j)) e x)
 
-  pub both_pieces : (s : ℕ) → low ≤ s + 1 → Both t s (more_pieces t R)
-  both_pieces s l = both_many t (λ u. next_piece t R) _ _ s (λ m k u. going_piece m (omega arith)) s (omega arith) tt
+  pub onward_pieces : (s : ℕ) → low ≤ s + 1 → TotalOnward t s (more_pieces t R)
+  onward_pieces s l = onward_many t (λ u. next_piece t R) _ _ s (λ m k u. consuming_item_piece m (omega arith)) s (omega arith) tt
 
   after_rest : (s : ℕ) (l : low ≤ s + 1) (m j b : ℕ) (ps : List Piece) → From t (s + 1) m →
       more_pieces t R m (Read ps j) → AfterPiece s l j
-  after_rest s l m j b ps p x = inl ((both_pieces (s + 1) (omega arith)).on.on_read m j ps p x)
+  after_rest s l m j b ps p x = inl ((onward_pieces (s + 1) (omega arith)).on.on_read m j ps p x)
 
   -- after the pieces of a line with a byte: they went on, or a line end stands there
   more_of_read : (u : Unit {0}) (s : ℕ) (l : low ≤ s + 1) (i j b : ℕ) (ps : List Piece) → From t s i →
       slice_get t i ≡ Some b → many (λ u. next_piece t R) (λ p ps. p ∷ ps) [] u i (Read ps j) → AfterPiece s l j
   more_of_read u s l i j b ps p e (list_ends x) = next_read s l i j b _ p e x
   more_of_read u s l i j b ps p e (item_and_more {later = v} {j = m} {rest = rest} x y) =
-      after_rest s l m j b rest ((going_piece s l).on.on_read i m _ p x) y
+      after_rest s l m j b rest ((consuming_item_piece s l).on.on_read i m _ p x) y
 
   pub more_read : (s : ℕ) (l : low ≤ s + 1) (i j b : ℕ) (ps : List Piece) → From t s i → slice_get t i ≡ Some b →
       more_pieces t R i (Read ps j) → AfterPiece s l j
@@ -336,5 +336,5 @@ module _ (t : List ℕ) (R : Family) (low : ℕ) (h : (s : ℕ) → low ≤ s �
 
   pub ending_after : (s : ℕ) (l : low ≤ s + 1) (i j : ℕ) (x : Ending) → AfterPiece s l i → ending t i (Read x j) →
       From t (s + 1) j
-  ending_after s l i j x (inl p) y = (both_ending t {s = s + 1}).on.on_read i j x p y
+  ending_after s l i j x (inl p) y = (onward_ending t {s = s + 1}).on.on_read i j x p y
   ending_after s l i j x (inr p) y = ending_read t s i j x p.0 p.1 y

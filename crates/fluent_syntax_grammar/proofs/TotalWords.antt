@@ -13,8 +13,8 @@ use Rattle.fluent_syntax_grammar.specs.Tokens.{optional_eol, rest_of_line, digit
 use Rattle.fluent_syntax_grammar.specs.Strings.{hex_digits, all_there, escaped, string_unit, string_units, before_quote}
 use Rattle.fluent_syntax_grammar.specs.Strings.{unit_and_more, bad_unit, string_literal}
 use Rattle.fluent_syntax_grammar.specs.Lines.{is_run_place}
-use Rattle.fluent_syntax_grammar.proofs.Holds.{Holds, holds_weaker, holds_bind, holds_yields, holds_fails, holds_skip}
-use Rattle.fluent_syntax_grammar.proofs.Holds.{holds_peek, holds_branch_on}
+use Rattle.fluent_syntax_grammar.proofs.HoareTriple.{HoareTriple, holds_weaker, holds_bind, holds_yields, holds_fails, holds_skip}
+use Rattle.fluent_syntax_grammar.proofs.HoareTriple.{holds_peek, holds_branch_on}
 use Rattle.fluent_syntax_grammar.proofs.Cuts.{ascii_blank, line_inside, run_inside, eol_forward, eol_text}
 use Rattle.fluent_syntax_grammar.proofs.Cuts.{block_forward, block_place}
 use Rattle.fluent_syntax_grammar.proofs.Sound.{Sound}
@@ -23,18 +23,18 @@ use Rattle.fluent_syntax_grammar.proofs.SoundEntries.{identifier_advances}
 use Rattle.fluent_syntax_grammar.proofs.Boundaries.{text_cuts}
 use Rattle.fluent_syntax_grammar.proofs.Computed.{find_here, find_on}
 use Rattle.fluent_syntax_grammar.proofs.ComputedRules.{computed_hex, hex_run, hex_end}
-use Rattle.fluent_syntax_grammar.proofs.Total.{From, AnyFault, Total, Both, Strict, IsWord, total_bind, total_yields}
-use Rattle.fluent_syntax_grammar.proofs.Total.{total_fails, total_skip, total_peek, total_branch_on, both_bind}
-use Rattle.fluent_syntax_grammar.proofs.Total.{both_yields, both_here, both_fails, both_skip, both_peek, both_branch_on}
-use Rattle.fluent_syntax_grammar.proofs.Total.{both_strict, strict_first, strict_then}
-use Rattle.fluent_syntax_grammar.proofs.Facts.{lt_or_same, stretch_in_text, has_inside}
+use Rattle.fluent_syntax_grammar.proofs.Total.{From, AnyFault, Total, TotalOnward, TotalConsuming, IsTotalRelation, total_bind, total_yields}
+use Rattle.fluent_syntax_grammar.proofs.Total.{total_fails, total_skip, total_peek, total_branch_on, onward_bind}
+use Rattle.fluent_syntax_grammar.proofs.Total.{onward_yields, onward_here, onward_fails, onward_skip, onward_peek, onward_branch_on}
+use Rattle.fluent_syntax_grammar.proofs.Total.{onward_strict, consuming_first, consuming_then}
+use Rattle.fluent_syntax_grammar.proofs.Facts.{lt_or_same, longest_run_in_text, has_inside}
 
 true_false : {X : Type 0} → false ≡ true → X
 true_false e = cc
 
 -- what is sound does not go back
 pub on_sound : {A : Type 0} {t : List ℕ} {s : ℕ} {c : Construct A} {Good : A → Type 0} → Sound t (InText t) s c Good →
-    Holds (From t s) c (λ a j. From t s j) AnyFault
+    HoareTriple (From t s) c (λ a j. From t s j) AnyFault
 on_sound x =
     holds_weaker (λ i p. record { late = p.late; place = p.in_text })
     (λ a j e. record { late = e.late; in_text = e.place }) (λ k from to f. tt) x.holds
@@ -43,33 +43,33 @@ hex_forward : {t : List ℕ} (i w j m : ℕ) (u : Unit {0}) → i + 2 ≤ j → 
 hex_forward i w j m u p (all_there h e) = let f = h.forward in omega arith
 
 module _ (t : List ℕ) where
-  stretch_at : (test : ℕ → Bool) → ((k : ℕ) → test k ≡ true → k < length t) → (m i : ℕ) → length t ≤ i + m →
+  longest_run_at : (test : ℕ → Bool) → ((k : ℕ) → test k ≡ true → k < length t) → (m i : ℕ) → length t ≤ i + m →
       (b : Bool) → test i ≡ b → (test i ≡ true → (j : ℕ) × LongestRun test (i + 1) j) → (j : ℕ) × LongestRun test i j
-  stretch_at test inside m i l false e more = (i, find_here test i i e refl)
-  stretch_at test inside m i l true e more = let x = more e in (x.0, find_on test i x.0 e x.1)
+  longest_run_at test inside m i l false e more = (i, find_here test i i e refl)
+  longest_run_at test inside m i l true e more = let x = more e in (x.0, find_on test i x.0 e x.1)
 
-  stretch_exists : (test : ℕ → Bool) → ((k : ℕ) → test k ≡ true → k < length t) → (m i : ℕ) → length t ≤ i + m →
+  longest_run_exists : (test : ℕ → Bool) → ((k : ℕ) → test k ≡ true → k < length t) → (m i : ℕ) → length t ≤ i + m →
       (j : ℕ) × LongestRun test i j
-  stretch_exists test inside zero i l =
-      stretch_at test inside zero i l (test i) refl (λ e. let x = inside i e in absurd (omega arith))
-  stretch_exists test inside (suc m) i l =
-      stretch_at test inside (suc m) i l (test i) refl (λ e. stretch_exists test inside m (i + 1) (omega arith))
+  longest_run_exists test inside zero i l =
+      longest_run_at test inside zero i l (test i) refl (λ e. let x = inside i e in absurd (omega arith))
+  longest_run_exists test inside (suc m) i l =
+      longest_run_at test inside (suc m) i l (test i) refl (λ e. longest_run_exists test inside m (i + 1) (omega arith))
 
-  pub stretch_word : (test : ℕ → Bool) → ((k : ℕ) → test k ≡ true → k < length t) → IsWord t (LongestRun test)
-  stretch_word test inside = record {
-    exists = λ i l. stretch_exists test inside (length t) i (omega arith);
+  pub longest_run_word : (test : ℕ → Bool) → ((k : ℕ) → test k ≡ true → k < length t) → IsTotalRelation t (LongestRun test)
+  longest_run_word test inside = record {
+    exists = λ i l. longest_run_exists test inside (length t) i (omega arith);
     forward = λ i j s. s.forward;
-    in_text = λ i j l s. stretch_in_text (length t) test inside i j l s;
+    in_text = λ i j l s. longest_run_in_text (length t) test inside i j l s;
   }
 
   blank_inside : (k : ℕ) → is_blank_place t k ≡ true → k < length t
   blank_inside k e = let a = ascii_blank t k e in slice_get_within t k a.byte a.stands
 
-  pub word_of : (set : ℕ → Bool) → IsWord t (ByteRun t set)
-  word_of set = stretch_word (has t set) (has_inside set t)
+  pub word_of : (set : ℕ → Bool) → IsTotalRelation t (ByteRun t set)
+  word_of set = longest_run_word (has t set) (has_inside set t)
 
-  pub run_word : IsWord t (LongestRun (is_run_place t))
-  run_word = stretch_word (is_run_place t) (run_inside t)
+  pub run_word : IsTotalRelation t (LongestRun (is_run_place t))
+  run_word = longest_run_word (is_run_place t) (run_inside t)
 
   -- ---- blank blocks
 
@@ -88,7 +88,7 @@ module _ (t : List ℕ) where
   block_exists (suc m) i l a = let w = (word_of is_space).exists i a in
       block_at (suc m) i w.0 l a w.1 (after_eol t w.0) refl (λ q b c. block_exists m q (omega arith) c)
 
-  pub block_word : IsWord t (BlankBlock t)
+  pub block_word : IsTotalRelation t (BlankBlock t)
   block_word = record {
     exists = λ i l. block_exists (length t) i (omega arith) l;
     forward = λ i j b. block_forward t i j b;
@@ -97,21 +97,21 @@ module _ (t : List ℕ) where
 
   -- ---- marks
 
-  pub both_inline_blank : {s : ℕ} → Both t s (inline_blank t)
-  both_inline_blank = both_skip (word_of is_space)
+  pub onward_inline_blank : {s : ℕ} → TotalOnward t s (inline_blank t)
+  onward_inline_blank = onward_skip (word_of is_space)
 
-  pub both_blank : {s : ℕ} → Both t s (blank t)
-  both_blank = both_skip (stretch_word (is_blank_place t) blank_inside)
+  pub total_onward_blank : {s : ℕ} → TotalOnward t s (blank t)
+  total_onward_blank = onward_skip (longest_run_word (is_blank_place t) blank_inside)
 
-  pub both_blank_block : {s : ℕ} → Both t s (blank_block t)
-  both_blank_block = both_skip block_word
+  pub onward_blank_block : {s : ℕ} → TotalOnward t s (blank_block t)
+  onward_blank_block = onward_skip block_word
 
   -- after an optional byte that was there, the place is after it
   pub record AfterByte (s : ℕ) (found : Bool) (j : ℕ) : Type 0 where
     pub at : From t s j
     pub past : found ≡ true → From t (s + 1) j
 
-  pub optional_on : (s b : ℕ) → Holds (From t s) (optional t b) (AfterByte s) AnyFault
+  pub optional_on : (s b : ℕ) → HoareTriple (From t s) (optional t b) (AfterByte s) AnyFault
   optional_on s b = holds_peek (λ found. holds_branch_on
       (λ e. holds_bind {mid = λ u. From t (s + 1)}
       (holds_skip (λ i j p w. let q = p.0 in let late = q.late in let by = w.by in
@@ -128,15 +128,15 @@ module _ (t : List ℕ) where
       (λ e. total_bind {mid = λ u i. Unit {0}} (total_skip (λ i p. (i + 1, record { by = refl })))
       (holds_skip (λ i j p w. tt)) (λ u. total_yields)) (λ e. total_yields))
 
-  pub both_optional : {s : ℕ} (b : ℕ) → Both t s (optional t b)
-  both_optional {s = s} b =
+  pub onward_optional : {s : ℕ} (b : ℕ) → TotalOnward t s (optional t b)
+  onward_optional {s = s} b =
       record {
         total = total_optional b;
         on = holds_weaker (λ i p. p) (λ a j x. x.at) (λ k from to x. x) (optional_on s b);
       }
 
-  pub strict_token : {s : ℕ} (b : ℕ) → Strict t s (token t b)
-  strict_token {s = s} b = record {
+  pub consuming_token : {s : ℕ} (b : ℕ) → TotalConsuming t s (token t b)
+  consuming_token {s = s} b = record {
     total =
         total_bind (total_optional b) (optional_on s b)
         (λ found. total_branch_on (λ e. total_yields) (λ e. total_fails));
@@ -149,30 +149,30 @@ module _ (t : List ℕ) where
   past_total s None = total_yields
   past_total s (Some k) = total_skip (λ i p. (k, record { there = refl }))
 
-  past_on : (s : ℕ) (o : Option ℕ) → Holds (λ i. From t s i × (after_eol t i ≡ o)) (past_eol o) (λ u. From t s) AnyFault
+  past_on : (s : ℕ) (o : Option ℕ) → HoareTriple (λ i. From t s i × (after_eol t i ≡ o)) (past_eol o) (λ u. From t s) AnyFault
   past_on s None = holds_yields (λ i p. p.0)
   past_on s (Some k) =
       holds_skip (λ i j p w. let q = p.0 in let late = q.late in let there = w.there in let f = eol_forward t i k p.1 in
       let l = eol_text t i k p.1 in record { late = omega arith; in_text = omega arith })
 
-  pub both_optional_eol : {s : ℕ} → Both t s (optional_eol t)
-  both_optional_eol {s = s} = record { total = total_peek (past_total s); on = holds_peek (past_on s) }
+  pub onward_optional_eol : {s : ℕ} → TotalOnward t s (optional_eol t)
+  onward_optional_eol {s = s} = record { total = total_peek (past_total s); on = holds_peek (past_on s) }
 
-  pub both_spanned : {s start : ℕ} → Both t s (spanned start)
-  both_spanned = both_bind both_here (λ end. both_yields)
+  pub onward_spanned : {s start : ℕ} → TotalOnward t s (spanned start)
+  onward_spanned = onward_bind onward_here (λ end. onward_yields)
 
-  pub both_rest_of_line : {s : ℕ} → Both t s (rest_of_line t)
-  both_rest_of_line =
-      both_bind both_here
-      (λ start. both_bind (both_skip (stretch_word (is_line_place t) (line_inside t))) (λ u. both_spanned))
+  pub onward_rest_of_line : {s : ℕ} → TotalOnward t s (rest_of_line t)
+  onward_rest_of_line =
+      onward_bind onward_here
+      (λ start. onward_bind (onward_skip (longest_run_word (is_line_place t) (line_inside t))) (λ u. onward_spanned))
 
   word_on : (set : ℕ → Bool) (i j : ℕ) → has t set i ≡ true → ByteRun t set i j → i < j
   word_on set i j e w =
       elim (lt_or_same i j w.forward)
       [ inl l ↦ l | inr same ↦ absurd (false≢true (sym w.longest ∙ subst (λ k. has t set k ≡ true) same e)) ]
 
-  strict_digits : {s : ℕ} → Strict t s (digits t)
-  strict_digits {s = s} = record {
+  consuming_digits : {s : ℕ} → TotalConsuming t s (digits t)
+  consuming_digits {s = s} = record {
     total =
         total_peek
         (λ found. total_branch_on (λ e. total_skip (λ i p. (word_of is_digit).exists i (p.0).in_text))
@@ -184,15 +184,15 @@ module _ (t : List ℕ) where
         (λ e. holds_fails (λ i p. tt)));
   }
 
-  both_identifier : {s : ℕ} → Both t s (identifier t)
-  both_identifier =
-      both_bind both_here
-      (λ start. both_bind (both_peek (λ letter. both_yields))
-      (λ letter. both_branch_on (both_bind (both_skip (word_of is_name_byte)) (λ u. both_spanned)) both_fails))
+  onward_identifier : {s : ℕ} → TotalOnward t s (identifier t)
+  onward_identifier =
+      onward_bind onward_here
+      (λ start. onward_bind (onward_peek (λ letter. onward_yields))
+      (λ letter. onward_branch_on (onward_bind (onward_skip (word_of is_name_byte)) (λ u. onward_spanned)) onward_fails))
 
-  pub strict_identifier : {s : ℕ} → Strict t s (identifier t)
-  strict_identifier {s = s} = record {
-    total = both_identifier.total;
+  pub consuming_identifier : {s : ℕ} → TotalConsuming t s (identifier t)
+  consuming_identifier {s = s} = record {
+    total = onward_identifier.total;
     on = record {
       on_read =
           λ i j a p x. (let q = identifier_advances t (InText t) (text_cuts t) i j a p.in_text x in let late = p.late in
@@ -201,12 +201,12 @@ module _ (t : List ℕ) where
     };
   }
 
-  pub strict_number : {s : ℕ} → Strict t s (number t)
-  strict_number =
-      strict_then both_here
-      (λ start. strict_then (both_optional 45)
-      (λ x. strict_first strict_digits (λ u. both_bind (both_optional 46) (λ point.
-      both_bind (both_branch_on (both_strict strict_digits) both_yields) (λ u. both_spanned)))))
+  pub consuming_number : {s : ℕ} → TotalConsuming t s (number t)
+  consuming_number =
+      consuming_then onward_here
+      (λ start. consuming_then (onward_optional 45)
+      (λ x. consuming_first consuming_digits (λ u. onward_bind (onward_optional 46) (λ point.
+      onward_bind (onward_branch_on (onward_strict consuming_digits) onward_yields) (λ u. onward_spanned)))))
 
   -- ---- strings
 
@@ -226,7 +226,7 @@ module _ (t : List ℕ) where
   steps_total : {pre : ℕ → Type 0} (n : ℕ) → Total pre (skip (Steps n))
   steps_total n = total_skip (λ i p. (i + n, record { by = refl }))
 
-  steps_on : {pre : ℕ → Type 0} (n : ℕ) → Holds pre (skip (Steps n)) Always AnyFault
+  steps_on : {pre : ℕ → Type 0} (n : ℕ) → HoareTriple pre (skip (Steps n)) Always AnyFault
   steps_on n = holds_skip (λ i j p w. tt)
 
   escaped_total : {pre : ℕ → Type 0} (o : Option ℕ) → Total pre (escaped t o)
@@ -248,10 +248,10 @@ module _ (t : List ℕ) where
   abbrev After : ℕ → Unit {0} → ℕ → Type 0
   After i u j = i + 1 ≤ j
 
-  hex_on : (i w : ℕ) → Holds (λ j. i + 2 ≤ j) (hex_digits t w) (After i) AnyFault
+  hex_on : (i w : ℕ) → HoareTriple (λ j. i + 2 ≤ j) (hex_digits t w) (After i) AnyFault
   hex_on i w = record { on_read = λ j m u p x. hex_forward i w j m u p x; on_refused = λ j from to k p x. tt }
 
-  escaped_on : (i : ℕ) (o : Option ℕ) → Holds (At i) (escaped t o) (After i) AnyFault
+  escaped_on : (i : ℕ) (o : Option ℕ) → HoareTriple (At i) (escaped t o) (After i) AnyFault
   escaped_on i None = holds_fails (λ j p. tt)
   escaped_on i (Some b) = holds_branch_on (λ e. holds_skip (λ j m p w. let by = w.by in omega arith))
       (λ e. holds_branch_on
@@ -262,7 +262,7 @@ module _ (t : List ℕ) where
       (λ u. hex_on i 6))
       (λ e. holds_fails (λ j p. tt))))
 
-  unit_on : (i : ℕ) (o : Option ℕ) → Holds (At i) (string_unit t o) (After i) AnyFault
+  unit_on : (i : ℕ) (o : Option ℕ) → HoareTriple (At i) (string_unit t o) (After i) AnyFault
   unit_on i None = holds_fails (λ j p. tt)
   unit_on i (Some b) = holds_branch_on (λ e. holds_fails (λ j p. tt)) (λ e. holds_branch_on
       (λ e. holds_peek
@@ -292,16 +292,16 @@ module _ (t : List ℕ) where
   units_exist zero i a l = units_at i l (has_byte t 34 i) refl (λ j b c. absurd (omega arith))
   units_exist (suc m) i a l = units_at i l (has_byte t 34 i) refl (λ j b c. units_exist m j (omega arith) c)
 
-  both_units : {s : ℕ} → Both t s (string_units t)
-  both_units {s = s} =
+  onward_units : {s : ℕ} → TotalOnward t s (string_units t)
+  onward_units {s = s} =
       record {
         total = record { has = λ i p. units_exist (length t) i (omega arith) p.in_text };
         on = on_sound (sound_units t (InText t) (text_cuts t) {s = s});
       }
 
-  pub strict_string : {s : ℕ} → Strict t s (string_literal t)
-  strict_string =
-      strict_first (strict_token 34)
-      (λ u. both_bind both_here
-      (λ start. both_bind both_units
-      (λ u. both_bind both_spanned (λ value. both_bind (both_strict (strict_token 34)) (λ u. both_yields)))))
+  pub consuming_string : {s : ℕ} → TotalConsuming t s (string_literal t)
+  consuming_string =
+      consuming_first (consuming_token 34)
+      (λ u. onward_bind onward_here
+      (λ start. onward_bind onward_units
+      (λ u. onward_bind onward_spanned (λ value. onward_bind (onward_strict (consuming_token 34)) (λ u. onward_yields)))))

@@ -4,9 +4,9 @@ use Rattle.fluent_syntax_tree.specs.Every.{list_every}
 use Rattle.fluent_syntax_grammar.specs.Grammar.{family}
 use Rattle.fluent_syntax_grammar.specs.Tiling.{Tile, entry, refused, dropped, OneTiling, OneRuntimeTiling}
 use Rattle.fluent_syntax_grammar.specs.Body.{faults}
-use Rattle.fluent_syntax_grammar.specs.Laws.{OneReading, FaultMeans, KindsMean}
-use Rattle.fluent_syntax_grammar.specs.Laws.{RuntimeKindsMean, HasNoComments, SameMessagesAndTerms, NoNewErrors}
-use Rattle.fluent_syntax_grammar.specs.Laws.{SameWithoutComments, messages_and_terms}
+use Rattle.fluent_syntax_grammar.specs.UniqueReading.{IsUnambiguous, FaultMeans, KindsMean}
+use Rattle.fluent_syntax_grammar.specs.UniqueReading.{RuntimeKindsMean, HasNoComments, SameMessagesAndTerms, NoNewErrors}
+use Rattle.fluent_syntax_grammar.specs.UniqueReading.{SameWithoutComments, messages_and_terms}
 use Rattle.fluent_syntax_tree.specs.declared.edition.Edition.{Edition}
 use Rattle.fluent_syntax_grammar.proofs.FunctionalWords.{functional_token, functional_inline_blank, functional_blank}
 use Rattle.fluent_syntax_grammar.proofs.FunctionalWords.{functional_blank_block, functional_optional_eol}
@@ -20,14 +20,14 @@ use Rattle.fluent_syntax_grammar.proofs.FunctionalEntries.{functional_comment, f
 use Rattle.fluent_syntax_grammar.proofs.Nesting.{functional_family}
 use Rattle.fluent_syntax_grammar.proofs.OneTiling as tilings
 use Rattle.fluent_syntax_grammar.proofs.SoundStrings.{InText}
-use Rattle.fluent_syntax_grammar.proofs.SoundTiling.{GoodTile, tiled_good, runtime_good}
+use Rattle.fluent_syntax_grammar.proofs.SoundTiling.{IsTileWellFormed, tiled_good, runtime_good}
 use Rattle.fluent_syntax_grammar.proofs.Boundaries.{text_cuts}
 use Rattle.fluent_syntax_grammar.proofs.Aligned.{aligned}
 use Rattle.fluent_syntax_grammar.proofs.Runtime.{bare_body, body_bare, aligned_named, aligned_faults, aligned_bare}
 use Rattle.fluent_syntax_grammar.proofs.BareEntries.{bare_runtime}
 
 module _ (edition : Edition) (t : List ℕ) where
-  pub one_reading : OneReading edition t
+  pub one_reading : IsUnambiguous edition t
   one_reading =
       let R = family edition t in
       let h = functional_family edition t in
@@ -73,7 +73,7 @@ module _ (edition : Edition) (t : List ℕ) where
   pub one_runtime_tiling : OneRuntimeTiling edition t
   one_runtime_tiling = tilings.one_runtime_tiling edition t
 
-  faults_mean : (tiles : List Tile) → list_every (GoodTile edition t (InText t) (text_cuts t)) tiles →
+  faults_mean : (tiles : List Tile) → list_every (IsTileWellFormed edition t (InText t) (text_cuts t)) tiles →
       list_every (FaultMeans t) (faults tiles)
   faults_mean [] g = tt
   faults_mean (entry s e ∷ tiles) (g, h) = faults_mean tiles h

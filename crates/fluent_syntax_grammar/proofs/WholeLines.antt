@@ -73,8 +73,8 @@ module _ (t : List ℕ) where
   place_no_lf k e = let b = byte_holds (slice_get t k) (has_eol t k) e in
       neither_left (has_byte t lf k) (has_byte t cr k && has_byte t lf (k + 1)) b.0
 
-  stretch_inside : (i k : ℕ) → i ≤ length t → LongestRun (is_line_place t) i k → k ≤ length t
-  stretch_inside i k l s =
+  longest_run_inside : (i k : ℕ) → i ≤ length t → LongestRun (is_line_place t) i k → k ≤ length t
+  longest_run_inside i k l s =
       let forward = s.forward in
       elim (lt_or_le i k) [
         | inl x ↦ (let last = place_inside (k - 1) (s.each (k - 1) (omega arith) (omega arith)) in omega arith)
@@ -86,7 +86,7 @@ module _ (t : List ℕ) where
 
   line_none : (i k : ℕ) → i ≤ length t → LongestRun (is_line_place t) i k → after_eol t k ≡ None → k ≡ length t
   line_none i k l s e =
-      let inside = stretch_inside i k l s in
+      let inside = longest_run_inside i k l s in
       let past =
       no_byte_at k (no_byte_holds (slice_get t k) (has_eol t k) s.longest
       (after_none t k e)) in
@@ -142,9 +142,9 @@ module _ (t : List ℕ) where
   token_read b i j (goes_on (chosen (second e given)) (first f given)) = cc
   token_read b i j (goes_on (chosen (second e given)) (second f x)) = elim x [ ]
 
-  joined_stretch : (test : ℕ → Bool) (i m k : ℕ) → i ≤ m → ((n : ℕ) → i ≤ n → n < m → test n ≡ true) →
+  joined_longest_run : (test : ℕ → Bool) (i m k : ℕ) → i ≤ m → ((n : ℕ) → i ≤ n → n < m → test n ≡ true) →
       LongestRun test m k → LongestRun test i k
-  joined_stretch test i m k l f s =
+  joined_longest_run test i m k l f s =
       let forward = s.forward in
       record {
         forward = omega arith;
@@ -158,8 +158,8 @@ module _ (t : List ℕ) where
   eol_read : (k j : ℕ) → optional_eol t k (Read tt j) → Eol k j
   eol_read k j (chosen y) = past_of k j (after_eol t k) refl y
 
-  empty_stretch : (i : ℕ) → is_line_place t i ≡ false → LongestRun (is_line_place t) i i
-  empty_stretch i e = record { forward = omega arith; each = λ k a b. absurd (omega arith); longest = e }
+  empty_longest_run : (i : ℕ) → is_line_place t i ≡ false → LongestRun (is_line_place t) i i
+  empty_longest_run i e = record { forward = omega arith; each = λ k a b. absurd (omega arith); longest = e }
 
   none_place : (o : Option ℕ) (e : Bool) → o ≡ None → (is_some o && not e) ≡ false
   none_place o e f = rw f
@@ -180,14 +180,14 @@ module _ (t : List ℕ) where
   text_line : (i k j : ℕ) (span : Span) (b : ℕ) (eol : Bool) → has_eol t i ≡ eol → slice_get t i ≡ Some b →
       comment_text t eol i (Read span k) → Eol k j → IsLine t i j
   text_line i k j span b true e f (goes_on at_place (goes_on at_place given)) g =
-      record { end = i; stretch = empty_stretch i (eol_place (slice_get t i) (has_eol t i) e); eol = g }
+      record { end = i; stretch = empty_longest_run i (eol_place (slice_get t i) (has_eol t i) e); eol = g }
   text_line i k j span b false e f (goes_on {j = m} x (goes_on at_place (goes_on (passed s) (goes_on at_place given))))
       g =
       let by = token_read 32 i m x in
       let on = by.1 in
       record {
         end = k;
-        stretch = joined_stretch (is_line_place t) i m k (omega arith)
+        stretch = joined_longest_run (is_line_place t) i m k (omega arith)
             (λ n a c. (let same : i ≡ n = omega arith in
             subst (λ n. is_line_place t n ≡ true) same (line_place (slice_get t i) (has_eol t i) b f e))) s;
         eol = g;
@@ -199,7 +199,7 @@ module _ (t : List ℕ) where
   rest_line i j content None e given =
       record {
         end = i;
-        stretch = empty_stretch i (none_place (slice_get t i) (has_eol t i) e);
+        stretch = empty_longest_run i (none_place (slice_get t i) (has_eol t i) e);
         eol = inr (none_eol i e, refl);
       }
   rest_line i j content (Some b) e (goes_on {j = k} {a = span} (chosen x) (goes_on y given)) =
@@ -252,7 +252,7 @@ module _ (t : List ℕ) where
   hashes_line i j x = record {
     end = x.end;
     stretch =
-        joined_stretch t (is_line_place t) i (i + hashes t i) x.end (omega arith)
+        joined_longest_run t (is_line_place t) i (i + hashes t i) x.end (omega arith)
         (λ n a b. hash_place n (hash_bytes i n a b)) x.stretch;
     eol = x.eol;
   }

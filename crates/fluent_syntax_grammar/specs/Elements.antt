@@ -15,7 +15,7 @@ use Rattle.fluent_syntax_tree.specs.declared.edition.Edition.TheVariants.{One, T
 -- an element before the tail is cut: a text from the one place to the other, or a placeable, for which an E stands
 pub data ItemOf (E : Type 0) : Type 0 where
   text : (from to : ℕ) → ItemOf E
-  filled : E → ItemOf E
+  placeable_item : E → ItemOf E
 
 abbrev pub Item : Type 0
 Item = ItemOf (ExpressionTree Span)
@@ -32,7 +32,7 @@ with_ending (run from to ∷ []) (lf_at p) = text from (p + 1) ∷ []
 with_ending (run from to ∷ []) (crlf_at p) = text from to ∷ text (p + 1) (p + 2) ∷ []
 with_ending (run from to ∷ []) text_end = text from to ∷ []
 with_ending (run from to ∷ p ∷ ps) ending = text from to ∷ with_ending (p ∷ ps) ending
-with_ending (placed e ∷ ps) ending = filled e ∷ with_ending ps ending
+with_ending (placed e ∷ ps) ending = placeable_item e ∷ with_ending ps ending
 
 -- Where the leading spaces of a line beyond the common indent begin. Where there is no common indent, none are beyond
 -- it.
@@ -84,7 +84,7 @@ is_nonblank bs = list_any (λ b. not (is_space b)) (without_last_lf bs)
 module _ (t : List ℕ) where
   -- a placeable, or a nonblank text
   abbrev pub stays : {E : Type 0} → ItemOf E → Bool
-  stays (filled e) = true
+  stays (placeable_item e) = true
   stays (text from to) = is_nonblank (slice_range t from to)
 
   -- an item before the items that are left after it
@@ -106,7 +106,7 @@ module _ (t : List ℕ) where
   spelled [] = []
   spelled (text from to ∷ []) = text_element (record { start = from; end = trimmed_end from to }) ∷ []
   spelled (text from to ∷ x ∷ xs) = text_element (record { start = from; end = to }) ∷ spelled (x ∷ xs)
-  spelled (filled e ∷ xs) = placeable e ∷ spelled xs
+  spelled (placeable_item e ∷ xs) = placeable e ∷ spelled xs
 
 -- Without an element there is no pattern.
 abbrev pub if_any : {A : Type 0} → List (ElementTree A) → Option (PatternTree A)

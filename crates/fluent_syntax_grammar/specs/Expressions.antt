@@ -1,7 +1,7 @@
 -- The expressions that stand in placeables.
 use Rattle.std.specs.Prelude.{ℕ, ◌+◌, List, [], ◌∷◌, Option, Some, None, Bool, false, ◌&&◌, is_some}
 use Rattle.fluent_syntax_grammar.specs.Bytes.{lf, cr, space, greater_than, hyphen, vertical_bar}
-use Rattle.fluent_syntax_grammar.specs.Places.{Steps, Reaches, has_byte, after_eol}
+use Rattle.fluent_syntax_grammar.specs.Places.{Steps, JumpsTo, has_byte, after_eol}
 use Rattle.fluent_syntax_tree.specs.Tree.{ExpressionTree, select, inline, InlineTree, message_reference, term_reference}
 use Rattle.fluent_syntax_tree.specs.Tree.{inline_placeable, VariantTrees}
 use Rattle.fluent_syntax_tree.specs.Kind.{Kind, ExpectedCharRange, MessageReferenceAsSelector, TermReferenceAsSelector}
@@ -32,7 +32,7 @@ is_term_attribute _ = false
 
 -- The line end after the arrow, which has to stand there.
 abbrev pub arrow_line_end : Option ℕ → Construct (Unit {0})
-arrow_line_end (Some k) = skip (Reaches k)
+arrow_line_end (Some k) = skip (JumpsTo k)
 arrow_line_end None = fails (ExpectedCharRange (lf ∷ space ∷ vertical_bar ∷ space ∷ cr ∷ lf ∷ []))
 
 module _ (t : List ℕ) where

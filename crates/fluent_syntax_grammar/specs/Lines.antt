@@ -2,7 +2,7 @@
 use Rattle.std.specs.Prelude.{◌≡◌, ℕ, ◌+◌, ◌-◌, List, slice_get, Option, Some, None, Bool, true, false, ◌&&◌}
 use Rattle.std.specs.Prelude.{◌||◌, ◌==◌, not, nat_lt, if◌then◌else◌}
 use Rattle.fluent_syntax_grammar.specs.Bytes.{lf, cr, asterisk, full_stop, left_brace, left_bracket, right_brace}
-use Rattle.fluent_syntax_grammar.specs.Places.{LongestRun, Reaches, has, has_byte, after_eol, has_eol, InlineBlank}
+use Rattle.fluent_syntax_grammar.specs.Places.{LongestRun, JumpsTo, has, has_byte, after_eol, has_eol, InlineBlank}
 use Rattle.fluent_syntax_tree.specs.Kind.{UnbalancedClosingBrace}
 use Rattle.fluent_syntax_grammar.specs.Construct.{Outcome, Read, Construct, ◌>>=◌, ◌>>◌, yields, here, fails, skip}
 use Rattle.fluent_syntax_grammar.specs.Construct.{peek, branch_on, More, no_item, item, list_of}
@@ -18,7 +18,7 @@ module _ (t : List ℕ) where
   -- the ending at a place, by where the line end there ends
   abbrev pub ending_of : ℕ → Option ℕ → Construct Ending
   ending_of i None = yields text_end
-  ending_of i (Some k) = skip (Reaches k) >> yields (if k == i + 1 then lf_at i else crlf_at i)
+  ending_of i (Some k) = skip (JumpsTo k) >> yields (if k == i + 1 then lf_at i else crlf_at i)
 
   -- a line's ending: LF, CRLF or the text's end
   abbrev pub ending : Construct Ending

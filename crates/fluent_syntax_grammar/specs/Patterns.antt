@@ -1,6 +1,6 @@
 -- Patterns: the source of a pattern is read as a layout, and spells the elements of that layout.
 use Rattle.std.specs.Prelude.{ℕ, List, Option, Some, None}
-use Rattle.fluent_syntax_grammar.specs.Places.{Reaches, after_eol}
+use Rattle.fluent_syntax_grammar.specs.Places.{JumpsTo, after_eol}
 use Rattle.fluent_syntax_tree.specs.Tree.{PatternTree}
 use Rattle.fluent_syntax_grammar.specs.Construct.{Construct, ◌>>=◌, ◌>>◌, yields, here, skip, peek}
 use Rattle.fluent_syntax_grammar.specs.Tokens.{inline_blank, blank_block}
@@ -17,7 +17,7 @@ module _ (t : List ℕ) (R : Family) where
   -- leading spaces.
   abbrev pub layout_at : Option ℕ → Construct Layout
   layout_at (Some k) = do
-    skip (Reaches k)
+    skip (JumpsTo k)
     blank_block t
     ls ← more_lines t R
     yields (record { opening = None; lines = ls })

@@ -20,7 +20,7 @@ pub record Steps (n i j : ℕ) : Type 0 where
   pub by : j ≡ i + n
 
 -- j is that place.
-pub record Reaches (place i j : ℕ) : Type 0 where
+pub record JumpsTo (place i j : ℕ) : Type 0 where
   pub there : j ≡ place
 
 module _ (t : List ℕ) where

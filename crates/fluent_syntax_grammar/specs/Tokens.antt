@@ -1,7 +1,7 @@
 -- Marks, blanks, line ends, identifiers and numbers.
 use Rattle.std.specs.Prelude.{ℕ, List, Option, Some, None, Bool, true, false, codes}
 use Rattle.fluent_syntax_grammar.specs.Bytes.{hyphen, full_stop, is_letter, is_digit, is_name_byte}
-use Rattle.fluent_syntax_grammar.specs.Places.{LongestRun, Steps, Reaches, has, has_byte, ByteRun, after_eol}
+use Rattle.fluent_syntax_grammar.specs.Places.{LongestRun, Steps, JumpsTo, has, has_byte, ByteRun, after_eol}
 use Rattle.fluent_syntax_grammar.specs.Places.{is_line_place}
 use Rattle.fluent_syntax_grammar.specs.Places.{InlineBlank, Blank, BlankBlock}
 use Rattle.fluent_syntax_tree.specs.Kind.{ExpectedToken, ExpectedCharRange}
@@ -17,7 +17,7 @@ spanned start = do
 -- what a line end that may be there passes over, by where it ends
 abbrev pub past_eol : Option ℕ → Construct (Unit {0})
 past_eol None = yields tt
-past_eol (Some k) = skip (Reaches k)
+past_eol (Some k) = skip (JumpsTo k)
 
 module _ (t : List ℕ) where
   -- whether the byte stands there; if it does, it is passed over

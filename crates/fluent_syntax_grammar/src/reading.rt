@@ -1,13 +1,13 @@
 //! Unique reading: what the grammar says of a text, it says in one way.
 
-ghost use Rattle.fluent_syntax_grammar.specs.Laws.{
+ghost use Rattle.fluent_syntax_grammar.specs.UniqueReading.{
   BodyInText,
   ErrorsAscend,
   HasNoComments,
   JunkOfErrors,
   KindsMean,
   NoNewErrors,
-  OneReading,
+  IsUnambiguous,
   RuntimeBodyInText,
   RuntimeErrorsAscend,
   RuntimeJunkOfErrors,
@@ -36,7 +36,7 @@ ghost use Rattle.fluent_syntax_tree.specs.declared.edition.Edition.{Edition};
 /// - `no_new_errors`, `same_body`: where the tiling has no error, the one without comments has none, and its body is
 ///   that of the tiling without comment entries and with no comment attached.
 pub fn unique_reading(text: &str)
-    ensures one_reading { (edition : Edition) → OneReading edition text.now }
+    ensures one_reading { (edition : Edition) → IsUnambiguous edition text.now }
     ensures some_tiling { (edition : Edition) → SomeTiling edition text.now }
     ensures some_runtime_tiling { (edition : Edition) → SomeRuntimeTiling edition text.now }
     ensures one_tiling { (edition : Edition) → OneTiling edition text.now }

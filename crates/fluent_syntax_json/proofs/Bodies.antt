@@ -10,7 +10,7 @@ use Rattle.fluent_syntax_grammar.specs.Writing.{Outcome, appended, stopped, sile
 use Rattle.fluent_syntax_grammar.proofs.Sinks.{Takes-append, TakesBeginning-after, TakesBeginning-before}
 use Rattle.fluent_syntax_grammar.proofs.Sinks.{TakesBeginning-refused}
 use Rattle.fluent_syntax_grammar.specs.declared.text_writer.TextWriter.{TextWriter}
-use Rattle.fluent_syntax_json.specs.BodyWriting.{begun_text, later_after, HasWritten, whole, beginning}
+use Rattle.fluent_syntax_json.specs.BodyWriting.{unclosed_text, later_after, HasWritten, whole, beginning}
 use Rattle.fluent_syntax_json.specs.Form.{body_form, entry_form}
 use Rattle.fluent_syntax_json.specs.Object.{Text}
 use Rattle.fluent_syntax_json.specs.Writing.{entries_text, next_text}
@@ -28,9 +28,9 @@ items_text-entries later (e ∷ es) =
     ∙ sym (append_assoc (next_text later e) (entries_text true es) (93 ∷ []))
 
 -- the text of a body is what was begun with its entries, and the brackets that close it
-pub begun_text-closed : (body : BodyTree Text) → compact_text (body_form body) ≡ begun_text body ++ codes "]}"
+pub unclosed_text-closed : (body : BodyTree Text) → compact_text (body_form body) ≡ unclosed_text body ++ codes "]}"
 unfolding escape_byte
-begun_text-closed body =
+unclosed_text-closed body =
     ap (λ text. codes "{\"body\":[" ++ (text ++ codes "}")) (items_text-entries false body)
     ∙ ap (λ text. codes "{\"body\":[" ++ text) (append_assoc (entries_text false body) (93 ∷ []) (codes "}"))
 
@@ -47,11 +47,11 @@ later_after-last later [] e = refl
 later_after-last later (x ∷ xs) e = later_after-last true xs e
 
 -- the text of an entry behind others
-begun_text-last : (body : BodyTree Text) (e : EntryTree Text) (later : Bool) → later ≡ later_after false body
-    → begun_text (body ++ e ∷ []) ≡ begun_text body ++ next_text later e
-begun_text-last body e later is =
+unclosed_text-last : (body : BodyTree Text) (e : EntryTree Text) (later : Bool) → later ≡ later_after false body
+    → unclosed_text (body ++ e ∷ []) ≡ unclosed_text body ++ next_text later e
+unclosed_text-last body e later is =
     ap (λ text. codes "{\"body\":[" ++ text) (entries_text-last false body e)
-    ∙ ap (λ l. begun_text body ++ next_text l e) (sym is)
+    ∙ ap (λ l. unclosed_text body ++ next_text l e) (sym is)
 
 -- ---- what became of the entries
 
@@ -68,8 +68,8 @@ module _ {W : Type 0} {text : W → List ℕ} {room : W → ℕ} where
       bytes : Text
       bytes = next_text old.later e
 
-      all : begun_text body ++ bytes ≡ begun_text (body ++ e ∷ [])
-      all = sym (begun_text-last body e old.later later_is)
+      all : unclosed_text body ++ bytes ≡ unclosed_text (body ++ e ∷ [])
+      all = sym (unclosed_text-last body e old.later later_is)
 
       next : Outcome text room a b bytes → HasWritten text room start (body ++ e ∷ [])
           (record { sink = b.sink.now; later = true; refused = refused })
@@ -90,7 +90,7 @@ module _ {W : Type 0} {text : W → List ℕ} {room : W → ℕ} where
   HasWritten-silent e (whole on took later_is) off = cc
   HasWritten-silent {start} {body} {now} e (beginning off' began) off =
       let more = next_text (later_after false body) e in
-      let all = sym (begun_text-last body e (later_after false body) refl) in
+      let all = sym (unclosed_text-last body e (later_after false body) refl) in
       let taken = TakesBeginning-before text room more began in
       beginning off (subst (λ bs. TakesBeginning text room start now.sink bs) all taken)
 
@@ -99,7 +99,7 @@ module _ {W : Type 0} {text : W → List ℕ} {room : W → ℕ} where
       → HasWritten text room start body now → now.refused ≡ false → Takes text room now.sink end (codes "]}")
       → Takes text room start end (compact_text (body_form body))
   HasWritten-closed {start} {end} {body} (whole on took later_is) not_yet closed =
-      subst (λ bs. Takes text room start end bs) (sym (begun_text-closed body)) (Takes-append text room took closed)
+      subst (λ bs. Takes text room start end bs) (sym (unclosed_text-closed body)) (Takes-append text room took closed)
   HasWritten-closed (beginning off began) not_yet closed = cc
 
   -- a beginning of it, where it refused them
@@ -108,7 +108,7 @@ module _ {W : Type 0} {text : W → List ℕ} {room : W → ℕ} where
       → TakesBeginning text room start end (compact_text (body_form body))
   HasWritten-unclosed {start} {end} {body} (whole on took later_is) not_yet refuses =
       let rest = TakesBeginning-refused text room refuses in
-      subst (λ bs. TakesBeginning text room start end bs) (sym (begun_text-closed body))
+      subst (λ bs. TakesBeginning text room start end bs) (sym (unclosed_text-closed body))
       (TakesBeginning-after text room took rest)
   HasWritten-unclosed (beginning off began) not_yet refuses = cc
 
@@ -117,5 +117,5 @@ module _ {W : Type 0} {text : W → List ℕ} {room : W → ℕ} where
       → now.refused ≡ true → TakesBeginning text room start now.sink (compact_text (body_form body))
   HasWritten-stopped (whole on took later_is) off = cc
   HasWritten-stopped {start} {body} {now} (beginning off' began) off =
-      subst (λ bs. TakesBeginning text room start now.sink bs) (sym (begun_text-closed body))
+      subst (λ bs. TakesBeginning text room start now.sink bs) (sym (unclosed_text-closed body))
       (TakesBeginning-before text room (codes "]}") began)

@@ -7,8 +7,8 @@ use Rattle.fluent_syntax_json.specs.Writing.{entries_text}
 use Rattle.fluent_syntax_json.specs.declared.writing.body_writer.BodyWriter.{BodyWriter}
 
 -- the text of a tree with these entries, but for the two brackets that close it
-abbrev pub begun_text : BodyTree Text → Text
-begun_text body = codes "{\"body\":[" ++ entries_text false body
+abbrev pub unclosed_text : BodyTree Text → Text
+unclosed_text body = codes "{\"body\":[" ++ entries_text false body
 
 -- whether what comes after these entries stands after one
 abbrev pub later_after : Bool → BodyTree Text → Bool
@@ -20,7 +20,7 @@ module _ {W : Type 0} (text : W → List ℕ) (room : W → ℕ) where
   -- brackets that close it are to come, and the writer knows whether an entry came; or the sink has taken a beginning
   -- of that text and refused.
   pub data HasWritten (start : W) (body : BodyTree Text) (now : BodyWriter W) : Type 0 where
-    whole : now.refused ≡ false → Takes text room start now.sink (begun_text body) → now.later ≡ later_after false body
+    whole : now.refused ≡ false → Takes text room start now.sink (unclosed_text body) → now.later ≡ later_after false body
         → HasWritten start body now
-    beginning : now.refused ≡ true → TakesBeginning text room start now.sink (begun_text body)
+    beginning : now.refused ≡ true → TakesBeginning text room start now.sink (unclosed_text body)
         → HasWritten start body now

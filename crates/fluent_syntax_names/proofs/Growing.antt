@@ -16,7 +16,7 @@ use Rattle.fluent_syntax_names.specs.declared.finding.Kind.{Kind}
 use Rattle.fluent_syntax_names.specs.declared.finding.Kind.TheVariants as kind
 use Rattle.fluent_syntax_names.specs.Findings.{Known, put, finding_of, findings_in, findings_from, after, nothing}
 use Rattle.fluent_syntax_names.specs.Findings.{twice, Set}
-use Rattle.fluent_syntax_names.specs.Findings.{cycle, cycle_to, undefined, undefined_part, finding_at}
+use Rattle.fluent_syntax_names.specs.Findings.{cycle, cycle_to, undefined_entry, undefined_reference, finding_at}
 use Rattle.fluent_syntax_names.specs.QualifiedNames.{Text, message_name, term_name, qualified_name, qualified_attribute}
 use Rattle.fluent_syntax_names.specs.QualifiedNames.{qualified_value}
 use Rattle.fluent_syntax_names.specs.Cycles.{Link, is_link, links_to, link_to, links_in, links, pattern_after}
@@ -44,7 +44,7 @@ module _ (file : ℕ) (text : Text) where
 
   module _ (D E : Text → Bool) (same : (name : Text) → D name ≡ E name) where
     part_same : (entry : EntryName) (a : Option Span)
-        → undefined_part D file text entry a ≡ undefined_part E file text entry a
+        → undefined_reference D file text entry a ≡ undefined_reference E file text entry a
     part_same entry None =
         ap (λ b. if entry.is_term then None
         else if b then None else Some (finding_at kind.UndefinedValue file entry.name None))
@@ -54,9 +54,9 @@ module _ (file : ℕ) (text : Text) where
         (same (qualified_attribute text entry a))
 
     undefined_same : (k : Kind) (entry : EntryName) (a : Option Span)
-        → undefined D file text k entry a ≡ undefined E file text k entry a
+        → undefined_entry D file text k entry a ≡ undefined_entry E file text k entry a
     undefined_same k entry a =
-        ap (λ b. if b then undefined_part D file text entry a else Some (finding_at k file entry.name None))
+        ap (λ b. if b then undefined_reference D file text entry a else Some (finding_at k file entry.name None))
         (same (qualified_name text entry))
         ∙ ap (λ o. if E (qualified_name text entry) then o else Some (finding_at k file entry.name None))
         (part_same entry a)

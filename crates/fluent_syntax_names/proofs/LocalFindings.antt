@@ -15,7 +15,7 @@ use Rattle.fluent_syntax_names.specs.declared.finding.Kind.TheVariants as kind
 use Rattle.fluent_syntax_names.specs.Cycles.{Link, links_in, links, pattern_after, referenced_pattern, no_pattern}
 use Rattle.fluent_syntax_names.specs.Findings.{Known, Set, put, finding_of, findings_in, findings_from, after, nothing}
 use Rattle.fluent_syntax_names.specs.Findings.{twice}
-use Rattle.fluent_syntax_names.specs.Findings.{cycle, undefined, undefined_part, finding_at}
+use Rattle.fluent_syntax_names.specs.Findings.{cycle, undefined_entry, undefined_reference, finding_at}
 use Rattle.fluent_syntax_names.specs.Severities.{is_local}
 use Rattle.fluent_syntax_names.specs.QualifiedNames.{Text, message_name, term_name, qualified_name, qualified_attribute}
 use Rattle.fluent_syntax_names.specs.QualifiedNames.{qualified_value}
@@ -37,7 +37,7 @@ module _ (file : ℕ) (text : Text) where
   either_out false o p l first second = second
 
   part_out : (D : Text → Bool) (entry : EntryName) (a : Option Span) (l : List Finding)
-      → own (put (undefined_part D file text entry a) l) ≡ own l
+      → own (put (undefined_reference D file text entry a) l) ≡ own l
   part_out D entry None l =
       let missing = Some (finding_at kind.UndefinedValue file entry.name None) in
       let value = if D (qualified_value text entry) then None else missing in
@@ -47,10 +47,10 @@ module _ (file : ℕ) (text : Text) where
       either_out (D (qualified_attribute text entry a)) None missing l refl refl
 
   undefined_out : (D : Text → Bool) (k : Kind) (entry : EntryName) (a : Option Span) (l : List Finding)
-      → is_local k ≡ false → own (put (undefined D file text k entry a) l) ≡ own l
+      → is_local k ≡ false → own (put (undefined_entry D file text k entry a) l) ≡ own l
   undefined_out D k entry a l out =
       let missing = Some (finding_at k file entry.name None) in
-      either_out (D (qualified_name text entry)) (undefined_part D file text entry a) missing l (part_out D entry a l)
+      either_out (D (qualified_name text entry)) (undefined_reference D file text entry a) missing l (part_out D entry a l)
       (ap (λ b. cond b (finding_at k file entry.name None ∷ own l) (own l)) out)
 
   finding_local : (D E : Text → Bool) (known : Known) (m : Mention Span) (l l' : List Finding) → own l ≡ own l'

@@ -4,7 +4,7 @@ use Rattle.std.proofs.Common.{arith}
 use Rattle.std.specs.Prelude.{if◌then◌else◌}
 use Rattle.std.specs.Str.{bytes_eq}
 use Rattle.std.proofs.lemmas.Slice.Eq.{bytes_eq-Decides}
-use Rattle.fluent_syntax_names.specs.NamedLists.{Numbering, Within, Apart}
+use Rattle.fluent_syntax_names.specs.NamedLists.{Numbering, Within, IsInjective}
 use Rattle.fluent_syntax_names.specs.FirstPlaces.{Notes, first_of, place_where}
 use Rattle.fluent_syntax_names.specs.QualifiedNames.{Text}
 use Rattle.fluent_syntax_names.proofs.Ways.{same_name}
@@ -17,7 +17,7 @@ module _ (number : Numbering) (none : (x : Text) → number x ≡ None) where
   pub none_within : Within number 0
   none_within x u e = let never : None ≡ Some u = sym (none x) ∙ e in absurd (cc)
 
-  pub none_apart : Apart number
+  pub none_apart : IsInjective number
   none_apart x y u e f = let never : None ≡ Some u = sym (none x) ∙ e in absurd (cc)
 
 module _ (old new : Numbering) (name : Text) (number : ℕ) (absent : old name ≡ None)
@@ -52,7 +52,7 @@ module _ (old new : Numbering) (name : Text) (number : ℕ) (absent : old name �
       | inr w ↦ omega (arith, w.1, is_last)
     ]
 
-    pub apart_more : Apart old → Apart new
+    pub apart_more : IsInjective old → IsInjective new
     apart_more apart x y u e f = elim (was_known x u e) [
       | inl w ↦ elim (was_known y u f) [
         | inl v ↦ apart x y u w v

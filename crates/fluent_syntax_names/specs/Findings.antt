@@ -113,14 +113,14 @@ undefined_value is_defined file text entry =
     else Some (finding_at kind.UndefinedValue file entry.name None)
 
 -- of an entry that some file defines: its value, or an attribute
-abbrev pub undefined_part : (Text → Bool) → ℕ → Text → EntryName → Option Span → Option Finding
-undefined_part is_defined file text entry None = undefined_value is_defined file text entry
-undefined_part is_defined file text entry (Some a) = undefined_attribute is_defined file text entry a
+abbrev pub undefined_reference : (Text → Bool) → ℕ → Text → EntryName → Option Span → Option Finding
+undefined_reference is_defined file text entry None = undefined_value is_defined file text entry
+undefined_reference is_defined file text entry (Some a) = undefined_attribute is_defined file text entry a
 
 -- of a reference to the entry, or to an attribute of it
-abbrev pub undefined : (Text → Bool) → ℕ → Text → Kind → EntryName → Option Span → Option Finding
-undefined is_defined file text kind entry attribute =
-    if is_defined (qualified_name text entry) then undefined_part is_defined file text entry attribute
+abbrev pub undefined_entry : (Text → Bool) → ℕ → Text → Kind → EntryName → Option Span → Option Finding
+undefined_entry is_defined file text kind entry attribute =
+    if is_defined (qualified_name text entry) then undefined_reference is_defined file text entry attribute
     else Some (finding_at kind file entry.name None)
 
 abbrev pub finding_of : (Text → Bool) → ℕ → Text → Known → Mention Span → Option Finding
@@ -133,9 +133,9 @@ finding_of is_defined file text known (says.Attribute x) =
 finding_of is_defined file text known (says.VariantKey x first) =
     twice kind.VariantTwice file x (known.parts (qualified_key text first x))
 finding_of is_defined file text known (says.MessageReference x a) =
-    undefined is_defined file text kind.UndefinedMessage (message_name x) a
+    undefined_entry is_defined file text kind.UndefinedMessage (message_name x) a
 finding_of is_defined file text known (says.TermReference x a) =
-    undefined is_defined file text kind.UndefinedTerm (term_name x) a
+    undefined_entry is_defined file text kind.UndefinedTerm (term_name x) a
 finding_of is_defined file text known _ = None
 
 -- a reference to the target that stands in the pattern, where it comes back

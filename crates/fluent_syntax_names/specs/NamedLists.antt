@@ -13,8 +13,8 @@ abbrev pub Within : Numbering → (count : ℕ) → Type 0
 Within number count = (x : Text) (u : ℕ) → number x ≡ Some u → u < count
 
 -- no two names have the same number
-abbrev pub Apart : Numbering → Type 0
-Apart number = (x y : Text) (u : ℕ) → number x ≡ Some u → number y ≡ Some u → x ≡ y
+abbrev pub IsInjective : Numbering → Type 0
+IsInjective number = (x y : Text) (u : ℕ) → number x ≡ Some u → number y ≡ Some u → x ≡ y
 
 abbrev pub numbers_of : {X : Type 0} → NamedLists X → Numbering
 numbers_of names = place_of names.numbers.table

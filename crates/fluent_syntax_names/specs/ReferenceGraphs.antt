@@ -5,7 +5,7 @@ use Rattle.fluent_syntax_names.specs.Growing.{Adds}
 use Rattle.fluent_syntax_names.specs.Graph.{Graph, HasEdge}
 use Rattle.fluent_syntax_names.specs.Cycles.{Link, links_to, is_cyclic}
 use Rattle.fluent_syntax_names.specs.Findings.{Set}
-use Rattle.fluent_syntax_names.specs.NamedLists.{Numbering, Within, Apart, numbers_of, lists_of}
+use Rattle.fluent_syntax_names.specs.NamedLists.{Numbering, Within, IsInjective, numbers_of, lists_of}
 use Rattle.fluent_syntax_names.specs.FirstPlaces.{place_of}
 use Rattle.fluent_syntax_names.specs.QualifiedNames.{Text}
 use Rattle.fluent_syntax_names.specs.declared.cycles.Cycles.{Cycles}
@@ -14,7 +14,7 @@ use Rattle.fluent_syntax_names.specs.declared.reference_graph.ReferenceGraph.{Re
 -- the graph has an edge between two nodes exactly where the names lead to one another
 pub record HasEdges (all : List Link) (node : Numbering) (g : Graph) : Type 0 where
   pub within : Within node (length g)
-  pub apart : Apart node
+  pub apart : IsInjective node
   pub has_edges : (x y : Text) → links_to all x y ≡ true
       → (u : ℕ) × (v : ℕ) × (node x ≡ Some u) × (node y ≡ Some v) × HasEdge g u v
   pub named : (u v : ℕ) → HasEdge g u v

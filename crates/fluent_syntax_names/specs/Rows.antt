@@ -5,7 +5,7 @@ use Rattle.std.specs.declared.alloc.Global.{Global}
 use Rattle.fluent_syntax_names.specs.Growing.{Adds}
 use Rattle.fluent_syntax_names.specs.Cycles.{Link}
 use Rattle.fluent_syntax_names.specs.MessageReferences.{messages_of, reachable_by}
-use Rattle.fluent_syntax_names.specs.NamedLists.{Numbering, Within, Apart, numbers_of, lists_of}
+use Rattle.fluent_syntax_names.specs.NamedLists.{Numbering, Within, IsInjective, numbers_of, lists_of}
 use Rattle.fluent_syntax_names.specs.QualifiedNames.{Text}
 use Rattle.fluent_syntax_names.specs.declared.message_references.MessageReferences.{MessageReferences}
 use Rattle.fluent_syntax_names.specs.declared.named_lists.NamedLists.{NamedLists}
@@ -30,7 +30,7 @@ row_at rows (Some number) = get_or rows number []
 -- each name has a row of its own, and the messages that the links say it refers to
 pub record HasReferences (all : List Link) (number : Numbering) (rows : Rows) : Type 0 where
   pub within : Within number (length rows)
-  pub apart : Apart number
+  pub apart : IsInjective number
   pub has_messages : (x : Text) → row_at rows (number x) ≡ messages_of all x
 
 abbrev pub IsMessageReferences : List Link → MessageReferences → Type 0

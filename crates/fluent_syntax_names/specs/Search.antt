@@ -33,22 +33,22 @@ last_of starts = at starts (length starts - 1)
 
 -- no segment starts behind the one place and not behind the other: where the places have nodes, the one reaches the
 -- other
-abbrev pub Back : (starts : List ℕ) → (from to : ℕ) → Type 0
-Back starts from to = (k : ℕ) → k < length starts → at starts k ≤ from → at starts k ≤ to
+abbrev pub SameOrLaterSegment : (starts : List ℕ) → (from to : ℕ) → Type 0
+SameOrLaterSegment starts from to = (k : ℕ) → k < length starts → at starts k ≤ from → at starts k ≤ to
 
 -- of an edge from the node at a place: its target is done, or stands in the same segment or behind it, or the edge is
 -- still to come
-pub data Looked (states : List State) (starts : List ℕ) (pending : List Pending) (i k t : ℕ) : Type 0 where
-  at_done : (c : ℕ) → State_of states t ≡ state.Done c → Looked states starts pending i k t
-  at_open : (j : ℕ) → State_of states t ≡ state.Open j → Back starts i j → Looked states starts pending i k t
+pub data EdgeHandled (states : List State) (starts : List ℕ) (pending : List Pending) (i k t : ℕ) : Type 0 where
+  at_done : (c : ℕ) → State_of states t ≡ state.Done c → EdgeHandled states starts pending i k t
+  at_open : (j : ℕ) → State_of states t ≡ state.Open j → SameOrLaterSegment starts i j → EdgeHandled states starts pending i k t
   to_come : (p : ℕ) → p < length pending → (pending_at pending p).place ≡ i → (pending_at pending p).next ≤ k
-      → Looked states starts pending i k t
+      → EdgeHandled states starts pending i k t
 
 -- an edge of a done node leads to a done node, whose component is no later one
 abbrev pub LeadsToDone : Graph → List State → (c t : ℕ) → Type 0
 LeadsToDone g states c t = (d : ℕ) × (State_of states t ≡ state.Done d) × (d ≤ c)
 
-pub record Sound (g : Graph) (states : List State) (stack starts : List ℕ) (pending : List Pending) (done : ℕ)
+pub record SearchInvariant (g : Graph) (states : List State) (stack starts : List ℕ) (pending : List Pending) (done : ℕ)
     : Type 0 where
   pub sizes : length states ≡ length g
   -- the open nodes, at their places
@@ -57,11 +57,11 @@ pub record Sound (g : Graph) (states : List State) (stack starts : List ℕ) (pe
   -- the segments
   pub ascending : (k l : ℕ) → k < l → l < length starts → at starts k < at starts l
   pub within : (k : ℕ) → k < length starts → at starts k < length stack
-  pub reach : (i j : ℕ) → i < length stack → j < length stack → Back starts i j
+  pub reach : (i j : ℕ) → i < length stack → j < length stack → SameOrLaterSegment starts i j
       → Reaches g (at stack i) (at stack j)
   -- the edges of open nodes
   pub looked : (i : ℕ) → i < length stack → (k : ℕ) → k < length (edges g (at stack i))
-      → Looked states starts pending i k (target g (at stack i) k)
+      → EdgeHandled states starts pending i k (target g (at stack i) k)
   pub pending_ascending : (p q : ℕ) → p ≤ q → q < length pending
       → (pending_at pending p).place ≤ (pending_at pending q).place
   pub pending_within : (p : ℕ) → p < length pending → (pending_at pending p).place < length stack
@@ -73,8 +73,8 @@ pub record Sound (g : Graph) (states : List State) (stack starts : List ℕ) (pe
   -- each component has a node
   pub room : done + length stack + count_new states ≤ length g
 
-abbrev pub IsSound : Graph → Search → Type 0
-IsSound g s = Sound g s.states.items s.stack.items s.starts.items s.pending.items s.done
+abbrev pub HasSearchInvariant : Graph → Search → Type 0
+HasSearchInvariant g s = SearchInvariant g s.states.items s.stack.items s.starts.items s.pending.items s.done
 
 -- a node that is new, and that all open ones reach
 pub record Fresh (g : Graph) (s : Search) (node : ℕ) : Type 0 where
@@ -103,4 +103,4 @@ IsBehind starts place = (k : ℕ) → k < length starts → at starts k ≤ plac
 
 -- an edge from the place, whichever it is, to this target is not to come
 abbrev pub IsSeen : Search → (place t : ℕ) → Type 0
-IsSeen s place t = (k : ℕ) → Looked s.states.items s.starts.items [] place k t
+IsSeen s place t = (k : ℕ) → EdgeHandled s.states.items s.starts.items [] place k t

@@ -1,10 +1,10 @@
 //! What is found at a mention.
 ghost use Rattle.std.specs.Prelude.{◌≡◌, IfOk, OnOk, Some};
 ghost use Rattle.fluent_syntax_names.specs.ReferenceGraphs.{same_part};
-ghost use Rattle.fluent_syntax_names.specs.Findings.{cycle, cycle_to, finding_of, twice, undefined};
+ghost use Rattle.fluent_syntax_names.specs.Findings.{cycle, cycle_to, finding_of, twice, undefined_entry};
 ghost use Rattle.fluent_syntax_names.specs.Findings.{undefined_attribute};
 ghost use Rattle.fluent_syntax_names.specs.Findings.{finding_at};
-ghost use Rattle.fluent_syntax_names.specs.Findings.{undefined_part, undefined_value};
+ghost use Rattle.fluent_syntax_names.specs.Findings.{undefined_reference, undefined_value};
 ghost use Rattle.fluent_syntax_names.specs.Knowing.{knows};
 ghost use Rattle.fluent_syntax_names.specs.FirstPlaces.{place_of};
 ghost use Rattle.fluent_syntax_names.specs.QualifiedNames.{qualified_name, qualified_attribute, qualified_value};
@@ -49,8 +49,8 @@ impl FileContext<'_> {
             (place_of noted.new.names.table) (place_of noted.new.parts.table) self.now.text.now mention.now) }
     {
         match mention {
-            Mention::Message { name, .. } => self.entry_twice(noted, message_name(*name)),
-            Mention::Term { name } => self.entry_twice(noted, term_name(*name)),
+            Mention::Message { name, .. } => self.duplicate_entry(noted, message_name(*name)),
+            Mention::Term { name } => self.duplicate_entry(noted, term_name(*name)),
             Mention::Attribute { name } => {
                 let first = noted.note_attribute(self.alloc, self.text, *name)?;
                 Ok(self.twice(Kind::AttributeTwice, *name, first))
@@ -60,10 +60,10 @@ impl FileContext<'_> {
                 Ok(self.twice(Kind::VariantTwice, *key, earlier))
             }
             Mention::MessageReference { name, attribute } => {
-                self.undefined(Kind::UndefinedMessage, message_name(*name), *attribute)
+                self.undefined_entry(Kind::UndefinedMessage, message_name(*name), *attribute)
             }
             Mention::TermReference { name, attribute } => {
-                self.undefined(Kind::UndefinedTerm, term_name(*name), *attribute)
+                self.undefined_entry(Kind::UndefinedTerm, term_name(*name), *attribute)
             }
             _ => Ok(None),
         }
@@ -102,7 +102,7 @@ impl FileContext<'_> {
         Ok(None)
     }
 
-    fn entry_twice(
+    fn duplicate_entry(
         &self,
         noted: &mut DefinedSoFar,
         entry: EntryName,
@@ -128,31 +128,31 @@ impl FileContext<'_> {
     }
 
     /// A reference to an entry that no file defines, or to an attribute of it.
-    fn undefined(
+    fn undefined_entry(
         &self,
         kind: Kind,
         entry: EntryName,
         attribute: Option<Span>,
     ) -> Result<Option<Finding>, AllocError>
         ensures { IfOk result (λ finding.
-            finding ≡ undefined (knows self.now.known) self.now.file self.now.text.now kind
+            finding ≡ undefined_entry (knows self.now.known) self.now.file self.now.text.now kind
             entry attribute) }
     {
         let name = qualified_name(self.alloc, self.text, entry)?;
         if !self.known.has(&name) {
             return Ok(Some(self.finding_at(kind, entry.name, None)));
         }
-        self.undefined_part(entry, attribute)
+        self.undefined_reference(entry, attribute)
     }
 
     /// A reference to the value of an entry, or to an attribute of it, that no file defines.
-    fn undefined_part(
+    fn undefined_reference(
         &self,
         entry: EntryName,
         attribute: Option<Span>,
     ) -> Result<Option<Finding>, AllocError>
         ensures { IfOk result (λ finding.
-            finding ≡ undefined_part (knows self.now.known) self.now.file self.now.text.now
+            finding ≡ undefined_reference (knows self.now.known) self.now.file self.now.text.now
             entry attribute) }
     {
         match attribute {

@@ -163,7 +163,7 @@ fn add_arguments<X: Copy>(
         (Adds list.old.items list.new.items (arguments_mentions (arguments_view (λ x. x) arguments.now))) }
 {
     add_inlines(list, &arguments.positional)?;
-    add_nameds(list, &arguments.named)
+    add_named_arguments(list, &arguments.named)
 }
 
 #[cycle(mentions)]
@@ -181,7 +181,7 @@ fn add_inlines<X: Copy>(
 }
 
 #[cycle(mentions)]
-fn add_nameds<X: Copy>(
+fn add_named_arguments<X: Copy>(
     list: &mut Vec<Mention<X>>,
     nameds: &[NamedArgument<X>],
 ) -> Result<(), AllocError>

@@ -11,7 +11,7 @@ use Rattle.fluent_syntax_tree.specs.declared.ast.PatternElement.{PatternElement}
 use Rattle.fluent_syntax_tree.specs.declared.edition.Edition.{Edition}
 use Rattle.fluent_syntax_tree.specs.declared.edition.Edition.TheVariants.{One, Two}
 use Rattle.fluent_syntax_tree.specs.declared.spans.Span.{Span}
-use Rattle.fluent_syntax_grammar.specs.Elements.{ItemOf, text, filled, cut, is_nonblank, line_items, trimmed_end}
+use Rattle.fluent_syntax_grammar.specs.Elements.{ItemOf, text, placeable_item, cut, is_nonblank, line_items, trimmed_end}
 use Rattle.fluent_syntax_grammar.specs.Elements.{with_ending}
 use Rattle.fluent_syntax_grammar.specs.Layout.{LineOf, PieceOf, run, placed, Ending, lf_at, crlf_at, text_end}
 use Rattle.fluent_syntax_grammar.specs.Layout.{least, counted}
@@ -25,7 +25,7 @@ use Rattle.fluent_syntax_parser.specs.declared.pattern.line.Piece.TheVariants as
 module _ {S X : Type 0} (v : S → X) where
   abbrev pub item_view : Piece S → ItemOf (ExpressionTree X)
   item_view (piece.Run from to) = text from to
-  item_view (piece.Placed e) = filled (boxed_expression_view v e)
+  item_view (piece.Placed e) = placeable_item (boxed_expression_view v e)
 
   -- The items are cut to those that are left and a last one; or none is left.
   abbrev pub CutsTo : List ℕ → (all left : List (Piece S)) → (last : Option (Piece S)) → Type 0
@@ -36,7 +36,7 @@ module _ {S X : Type 0} (v : S → X) where
 module _ {S : Type 0} where
   abbrev pub item_shape : Piece S → ItemOf (Box (Expression S) Global)
   item_shape (piece.Run from to) = text from to
-  item_shape (piece.Placed e) = filled e
+  item_shape (piece.Placed e) = placeable_item e
 
 module _ {E : Type 0} where
   -- a run that waits for what follows it, and what follows
@@ -64,10 +64,10 @@ module _ {E : Type 0} where
   indent_of Two kept first (placed e ∷ ps) = if nat_lt kept first then Some (kept, first) else None
 
   -- a line that holds nothing
-  abbrev pub bare_items : (kept : ℕ) → Ending → List (ItemOf E)
-  bare_items kept (lf_at p) = text kept (p + 1) ∷ []
-  bare_items kept (crlf_at p) = text (p + 1) (p + 2) ∷ []
-  bare_items kept text_end = []
+  abbrev pub blank_line_items : (kept : ℕ) → Ending → List (ItemOf E)
+  blank_line_items kept (lf_at p) = text kept (p + 1) ∷ []
+  blank_line_items kept (crlf_at p) = text (p + 1) (p + 2) ∷ []
+  blank_line_items kept text_end = []
 
 -- where the leading spaces of a line beyond the common indent begin
 abbrev pub kept_place : Option ℕ → (start spaces : ℕ) → ℕ
@@ -83,19 +83,19 @@ module _ {X : Type 0} (f : Span → X) where
   -- the element that an item is which others follow
   abbrev pub element_of : ItemOf (ExpressionTree X) → ElementTree X
   element_of (text from to) = text_element (f (record { start = from; end = to }))
-  element_of (filled e) = placeable e
+  element_of (placeable_item e) = placeable e
 
   -- the element that the last item is: a text is trimmed at its end
   abbrev pub last_of : List ℕ → ItemOf (ExpressionTree X) → ElementTree X
   last_of t (text from to) = text_element (f (record { start = from; end = trimmed_end t from to }))
-  last_of t (filled e) = placeable e
+  last_of t (placeable_item e) = placeable e
 
   -- the elements of the items
   abbrev pub spelled : List ℕ → List (ItemOf (ExpressionTree X)) → List (ElementTree X)
   spelled t [] = []
   spelled t (text from to ∷ []) = text_element (f (record { start = from; end = trimmed_end t from to })) ∷ []
   spelled t (text from to ∷ x ∷ xs) = text_element (f (record { start = from; end = to })) ∷ spelled t (x ∷ xs)
-  spelled t (filled e ∷ xs) = placeable e ∷ spelled t xs
+  spelled t (placeable_item e ∷ xs) = placeable e ∷ spelled t xs
 
 -- ---- what is left of the line on which a pattern opens
 

@@ -2,7 +2,7 @@
 use Rattle.std.specs.Prelude.{map}
 use Rattle.fluent_syntax_tree.specs.Tree.{ExpressionTree, expression_map}
 use Rattle.fluent_syntax_tree.specs.declared.spans.Span.{Span}
-use Rattle.fluent_syntax_grammar.specs.Elements.{Item, ItemOf, text, filled}
+use Rattle.fluent_syntax_grammar.specs.Elements.{Item, ItemOf, text, placeable_item}
 use Rattle.fluent_syntax_grammar.specs.Layout.{Line, LineOf, Piece, PieceOf, run, placed}
 
 module _ {E F : Type 0} (h : E → F) where
@@ -15,7 +15,7 @@ module _ {E F : Type 0} (h : E → F) where
 
   abbrev pub item_map : ItemOf E → ItemOf F
   item_map (text from to) = text from to
-  item_map (filled e) = filled (h e)
+  item_map (placeable_item e) = placeable_item (h e)
 
 -- with f of each text in its place
 module _ {X : Type 0} (f : Span → X) where

@@ -5,7 +5,7 @@ use Rattle.fluent_syntax_tree.specs.View.{element_view}
 use Rattle.fluent_syntax_tree.specs.declared.ast.PatternElement.{PatternElement}
 use Rattle.fluent_syntax_tree.specs.declared.spans.Span.{Span}
 use Rattle.fluent_syntax_grammar.specs.Construct.{Construct, Read, peek}
-use Rattle.fluent_syntax_grammar.specs.Elements.{ItemOf, filled, opening_items, text}
+use Rattle.fluent_syntax_grammar.specs.Elements.{ItemOf, placeable_item, opening_items, text}
 use Rattle.fluent_syntax_grammar.specs.Family.{Family}
 use Rattle.fluent_syntax_grammar.specs.Layout as layout
 use Rattle.fluent_syntax_grammar.specs.Layout.{Layout, Line, PieceOf, placed, run}
@@ -23,7 +23,7 @@ module _ {E : Type 0} where
   -- a piece as an item
   abbrev pub as_item : PieceOf E → ItemOf E
   as_item (run from to) = text from to
-  as_item (placed e) = filled e
+  as_item (placed e) = placeable_item e
 
   -- Behind each run of the pieces stands a placeable, so the elements of these pieces don't hang on what follows.
   pub data Settled : List (PieceOf E) → Type 0 where
@@ -38,8 +38,8 @@ piece_element f p = element_of f (as_item (piece_of f p))
 
 module _ {S X : Type 0} (t : List ℕ) (R : Family) (f : Span → X) (v : S → X) (i : ℕ) where
   -- the layout of a pattern, after the inline blank that opens it
-  abbrev pub LaidOut : Construct Layout
-  LaidOut = peek (after_eol t) (layout_at t R)
+  abbrev pub LayoutAfterBlank : Construct Layout
+  LayoutAfterBlank = peek (after_eol t) (layout_at t R)
 
   -- The elements are those of the pieces of the line on which the layout opens, if it opens on one, up to its last
   -- placeable; its other lines begin at j.
@@ -50,12 +50,12 @@ module _ {S X : Type 0} (t : List ℕ) (R : Family) (f : Span → X) (v : S → 
     pub made : map (element_view v) elements ≡ map (element_of f) (map as_item pieces)
     pub same : opening_items (option_map (line_of f) opening) ≡ map as_item pieces ++ rest_items rest
     pub read : (ls : List Line) (end : ℕ) → more_lines t R j (Read ls end) →
-        LaidOut i (Read (record { opening = opening; lines = ls }) end)
-    pub fails : (e : ReadFault) → Fails t (more_lines t R) j e → Fails t LaidOut i e
+        LayoutAfterBlank i (Read (record { opening = opening; lines = ls }) end)
+    pub fails : (e : ReadFault) → Fails t (more_lines t R) j e → Fails t LayoutAfterBlank i e
 
   abbrev pub Opens : List (PatternElement S) → Result (OpeningEnd × ℕ) ReadFault → Type 0
   Opens elements (Ok x) = Opened elements x.0 x.1
-  Opens elements (Err e) = Fails t LaidOut i e
+  Opens elements (Err e) = Fails t LayoutAfterBlank i e
 
 -- The run does not end before it begins, and the ending is that of its line.
 abbrev pub IsRest : List ℕ → OpeningEnd → Type 0

@@ -1,7 +1,7 @@
 -- Trees of which each text is a part of the source.
 use Rattle.std.specs.Prelude.{ℕ, List, Result, Ok, Err}
 use Rattle.fluent_syntax_tree.specs.Every.{body_every}
-use Rattle.fluent_syntax_tree.specs.Spans.{IsPart}
+use Rattle.fluent_syntax_tree.specs.Spans.{IsTextRange}
 use Rattle.fluent_syntax_tree.specs.View.{resource_view}
 use Rattle.fluent_syntax_tree.specs.declared.ast.Resource.{Resource}
 use Rattle.fluent_syntax_tree.specs.declared.spans.Span.{Span}
@@ -10,7 +10,7 @@ use Rattle.fluent_syntax_parser.specs.declared.fault.ParseFault.TheVariants.{Syn
 
 -- each text of the tree is a part of the source
 abbrev pub ResourceParts : List ℕ → Resource Span → Type 0
-ResourceParts t tree = body_every (IsPart t) (resource_view (λ s. s) tree)
+ResourceParts t tree = body_every (IsTextRange t) (resource_view (λ s. s) tree)
 
 -- so is each text of the tree that parsing answers
 abbrev pub HasParts : List ℕ → Result (Resource Span) (ParseFault Span) → Type 0

@@ -118,7 +118,7 @@ NextError comments edition t i start j (Some error) =
     (e : EntryTree Span) × EntryAt comments edition t i start j e (faults_of error)
 
 -- The text up to the place is some entries and errors, before whatever the rest is from there on.
-pub record Reached (comments : Comments) (edition : Edition) (t : List ℕ) (i : ℕ) : Type 0 where
+pub record ReadSoFar (comments : Comments) (edition : Edition) (t : List ℕ) (i : ℕ) : Type 0 where
   pub entries : BodyTree Span
   pub errors : List (Option Fault)
   pub rest : (others : BodyTree Span) (more : List (Option Fault)) → Rest comments edition t i others more →

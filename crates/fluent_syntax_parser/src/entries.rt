@@ -3,13 +3,13 @@ ghost use Rattle.std.specs.Prelude.{◌≡◌, ◌-◌, ◌^◌, ◌<◌, ◌≤
 ghost use Rattle.std.proofs.Props.{props};
 ghost use Rattle.std.specs.Str.{IsUtf8};
 ghost use Rattle.fluent_syntax_tree.specs.Every.{entry_every};
-ghost use Rattle.fluent_syntax_tree.specs.Spans.{IsPart};
+ghost use Rattle.fluent_syntax_tree.specs.Spans.{IsTextRange};
 ghost use Rattle.fluent_syntax_tree.specs.View.{entry_view};
 ghost use Rattle.fluent_syntax_grammar.specs.Nesting.{TextDeeper};
 ghost use Rattle.fluent_syntax_grammar.specs.Places.{BlankBlock};
 ghost use Rattle.fluent_syntax_parser.specs.Halts.{ComesTo, HaltsWithin, OnHalt};
 ghost use Rattle.fluent_syntax_parser.specs.MadeEntries.{AddsNext, NextMade};
-ghost use Rattle.fluent_syntax_parser.specs.Rest.{NextError, NextTo, Reached, TileIn};
+ghost use Rattle.fluent_syntax_parser.specs.Rest.{NextError, NextTo, ReadSoFar, TileIn};
 
 use crate::options::{Halt, Options};
 use crate::reader::Reader;
@@ -32,7 +32,7 @@ pub struct Entries<'s> {
     ghost within: { ptr ≤ length source.bytes.now },
     ghost small: { length source.bytes.now < 2 ^ 63 },
     ghost utf8: { IsUtf8 source.bytes.now } by { Prim.hlevel props },
-    ghost reached: { ∥ Reached options.comments options.edition source.bytes.now ptr ∥₁ },
+    ghost reached: { ∥ ReadSoFar options.comments options.edition source.bytes.now ptr ∥₁ },
 }
 
 impl<'s> Entries<'s> {
@@ -79,7 +79,7 @@ impl<'s> Entries<'s> {
         ensures next { let t = self.old.source.bytes.now in let options = self.old.options in
             IfOk result (NextTo options.comments options.edition t self.old.ptr self.new.start self.new.ptr) }
         ensures parts { let t = self.old.source.bytes.now in
-            IfOk result (λ found. IfSome found (λ read. entry_every (IsPart t) (entry_view (λ s. s) read.0))) }
+            IfOk result (λ found. IfSome found (λ read. entry_every (IsTextRange t) (entry_view (λ s. s) read.0))) }
         ensures places { let t = self.old.source.bytes.now in
             IfOk result (λ found. IfSome found (λ read. IfSome read.1 (λ error. error.pos.start ≤ length t))) }
         ensures forward { self.old.ptr ≤ self.new.ptr }

@@ -77,7 +77,7 @@ impl<'s> Source<'s> {
     /// Reads a pattern of one line without placeable, after the inline blank that opens it, if that stands there: its
     /// text, if it holds one.
     #[inline(always)]
-    pub(crate) fn short_text(&self, edition: Edition, start: usize) -> Option<(Option<Span>, usize)>
+    pub(crate) fn one_line_text(&self, edition: Edition, start: usize) -> Option<(Option<Span>, usize)>
         requires { start ≤ length self.now.bytes.now }
         ensures opens { IfSome result
             (λ read. OpensAs edition self.now.bytes.now start (option_map text_pattern read.0) read.1) }
@@ -216,7 +216,7 @@ impl<'s, 't, M: MakeTexts> Reader<'s, 't, M> {
         ensures within { IfOk result (λ read. (ptr ≤ read.1) × (read.1 ≤ length self.now.source.bytes.now)) }
     {
         let start = self.source.skip_blank_inline(ptr);
-        match self.source.short_text(self.edition, start) {
+        match self.source.one_line_text(self.edition, start) {
             Some((text, end)) => {
                 let pattern = self.short_pattern(text)?;
                 Ok((pattern, end))

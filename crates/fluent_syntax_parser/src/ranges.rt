@@ -13,7 +13,7 @@ ghost use Rattle.fluent_syntax_parser.specs.PartRanges.{
   HasRanges,
   each_range,
 };
-ghost use Rattle.fluent_syntax_tree.specs.Spans.{IsPart};
+ghost use Rattle.fluent_syntax_tree.specs.Spans.{IsTextRange};
 ghost use Rattle.fluent_syntax_parser.specs.Halts.{HaltsWithin, OnHalt};
 
 use crate::fault::{Fault, ReadFault, Refusal};
@@ -218,7 +218,7 @@ pub fn entry_ranges(
 ) -> Result<Option<EntryRanges>, Halt>
     requires { start ≤ length text.now }
     ensures ranges { IfOk result (HasRanges edition text.now start) }
-    ensures parts { IfOk result (λ found. IfSome found (each_range (IsPart text.now))) }
+    ensures parts { IfOk result (λ found. IfSome found (each_range (IsTextRange text.now))) }
     ensures nests { IfErr result (HaltsWithin nesting (length text.now - start)) }
     ensures deeper { let R = within edition text.now nesting in
         IfErr result (OnHalt (TooDeep (entry_in edition text.now R) start)) }

@@ -144,16 +144,16 @@ list_decide eq view d (x ∷ xs) (y ∷ ys) =
 
 module _ {X : Type 0} (S : RattleType) (E : Ghosts S.Denot) (dict : Dict) (lawful : Lawful S E dict)
     (text : S.Denot → X) (by_text : (x y : S.Denot) → Decides (E.eq x y) (text x ≡ text y)) where
-  pub by_trees-Identifier : (i j : Identifier S.Denot) →
+  pub decides_by_view-Identifier : (i j : Identifier S.Denot) →
       Decides ((identifier_eq.ghosts S E dict).eq i j) (identifier_view text i ≡ identifier_view text j)
-  by_trees-Identifier i j = by_text i.name j.name
+  decides_by_view-Identifier i j = by_text i.name j.name
 
-  pub by_trees-VariantKey : (i j : VariantKey S.Denot) →
+  pub decides_by_view-VariantKey : (i j : VariantKey S.Denot) →
       Decides ((key_eq.ghosts S E dict).eq i j) (key_view text i ≡ key_view text j)
-  by_trees-VariantKey (key.Identifier x) (key.Identifier y) = decides_as _ _ refl (by_text x y) (λ h. rw h) (λ q. cc)
-  by_trees-VariantKey (key.Identifier x) (key.NumberLiteral y) = never _ refl (λ q. cc)
-  by_trees-VariantKey (key.NumberLiteral x) (key.Identifier y) = never _ refl (λ q. cc)
-  by_trees-VariantKey (key.NumberLiteral x) (key.NumberLiteral y) =
+  decides_by_view-VariantKey (key.Identifier x) (key.Identifier y) = decides_as _ _ refl (by_text x y) (λ h. rw h) (λ q. cc)
+  decides_by_view-VariantKey (key.Identifier x) (key.NumberLiteral y) = never _ refl (λ q. cc)
+  decides_by_view-VariantKey (key.NumberLiteral x) (key.Identifier y) = never _ refl (λ q. cc)
+  decides_by_view-VariantKey (key.NumberLiteral x) (key.NumberLiteral y) =
       decides_as _ _ refl (by_text x y) (λ h. rw h) (λ q. cc)
 
   -- ---- what each form's `==` computes to
@@ -420,7 +420,7 @@ module _ {X : Type 0} (S : RattleType) (E : Ghosts S.Denot) (dict : Dict) (lawfu
       sym (view-FunctionReference text i a.0) ∙ q ∙ view-FunctionReference text j b in (cc f, cc f))
   decide-Inline (layer.MessageReference i o) (layer.MessageReference j p) =
       decides_as _ _ (eq-MessageReference i j o p)
-      (decides_and _ _ (by_text i.name j.name) (option_decide _ (identifier_view text) by_trees-Identifier o p))
+      (decides_and _ _ (by_text i.name j.name) (option_decide _ (identifier_view text) decides_by_view-Identifier o p))
       (λ h. view-MessageReference text i o ∙ ap (λ x. message_reference x (option_map (identifier_view text) o)) h.0
       ∙ ap (message_reference (text j.name)) h.1 ∙ sym (view-MessageReference text j p))
       (λ q. let f :
@@ -430,7 +430,7 @@ module _ {X : Type 0} (S : RattleType) (E : Ghosts S.Denot) (dict : Dict) (lawfu
   decide-Inline (layer.TermReference i o None) (layer.TermReference j p b) =
       decides_as _ _ (eq-TermReference i j o p None b)
       (decides_and _ _ (by_text i.name j.name)
-      (decides_and _ _ (option_decide _ (identifier_view text) by_trees-Identifier o p)
+      (decides_and _ _ (option_decide _ (identifier_view text) decides_by_view-Identifier o p)
       (arguments_decide None b)))
       (λ h. view-TermReference text i o None
       ∙ ap (λ x. term_reference x (option_map (identifier_view text) o)
@@ -447,7 +447,7 @@ module _ {X : Type 0} (S : RattleType) (E : Ghosts S.Denot) (dict : Dict) (lawfu
   decide-Inline (layer.TermReference i o (Some a)) (layer.TermReference j p b) =
       decides_as _ _ (eq-TermReference i j o p (Some a.0) b)
       (decides_and _ _ (by_text i.name j.name)
-      (decides_and _ _ (option_decide _ (identifier_view text) by_trees-Identifier o p)
+      (decides_and _ _ (option_decide _ (identifier_view text) decides_by_view-Identifier o p)
       (arguments_decide (Some a) b)))
       (λ h. view-TermReference text i o (Some a.0)
       ∙ ap (λ x. term_reference x (option_map (identifier_view text) o)
@@ -536,7 +536,7 @@ module _ {X : Type 0} (S : RattleType) (E : Ghosts S.Denot) (dict : Dict) (lawfu
       Decides ((variant_eq.ghosts S E dict).eq a b) (variant_view text a ≡ variant_view text b)
   decide-Variant y b =
       decides_as _ _ (variant_laws.is S E dict lawful _ b)
-      (decides_and _ _ (by_trees-VariantKey y.key b.key)
+      (decides_and _ _ (decides_by_view-VariantKey y.key b.key)
       (decides_and _ _ (y.value.1 b.value) (beq-Decides y.default b.default)))
       (λ h. view-Variant text _ ∙ ap (λ x. variant x (pattern_view text y.value.0) y.default) h.0
       ∙ ap (λ x. variant (key_view text b.key) x y.default) h.1.0
@@ -546,9 +546,9 @@ module _ {X : Type 0} (S : RattleType) (E : Ghosts S.Denot) (dict : Dict) (lawfu
       ≡ variant (key_view text b.key) (pattern_view text b.value) b.default =
       sym (view-Variant text _) ∙ q ∙ view-Variant text b in (cc f, (cc f, cc f)))
 
-  pub by_trees-Pattern : (a b : Pattern S.Denot) →
+  pub decides_by_view-Pattern : (a b : Pattern S.Denot) →
       Decides ((pattern_eq.ghosts S E dict).eq a b) (pattern_view text a ≡ pattern_view text b)
-  by_trees-Pattern =
+  decides_by_view-Pattern =
       ind-Pattern S.Denot ClaimX ClaimI ClaimE ClaimA ClaimN ClaimP ClaimV
       (λ x y q. subst (λ x. ClaimX (roll-Expression S.Denot x)) q
       (λ b. subst (λ b.
@@ -570,34 +570,34 @@ module _ {X : Type 0} (S : RattleType) (E : Ghosts S.Denot) (dict : Dict) (lawfu
 
   -- ---- entries
 
-  pub by_trees-Comment : (a b : Comment S.Denot) →
+  pub decides_by_view-Comment : (a b : Comment S.Denot) →
       Decides ((comment_eq.ghosts S E dict).eq a b) (comment_view text a ≡ comment_view text b)
-  by_trees-Comment a b = list_decide E.eq text by_text a.content.items b.content.items
+  decides_by_view-Comment a b = list_decide E.eq text by_text a.content.items b.content.items
 
-  pub by_trees-Attribute : (a b : Attribute S.Denot) →
+  pub decides_by_view-Attribute : (a b : Attribute S.Denot) →
       Decides ((attribute_eq.ghosts S E dict).eq a b) (attribute_view text a ≡ attribute_view text b)
-  by_trees-Attribute a b =
-      decides_as _ _ refl (decides_and _ _ (by_text a.id.name b.id.name) (by_trees-Pattern a.value b.value)) (λ h. cc)
+  decides_by_view-Attribute a b =
+      decides_as _ _ refl (decides_and _ _ (by_text a.id.name b.id.name) (decides_by_view-Pattern a.value b.value)) (λ h. cc)
       (λ q. (ap (λ x. x.id) q, ap (λ x. x.value) q))
 
   value_decide : (o p : Option (Pattern S.Denot)) →
       Decides (option_eq (pattern_eq.ghosts S E dict).eq o p)
       (option_map (pattern_view text) o ≡ option_map (pattern_view text) p)
-  value_decide o p = option_decide (pattern_eq.ghosts S E dict).eq (pattern_view text) by_trees-Pattern o p
+  value_decide o p = option_decide (pattern_eq.ghosts S E dict).eq (pattern_view text) decides_by_view-Pattern o p
 
   attributes_decide : (xs ys : List (Attribute S.Denot)) →
       Decides (pointwise (attribute_eq.ghosts S E dict).eq xs ys)
       (map (attribute_view text) xs ≡ map (attribute_view text) ys)
-  attributes_decide xs ys = list_decide (attribute_eq.ghosts S E dict).eq (attribute_view text) by_trees-Attribute xs ys
+  attributes_decide xs ys = list_decide (attribute_eq.ghosts S E dict).eq (attribute_view text) decides_by_view-Attribute xs ys
 
   attached_decide : (o p : Option (Comment S.Denot)) →
       Decides (option_eq (comment_eq.ghosts S E dict).eq o p)
       (option_map (comment_view text) o ≡ option_map (comment_view text) p)
-  attached_decide o p = option_decide (comment_eq.ghosts S E dict).eq (comment_view text) by_trees-Comment o p
+  attached_decide o p = option_decide (comment_eq.ghosts S E dict).eq (comment_view text) decides_by_view-Comment o p
 
-  pub by_trees-Message : (a b : Message S.Denot) →
+  pub decides_by_view-Message : (a b : Message S.Denot) →
       Decides ((message_eq.ghosts S E dict).eq a b) (message_view text a ≡ message_view text b)
-  by_trees-Message a b =
+  decides_by_view-Message a b =
       decides_as _ _ refl
       (decides_and _ _ (by_text a.id.name b.id.name)
       (decides_and _ _ (value_decide a.value b.value)
@@ -605,31 +605,31 @@ module _ {X : Type 0} (S : RattleType) (E : Ghosts S.Denot) (dict : Dict) (lawfu
       (attached_decide a.comment b.comment))))
       (λ h. cc) (λ q. (ap (λ x. x.id) q, (ap (λ x. x.value) q, (ap (λ x. x.attributes) q, ap (λ x. x.comment) q))))
 
-  pub by_trees-Term : (a b : Term S.Denot) →
+  pub decides_by_view-Term : (a b : Term S.Denot) →
       Decides ((term_eq.ghosts S E dict).eq a b) (term_view text a ≡ term_view text b)
-  by_trees-Term a b =
+  decides_by_view-Term a b =
       decides_as _ _ refl
       (decides_and _ _ (by_text a.id.name b.id.name)
-      (decides_and _ _ (by_trees-Pattern a.value b.value)
+      (decides_and _ _ (decides_by_view-Pattern a.value b.value)
       (decides_and _ _ (attributes_decide a.attributes.items b.attributes.items)
       (attached_decide a.comment b.comment))))
       (λ h. cc) (λ q. (ap (λ x. x.id) q, (ap (λ x. x.value) q, (ap (λ x. x.attributes) q, ap (λ x. x.comment) q))))
 
-  pub by_trees-Entry : (a b : Entry S.Denot) →
+  pub decides_by_view-Entry : (a b : Entry S.Denot) →
       Decides ((entry_eq.ghosts S E dict).eq a b) (entry_view text a ≡ entry_view text b)
-  by_trees-Entry (entries.Message a) (entries.Message b) =
-      decides_as _ _ refl (by_trees-Message a b) (λ h. ap message h) (λ q. cc)
-  by_trees-Entry (entries.Term a) (entries.Term b) = decides_as _ _ refl (by_trees-Term a b) (λ h. ap term h) (λ q. cc)
-  by_trees-Entry (entries.Comment a) (entries.Comment b) =
-      decides_as _ _ refl (by_trees-Comment a b) (λ h. ap (comment regular) h) (λ q. cc)
-  by_trees-Entry (entries.GroupComment a) (entries.GroupComment b) =
-      decides_as _ _ refl (by_trees-Comment a b) (λ h. ap (comment group) h) (λ q. cc)
-  by_trees-Entry (entries.ResourceComment a) (entries.ResourceComment b) =
-      decides_as _ _ refl (by_trees-Comment a b) (λ h. ap (comment resource) h) (λ q. cc)
-  by_trees-Entry (entries.Junk x) (entries.Junk y) = decides_as _ _ refl (by_text x y) (λ h. ap junk h) (λ q. cc)
-  by_trees-Entry a b = never _ refl (λ q. cc)
+  decides_by_view-Entry (entries.Message a) (entries.Message b) =
+      decides_as _ _ refl (decides_by_view-Message a b) (λ h. ap message h) (λ q. cc)
+  decides_by_view-Entry (entries.Term a) (entries.Term b) = decides_as _ _ refl (decides_by_view-Term a b) (λ h. ap term h) (λ q. cc)
+  decides_by_view-Entry (entries.Comment a) (entries.Comment b) =
+      decides_as _ _ refl (decides_by_view-Comment a b) (λ h. ap (comment regular) h) (λ q. cc)
+  decides_by_view-Entry (entries.GroupComment a) (entries.GroupComment b) =
+      decides_as _ _ refl (decides_by_view-Comment a b) (λ h. ap (comment group) h) (λ q. cc)
+  decides_by_view-Entry (entries.ResourceComment a) (entries.ResourceComment b) =
+      decides_as _ _ refl (decides_by_view-Comment a b) (λ h. ap (comment resource) h) (λ q. cc)
+  decides_by_view-Entry (entries.Junk x) (entries.Junk y) = decides_as _ _ refl (by_text x y) (λ h. ap junk h) (λ q. cc)
+  decides_by_view-Entry a b = never _ refl (λ q. cc)
 
-  pub by_trees-Resource : (a b : Resource S.Denot) →
+  pub decides_by_view-Resource : (a b : Resource S.Denot) →
       Decides ((resource_eq.ghosts S E dict).eq a b) (resource_view text a ≡ resource_view text b)
-  by_trees-Resource a b =
-      list_decide (entry_eq.ghosts S E dict).eq (entry_view text) by_trees-Entry a.body.items b.body.items
+  decides_by_view-Resource a b =
+      list_decide (entry_eq.ghosts S E dict).eq (entry_view text) decides_by_view-Entry a.body.items b.body.items

@@ -162,7 +162,7 @@ impl<S> NamedArgument<S> {
         ensures { IfOk result (λ copy. named_view S.text copy ≡ named_view S.text self.now) }
     {
         let by: BySlice<'s> = BySlice::new();
-        patterns::named(&by, alloc, self)
+        patterns::named_argument(&by, alloc, self)
     }
 }
 

@@ -3,8 +3,8 @@ use Rattle.std.specs.Prelude.{ℕ, List, [], Option, Some, None, Bool, true, fal
 use Rattle.fluent_syntax_tree.specs.Tree.{ElementTree, text_element, placeable, PatternTree}
 use Rattle.fluent_syntax_tree.specs.declared.edition.Edition.{Edition}
 use Rattle.fluent_syntax_grammar.specs.Readable as grammar
-use Rattle.fluent_syntax_grammar.specs.Readable.{is_text, is_well_placed, ends_well, is_line_start, position_after}
-use Rattle.fluent_syntax_grammar.specs.Canonical.{text_numbers, placeable_numbers}
+use Rattle.fluent_syntax_grammar.specs.Readable.{is_text, may_stand_at, may_precede, is_line_start, position_after}
+use Rattle.fluent_syntax_grammar.specs.Canonical.{text_indents, placeable_indents}
 use Rattle.fluent_syntax_grammar.specs.PatternTexts.{is_lone_lf, begins_with_space, after_spaces}
 use Rattle.fluent_syntax_grammar.specs.Written.{Text, begins_with_mark}
 use Rattle.fluent_syntax_writer.specs.SingleRule.{text_keeps}
@@ -31,7 +31,7 @@ is_placeable (placeable e) = true
 abbrev pub is_element :
     Edition → (multiline : Bool) → grammar.ElementPosition → ElementTree Text → (rest : PatternTree Text) → Bool
 is_element edition multiline s (text_element v) rest =
-    is_text v && (is_well_placed edition multiline s v rest && ends_well v rest)
+    is_text v && (may_stand_at edition multiline s v rest && may_precede v rest)
 is_element edition multiline s (placeable e) rest = true
 
 -- one rule of one element, by those that follow it
@@ -41,19 +41,19 @@ element_keeps edition rule multiline s (text_element v) rest = text_keeps editio
 element_keeps edition rule multiline s (placeable e) rest = true
 
 -- the numbers of a line that begins with the element
-abbrev pub element_numbers : Edition → ElementTree Text → List ℕ
-element_numbers edition (text_element v) = text_numbers edition v
-element_numbers edition (placeable e) = placeable_numbers edition
+abbrev pub element_indents : Edition → ElementTree Text → List ℕ
+element_indents edition (text_element v) = text_indents edition v
+element_indents edition (placeable e) = placeable_indents edition
 
 -- the numbers of the line that begins at the element
-abbrev pub numbers_at : Edition → grammar.ElementPosition → ElementTree Text → List ℕ
-numbers_at edition s e = if is_line_start s then element_numbers edition e else []
+abbrev pub indents_at : Edition → grammar.ElementPosition → ElementTree Text → List ℕ
+indents_at edition s e = if is_line_start s then element_indents edition e else []
 
--- the lesser of two numbers, or the one that is there
-abbrev pub lesser : Option ℕ → Option ℕ → Option ℕ
-lesser None n = n
-lesser (Some m) None = Some m
-lesser (Some m) (Some n) = Some (min m n)
+-- the least_of_two of two numbers, or the one that is there
+abbrev pub least_of_two : Option ℕ → Option ℕ → Option ℕ
+least_of_two None n = n
+least_of_two (Some m) None = Some m
+least_of_two (Some m) (Some n) = Some (min m n)
 
 -- a text that begins with spaces and then `.`, `[` or `*`
 abbrev pub element_hides_mark : ElementTree Text → Bool
@@ -66,5 +66,5 @@ is_lone (text_element v) = is_lone_lf v
 is_lone (placeable e) = true
 
 -- the rule of one element where no line has a number
-abbrev pub is_lone_at_line_start : grammar.ElementPosition → ElementTree Text → Bool
-is_lone_at_line_start s e = not (is_line_start s) || is_lone e
+abbrev pub is_lone_lf_at_line_start : grammar.ElementPosition → ElementTree Text → Bool
+is_lone_lf_at_line_start s e = not (is_line_start s) || is_lone e

@@ -17,10 +17,10 @@ use Rattle.fluent_syntax_grammar.specs.PatternTexts.{is_empty, is_brace, has_crl
 use Rattle.fluent_syntax_grammar.specs.PatternTexts.{after_spaces}
 use Rattle.fluent_syntax_grammar.specs.Readable.{is_message, are_lines, ElementPosition, opening, after_line}
 use Rattle.fluent_syntax_grammar.specs.Readable.{within_line}
-use Rattle.fluent_syntax_grammar.specs.Readable.{after_placeable, position_after, indents, ends_well, defaults}
+use Rattle.fluent_syntax_grammar.specs.Readable.{after_placeable, position_after, indents, may_precede, defaults}
 use Rattle.fluent_syntax_grammar.specs.Readable.{is_callee}
 use Rattle.fluent_syntax_grammar.specs.Readable.{is_argument_value}
-use Rattle.fluent_syntax_grammar.specs.Canonical.{is_plain_line, hides_mark, line_numbers, are_lone, first_position}
+use Rattle.fluent_syntax_grammar.specs.Canonical.{is_plain_line, hides_mark, line_indents, are_lone, first_position}
 use Rattle.fluent_syntax_grammar.specs.Rules.{Rules, entry_obeys}
 use Rattle.fluent_syntax_writer.specs.declared.canonical.rules.Rule.{Rule}
 use Rattle.fluent_syntax_writer.specs.declared.canonical.rules.Rule.TheVariants.{Junk, EmptyMessage, LfInComment}
@@ -105,7 +105,7 @@ text_keeps edition LfWithinText multiline s v rest = not (has_lf (without_last_l
 text_keeps edition TextAfterText multiline s v rest = follows_no_text s
 text_keeps edition BlankFirstText multiline s v rest = first_is_nonblank edition multiline s v rest
 text_keeps edition LeadingSpace multiline s v rest = first_is_tight multiline s v
-text_keeps edition BlankEnd multiline s v rest = ends_well v rest
+text_keeps edition BlankEnd multiline s v rest = may_precede v rest
 text_keeps edition LineOfSpaces multiline s v rest = later_is_no_space edition s v rest
 text_keeps edition MarkedLine multiline s v rest = later_is_unmarked s v
 text_keeps edition _ multiline s v rest = true
@@ -125,7 +125,7 @@ has_element (elements e es) = true
 
 -- the least number of the pattern's lines
 abbrev pub least_of_lines : Edition → PatternTree Text → Option ℕ
-least_of_lines edition p = least (line_numbers edition (first_position p) p)
+least_of_lines edition p = least (line_indents edition (first_position p) p)
 
 abbrev pub is_zero_if_some : Option ℕ → Bool
 is_zero_if_some None = true
@@ -177,13 +177,13 @@ abbrev pub have_new_names : List Text → NamedTrees Text → Bool
 have_new_names used no_named = true
 have_new_names used (nameds (named_argument name e) ns) = not (is_used name used) && have_new_names (name ∷ used) ns
 
-abbrev pub nameds_keep : Rule → NamedTrees Text → Bool
-nameds_keep ForbiddenArgument ns = have_values ns
-nameds_keep RepeatedArgument ns = have_new_names [] ns
-nameds_keep _ ns = true
+abbrev pub named_arguments_keep : Rule → NamedTrees Text → Bool
+named_arguments_keep ForbiddenArgument ns = have_values ns
+named_arguments_keep RepeatedArgument ns = have_new_names [] ns
+named_arguments_keep _ ns = true
 
 abbrev pub arguments_keep : Rule → ArgumentsTree Text → Bool
-arguments_keep rule (arguments ps ns) = nameds_keep rule ns
+arguments_keep rule (arguments ps ns) = named_arguments_keep rule ns
 
 abbrev pub callee_keeps : Rule → Text → Bool
 callee_keeps ForbiddenCallee v = is_callee v

@@ -13,9 +13,9 @@ use Rattle.ftl_project.specs.declared.fault.Fault.{Fault}
 use Rattle.ftl_project.specs.declared.tally.Tally.{Tally}
 
 -- What is left at an index is the file there, and what is left behind it.
-pub left_at : {A : Type 0} (files : List A) (index : ℕ) (file : A) → index < length files →
+pub suffix_at : {A : Type 0} (files : List A) (index : ℕ) (file : A) → index < length files →
     file ≡ get_or files index file → drop index files ≡ file ∷ drop (index + 1) files
-left_at files index file below is =
+suffix_at files index file below is =
     drop_more files index file below ∙ ap (λ x. x ∷ drop (index + 1) files) (sym is)
 
 same_bytes : (known : Option (List ℕ)) → Appends known known []
@@ -74,7 +74,7 @@ module _ (Is : (path : List ℕ) → Option (List ℕ) → Processed → List �
       let at_path = subst (λ bytes. Writes (Is path bytes) now next between behind) stands writes in
       let at_file = subst (λ p. Writes (Is p (at p)) now next between behind) same at_path in
       so new after (subst (λ left. WritesEach Processes left now new between after)
-      (sym (left_at files index file below is))
+      (sym (suffix_at files index file below is))
       (next, behind, at_file, rest))
 
   pub WritesSo-all : (index : ℕ) (old now : Tally) (before between : Option (List ℕ)) → length files ≤ index →

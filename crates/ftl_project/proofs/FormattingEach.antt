@@ -3,7 +3,7 @@ use Rattle.std.proofs.Common.{◌≡◌, ◌<◌, ◌≤◌, ◌+◌, ℕ, List,
 use Rattle.std.proofs.lemmas.List.{drop_all}
 use Rattle.std.specs.Global.{Global}
 use Rattle.std.specs.Prelude.{String}
-use Rattle.ftl_project.proofs.Counting.{left_at}
+use Rattle.ftl_project.proofs.Counting.{suffix_at}
 use Rattle.ftl_project.specs.Faults.{Failing}
 use Rattle.ftl_project.specs.Formatting.{Formats, FormatsEach}
 use Rattle.ftl_files.specs.declared.options.Reading.{Reading}
@@ -22,7 +22,7 @@ module _ (CallFails : Failing) (reading : Reading) (files : List (String Global)
       FormatsSo (index + 1) old next before behind
   FormatsSo-more index file old now next before between behind below is so formats = λ new after rest.
       so new after (subst (λ left. FormatsEach CallFails reading left now new between after)
-      (sym (left_at files index file below is))
+      (sym (suffix_at files index file below is))
       (next, behind, formats, rest))
 
   pub FormatsSo-all : (index : ℕ) (old now : List ℕ → Option (List ℕ)) (before between : Tally) →

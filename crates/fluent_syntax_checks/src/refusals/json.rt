@@ -2,8 +2,8 @@
 
 use crate::refusals::answers::{HELD, Sunk};
 use crate::refusals::tally::Tally;
-use crate::refusals::trees::{lent_tree, owned_tree};
-use crate::refusals::turns::{in_turn, nothing, over};
+use crate::refusals::trees::{borrowed_tree, owned_tree};
+use crate::refusals::turns::{refuse_each_request, nothing, over};
 use fluent_syntax_json::{from_value, to_value, write_to};
 use fluent_syntax_tests::corpus::TEXTS;
 use fluent_syntax_tests::json::values::{REFUSED, SPELLED};
@@ -35,13 +35,13 @@ fn values(alloc: Global) -> Result<Vec<&'static str>, AllocError> {
 /// The value of a text's tree.
 fn write_form(alloc: Global, text: &str) -> Result<Tally, AllocError> {
     let tree = owned_tree(alloc, text)?;
-    in_turn(alloc, nothing, |_| to_value(alloc, &tree))
+    refuse_each_request(alloc, nothing, |_| to_value(alloc, &tree))
 }
 
 /// The JSON text of a text's tree.
 fn write_text(alloc: Global, text: &str) -> Result<Tally, AllocError> {
-    let (tree, _errors) = lent_tree(alloc, text)?;
-    in_turn(
+    let (tree, _errors) = borrowed_tree(alloc, text)?;
+    refuse_each_request(
         alloc,
         || String::from_str(alloc, HELD),
         |mut sink| Sunk {
@@ -66,5 +66,5 @@ fn read_value(alloc: Global, json: &str) -> Result<Tally, AllocError> {
 
 /// The tree of a value.
 fn read_tree(alloc: Global, value: &Value) -> Result<Tally, AllocError> {
-    in_turn(alloc, nothing, |_| from_value(alloc, value))
+    refuse_each_request(alloc, nothing, |_| from_value(alloc, value))
 }

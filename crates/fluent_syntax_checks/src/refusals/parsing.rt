@@ -1,7 +1,7 @@
 //! The parsers, and trees of spans with the texts put back.
 
 use crate::refusals::tally::Tally;
-use crate::refusals::turns::{in_turn, nothing, over};
+use crate::refusals::turns::{refuse_each_request, nothing, over};
 use fluent_syntax::parser::{ParseFault, parse, parse_runtime};
 use fluent_syntax::spans::{parse_runtime_spans, parse_spans, resolve};
 use fluent_syntax_tests::corpus::TEXTS;
@@ -29,23 +29,23 @@ fn read_blank(alloc: Global, text: &str) -> Result<Tally, AllocError> {
 
 /// Both parsers over a lent text.
 fn read_tree(alloc: Global, text: &str) -> Result<Tally, AllocError> {
-    let whole = in_turn(alloc, nothing, |_| parse(alloc, text))?;
-    let runtime = in_turn(alloc, nothing, |_| parse_runtime(alloc, text))?;
+    let whole = refuse_each_request(alloc, nothing, |_| parse(alloc, text))?;
+    let runtime = refuse_each_request(alloc, nothing, |_| parse_runtime(alloc, text))?;
     Ok(whole.and(runtime))
 }
 
 /// Both parsers over an owned text.
 fn read_owned(alloc: Global, text: &str) -> Result<Tally, AllocError> {
     let owned = || String::from_str(alloc, text);
-    let whole = in_turn(alloc, owned, |input: String| parse(alloc, input))?;
-    let runtime = in_turn(alloc, owned, |input: String| parse_runtime(alloc, input))?;
+    let whole = refuse_each_request(alloc, owned, |input: String| parse(alloc, input))?;
+    let runtime = refuse_each_request(alloc, owned, |input: String| parse_runtime(alloc, input))?;
     Ok(whole.and(runtime))
 }
 
 /// Both parsers to spans.
 fn read_spans(alloc: Global, text: &str) -> Result<Tally, AllocError> {
-    let whole = in_turn(alloc, nothing, |_| parse_spans(alloc, text))?;
-    let runtime = in_turn(alloc, nothing, |_| parse_runtime_spans(alloc, text))?;
+    let whole = refuse_each_request(alloc, nothing, |_| parse_spans(alloc, text))?;
+    let runtime = refuse_each_request(alloc, nothing, |_| parse_runtime_spans(alloc, text))?;
     Ok(whole.and(runtime))
 }
 
@@ -57,7 +57,7 @@ fn resolve_spans(alloc: Global, text: &str) -> Result<Tally, AllocError> {
         Err(ParseFault::Memory) => return Err(AllocError),
     };
     let source = String::from_str(alloc, text)?;
-    let lent = in_turn(alloc, nothing, |_| resolve(alloc, &text, &tree))?;
-    let owned = in_turn(alloc, nothing, |_| resolve(alloc, &source, &tree))?;
+    let lent = refuse_each_request(alloc, nothing, |_| resolve(alloc, &text, &tree))?;
+    let owned = refuse_each_request(alloc, nothing, |_| resolve(alloc, &source, &tree))?;
     Ok(lent.and(owned))
 }

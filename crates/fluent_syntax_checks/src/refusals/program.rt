@@ -2,7 +2,7 @@
 
 use crate::refusals::answers::Answer;
 use crate::refusals::tally::Tally;
-use crate::refusals::turns::{in_turn, nothing, over};
+use crate::refusals::turns::{refuse_each_request, nothing, over};
 use fluent_syntax_tests::corpus::TEXTS;
 use ftl::{Command, Outcome, RunFault, Watched, answer, run};
 use std::alloc::{AllocError, Global};
@@ -40,8 +40,8 @@ fn run_command(alloc: Global, command: Command, text: &str) -> Result<Tally, All
         return Err(AllocError);
     };
     let expected = expected.as_str().as_bytes();
-    let answers = in_turn(alloc, nothing, |_| answer(alloc, command, input))?;
-    let runs = in_turn(
+    let answers = refuse_each_request(alloc, nothing, |_| answer(alloc, command, input))?;
+    let runs = refuse_each_request(
         alloc,
         nothing,
         |_| run_once(alloc, command, input, expected),

@@ -1,7 +1,7 @@
 //! Copies of trees and of errors.
 
 use crate::refusals::tally::Tally;
-use crate::refusals::turns::{in_turn, nothing, over};
+use crate::refusals::turns::{refuse_each_request, nothing, over};
 use fluent_syntax::ast::Resource;
 use fluent_syntax::parser::{ParserError, parse, recovered};
 use fluent_syntax_tests::corpus::TEXTS;
@@ -10,14 +10,14 @@ use std::io;
 
 pub(crate) fn calls<R: Print + AllocGlobal>(rt: &R) -> io::Result<Tally> {
     let texts = TEXTS.as_slice();
-    let lent = over(rt, "try_clone of trees of lent texts", texts, lent_copies)?;
-    let owned = over(rt, "try_clone of trees of owned texts", texts, owned_copies)?;
+    let lent = over(rt, "try_clone of trees of lent texts", texts, copy_borrowed)?;
+    let owned = over(rt, "try_clone of trees of owned texts", texts, copy_owned)?;
     let errors = over(rt, "try_clone of errors", texts, copies_of_errors)?;
     Ok(lent.and(owned).and(errors))
 }
 
 /// The tree of a text, and its errors.
-pub(crate) fn lent_tree(
+pub(crate) fn borrowed_tree(
     alloc: Global,
     text: &str,
 ) -> Result<(Resource<&str>, Vec<ParserError>), AllocError> {
@@ -32,23 +32,23 @@ pub(crate) fn owned_tree(alloc: Global, text: &str) -> Result<Resource<String>, 
 }
 
 /// Copies of the text's tree of lent texts.
-fn lent_copies(alloc: Global, text: &str) -> Result<Tally, AllocError> {
-    let (tree, _errors) = lent_tree(alloc, text)?;
-    in_turn(alloc, nothing, |_| tree.try_clone(alloc))
+fn copy_borrowed(alloc: Global, text: &str) -> Result<Tally, AllocError> {
+    let (tree, _errors) = borrowed_tree(alloc, text)?;
+    refuse_each_request(alloc, nothing, |_| tree.try_clone(alloc))
 }
 
 /// Copies of the text's tree of owned texts.
-fn owned_copies(alloc: Global, text: &str) -> Result<Tally, AllocError> {
+fn copy_owned(alloc: Global, text: &str) -> Result<Tally, AllocError> {
     let tree = owned_tree(alloc, text)?;
-    in_turn(alloc, nothing, |_| tree.try_clone(alloc))
+    refuse_each_request(alloc, nothing, |_| tree.try_clone(alloc))
 }
 
 /// Copies of the text's errors.
 fn copies_of_errors(alloc: Global, text: &str) -> Result<Tally, AllocError> {
-    let (_tree, errors) = lent_tree(alloc, text)?;
+    let (_tree, errors) = borrowed_tree(alloc, text)?;
     let mut total = Tally::NONE;
     for error in &errors {
-        total = total.and(in_turn(alloc, nothing, |_| error.try_clone(alloc))?);
+        total = total.and(refuse_each_request(alloc, nothing, |_| error.try_clone(alloc))?);
     }
     Ok(total)
 }

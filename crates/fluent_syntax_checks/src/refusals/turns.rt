@@ -7,11 +7,11 @@ use std::alloc::{AllocError, Global};
 use std::io;
 
 /// More requests than a call makes.
-const MOST: u32 = 100_000;
+const REQUESTS_LIMIT: u32 = 100_000;
 
 /// Calls with the first request refused, then with the second, and so on, until a call made no request
 /// that was refused. What `make` gives the call is made with ample memory.
-pub(crate) fn in_turn<I, A: Answer + Drop, M: Fn() -> Result<I, AllocError>, F: Fn(I) -> A>(
+pub(crate) fn refuse_each_request<I, A: Answer + Drop, M: Fn() -> Result<I, AllocError>, F: Fn(I) -> A>(
     alloc: Global,
     make: M,
     call: F,
@@ -21,7 +21,7 @@ pub(crate) fn in_turn<I, A: Answer + Drop, M: Fn() -> Result<I, AllocError>, F: 
 {
     let ample = call(make()?);
     let mut tally = Tally::NONE.wrong_if(ample.is_want_of_memory(&ample));
-    for n in 1..MOST {
+    for n in 1..REQUESTS_LIMIT {
         let given = make()?;
         refuse(alloc, n);
         let answer = call(given);

@@ -2,8 +2,8 @@
 
 use crate::refusals::answers::{HELD, Sunk};
 use crate::refusals::tally::Tally;
-use crate::refusals::trees::lent_tree;
-use crate::refusals::turns::{in_turn, nothing, over};
+use crate::refusals::trees::borrowed_tree;
+use crate::refusals::turns::{refuse_each_request, nothing, over};
 use fluent_syntax::laws::{joined, reparse};
 use fluent_syntax::serializer::{Options, serialize, serialize_to, serialize_with_options};
 use fluent_syntax::unicode::{unescape_unicode, unescape_unicode_to_string};
@@ -23,15 +23,15 @@ pub(crate) fn calls<R: Print + AllocGlobal>(rt: &R) -> io::Result<Tally> {
 
 /// The three ways to write a text's tree.
 fn write_text(alloc: Global, text: &str) -> Result<Tally, AllocError> {
-    let (tree, _errors) = lent_tree(alloc, text)?;
+    let (tree, _errors) = borrowed_tree(alloc, text)?;
     let options = Options { with_junk: true };
-    let plain = in_turn(alloc, nothing, |_| serialize(alloc, &tree))?;
-    let with_junk = in_turn(
+    let plain = refuse_each_request(alloc, nothing, |_| serialize(alloc, &tree))?;
+    let with_junk = refuse_each_request(
         alloc,
         nothing,
         |_| serialize_with_options(alloc, &tree, options),
     )?;
-    let sunk = in_turn(
+    let sunk = refuse_each_request(
         alloc,
         || String::from_str(alloc, HELD),
         |mut sink| Sunk {
@@ -44,19 +44,19 @@ fn write_text(alloc: Global, text: &str) -> Result<Tally, AllocError> {
 
 /// A text's tree written and read again.
 fn read_again(alloc: Global, text: &str) -> Result<Tally, AllocError> {
-    let (tree, _errors) = lent_tree(alloc, text)?;
-    in_turn(alloc, nothing, |_| reparse(alloc, &tree))
+    let (tree, _errors) = borrowed_tree(alloc, text)?;
+    refuse_each_request(alloc, nothing, |_| reparse(alloc, &tree))
 }
 
 /// A text's tree joined.
 fn joined_once(alloc: Global, text: &str) -> Result<Tally, AllocError> {
-    let (tree, _errors) = lent_tree(alloc, text)?;
-    in_turn(alloc, nothing, |_| joined(alloc, &tree))
+    let (tree, _errors) = borrowed_tree(alloc, text)?;
+    refuse_each_request(alloc, nothing, |_| joined(alloc, &tree))
 }
 
 /// Both ways to unescape a text.
 fn unescape(alloc: Global, text: &str) -> Result<Tally, AllocError> {
-    let sunk = in_turn(
+    let sunk = refuse_each_request(
         alloc,
         || String::from_str(alloc, HELD),
         |mut sink| Sunk {
@@ -64,6 +64,6 @@ fn unescape(alloc: Global, text: &str) -> Result<Tally, AllocError> {
             sink,
         },
     )?;
-    let given = in_turn(alloc, nothing, |_| unescape_unicode_to_string(alloc, text))?;
+    let given = refuse_each_request(alloc, nothing, |_| unescape_unicode_to_string(alloc, text))?;
     Ok(sunk.and(given))
 }

@@ -17,10 +17,10 @@ pub(crate) fn time_of<R: Clock + AllocGlobal>(
     requires { length text.now + 1 < 2 ^ 64 }
 {
     Ok(Some(match call {
-        "parse" => parsing::parse_lent(rt, text)?,
+        "parse" => parsing::parse_borrowed(rt, text)?,
         "parse_string" => parsing::parse_owned(rt, text)?,
-        "runtime" => parsing::runtime_lent(rt, text)?,
-        "runtime_string" => parsing::runtime_owned(rt, text)?,
+        "runtime" => parsing::parse_runtime_borrowed(rt, text)?,
+        "runtime_string" => parsing::parse_runtime_owned(rt, text)?,
         "spans" => parsing::spans(rt, text)?,
         "runtime_spans" => parsing::runtime_spans(rt, text)?,
         "resolve" => parsing::resolve_spans(rt, text)?,

@@ -9,7 +9,7 @@ use std::alloc::AllocError;
 use std::io;
 use std::time::{Clock, Duration, Instant};
 
-pub(crate) fn parse_lent<R: Clock + AllocGlobal>(rt: &R, text: &str) -> io::Result<Duration>
+pub(crate) fn parse_borrowed<R: Clock + AllocGlobal>(rt: &R, text: &str) -> io::Result<Duration>
     requires { length text.now + 1 < 2 ^ 64 }
 {
     duration_of(rt, || parser::parse(rt.alloc(), text))
@@ -22,13 +22,13 @@ pub(crate) fn parse_owned<R: Clock + AllocGlobal>(rt: &R, text: &str) -> io::Res
     duration_of(rt, || parser::parse(rt.alloc(), copy))
 }
 
-pub(crate) fn runtime_lent<R: Clock + AllocGlobal>(rt: &R, text: &str) -> io::Result<Duration>
+pub(crate) fn parse_runtime_borrowed<R: Clock + AllocGlobal>(rt: &R, text: &str) -> io::Result<Duration>
     requires { length text.now + 1 < 2 ^ 64 }
 {
     duration_of(rt, || parser::parse_runtime(rt.alloc(), text))
 }
 
-pub(crate) fn runtime_owned<R: Clock + AllocGlobal>(rt: &R, text: &str) -> io::Result<Duration>
+pub(crate) fn parse_runtime_owned<R: Clock + AllocGlobal>(rt: &R, text: &str) -> io::Result<Duration>
     requires { length text.now + 1 < 2 ^ 64 }
 {
     let copy = String::from_str(rt.alloc(), text)?;

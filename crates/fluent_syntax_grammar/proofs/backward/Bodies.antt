@@ -27,18 +27,18 @@ use Rattle.fluent_syntax_grammar.proofs.backward.Entries.{IsLines, IsMessage, Is
 
 module _ (t : List ℕ) (Joins Junk : Type 0) where
   -- an entry of a body: one that was read, or junk where it is allowed
-  abbrev IsPart : EntryTree Span → Type 0
-  IsPart (message m) = IsMessage t Joins m
-  IsPart (term m) = IsTerm t Joins m
-  IsPart (comment level content) = IsLines t content
-  IsPart (junk s) = Junk
+  abbrev IsBodyEntry : EntryTree Span → Type 0
+  IsBodyEntry (message m) = IsMessage t Joins m
+  IsBodyEntry (term m) = IsTerm t Joins m
+  IsBodyEntry (comment level content) = IsLines t content
+  IsBodyEntry (junk s) = Junk
 
   abbrev IsTile : Tile → Type 0
-  IsTile (entry s e) = IsPart e
+  IsTile (entry s e) = IsBodyEntry e
   IsTile (refused f) = Junk
   IsTile dropped = Unit {0}
 
-  part_of : (e : EntryTree Span) → IsNotJunk t Joins e → IsPart e
+  part_of : (e : EntryTree Span) → IsNotJunk t Joins e → IsBodyEntry e
   part_of (message m) g = g
   part_of (term m) g = g
   part_of (comment level content) g = g
@@ -46,20 +46,20 @@ module _ (t : List ℕ) (Joins Junk : Type 0) where
 
   -- ---- attaching
 
-  attached_part : (content : List Span) (e : EntryTree Span) → IsLines t content → IsPart e →
-      option_every IsPart (attached content e)
+  attached_part : (content : List Span) (e : EntryTree Span) → IsLines t content → IsBodyEntry e →
+      option_every IsBodyEntry (attached content e)
   attached_part content (message m) l g =
       record { name = g.name; field = g.field; value = g.value; attributes = g.attributes; comment = l }
   attached_part content (term m) l g = record { name = g.name; value = g.value; attributes = g.attributes; comment = l }
   attached_part content (comment level c) l g = tt
   attached_part content (junk s) l g = tt
 
-  attached_if : (b : Bool) (content : List Span) (e : EntryTree Span) → IsLines t content → IsPart e →
-      option_every IsPart (if b then attached content e else None)
+  attached_if : (b : Bool) (content : List Span) (e : EntryTree Span) → IsLines t content → IsBodyEntry e →
+      option_every IsBodyEntry (if b then attached content e else None)
   attached_if true content e l g = attached_part content e l g
   attached_if false content e l g = tt
 
-  attaches_part : (x y : Tile) → IsTile x → IsTile y → option_every IsPart (attached_entry x y)
+  attaches_part : (x y : Tile) → IsTile x → IsTile y → option_every IsBodyEntry (attached_entry x y)
   attaches_part (entry s (comment regular content)) (entry r e) g h = attached_if (s.end == r.start) content e g h
   attaches_part (entry s (comment regular content)) (refused f) g h = tt
   attaches_part (entry s (comment regular content)) dropped g h = tt
@@ -71,23 +71,23 @@ module _ (t : List ℕ) (Joins Junk : Type 0) where
   attaches_part (refused f) y g h = tt
   attaches_part dropped y g h = tt
 
-  alone_part : (x : Tile) → IsTile x → list_every IsPart (alone x)
+  alone_part : (x : Tile) → IsTile x → list_every IsBodyEntry (alone x)
   alone_part (entry s e) g = (g, tt)
   alone_part (refused f) g = (g, tt)
   alone_part dropped g = tt
 
-  parts_append : (xs ys : List (EntryTree Span)) → list_every IsPart xs → list_every IsPart ys →
-      list_every IsPart (xs ++ ys)
+  parts_append : (xs ys : List (EntryTree Span)) → list_every IsBodyEntry xs → list_every IsBodyEntry ys →
+      list_every IsBodyEntry (xs ++ ys)
   parts_append [] ys g h = h
   parts_append (x ∷ xs) ys (g, k) h = (g, parts_append xs ys k h)
 
-  joined_part : (o : Option (EntryTree Span)) (first others after : List (EntryTree Span)) → option_every IsPart o →
-      list_every IsPart first → list_every IsPart others → list_every IsPart after →
-      list_every IsPart (or_attached o first others after)
+  joined_part : (o : Option (EntryTree Span)) (first others after : List (EntryTree Span)) → option_every IsBodyEntry o →
+      list_every IsBodyEntry first → list_every IsBodyEntry others → list_every IsBodyEntry after →
+      list_every IsBodyEntry (or_attached o first others after)
   joined_part None first others after g h k l = parts_append first others h k
   joined_part (Some e) first others after g h k l = (g, l)
 
-  body_part : (tiles : List Tile) → list_every IsTile tiles → list_every IsPart (body tiles)
+  body_part : (tiles : List Tile) → list_every IsTile tiles → list_every IsBodyEntry (body tiles)
   body_part [] g = tt
   body_part (x ∷ []) (g, h) = alone_part x g
   body_part (x ∷ y ∷ tiles) (g, (h, k)) =
@@ -106,7 +106,7 @@ module _ (t : List ℕ) (Joins Junk : Type 0) where
       term_obeys (readable_rules One) (joined_term (term_map (bytes_at t) m)) ≡ true
   term_obeying m g = let v = g.value in let a = g.attributes in both g.comment (both g.name (both v.obeys a.obeys))
 
-  body_obeying : (es : BodyTree Span) → list_every IsPart es →
+  body_obeying : (es : BodyTree Span) → list_every IsBodyEntry es →
       body_obeys (readable_rules One) (joined_body (body_map (bytes_at t) es)) ≡ true
   body_obeying [] g = refl
   body_obeying (message m ∷ es) (g, h) = both (message_obeying m g) (body_obeying es h)
@@ -128,7 +128,7 @@ module _ (t : List ℕ) (Joins Junk : Type 0) where
       ≡ term (record { id = id; value = w; attributes = b; comment = c }) ∷ fs
   term_same id c e f g = cc (e, f, g)
 
-  body_same : (Joins → ⊥) → (Junk → ⊥) → (es : BodyTree Span) → list_every IsPart es →
+  body_same : (Joins → ⊥) → (Junk → ⊥) → (es : BodyTree Span) → list_every IsBodyEntry es →
       joined_body (body_map (bytes_at t) es) ≡ body_map (bytes_at t) es
   body_same none clean [] g = refl
   body_same none clean (message m ∷ es) (g, h) = let v = g.value in let a = g.attributes in
@@ -144,13 +144,13 @@ module _ (t : List ℕ) (Joins Junk : Type 0) where
 module _ (t : List ℕ) (bare : HasNoBareCr t) (Joins Junk : Type 0) (crs : (i : ℕ) → has_byte t cr i ≡ true → Joins)
   where
     -- the tiles of a tiling: junk is allowed, or there is none
-    tiles_fine : (i : ℕ) (tiles : List Tile) → Junk ⊎ (faults tiles ≡ []) → Tiled t (TileAt One t) i tiles →
+    tiles_obey_joined : (i : ℕ) (tiles : List Tile) → Junk ⊎ (faults tiles ≡ []) → Tiled t (TileAt One t) i tiles →
         list_every (IsTile t Joins Junk) tiles
-    tiles_fine i tiles j (done b) = tt
-    tiles_fine i tiles j (next {start = start} {end = end} b l (reads {e = e} x) r) =
-        (part_of t Joins Junk e ((ensures_entry t bare Joins crs).on_read start end e x), tiles_fine end _ j r)
-    tiles_fine i tiles (inl j) (next {end = end} b l (refuses x e) r) = (j, tiles_fine end _ (inl j) r)
-    tiles_fine i tiles (inr f) (next {end = end} b l (refuses x e) r) = absurd cc
+    tiles_obey_joined i tiles j (done b) = tt
+    tiles_obey_joined i tiles j (next {start = start} {end = end} b l (reads {e = e} x) r) =
+        (part_of t Joins Junk e ((ensures_entry t bare Joins crs).on_read start end e x), tiles_obey_joined end _ j r)
+    tiles_obey_joined i tiles (inl j) (next {end = end} b l (refuses x e) r) = (j, tiles_obey_joined end _ (inl j) r)
+    tiles_obey_joined i tiles (inr f) (next {end = end} b l (refuses x e) r) = absurd cc
 
 no_cr_bare : (t : List ℕ) → HasNoCr t → HasNoBareCr t
 no_cr_bare t no_cr i e = differs e (no_cr i)
@@ -160,7 +160,7 @@ pub joined_is_readable : (t : List ℕ) → JoinedIsReadable t
 joined_is_readable t tiles bare tiling =
     body_obeying t (Unit {0}) (Unit {0}) (body tiles)
     (body_part t (Unit {0}) (Unit {0}) tiles
-    (tiles_fine t bare (Unit {0}) (Unit {0}) (λ i e. tt) 0 tiles (inl tt) tiling))
+    (tiles_obey_joined t bare (Unit {0}) (Unit {0}) (λ i e. tt) 0 tiles (inl tt) tiling))
 
 -- So it is canonical exactly where the four rules more hold of it.
 pub joined_is_canonical : (t : List ℕ) → JoinedIsCanonical t
@@ -172,4 +172,4 @@ pub joined_is_same : (t : List ℕ) → JoinedIsSame t
 joined_is_same t tiles no_cr tiling f =
     body_same t ⊥ ⊥ (λ x. x) (λ x. x) (body tiles)
     (body_part t ⊥ ⊥ tiles
-    (tiles_fine t (no_cr_bare t no_cr) ⊥ ⊥ (λ i e. differs e (no_cr i)) 0 tiles (inr f) tiling))
+    (tiles_obey_joined t (no_cr_bare t no_cr) ⊥ ⊥ (λ i e. differs e (no_cr i)) 0 tiles (inr f) tiling))

@@ -31,10 +31,10 @@ use Rattle.fluent_syntax_grammar.proofs.Tests.{both}
 use Rattle.fluent_syntax_grammar.proofs.backward.Lines.{range_none, range_all}
 use Rattle.fluent_syntax_grammar.proofs.backward.Words.{IsName}
 use Rattle.fluent_syntax_grammar.proofs.backward.Rules.{Ensures, ensures_bind, ensures_then, ensures_yields}
-use Rattle.fluent_syntax_grammar.proofs.backward.Rules.{ensures_fails, ensures_peek, ensures_branch_on, Fine, IsPattern}
+use Rattle.fluent_syntax_grammar.proofs.backward.Rules.{ensures_fails, ensures_peek, ensures_branch_on, ObeysJoined, IsPattern}
 use Rattle.fluent_syntax_grammar.proofs.backward.Rules.{ensures_name}
 use Rattle.fluent_syntax_grammar.proofs.backward.Family as family_back
-use Rattle.fluent_syntax_grammar.proofs.backward.Family.{fine_family}
+use Rattle.fluent_syntax_grammar.proofs.backward.Family.{family_obeys_joined}
 use Rattle.fluent_syntax_grammar.proofs.Tests.{neither_left, not_false, not_true}
 
 -- ---- comments
@@ -100,12 +100,12 @@ module _ (t : List ℕ) where
 module _ (t : List ℕ) (Joins : Type 0) where
   abbrev pub IsAttributes : List (AttributeTree Span) → Type 0
   IsAttributes rest =
-      Fine Joins (list_all (attribute_obeys (readable_rules One))) (map joined_attribute)
+      ObeysJoined Joins (list_all (attribute_obeys (readable_rules One))) (map joined_attribute)
       (map (attribute_map (bytes_at t)) rest)
 
   abbrev pub IsValue : Option (PatternTree Span) → Type 0
   IsValue o =
-      Fine Joins (option_obeys (pattern_obeys (readable_rules One))) (option_map joined_pattern)
+      ObeysJoined Joins (option_obeys (pattern_obeys (readable_rules One))) (option_map joined_pattern)
       (option_map (pattern_map (bytes_at t)) o)
 
   abbrev pub IsComment : Option (List Span) → Type 0
@@ -136,17 +136,17 @@ module _ (t : List ℕ) (Joins : Type 0) where
   value_of None g = record { obeys = refl; same = λ none. refl }
   value_of (Some p) g = record { obeys = g.obeys; same = λ none. ap Some (g.same none) }
 
-  attribute_fine : (id : Span) (p : PatternTree Span) → IsName t id → IsPattern t Joins p →
-      Fine Joins (attribute_obeys (readable_rules One)) joined_attribute
+  attribute_obeys_joined : (id : Span) (p : PatternTree Span) → IsName t id → IsPattern t Joins p →
+      ObeysJoined Joins (attribute_obeys (readable_rules One)) joined_attribute
       (attribute_map (bytes_at t) (record { id = id; value = p }))
-  attribute_fine id p n g =
+  attribute_obeys_joined id p n g =
       record { obeys = both n g.obeys; same = λ none. ap (λ p. record { id = bytes_at t id; value = p }) (g.same none) }
 
   no_attributes : IsAttributes []
   no_attributes = record { obeys = refl; same = λ none. refl }
 
   more_attributes : (a : AttributeTree Span) (rest : List (AttributeTree Span)) →
-      Fine Joins (attribute_obeys (readable_rules One)) joined_attribute (attribute_map (bytes_at t) a) →
+      ObeysJoined Joins (attribute_obeys (readable_rules One)) joined_attribute (attribute_map (bytes_at t) a) →
       IsAttributes rest → IsAttributes (a ∷ rest)
   more_attributes a rest f g =
       record { obeys = both f.obeys g.obeys; same = λ none. cons_same (f.same none) (g.same none) }
@@ -156,15 +156,15 @@ module _ (t : List ℕ) (Joins : Type 0) where
 
 module _ (t : List ℕ) (bare : HasNoBareCr t) (Joins : Type 0) (crs : (i : ℕ) → has_byte t cr i ≡ true → Joins) where
   ensures_pattern : Ensures (pattern One t) (option_every (IsPattern t Joins))
-  ensures_pattern = family_back.ensures_pattern t bare Joins crs (family One t) (fine_family t bare Joins crs)
+  ensures_pattern = family_back.ensures_pattern t bare Joins crs (family One t) (family_obeys_joined t bare Joins crs)
 
   abbrev IsAttribute : AttributeTree Span → Type 0
-  IsAttribute a = Fine Joins (attribute_obeys (readable_rules One)) joined_attribute (attribute_map (bytes_at t) a)
+  IsAttribute a = ObeysJoined Joins (attribute_obeys (readable_rules One)) joined_attribute (attribute_map (bytes_at t) a)
 
   ensures_with : (id : Span) (o : Option (PatternTree Span)) → IsName t id → option_every (IsPattern t Joins) o →
       Ensures (attribute_with id o) IsAttribute
   ensures_with id None n g = ensures_fails
-  ensures_with id (Some p) n g = ensures_yields (attribute_fine t Joins id p n g)
+  ensures_with id (Some p) n g = ensures_yields (attribute_obeys_joined t Joins id p n g)
 
   ensures_attribute : Ensures (attribute One t) IsAttribute
   ensures_attribute =
@@ -220,7 +220,7 @@ module _ (t : List ℕ) (bare : HasNoBareCr t) (Joins : Type 0) (crs : (i : ℕ)
   ensures_comment =
       ensures_peek
       (λ level. ensures_bind (ensures_line t level)
-      (λ c g. ensures_bind {Mid = IsLines t} (record { on_read = lines_read t level })
+      (λ c g. ensures_bind {ReadsMidLine = IsLines t} (record { on_read = lines_read t level })
       (λ rest k. ensures_yields (lines_append t c rest g k))))
 
   ensures_entry_of : (o : Option ℕ) → Ensures (entry_of One t (family One t) o) (IsNotJunk t Joins)

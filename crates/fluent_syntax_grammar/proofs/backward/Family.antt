@@ -18,7 +18,7 @@ use Rattle.fluent_syntax_grammar.specs.Construct.{second, More, no_item, item, m
 use Rattle.fluent_syntax_grammar.specs.Tokens.{number}
 use Rattle.fluent_syntax_grammar.specs.Family.{Family}
 use Rattle.fluent_syntax_grammar.specs.Layout.{Piece, run, placed, Ending, lf_at, crlf_at, Line, Layout}
-use Rattle.fluent_syntax_grammar.specs.Elements.{Item, text, filled, items, cut, spelled, if_any, pattern_of}
+use Rattle.fluent_syntax_grammar.specs.Elements.{Item, text, placeable_item, items, cut, spelled, if_any, pattern_of}
 use Rattle.fluent_syntax_grammar.specs.Lines as lines
 use Rattle.fluent_syntax_grammar.specs.Lines.{is_run_place, belongs, ending_of, ending, next_piece_at, next_piece}
 use Rattle.fluent_syntax_grammar.specs.Lines.{next_line}
@@ -33,26 +33,26 @@ use Rattle.fluent_syntax_grammar.specs.Rules.{pattern_obeys}
 use Rattle.fluent_syntax_grammar.specs.Readable.{opening, defaults, readable_rules}
 use Rattle.fluent_syntax_grammar.specs.Joined.{is_joined, joined_pattern, joined_after, joined_variants}
 use Rattle.fluent_syntax_grammar.specs.RoundTrip.{HasNoBareCr}
-use Rattle.fluent_syntax_grammar.proofs.Holds.{gave}
+use Rattle.fluent_syntax_grammar.proofs.HoareTriple.{gave}
 use Rattle.fluent_syntax_grammar.proofs.Cuts.{eol_cases}
-use Rattle.fluent_syntax_grammar.proofs.Functional.{single_stretch}
+use Rattle.fluent_syntax_grammar.proofs.Functional.{longest_run_functional}
 use Rattle.fluent_syntax_grammar.proofs.Facts.{byte_holds, differs, two_on_as_one, not_next}
-use Rattle.fluent_syntax_grammar.proofs.Facts.{stretch_onward}
+use Rattle.fluent_syntax_grammar.proofs.Facts.{longest_run_nonempty}
 use Rattle.fluent_syntax_grammar.proofs.Tests.{both}
-use Rattle.fluent_syntax_grammar.proofs.backward.Shapes.{Kept, kept_cut, shape_cut, tree, Well, items_well, items_same}
+use Rattle.fluent_syntax_grammar.proofs.backward.Shapes.{LastItemStays, kept_cut, shape_cut, tree, Well, items_well, items_same}
 use Rattle.fluent_syntax_grammar.proofs.backward.Shapes.{Shape}
 use Rattle.fluent_syntax_grammar.proofs.backward.Lines.{IsEnd, PiecesAt, no_piece, a_run, a_placeable, EndingAt}
 use Rattle.fluent_syntax_grammar.proofs.backward.Lines.{lf_ends, crlf_ends, text_ends, LineAt, LinesAt}
 use Rattle.fluent_syntax_grammar.proofs.backward.Lines.{no_line as no_lines, a_line, LayoutAt, on_line, below}
 use Rattle.fluent_syntax_grammar.proofs.backward.Layouts.{layout_shape}
 use Rattle.fluent_syntax_grammar.proofs.backward.FirstLines.{spare}
-use Rattle.fluent_syntax_grammar.proofs.backward.Words.{number_was}
+use Rattle.fluent_syntax_grammar.proofs.backward.Words.{number_inversion}
 use Rattle.fluent_syntax_grammar.proofs.backward.Rules.{Ensures, ensures_bind, ensures_then, ensures_yields}
-use Rattle.fluent_syntax_grammar.proofs.backward.Rules.{ensures_fails, ensures_peek, ensures_branch_on, Fine, IsPattern}
-use Rattle.fluent_syntax_grammar.proofs.backward.Rules.{IsKey, IsVariants, IsFineFamily, ensures_name, IsInline}
-use Rattle.fluent_syntax_grammar.proofs.backward.Rules.{ensures_placeable, inline_was, ensures_arguments, Adds}
+use Rattle.fluent_syntax_grammar.proofs.backward.Rules.{ensures_fails, ensures_peek, ensures_branch_on, ObeysJoined, IsPattern}
+use Rattle.fluent_syntax_grammar.proofs.backward.Rules.{IsKey, IsVariants, ObeysJoinedFamily, ensures_name, IsInline}
+use Rattle.fluent_syntax_grammar.proofs.backward.Rules.{ensures_placeable, inline_inversion, ensures_arguments, Adds}
 use Rattle.fluent_syntax_grammar.proofs.backward.Rules.{ensures_many}
-use Rattle.fluent_syntax_grammar.proofs.backward.Rules.{fine_select, fine_inline}
+use Rattle.fluent_syntax_grammar.proofs.backward.Rules.{select_obeys_joined, inline_obeys_joined}
 use Rattle.fluent_syntax_grammar.proofs.backward.Shapes.{IsRead}
 use Rattle.fluent_syntax_tree.specs.Tree.{InlineTree, VariantTree}
 use Rattle.fluent_syntax_tree.specs.Kind.{Kind}
@@ -89,12 +89,12 @@ module _ (t : List ℕ) (bare : HasNoBareCr t) (Joins : Type 0) (crs : (i : ℕ)
   tree_elements : (x : Item) (xs : List Item) → has_elements (joined_pattern (tree t (x ∷ xs))) ≡ true
   tree_elements (text from to) [] = refl
   tree_elements (text from to) (y ∷ ys) = joined_elements (text_element _) (tree t (y ∷ ys))
-  tree_elements (filled e) xs = refl
+  tree_elements (placeable_item e) xs = refl
 
-  tree_fine : (x : Item) (xs : List Item) →
-      Shape t Joins (is_multiline (joined_pattern (tree t (x ∷ xs)))) opening (x ∷ xs) → Kept t (x ∷ xs) →
-      Fine Joins (pattern_obeys (readable_rules One)) joined_pattern (tree t (x ∷ xs))
-  tree_fine x xs s k =
+  tree_obeys_joined : (x : Item) (xs : List Item) →
+      Shape t Joins (is_multiline (joined_pattern (tree t (x ∷ xs)))) opening (x ∷ xs) → LastItemStays t (x ∷ xs) →
+      ObeysJoined Joins (pattern_obeys (readable_rules One)) joined_pattern (tree t (x ∷ xs))
+  tree_obeys_joined x xs s k =
       let m = is_multiline (joined_pattern (tree t (x ∷ xs))) in
       record {
         obeys =
@@ -103,18 +103,18 @@ module _ (t : List ℕ) (bare : HasNoBareCr t) (Joins : Type 0) (crs : (i : ℕ)
         same = λ none. items_same t Joins m none opening (x ∷ xs) s;
       }
 
-  spelled_fine : (xs : List Item) → Shape t Joins (is_multiline (joined_pattern (tree t xs))) opening xs → Kept t xs →
+  spelled_obeys_joined : (xs : List Item) → Shape t Joins (is_multiline (joined_pattern (tree t xs))) opening xs → LastItemStays t xs →
       option_every (IsPattern t Joins) (if_any (spelled t xs))
-  spelled_fine [] s k = tt
-  spelled_fine (text from to ∷ []) s k = tree_fine (text from to) [] s k
-  spelled_fine (text from to ∷ y ∷ ys) s k = tree_fine (text from to) (y ∷ ys) s k
-  spelled_fine (filled e ∷ xs) s k = tree_fine (filled e) xs s k
+  spelled_obeys_joined [] s k = tt
+  spelled_obeys_joined (text from to ∷ []) s k = tree_obeys_joined (text from to) [] s k
+  spelled_obeys_joined (text from to ∷ y ∷ ys) s k = tree_obeys_joined (text from to) (y ∷ ys) s k
+  spelled_obeys_joined (placeable_item e ∷ xs) s k = tree_obeys_joined (placeable_item e) xs s k
 
   -- a layout that was read spells a fine pattern, or none
-  pub pattern_fine : (y : Layout) → LayoutAt t Joins y → option_every (IsPattern t Joins) (pattern_of One t y)
-  pattern_fine y x =
+  pub pattern_obeys_joined : (y : Layout) → LayoutAt t Joins y → option_every (IsPattern t Joins) (pattern_of One t y)
+  pattern_obeys_joined y x =
       let m = is_multiline (joined_pattern (tree t (cut t (items One y)))) in
-      spelled_fine (cut t (items One y))
+      spelled_obeys_joined (cut t (items One y))
       (shape_cut t Joins m opening (items One y)
       (layout_shape t bare Joins crs m y x (spare t bare Joins crs m y x))) (kept_cut t (items One y))
 
@@ -146,8 +146,8 @@ module _ (t : List ℕ) (Joins : Type 0) where
       let value = gave (if k == i + 1 then lf_at i else crlf_at i) x m j y in
       subst (λ x. EndingAt t Joins i x j) value.0 (good_ending_if i k j (k == i + 1) refl e (sym w.there ∙ value.1))
 
-  pub ending_was : (i j : ℕ) (x : Ending) → IsEnd t i → ending t i (Read x j) → EndingAt t Joins i x j
-  ending_was i j x n (goes_on at_place (chosen y)) = ending_at i j x (after_eol t i) n refl y
+  pub ending_inversion : (i j : ℕ) (x : Ending) → IsEnd t i → ending t i (Read x j) → EndingAt t Joins i x j
+  ending_inversion i j x n (goes_on at_place (chosen y)) = ending_at i j x (after_eol t i) n refl y
 
   pub pieces_end : (i : ℕ) (ps : List Piece) (j : ℕ) → PiecesAt t Joins i ps j → IsEnd t j
   pieces_end i [] j (no_piece e) = e
@@ -163,7 +163,7 @@ module _ (t : List ℕ) (Joins : Type 0) where
       (not_false (has_eol t i) f)
 
 module _ (t : List ℕ) (bare : HasNoBareCr t) (Joins : Type 0) (crs : (i : ℕ) → has_byte t cr i ≡ true → Joins)
-    (R : Family) (h : IsFineFamily t Joins R) where
+    (R : Family) (h : ObeysJoinedFamily t Joins R) where
   -- the pieces, behind one that was read
   abbrev AddsPiece : ℕ → More Piece (Unit {0}) → ℕ → Type 0
   AddsPiece i no_item j = PiecesAt t Joins i [] j
@@ -180,25 +180,25 @@ module _ (t : List ℕ) (bare : HasNoBareCr t) (Joins : Type 0) (crs : (i : ℕ)
       (chosen (second f
       (second g (second k
       (goes_on (goes_on at_place (goes_on (passed {j = to} w) (goes_on at_place given))) given))))) =
-      λ ps n z. a_run (stretch_onward (is_run_place t) i to (run_begins t Joins i b e f g k) w) w z
+      λ ps n z. a_run (longest_run_nonempty (is_run_place t) i to (run_begins t Joins i b e f g k) w) w z
 
-  piece_was : (i j : ℕ) (p : More Piece (Unit {0})) → next_piece t R i (Read p j) → AddsPiece i p j
-  piece_was i j p (chosen x) = piece_was_at i j p (slice_get t i) refl x
+  piece_inversion : (i j : ℕ) (p : More Piece (Unit {0})) → next_piece t R i (Read p j) → AddsPiece i p j
+  piece_inversion i j p (chosen x) = piece_was_at i j p (slice_get t i) refl x
 
   pieces_from : (u : Unit {0}) (i j : ℕ) (ps : List Piece) →
       many (λ u. next_piece t R) (λ p ps. p ∷ ps) [] u i (Read ps j) → PiecesAt t Joins i ps j
-  pieces_from u i j ps (list_ends x) = piece_was i j no_item x
+  pieces_from u i j ps (list_ends x) = piece_inversion i j no_item x
   pieces_from u i j ps (item_and_more {later = v} {j = m} {a = p} {rest = rest} x y) =
-      piece_was i m (item p v) x rest j (pieces_from v m j rest y)
+      piece_inversion i m (item p v) x rest j (pieces_from v m j rest y)
 
-  pieces_was : (i j : ℕ) (ps : List Piece) → lines.more_pieces t R i (Read ps j) → PiecesAt t Joins i ps j
-  pieces_was i j ps x = pieces_from tt i j ps x
+  pieces_inversion : (i j : ℕ) (ps : List Piece) → lines.more_pieces t R i (Read ps j) → PiecesAt t Joins i ps j
+  pieces_inversion i j ps x = pieces_from tt i j ps x
 
   line_made : (i k b start m n : ℕ) (ps : List Piece) (e' : Ending) → InlineBlank t i k → slice_get t k ≡ Some b →
       belongs t (nat_lt i k) k ≡ true → InlineBlank t i start → PiecesAt t Joins start ps m → EndingAt t Joins m e' n →
       LineAt t Joins i (record { start = i; spaces = start - i; pieces = ps; ending = e' }) n
   line_made i k b start m n ps e' w e f v p q =
-      let same : k ≡ start = single_stretch.same i k start w v in
+      let same : k ≡ start = longest_run_functional.same i k start w v in
       record {
         first = start;
         byte = b;
@@ -212,15 +212,15 @@ module _ (t : List ℕ) (bare : HasNoBareCr t) (Joins : Type 0) (crs : (i : ℕ)
         ending = q;
       }
 
-  line_was : (i k b j : ℕ) (l : Line) → InlineBlank t i k → slice_get t k ≡ Some b → belongs t (nat_lt i k) k ≡ true →
+  line_inversion : (i k b j : ℕ) (l : Line) → InlineBlank t i k → slice_get t k ≡ Some b → belongs t (nat_lt i k) k ≡ true →
       lines.line t R i (Read l j) → LineAt t Joins i l j
-  line_was i k b j l w e f
+  line_inversion i k b j l w e f
       (goes_on at_place
       (goes_on (passed {j = start} v)
       (goes_on at_place (goes_on {j = m} {a = ps} x (goes_on {j = n} {a = e'} y z))))) =
-      let p = pieces_was start m ps x in
+      let p = pieces_inversion start m ps x in
       let made =
-      line_made i k b start m n ps e' w e f v p (ending_was t Joins m n e' (pieces_end t Joins start ps m p) y) in
+      line_made i k b start m n ps e' w e f v p (ending_inversion t Joins m n e' (pieces_end t Joins start ps m p) y) in
       let value = gave (record { start = i; spaces = start - i; pieces = ps; ending = e' }) l n j z in
       subst (λ l. LineAt t Joins i l j) value.0
       (subst (λ j. LineAt t Joins i (record { start = i; spaces = start - i; pieces = ps; ending = e' }) j) value.1
@@ -231,50 +231,50 @@ module _ (t : List ℕ) (bare : HasNoBareCr t) (Joins : Type 0) (crs : (i : ℕ)
   AddsLine i no_item j = LinesAt t Joins i []
   AddsLine i (item l u) j = (ls : List Line) → LinesAt t Joins j ls → LinesAt t Joins i (l ∷ ls)
 
-  next_was : (i j : ℕ) (l : More Line (Unit {0})) → next_line t R i (Read l j) → AddsLine i l j
-  next_was i j l (no_byte w e) = no_lines
-  next_was i j l (other_line w e f) = no_lines
-  next_was i j l (own_line {k = k} {b = b} w e f (goes_on {j = m} {a = x} y given)) =
-      λ ls z. a_line (line_was i k b m x w e f y) z
+  next_inversion : (i j : ℕ) (l : More Line (Unit {0})) → next_line t R i (Read l j) → AddsLine i l j
+  next_inversion i j l (no_byte w e) = no_lines
+  next_inversion i j l (other_line w e f) = no_lines
+  next_inversion i j l (own_line {k = k} {b = b} w e f (goes_on {j = m} {a = x} y given)) =
+      λ ls z. a_line (line_inversion i k b m x w e f y) z
 
   lines_from : (u : Unit {0}) (i j : ℕ) (ls : List Line) →
       many (λ u. next_line t R) (λ l ls. l ∷ ls) [] u i (Read ls j) → LinesAt t Joins i ls
-  lines_from u i j ls (list_ends x) = next_was i j no_item x
+  lines_from u i j ls (list_ends x) = next_inversion i j no_item x
   lines_from u i j ls (item_and_more {later = v} {j = m} {a = l} {rest = rest} x y) =
-      next_was i m (item l v) x rest (lines_from v m j rest y)
+      next_inversion i m (item l v) x rest (lines_from v m j rest y)
 
-  lines_was : (i j : ℕ) (ls : List Line) → lines.more_lines t R i (Read ls j) → LinesAt t Joins i ls
-  lines_was i j ls x = lines_from tt i j ls x
+  lines_inversion : (i j : ℕ) (ls : List Line) → lines.more_lines t R i (Read ls j) → LinesAt t Joins i ls
+  lines_inversion i j ls x = lines_from tt i j ls x
 
   layout_was_at : (i j : ℕ) (y : Layout) (o : Option ℕ) → has t is_space i ≡ false → after_eol t i ≡ o →
       layout_at t R o i (Read y j) → LayoutAt t Joins y
   layout_was_at i j y None s e
       (goes_on at_place (goes_on {j = m} {a = ps} x (goes_on {j = n} {a = z} w (goes_on {a = ls} v given)))) =
-      let p = pieces_was i m ps x in
-      on_line s (after_none t i e) p (ending_was t Joins m n z (pieces_end t Joins i ps m p) w) (lines_was n j ls v)
+      let p = pieces_inversion i m ps x in
+      on_line s (after_none t i e) p (ending_inversion t Joins m n z (pieces_end t Joins i ps m p) w) (lines_inversion n j ls v)
   layout_was_at i j y (Some k) s e
       (goes_on (passed {j = m} r) (goes_on (passed {j = n} b) (goes_on {a = ls} v given))) =
       let c = block_stop t m n b in
-      below c.1 (after_none t c.0 c.2) (lines_was n j ls v)
+      below c.1 (after_none t c.0 c.2) (lines_inversion n j ls v)
 
-  layout_was : (i j : ℕ) (y : Layout) → layout t R i (Read y j) → LayoutAt t Joins y
-  layout_was i j y (goes_on (passed {j = m} w) (chosen x)) = layout_was_at m j y (after_eol t m) w.longest refl x
+  layout_inversion : (i j : ℕ) (y : Layout) → layout t R i (Read y j) → LayoutAt t Joins y
+  layout_inversion i j y (goes_on (passed {j = m} w) (chosen x)) = layout_was_at m j y (after_eol t m) w.longest refl x
 
   pub ensures_pattern : Ensures (pattern One t R) (option_every (IsPattern t Joins))
   ensures_pattern =
-      ensures_bind (record { on_read = λ i j y x. layout_was i j y x })
-      (λ y g. ensures_yields (pattern_fine t bare Joins crs y g))
+      ensures_bind (record { on_read = λ i j y x. layout_inversion i j y x })
+      (λ y g. ensures_yields (pattern_obeys_joined t bare Joins crs y g))
 
   -- ---- variants
 
-  number_key_was : (i j : ℕ) (k : KeyTree Span) → (number t >>= λ v. yields (number_key v)) i (Read k j) →
+  number_key_inversion : (i j : ℕ) (k : KeyTree Span) → (number t >>= λ v. yields (number_key v)) i (Read k j) →
       IsKey t Joins k
-  number_key_was i j k (goes_on {j = m} {a = v} x given) = (number_was t i m v x).number
+  number_key_inversion i j k (goes_on {j = m} {a = v} x given) = (number_inversion t i m v x).number
 
   ensures_key : Ensures (variant_key t) (IsKey t Joins)
   ensures_key =
       ensures_peek
-      (λ n. ensures_branch_on (λ e. record { on_read = number_key_was })
+      (λ n. ensures_branch_on (λ e. record { on_read = number_key_inversion })
       (λ e. ensures_bind (ensures_name t Joins) (λ v g. ensures_yields g)))
 
   no_variant : (starred : Bool) → IsVariants t Joins starred no_variants
@@ -368,39 +368,39 @@ module _ (t : List ℕ) (bare : HasNoBareCr t) (Joins : Type 0) (crs : (i : ℕ)
   ensures_select : (e : InlineTree Span) (o : Option Kind) → IsInline t Joins e → selector_fault e ≡ o →
       Ensures (select_with One t R e o) (IsRead t Joins)
   ensures_select e None f k =
-      ensures_bind ensures_variants_of (λ vs g. ensures_yields (fine_select t Joins R h e vs f k g))
+      ensures_bind ensures_variants_of (λ vs g. ensures_yields (select_obeys_joined t Joins R h e vs f k g))
   ensures_select e (Some x) f k = ensures_fails
 
   pub ensures_expression : Ensures (expression One t R) (IsRead t Joins)
   ensures_expression =
-      ensures_bind (record { on_read = λ i j e x. (inline_was t Joins R h i j e x).0 })
+      ensures_bind (record { on_read = λ i j e x. (inline_inversion t Joins R h i j e x).0 })
       (λ e f. ensures_then (λ u. ensures_then (λ arrow. ensures_branch_on
       (λ y. ensures_select e (selector_fault e) f refl)
-      (λ y. ensures_branch_on (λ z. ensures_fails) (λ z. ensures_yields (fine_inline t Joins R h e f z))))))
+      (λ y. ensures_branch_on (λ z. ensures_fails) (λ z. ensures_yields (inline_obeys_joined t Joins R h e f z))))))
 
-  fine_next : IsFineFamily t Joins (next One t R)
-  fine_next = record { expression = ensures_expression; argument_list = ensures_arguments t Joins R h [] }
+  next_obeys_joined : ObeysJoinedFamily t Joins (next One t R)
+  next_obeys_joined = record { expression = ensures_expression; argument_list = ensures_arguments t Joins R h [] }
 
 module _ (t : List ℕ) (bare : HasNoBareCr t) (Joins : Type 0) (crs : (i : ℕ) → has_byte t cr i ≡ true → Joins) where
-  fine_nothing : IsFineFamily t Joins (within One t zero)
+  nothing_obeys_joined : ObeysJoinedFamily t Joins (within One t zero)
   unfolding within
-  fine_nothing = record {
+  nothing_obeys_joined = record {
     expression = record { on_read = λ i j a x. absurd x };
     argument_list = record { on_read = λ i j a x. absurd x };
   }
 
-  fine_suc : (n : ℕ) → IsFineFamily t Joins (within One t n) → IsFineFamily t Joins (within One t (suc n))
+  suc_obeys_joined : (n : ℕ) → ObeysJoinedFamily t Joins (within One t n) → ObeysJoinedFamily t Joins (within One t (suc n))
   unfolding within
-  fine_suc n h = fine_next t bare Joins crs (within One t n) h
+  suc_obeys_joined n h = next_obeys_joined t bare Joins crs (within One t n) h
 
-  fine_within : (n : ℕ) → IsFineFamily t Joins (within One t n)
-  fine_within zero = fine_nothing
-  fine_within (suc n) = fine_suc n (fine_within n)
+  within_obeys_joined : (n : ℕ) → ObeysJoinedFamily t Joins (within One t n)
+  within_obeys_joined zero = nothing_obeys_joined
+  within_obeys_joined (suc n) = suc_obeys_joined n (within_obeys_joined n)
 
   -- what nests is fine, to any depth
-  pub fine_family : IsFineFamily t Joins (family One t)
+  pub family_obeys_joined : ObeysJoinedFamily t Joins (family One t)
   unfolding family
-  fine_family = record {
-    expression = record { on_read = λ i j a x. (fine_within x.0).expression.on_read i j a x.1 };
-    argument_list = record { on_read = λ i j a x. (fine_within x.0).argument_list.on_read i j a x.1 };
+  family_obeys_joined = record {
+    expression = record { on_read = λ i j a x. (within_obeys_joined x.0).expression.on_read i j a x.1 };
+    argument_list = record { on_read = λ i j a x. (within_obeys_joined x.0).argument_list.on_read i j a x.1 };
   }

@@ -11,7 +11,7 @@ use Rattle.fluent_syntax_grammar.specs.Bytes.{lf, cr}
 use Rattle.fluent_syntax_grammar.specs.Places.{has_byte}
 use Rattle.fluent_syntax_grammar.specs.Layout.{Piece, run, placed, Ending, lf_at, crlf_at, text_end, Line, Layout}
 use Rattle.fluent_syntax_grammar.specs.Layout.{counted_spaces, counted, least, common_indent}
-use Rattle.fluent_syntax_grammar.specs.Elements.{Item, text, filled, with_ending, common_indent_end, items_from}
+use Rattle.fluent_syntax_grammar.specs.Elements.{Item, text, placeable_item, with_ending, common_indent_end, items_from}
 use Rattle.fluent_syntax_grammar.specs.Elements.{line_items}
 use Rattle.fluent_syntax_grammar.specs.Elements.{items, is_nonblank, stays, cut_before, cut}
 use Rattle.fluent_syntax_grammar.specs.Written.{Text, has_lf, is_select, is_multiline}
@@ -62,7 +62,7 @@ module _ (t : List ℕ) where
   -- a text with an LF
   abbrev pub spans : Item → Bool
   spans (text from to) = has_lf (slice_range t from to)
-  spans (filled e) = false
+  spans (placeable_item e) = false
 
   -- a text with an LF that is not the last item makes the pattern span lines
   spans_tree : (xs : List Item) (z : Item) (zs : List Item) → list_any spans xs ≡ true →
@@ -74,7 +74,7 @@ module _ (t : List ℕ) where
   spans_tree (text from to ∷ y ∷ ys) z zs e =
       or_step (has_lf (slice_range t from to)) (list_any spans (y ∷ ys)) (is_multiline (tree t ((y ∷ ys) ++ (z ∷ zs))))
       e (spans_tree (y ∷ ys) z zs)
-  spans_tree (filled x ∷ ys) z zs e = or_right (is_select (expression_map (bytes_at t) x)) _ (spans_tree ys z zs e)
+  spans_tree (placeable_item x ∷ ys) z zs e = or_right (is_select (expression_map (bytes_at t) x)) _ (spans_tree ys z zs e)
 
 module _ (t : List ℕ) (bare : HasNoBareCr t) (Joins : Type 0) (crs : (i : ℕ) → has_byte t cr i ≡ true → Joins)
     (m : Bool) where

@@ -19,7 +19,7 @@ use Rattle.fluent_syntax_grammar.specs.RoundTrip.{HasNoBareCr}
 use Rattle.fluent_syntax_grammar.proofs.Facts.{byte_found, byte_holds, implies, left_true, right_true, differs}
 use Rattle.fluent_syntax_grammar.proofs.Facts.{equal, two_on, lt_or_le, byte_of}
 use Rattle.fluent_syntax_grammar.proofs.Tests.{or_cases}
-use Rattle.fluent_syntax_grammar.proofs.Functional.{single_stretch}
+use Rattle.fluent_syntax_grammar.proofs.Functional.{longest_run_functional}
 use Rattle.fluent_syntax_grammar.proofs.backward.Texts.{is_plain, shows, Begins}
 use Rattle.fluent_syntax_grammar.proofs.backward.Shapes.{places, runs, ends_line, blank_line, joins, Shape, done, more}
 use Rattle.fluent_syntax_grammar.proofs.backward.Shapes.{space_plain}
@@ -383,7 +383,7 @@ module _ (t : List ℕ) (bare : HasNoBareCr t) (Joins : Type 0) (crs : (i : ℕ)
       keeps first e (inr f) = inr (f ∙ e)
 
       same_word : (i j k : ℕ) → InlineBlank t i j → InlineBlank t i k → j ≡ k
-      same_word i j k w v = single_stretch.same i j k w v
+      same_word i j k w v = longest_run_functional.same i j k w v
 
   pub layout_shape : (y : Layout) → LayoutAt t Joins y → IsSpare y → Shape t Joins m opening (items One y)
   layout_shape y (on_line {i = i} {m = n} {j = j} {ps = ps} {e = e} {ls = ls} f g x z h) s =

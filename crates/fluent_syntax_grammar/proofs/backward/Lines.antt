@@ -11,24 +11,24 @@ use Rattle.fluent_syntax_grammar.specs.Places.{LongestRun, has, has_byte, has_eo
 use Rattle.fluent_syntax_grammar.specs.Layout.{Piece, run, placed, Ending, lf_at, crlf_at, text_end, Line, Layout}
 use Rattle.fluent_syntax_grammar.specs.Lines.{is_run_place, belongs}
 use Rattle.fluent_syntax_grammar.proofs.Facts.{byte_found, equal, has_inside}
-use Rattle.fluent_syntax_grammar.proofs.Left.{Left, first, left_first, left_next}
+use Rattle.fluent_syntax_grammar.proofs.SuffixAt.{SuffixAt, first, suffix_first, suffix_next}
 use Rattle.fluent_syntax_grammar.proofs.backward.Taken.{taken_all}
 use Rattle.fluent_syntax_grammar.proofs.backward.Shapes.{IsRead}
 
 -- ---- ranges
 
 module _ (t : List ℕ) where
-  drop_at : (i b : ℕ) → slice_get t i ≡ Some b → Left t i (b ∷ drop (i + 1) t)
+  drop_at : (i b : ℕ) → slice_get t i ≡ Some b → SuffixAt t i (b ∷ drop (i + 1) t)
   drop_at i b e =
       let l = slice_get_within t i b e in
-      let here : Left t i (drop i t) = record { within = omega arith; rest = refl } in
-      let f : first (drop i t) ≡ Some b = sym (left_first here) ∙ e in
+      let here : SuffixAt t i (drop i t) = record { within = omega arith; rest = refl } in
+      let f : first (drop i t) ≡ Some b = sym (suffix_first here) ∙ e in
       at_first (drop i t) here f
     where
-      at_first : (bs : List ℕ) → Left t i bs → first bs ≡ Some b → Left t i (b ∷ drop (i + 1) t)
+      at_first : (bs : List ℕ) → SuffixAt t i bs → first bs ≡ Some b → SuffixAt t i (b ∷ drop (i + 1) t)
       at_first [] h f = absurd cc
       at_first (c ∷ cs) h f = let same : c ≡ b = cc in
-          record { within = h.within; rest = h.rest ∙ cc (same, sym ((left_next h).rest)) }
+          record { within = h.within; rest = h.rest ∙ cc (same, sym ((suffix_next h).rest)) }
 
   -- a range begins with the byte at its start
   pub range_first : (i j b : ℕ) → i < j → slice_get t i ≡ Some b → slice_range t i j ≡ b ∷ slice_range t (i + 1) j

@@ -31,15 +31,15 @@ use Rattle.fluent_syntax_grammar.specs.Expressions.{selector_fault, is_term_attr
 use Rattle.fluent_syntax_grammar.specs.Inline.{named_reference, inline_of, inline_expression, is_callee_byte}
 use Rattle.fluent_syntax_grammar.specs.Written.{Text}
 use Rattle.fluent_syntax_grammar.specs.Spellings.{is_name}
-use Rattle.fluent_syntax_grammar.specs.Rules.{option_obeys, key_obeys, inline_obeys, maybe_obeys, arguments_obey}
-use Rattle.fluent_syntax_grammar.specs.Rules.{inlines_obey, nameds_obey, variants_obey, pattern_obeys}
+use Rattle.fluent_syntax_grammar.specs.Rules.{option_obeys, key_obeys, inline_obeys, optional_arguments_obey, arguments_obey}
+use Rattle.fluent_syntax_grammar.specs.Rules.{inlines_obey, named_arguments_obey, variants_obey, pattern_obeys}
 use Rattle.fluent_syntax_grammar.specs.Readable.{is_argument_value, are_named_well, defaults, readable_rules}
 use Rattle.fluent_syntax_grammar.specs.Joined.{joined_inline, joined_maybe, joined_arguments, joined_inlines}
 use Rattle.fluent_syntax_grammar.specs.Joined.{joined_nameds, joined_variants, joined_pattern}
 use Rattle.fluent_syntax_grammar.proofs.Facts.{left_true}
 use Rattle.fluent_syntax_grammar.proofs.Tests.{both}
 use Rattle.fluent_syntax_grammar.proofs.backward.Shapes.{IsRead}
-use Rattle.fluent_syntax_grammar.proofs.backward.Words.{IsName, name_was, number_was, string_was}
+use Rattle.fluent_syntax_grammar.proofs.backward.Words.{IsName, name_inversion, number_inversion, string_inversion}
 use Rattle.fluent_syntax_grammar.proofs.Tests.{not_false}
 
 -- ---- what a construct gives is good, wherever it is read
@@ -47,18 +47,18 @@ use Rattle.fluent_syntax_grammar.proofs.Tests.{not_false}
 pub record Ensures {A : Type 0} (c : Construct A) (Good : A → Type 0) : Type 0 where
   pub on_read : (i j : ℕ) (a : A) → c i (Read a j) → Good a
 
-bind_read : {A B : Type 0} (c : Construct A) (f : A → Construct B) (Mid : A → Type 0) (Good : B → Type 0) →
-    Ensures c Mid → ((a : A) → Mid a → Ensures (f a) Good) → (i j : ℕ) (b : B) → (c >>= f) i (Read b j) → Good b
-bind_read c f Mid Good x g i j b (goes_on {j = m} {a = a} y z) = (g a (x.on_read i m a y)).on_read m j b z
+bind_read : {A B : Type 0} (c : Construct A) (f : A → Construct B) (ReadsMidLine : A → Type 0) (Good : B → Type 0) →
+    Ensures c ReadsMidLine → ((a : A) → ReadsMidLine a → Ensures (f a) Good) → (i j : ℕ) (b : B) → (c >>= f) i (Read b j) → Good b
+bind_read c f ReadsMidLine Good x g i j b (goes_on {j = m} {a = a} y z) = (g a (x.on_read i m a y)).on_read m j b z
 
-pub ensures_bind : {A B : Type 0} {Mid : A → Type 0} {Good : B → Type 0} {c : Construct A} {f : A → Construct B} →
-    Ensures c Mid → ((a : A) → Mid a → Ensures (f a) Good) → Ensures (c >>= f) Good
-ensures_bind {Mid = Mid} {Good = Good} {c = c} {f = f} x g = record { on_read = bind_read c f Mid Good x g }
+pub ensures_bind : {A B : Type 0} {ReadsMidLine : A → Type 0} {Good : B → Type 0} {c : Construct A} {f : A → Construct B} →
+    Ensures c ReadsMidLine → ((a : A) → ReadsMidLine a → Ensures (f a) Good) → Ensures (c >>= f) Good
+ensures_bind {ReadsMidLine = ReadsMidLine} {Good = Good} {c = c} {f = f} x g = record { on_read = bind_read c f ReadsMidLine Good x g }
 
 -- what is not asked of a part
 pub ensures_then : {A B : Type 0} {Good : B → Type 0} {c : Construct A} {f : A → Construct B} →
     ((a : A) → Ensures (f a) Good) → Ensures (c >>= f) Good
-ensures_then g = ensures_bind {Mid = λ a. Unit {0}} (record { on_read = λ i j a x. tt }) (λ a u. g a)
+ensures_then g = ensures_bind {ReadsMidLine = λ a. Unit {0}} (record { on_read = λ i j a x. tt }) (λ a u. g a)
 
 yields_read : {A : Type 0} (Good : A → Type 0) (a b : A) (i j : ℕ) → Good a → yields a i (Read b j) → Good b
 yields_read Good a b i j g given = g
@@ -108,19 +108,19 @@ module _ {A S B : Type 0} (next : S → Construct (More A S)) (add : A → B →
 -- ---- what is fine
 
 -- Joined it passes the test; and it is joined already, where nothing is there to join.
-pub record Fine (Joins : Type 0) {Y : Type 0} (test : Y → Bool) (join : Y → Y) (y : Y) : Type 0 where
+pub record ObeysJoined (Joins : Type 0) {Y : Type 0} (test : Y → Bool) (join : Y → Y) (y : Y) : Type 0 where
   pub obeys : test (join y) ≡ true
   pub same : (Joins → ⊥) → join y ≡ y
 
 module _ (t : List ℕ) (Joins : Type 0) where
   abbrev pub IsInline : InlineTree Span → Type 0
-  IsInline e = Fine Joins (inline_obeys (readable_rules One)) joined_inline (inline_map (bytes_at t) e)
+  IsInline e = ObeysJoined Joins (inline_obeys (readable_rules One)) joined_inline (inline_map (bytes_at t) e)
 
   abbrev pub IsMaybe : MaybeArguments Span → Type 0
-  IsMaybe a = Fine Joins (maybe_obeys (readable_rules One)) joined_maybe (maybe_map (bytes_at t) a)
+  IsMaybe a = ObeysJoined Joins (optional_arguments_obey (readable_rules One)) joined_maybe (maybe_map (bytes_at t) a)
 
   abbrev pub IsPattern : PatternTree Span → Type 0
-  IsPattern p = Fine Joins (pattern_obeys (readable_rules One)) joined_pattern (pattern_map (bytes_at t) p)
+  IsPattern p = ObeysJoined Joins (pattern_obeys (readable_rules One)) joined_pattern (pattern_map (bytes_at t) p)
 
   abbrev pub IsKey : KeyTree Span → Type 0
   IsKey k = key_obeys (readable_rules One) (key_map (bytes_at t) k) ≡ true
@@ -128,13 +128,13 @@ module _ (t : List ℕ) (Joins : Type 0) where
   -- the rest of an argument list, after named arguments of these names
   abbrev pub IsArguments : List Text → ArgumentsTree Span → Type 0
   IsArguments names (arguments ps ns) =
-      Fine Joins (inlines_obey (readable_rules One)) joined_inlines (inlines_map (bytes_at t) ps) ×
-      Fine Joins (nameds_obey (readable_rules One)) joined_nameds (nameds_map (bytes_at t) ns) ×
+      ObeysJoined Joins (inlines_obey (readable_rules One)) joined_inlines (inlines_map (bytes_at t) ps) ×
+      ObeysJoined Joins (named_arguments_obey (readable_rules One)) joined_nameds (nameds_map (bytes_at t) ns) ×
       (are_named_well names (joined_nameds (nameds_map (bytes_at t) ns)) ≡ true)
 
   -- the rest of a list of variants; with a default before it has none
   pub record IsVariants (starred : Bool) (vs : VariantTrees Span) : Type 0 where
-    pub fine : Fine Joins (variants_obey (readable_rules One)) joined_variants (variants_map (bytes_at t) vs)
+    pub fine : ObeysJoined Joins (variants_obey (readable_rules One)) joined_variants (variants_map (bytes_at t) vs)
     pub none : starred ≡ true → defaults (joined_variants (variants_map (bytes_at t) vs)) ≡ 0
     pub one : nat_le (defaults (joined_variants (variants_map (bytes_at t) vs))) 1 ≡ true
 
@@ -145,12 +145,12 @@ module _ (t : List ℕ) (Joins : Type 0) where
   FitsStart letter e = is_argument_value (joined_inline (inline_map (bytes_at t) e)) ≡ true
   FitsStart s e = Unit {0}
 
-  pub record IsFineFamily (R : Family) : Type 0 where
+  pub record ObeysJoinedFamily (R : Family) : Type 0 where
     pub expression : Ensures R.expression (IsRead t Joins)
     pub argument_list : Ensures R.argument_list (IsArguments [])
 
   pub ensures_name : Ensures (identifier t) (IsName t)
-  ensures_name = record { on_read = λ i j s x. name_was t i j s x }
+  ensures_name = record { on_read = λ i j s x. name_inversion t i j s x }
 
   abbrev IsOptionName : Option Span → Type 0
   IsOptionName o = option_obeys is_name (option_texts (bytes_at t) o) ≡ true
@@ -160,23 +160,23 @@ module _ (t : List ℕ) (Joins : Type 0) where
       ensures_then (λ dot.
       ensures_branch_on (λ e. ensures_bind ensures_name (λ a g. ensures_yields g)) (λ e. ensures_yields refl))
 
-  fine_arguments : (a : ArgumentsTree Span) → IsArguments [] a →
-      Fine Joins (arguments_obey (readable_rules One)) joined_arguments (arguments_map (bytes_at t) a)
-  fine_arguments (arguments ps ns) (f, g, h) =
+  arguments_obey_joined : (a : ArgumentsTree Span) → IsArguments [] a →
+      ObeysJoined Joins (arguments_obey (readable_rules One)) joined_arguments (arguments_map (bytes_at t) a)
+  arguments_obey_joined (arguments ps ns) (f, g, h) =
       record { obeys = both h (both f.obeys g.obeys); same = λ none. cc (f.same none, g.same none) }
 
-  fine_some : (a : ArgumentsTree Span) →
-      Fine Joins (arguments_obey (readable_rules One)) joined_arguments (arguments_map (bytes_at t) a) →
+  some_obeys_joined : (a : ArgumentsTree Span) →
+      ObeysJoined Joins (arguments_obey (readable_rules One)) joined_arguments (arguments_map (bytes_at t) a) →
       IsMaybe (some_arguments a)
-  fine_some a f = record { obeys = f.obeys; same = λ none. ap some_arguments (f.same none) }
+  some_obeys_joined a f = record { obeys = f.obeys; same = λ none. ap some_arguments (f.same none) }
 
-  fine_function : (id : Span) (a : ArgumentsTree Span) → IsName t id → list_all is_callee_byte (bytes_at t id) ≡ true →
+  function_obeys_joined : (id : Span) (a : ArgumentsTree Span) → IsName t id → list_all is_callee_byte (bytes_at t id) ≡ true →
       IsMaybe (some_arguments a) → IsInline (function_reference id a)
-  fine_function id a n c f = record { obeys = both n (both c f.obeys); same = λ none. cc (f.same none) }
+  function_obeys_joined id a n c f = record { obeys = both n (both c f.obeys); same = λ none. cc (f.same none) }
 
-  fine_term : (id : Span) (o : Option Span) (a : MaybeArguments Span) → IsName t id → IsOptionName o → IsMaybe a →
+  term_obeys_joined : (id : Span) (o : Option Span) (a : MaybeArguments Span) → IsName t id → IsOptionName o → IsMaybe a →
       IsInline (term_reference id o a)
-  fine_term id o a n p f =
+  term_obeys_joined id o a n p f =
       record {
         obeys = both n (both p f.obeys);
         same = λ none. ap (term_reference (bytes_at t id) (option_texts (bytes_at t) o)) (f.same none);
@@ -191,7 +191,7 @@ module _ (t : List ℕ) (Joins : Type 0) where
   ensures_reference id no_arguments n f =
       ensures_bind ensures_accessor (λ o g. ensures_yields (record { obeys = both n g; same = λ none. refl }, refl))
   ensures_reference id (some_arguments a) n f =
-      ensures_branch_on (λ e. ensures_yields (fine_function id a n e f, refl)) (λ e. ensures_fails)
+      ensures_branch_on (λ e. ensures_yields (function_obeys_joined id a n e f, refl)) (λ e. ensures_fails)
 
   selector_same : (e : InlineTree Span) → selector_fault (joined_inline (inline_map (bytes_at t) e)) ≡ selector_fault e
   selector_same (string_literal v) = refl
@@ -233,26 +233,26 @@ start_digit : (o : Option ℕ) (l : Bool) → start_of o l ≡ digit → holds i
 start_digit None l e = cc
 start_digit (Some b) l e = digit_of (b == 34) (is_digit b) (b == 45) l (b == 36) (is_letter b) (b == 123) other e
 
-module _ (t : List ℕ) (Joins : Type 0) (R : Family) (h : IsFineFamily t Joins R) where
+module _ (t : List ℕ) (Joins : Type 0) (R : Family) (h : ObeysJoinedFamily t Joins R) where
   pub ensures_call : Ensures (call_arguments t R) (IsMaybe t Joins)
   ensures_call = ensures_then (λ u. ensures_then (λ bracket. ensures_branch_on
       (λ e. ensures_bind (ensures_then (λ u. h.argument_list))
-      (λ a g. ensures_yields (fine_some t Joins a (fine_arguments t Joins a g))))
+      (λ a g. ensures_yields (some_obeys_joined t Joins a (arguments_obey_joined t Joins a g))))
       (λ e. ensures_yields (record { obeys = refl; same = λ none. refl }))))
 
   -- ---- expressions
 
-  pub fine_select : (e : InlineTree Span) (vs : VariantTrees Span) → IsInline t Joins e → selector_fault e ≡ None →
+  pub select_obeys_joined : (e : InlineTree Span) (vs : VariantTrees Span) → IsInline t Joins e → selector_fault e ≡ None →
       IsVariants t Joins false vs → IsRead t Joins (select e vs)
-  fine_select e vs f k g =
+  select_obeys_joined e vs f k g =
       let v = g.fine in
       record {
         obeys = both (both (ap is_none (selector_same t Joins e ∙ k)) g.one) (both f.obeys v.obeys);
         same = λ none. cc (f.same none, v.same none);
       }
 
-  pub fine_inline : (e : InlineTree Span) → IsInline t Joins e → is_term_attribute e ≡ false → IsRead t Joins (inline e)
-  fine_inline e f k =
+  pub inline_obeys_joined : (e : InlineTree Span) → IsInline t Joins e → is_term_attribute e ≡ false → IsRead t Joins (inline e)
+  inline_obeys_joined e f k =
       record {
         obeys =
             both (not_false (is_term_attribute (joined_inline (inline_map (bytes_at t) e)))
@@ -272,14 +272,14 @@ module _ (t : List ℕ) (Joins : Type 0) (R : Family) (h : IsFineFamily t Joins 
   number_read : (i j : ℕ) (a : InlineTree Span) → (number t >>= λ v. yields (number_literal v)) i (Read a j) →
       IsInline t Joins a ×
       (has t is_digit i ≡ true → is_argument_value (joined_inline (inline_map (bytes_at t) a)) ≡ true)
-  number_read i j a (goes_on {j = m} {a = v} x given) = let n = number_was t i m v x in
+  number_read i j a (goes_on {j = m} {a = v} x given) = let n = number_inversion t i m v x in
       (record { obeys = n.number; same = λ none. refl }, n.unsigned)
 
   string_read : (i j : ℕ) (a : InlineTree Span) →
       (strings.string_literal t >>= λ v. yields (string_literal v)) i (Read a j) → IsInline t Joins a ×
       (is_argument_value (joined_inline (inline_map (bytes_at t) a)) ≡ true)
   string_read i j a (goes_on {j = m} {a = v} x given) =
-      (record { obeys = string_was t i m v x; same = λ none. refl }, refl)
+      (record { obeys = string_inversion t i m v x; same = λ none. refl }, refl)
 
   inline_read : (s : Start) (i j : ℕ) (e : InlineTree Span) → start t i ≡ s → inline_of t R s i (Read e j) →
       IsInline t Joins e × FitsStart t Joins s e
@@ -293,7 +293,7 @@ module _ (t : List ℕ) (Joins : Type 0) (R : Family) (h : IsFineFamily t Joins 
       r = ensures_then
           (λ u. ensures_bind (ensures_name t Joins)
           (λ id n. ensures_bind (ensures_accessor t Joins)
-          (λ o p. ensures_bind ensures_call (λ a f. ensures_yields (fine_term t Joins id o a n p f)))))
+          (λ o p. ensures_bind ensures_call (λ a f. ensures_yields (term_obeys_joined t Joins id o a n p f)))))
   inline_read dollar i j e s x = (r.on_read i j e x, tt)
     where
       r : Ensures (inline_of t R dollar) (IsInline t Joins)
@@ -312,17 +312,17 @@ module _ (t : List ℕ) (Joins : Type 0) (R : Family) (h : IsFineFamily t Joins 
           (λ e f. ensures_yields (record { obeys = f.obeys; same = λ none. ap inline_placeable (f.same none) }))
   inline_read other i j e s x = elim x [ ]
 
-  pub inline_was : (i j : ℕ) (e : InlineTree Span) → inline_expression t R i (Read e j) → IsInline t Joins e ×
+  pub inline_inversion : (i j : ℕ) (e : InlineTree Span) → inline_expression t R i (Read e j) → IsInline t Joins e ×
       FitsStart t Joins (start t i) e
-  inline_was i j e (chosen x) = inline_read (start t i) i j e refl x
+  inline_inversion i j e (chosen x) = inline_read (start t i) i j e refl x
 
   -- ---- arguments
 
   value_read : (s : Start) (i j : ℕ) (e : InlineTree Span) → start t i ≡ s → argument_value t R s i (Read e j) →
       IsValue t Joins e
-  value_read quote i j e s x = let r = inline_was i j e x in (r.0, subst (λ s. FitsStart t Joins s e) s r.1)
-  value_read digit i j e s x = let r = inline_was i j e x in (r.0, subst (λ s. FitsStart t Joins s e) s r.1)
-  value_read letter i j e s x = let r = inline_was i j e x in (r.0, subst (λ s. FitsStart t Joins s e) s r.1)
+  value_read quote i j e s x = let r = inline_inversion i j e x in (r.0, subst (λ s. FitsStart t Joins s e) s r.1)
+  value_read digit i j e s x = let r = inline_inversion i j e x in (r.0, subst (λ s. FitsStart t Joins s e) s r.1)
+  value_read letter i j e s x = let r = inline_inversion i j e x in (r.0, subst (λ s. FitsStart t Joins s e) s r.1)
   value_read term i j e s x = elim x [ ]
   value_read minus i j e s x = elim x [ ]
   value_read dollar i j e s x = elim x [ ]
@@ -332,18 +332,18 @@ module _ (t : List ℕ) (Joins : Type 0) (R : Family) (h : IsFineFamily t Joins 
   value_at : (i j : ℕ) (e : InlineTree Span) → peek (start t) (argument_value t R) i (Read e j) → IsValue t Joins e
   value_at i j e (chosen x) = value_read (start t i) i j e refl x
 
-  add_named_fine : (names : List Text) (name : Span) (e : InlineTree Span) (a : ArgumentsTree Span) → IsName t name →
+  add_named_obeys_joined : (names : List Text) (name : Span) (e : InlineTree Span) (a : ArgumentsTree Span) → IsName t name →
       is_used (bytes_at t name) names ≡ false → IsValue t Joins e → IsArguments t Joins (bytes_at t name ∷ names) a →
       IsArguments t Joins names (add_named name e a)
-  add_named_fine names name e (arguments ps ns) n u (f, v) (g, k, l) = (
+  add_named_obeys_joined names name e (arguments ps ns) n u (f, v) (g, k, l) = (
     g,
     record { obeys = both (both n f.obeys) k.obeys; same = λ none. cc (f.same none, k.same none) },
     both (not_false (is_used (bytes_at t name) names) u) (both v l),
   )
 
-  add_positional_fine : (e : InlineTree Span) (a : ArgumentsTree Span) → IsInline t Joins e → IsArguments t Joins [] a →
+  add_positional_obeys_joined : (e : InlineTree Span) (a : ArgumentsTree Span) → IsInline t Joins e → IsArguments t Joins [] a →
       IsArguments t Joins [] (add_positional e a)
-  add_positional_fine e (arguments ps ns) f (g, k, l) =
+  add_positional_obeys_joined e (arguments ps ns) f (g, k, l) =
       (record { obeys = both f.obeys g.obeys; same = λ none. cc (f.same none, g.same none) }, k, l)
 
   -- what is asked of the next argument, after these names
@@ -355,11 +355,11 @@ module _ (t : List ℕ) (Joins : Type 0) (R : Family) (h : IsFineFamily t Joins 
   ensures_named names name n =
       ensures_branch_on (λ y. ensures_fails)
       (λ y. ensures_then (λ u. ensures_then (λ u. ensures_bind (record { on_read = value_at }) (λ e f.
-      ensures_then (λ u. ensures_yields (λ a g. add_named_fine names name e a n y f g))))))
+      ensures_then (λ u. ensures_yields (λ a g. add_named_obeys_joined names name e a n y f g))))))
 
   ensures_positional : (names : List Text) (e : InlineTree Span) → IsInline t Joins e →
       Ensures (positional_rest t names e) (IsNext names)
-  ensures_positional [] e f = ensures_then (λ u. ensures_yields (λ a g. add_positional_fine e a f g))
+  ensures_positional [] e f = ensures_then (λ u. ensures_yields (λ a g. add_positional_obeys_joined e a f g))
   ensures_positional (n ∷ ns) e f = ensures_fails
 
   name_of : (e : InlineTree Span) (s : Span) → IsInline t Joins e → argument_name e ≡ Some s → IsName t s
@@ -386,7 +386,7 @@ module _ (t : List ℕ) (Joins : Type 0) (R : Family) (h : IsFineFamily t Joins 
       (λ y. ensures_then
       (λ u. ensures_yields
       (record { obeys = refl; same = λ none. refl }, record { obeys = refl; same = λ none. refl }, refl)))
-      (λ y. ensures_bind (record { on_read = λ i j e x. (inline_was i j e x).0 })
+      (λ y. ensures_bind (record { on_read = λ i j e x. (inline_inversion i j e x).0 })
       (λ e f. ensures_then (λ colon. ensures_argument names e (argument_name e) colon refl f)))
 
   pub ensures_arguments : (names : List Text) → Ensures (more_arguments t R names) (IsArguments t Joins names)

@@ -10,13 +10,13 @@ use Rattle.fluent_syntax_tree.specs.declared.spans.Span.{Span}
 use Rattle.fluent_syntax_tree.specs.declared.edition.Edition.TheVariants.{One}
 use Rattle.fluent_syntax_grammar.specs.PatternTexts.{is_empty, is_spaces, ends_in_lf, is_lone_lf}
 use Rattle.fluent_syntax_grammar.specs.Bytes.{lf, is_space}
-use Rattle.fluent_syntax_grammar.specs.Elements.{Item, text, filled, is_nonblank, stays, cut_before, cut, trimmed_end}
+use Rattle.fluent_syntax_grammar.specs.Elements.{Item, text, placeable_item, is_nonblank, stays, cut_before, cut, trimmed_end}
 use Rattle.fluent_syntax_grammar.specs.Elements.{spelled}
 use Rattle.fluent_syntax_grammar.specs.Written.{Text}
 use Rattle.fluent_syntax_grammar.specs.Rules.{expression_obeys, elements_obey}
 use Rattle.fluent_syntax_grammar.specs.Readable.{is_text, ElementPosition, opening, after_line}
-use Rattle.fluent_syntax_grammar.specs.Readable.{within_line, after_placeable, position_after, is_well_placed}
-use Rattle.fluent_syntax_grammar.specs.Readable.{ends_well}
+use Rattle.fluent_syntax_grammar.specs.Readable.{within_line, after_placeable, position_after, may_stand_at}
+use Rattle.fluent_syntax_grammar.specs.Readable.{may_precede}
 use Rattle.fluent_syntax_grammar.specs.Readable.{are_elements, readable_rules}
 use Rattle.fluent_syntax_grammar.specs.Joined.{is_joined, joined_expression, joined_pattern, joined_after}
 use Rattle.fluent_syntax_grammar.proofs.Facts.{left_true, right_true, equal, append_nothing}
@@ -39,7 +39,7 @@ module _ (t : List ℕ) (Joins : Type 0) (m : Bool) where
   -- An item stands where the one before it leaves off. After a run that no LF ends stands, if it is a text, the lone LF
   -- of a CRLF.
   pub data Step : ElementPosition → Item → ElementPosition → Type 0 where
-    places : {s : ElementPosition} {e : ExpressionTree Span} → IsRead t Joins e → Step s (filled e) after_placeable
+    places : {s : ElementPosition} {e : ExpressionTree Span} → IsRead t Joins e → Step s (placeable_item e) after_placeable
     runs : {s : ElementPosition} {from to : ℕ} (u : Text) → slice_range t from to ≡ u → list_all is_plain u ≡ true →
         is_empty u ≡ false → Begins m s u → Step s (text from to) within_line
     ends_line : {s : ElementPosition} {from to : ℕ} (u : Text) → slice_range t from to ≡ u ++ line_end true →
@@ -68,25 +68,25 @@ module _ (t : List ℕ) (Joins : Type 0) (m : Bool) where
   shape_cut s (x ∷ xs) (more {s' = s'} e h) = shape_before s s' x (cut t xs) e (shape_cut s' xs h)
 
 -- the last item stays
-abbrev pub Kept : List ℕ → List Item → Type 0
-Kept t [] = Unit {0}
-Kept t (x ∷ []) = stays t x ≡ true
-Kept t (x ∷ y ∷ ys) = Kept t (y ∷ ys)
+abbrev pub LastItemStays : List ℕ → List Item → Type 0
+LastItemStays t [] = Unit {0}
+LastItemStays t (x ∷ []) = stays t x ≡ true
+LastItemStays t (x ∷ y ∷ ys) = LastItemStays t (y ∷ ys)
 
 module _ (t : List ℕ) where
-  kept_if : (b : Bool) (x : Item) → stays t x ≡ b → Kept t (if b then x ∷ [] else [])
+  kept_if : (b : Bool) (x : Item) → stays t x ≡ b → LastItemStays t (if b then x ∷ [] else [])
   kept_if true x e = e
   kept_if false x e = tt
 
-  kept_before : (x : Item) (xs : List Item) → Kept t xs → Kept t (cut_before t x xs)
+  kept_before : (x : Item) (xs : List Item) → LastItemStays t xs → LastItemStays t (cut_before t x xs)
   kept_before x [] k = kept_if (stays t x) x refl
   kept_before x (y ∷ ys) k = k
 
-  pub kept_cut : (xs : List Item) → Kept t (cut t xs)
+  pub kept_cut : (xs : List Item) → LastItemStays t (cut t xs)
   kept_cut [] = tt
   kept_cut (x ∷ xs) = kept_before x (cut t xs) (kept_cut xs)
 
-  kept_after : (x : Item) (xs : List Item) → Kept t (x ∷ xs) → Kept t xs
+  kept_after : (x : Item) (xs : List Item) → LastItemStays t (x ∷ xs) → LastItemStays t xs
   kept_after x [] k = tt
   kept_after x (y ∷ ys) k = k
 
@@ -113,32 +113,32 @@ lf_joined : (w : Text) (q : PatternTree Text) → ends_in_lf w ≡ false →
     joined_after w (elements (text_element (lf ∷ [])) q) ≡ elements (text_element (w ++ (lf ∷ []))) (joined_pattern q)
 lf_joined w q e = rw e refl
 
-after_more : (w v : Text) (es : PatternTree Text) → ends_well w (joined_after v es) ≡ true
+after_more : (w v : Text) (es : PatternTree Text) → may_precede w (joined_after v es) ≡ true
 after_more w v no_elements = refl
 after_more w v (elements (placeable e) es) = refl
 after_more w v (elements (text_element x) es) = whichever (is_joined v x)
   where
     whichever : (b : Bool) →
-        ends_well w (if b then elements (text_element (v ++ x)) (joined_pattern es) else elements (text_element v)
+        may_precede w (if b then elements (text_element (v ++ x)) (joined_pattern es) else elements (text_element v)
         (joined_after x es)) ≡ true
     whichever true = refl
     whichever false = refl
 
 -- a text before another element is not the last
 joined_more : (w : Text) (e : ElementTree Text) (es : PatternTree Text) →
-    ends_well w (joined_pattern (elements e es)) ≡ true
+    may_precede w (joined_pattern (elements e es)) ≡ true
 joined_more w (placeable e) es = refl
 joined_more w (text_element v) es = after_more w v es
 
-tree_more : (t : List ℕ) (w : Text) (x : Item) (xs : List Item) → ends_well w (joined_pattern (tree t (x ∷ xs))) ≡ true
+tree_more : (t : List ℕ) (w : Text) (x : Item) (xs : List Item) → may_precede w (joined_pattern (tree t (x ∷ xs))) ≡ true
 tree_more t w (text from to) [] = refl
 tree_more t w (text from to) (y ∷ ys) = joined_more w (text_element (slice_range t from to)) (tree t (y ∷ ys))
-tree_more t w (filled e) xs = refl
+tree_more t w (placeable_item e) xs = refl
 
 -- ---- the elements are well
 
 text_well : (m : Bool) (s : ElementPosition) (v : Text) (p : PatternTree Text) → is_text v ≡ true →
-    is_well_placed One m s v no_elements ≡ true → ends_well v p ≡ true → are_elements One m (position_after v) p ≡ true
+    may_stand_at One m s v no_elements ≡ true → may_precede v p ≡ true → are_elements One m (position_after v) p ≡ true
     →
     are_elements One m s (elements (text_element v) p) ≡ true
 text_well m s v p a b c d = both a (both (stands_any m s v p no_elements ∙ b) (both c d))
@@ -149,8 +149,8 @@ pub record Well (m : Bool) (s : ElementPosition) (p : PatternTree Text) : Type 0
 
 -- a line's text and what follows it
 line_well : (m : Bool) (s : ElementPosition) (u w : Text) (q : PatternTree Text) → w ≡ u ++ line_end true →
-    list_all is_plain u ≡ true → is_well_placed One m s (u ++ line_end true) no_elements ≡ true →
-    ends_well (u ++ line_end true) (joined_pattern q) ≡ true →
+    list_all is_plain u ≡ true → may_stand_at One m s (u ++ line_end true) no_elements ≡ true →
+    may_precede (u ++ line_end true) (joined_pattern q) ≡ true →
     Well m after_line (joined_pattern q) → Well m s (joined_after w q)
 line_well m s u w q e p b c h =
     let v = u ++ line_end true in
@@ -218,8 +218,8 @@ module _ (t : List ℕ) (Joins : Type 0) (m : Bool) where
       subst (λ v. is_text v ≡ true) bare
       (plain_is_text r.kept false r.plain
       (subst (λ v. is_empty v ≡ false) (sym bare) (shown_not_empty r.kept r.shown))) in
-      let stands : is_well_placed One m s r.kept no_elements ≡ true =
-      subst (λ v. is_well_placed One m s v no_elements ≡ true) bare (begin_holds m s r.kept false r.plain begins) in
+      let stands : may_stand_at One m s r.kept no_elements ≡ true =
+      subst (λ v. may_stand_at One m s v no_elements ≡ true) bare (begin_holds m s r.kept false r.plain begins) in
       subst (λ v. Well m s (elements (text_element v) no_elements)) (sym same)
       (record { position = text_well m s r.kept no_elements is stands r.ends refl; obey = refl })
 
@@ -227,21 +227,21 @@ module _ (t : List ℕ) (Joins : Type 0) (m : Bool) where
   run_well : (s : ElementPosition) (u w : Text) (e : ExpressionTree Span) (xs : List Item) → w ≡ u
       → list_all is_plain u ≡ true →
       is_empty u ≡ false → Begins m s u → IsRead t Joins e → Well m after_placeable (joined_pattern (tree t xs)) →
-      Well m s (joined_after w (tree t (filled e ∷ xs)))
+      Well m s (joined_after w (tree t (placeable_item e ∷ xs)))
   run_well s u w e xs f p n b g h =
       let bare : u ++ line_end false ≡ u = append_nothing u in
       let is : is_text u ≡ true =
       subst (λ v. is_text v ≡ true) bare (plain_is_text u false p (subst (λ v. is_empty v ≡ false) (sym bare) n)) in
-      let stands : is_well_placed One m s u no_elements ≡ true =
-      subst (λ v. is_well_placed One m s v no_elements ≡ true) bare (begin_holds m s u false p b) in
-      let rest = joined_pattern (tree t (filled e ∷ xs)) in
-      subst (λ w. Well m s (joined_after w (tree t (filled e ∷ xs)))) (sym f)
+      let stands : may_stand_at One m s u no_elements ≡ true =
+      subst (λ v. may_stand_at One m s v no_elements ≡ true) bare (begin_holds m s u false p b) in
+      let rest = joined_pattern (tree t (placeable_item e ∷ xs)) in
+      subst (λ w. Well m s (joined_after w (tree t (placeable_item e ∷ xs)))) (sym f)
       (record { position = text_well m s u rest is stands refl h.position; obey = both g.obeys h.obey })
 
   -- a run's text with the lone LF that is joined to it
   join_well : (s : ElementPosition) (u w v : Text) (q : PatternTree Text) → w ≡ u → v ≡ lf ∷ []
       → list_all is_plain u ≡ true →
-      Begins m s u → ends_well (u ++ line_end true) (joined_pattern q) ≡ true → Well m after_line (joined_pattern q) →
+      Begins m s u → may_precede (u ++ line_end true) (joined_pattern q) ≡ true → Well m after_line (joined_pattern q) →
       Well m s (joined_after w (elements (text_element v) q))
   join_well s u w v q f g p b c h =
       let whole :
@@ -267,11 +267,11 @@ module _ (t : List ℕ) (Joins : Type 0) (m : Bool) where
   last_of_step s s' from to (joins e j) k = absurd (blank_not (At from to) [] e refl k)
 
   -- items of the shape whose last one stays spell well
-  pub items_well : (s : ElementPosition) (xs : List Item) → IsFree s → Shape t Joins m s xs → Kept t xs →
+  pub items_well : (s : ElementPosition) (xs : List Item) → IsFree s → Shape t Joins m s xs → LastItemStays t xs →
       Well m s (joined_pattern (tree t xs))
   items_well s [] r h k = record { position = refl; obey = refl }
-  items_well s (filled e ∷ xs) r (more (places g) h) k =
-      let q = items_well after_placeable xs tt h (kept_after t (filled e) xs k) in
+  items_well s (placeable_item e ∷ xs) r (more (places g) h) k =
+      let q = items_well after_placeable xs tt h (kept_after t (placeable_item e) xs k) in
       record { position = q.position; obey = both g.obeys q.obey }
   items_well s (text from to ∷ []) r (more e h) k = last_of_step s _ from to e k
   items_well s (text from to ∷ y ∷ ys) r (more (ends_line u e p b) h) k =
@@ -281,8 +281,8 @@ module _ (t : List ℕ) (Joins : Type 0) (m : Bool) where
       line_well m after_line u (At from to) (tree t (y ∷ ys)) e (spaces_plain u f) (blank_holds m u f)
       (tree_more t (u ++ line_end true) y ys) (items_well after_line (y ∷ ys) tt h k)
   items_well s (text from to ∷ y ∷ ys) r (more (joins e j) h) k = absurd r
-  items_well s (text from to ∷ filled x ∷ ys) r (more (runs u e p n b) (more (places g) h)) k =
-      run_well s u (At from to) x ys e p n b g (items_well after_placeable ys tt h (kept_after t (filled x) ys k))
+  items_well s (text from to ∷ placeable_item x ∷ ys) r (more (runs u e p n b) (more (places g) h)) k =
+      run_well s u (At from to) x ys e p n b g (items_well after_placeable ys tt h (kept_after t (placeable_item x) ys k))
   items_well s (text from to ∷ text f g ∷ []) r (more (runs u e p n b) (more (joins i j) h)) k =
       absurd (blank_not (At f g) [] i refl k)
   items_well s (text from to ∷ text f g ∷ y ∷ ys) r (more (runs u e p n b) (more (joins i j) h)) k =
@@ -291,9 +291,9 @@ module _ (t : List ℕ) (Joins : Type 0) (m : Bool) where
   items_well s (text from to ∷ text f g ∷ ys) r (more (runs u e p n b) (more (runs v i q o c) h)) k = absurd c
   items_well s (text from to ∷ text f g ∷ ys) r (more (runs u e p n b) (more (ends_line v i q c) h)) k = absurd c
 
-  line_same : (w u : Text) (q : PatternTree Text) → w ≡ u ++ line_end true → joined_pattern q ≡ q →
+  line_unique : (w u : Text) (q : PatternTree Text) → w ≡ u ++ line_end true → joined_pattern q ≡ q →
       joined_after w q ≡ elements (text_element w) q
-  line_same w u q e f = line_joined w q (ap ends_in_lf e ∙ line_ends u) ∙ ap (λ q. elements (text_element w) q) f
+  line_unique w u q e f = line_joined w q (ap ends_in_lf e ∙ line_ends u) ∙ ap (λ q. elements (text_element w) q) f
 
   placed_same : (w : Text) {e f : ExpressionTree Text} {p q : PatternTree Text} → e ≡ f → p ≡ q →
       elements (text_element w) (elements (placeable e) p) ≡ elements (text_element w) (elements (placeable f) q)
@@ -303,14 +303,14 @@ module _ (t : List ℕ) (Joins : Type 0) (m : Bool) where
   pub items_same : (Joins → ⊥) → (s : ElementPosition) (xs : List Item) → Shape t Joins m s xs →
       joined_pattern (tree t xs) ≡ tree t xs
   items_same none s [] h = refl
-  items_same none s (filled e ∷ xs) (more (places g) h) = cc (g.same none, items_same none after_placeable xs h)
+  items_same none s (placeable_item e ∷ xs) (more (places g) h) = cc (g.same none, items_same none after_placeable xs h)
   items_same none s (text from to ∷ []) h = refl
   items_same none s (text from to ∷ y ∷ ys) (more (ends_line u e p b) h) =
-      line_same (At from to) u (tree t (y ∷ ys)) e (items_same none after_line (y ∷ ys) h)
+      line_unique (At from to) u (tree t (y ∷ ys)) e (items_same none after_line (y ∷ ys) h)
   items_same none s (text from to ∷ y ∷ ys) (more (blank_line u e f) h) =
-      line_same (At from to) u (tree t (y ∷ ys)) e (items_same none after_line (y ∷ ys) h)
+      line_unique (At from to) u (tree t (y ∷ ys)) e (items_same none after_line (y ∷ ys) h)
   items_same none s (text from to ∷ y ∷ ys) (more (joins e j) h) = absurd (none j)
-  items_same none s (text from to ∷ filled x ∷ ys) (more (runs u e p n b) (more (places g) h)) =
+  items_same none s (text from to ∷ placeable_item x ∷ ys) (more (runs u e p n b) (more (places g) h)) =
       placed_same (At from to) (g.same none) (items_same none after_placeable ys h)
   items_same none s (text from to ∷ text f g ∷ ys) (more (runs u e p n b) (more (joins i j) h)) = absurd (none j)
   items_same none s (text from to ∷ text f g ∷ ys) (more (runs u e p n b) (more (runs v i q o c) h)) = absurd c

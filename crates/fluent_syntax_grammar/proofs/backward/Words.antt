@@ -26,11 +26,11 @@ abbrev pub IsName : List ℕ → Span → Type 0
 IsName t s = is_name (bytes_at t s) ≡ true
 
 module _ (t : List ℕ) where
-  pub name_was : (i j : ℕ) (s : Span) → identifier t i (Read s j) → IsName t s
-  name_was i j s (goes_on at_place (goes_on (chosen given) (first e x))) =
+  pub name_inversion : (i j : ℕ) (s : Span) → identifier t i (Read s j) → IsName t s
+  name_inversion i j s (goes_on at_place (goes_on (chosen given) (first e x))) =
       let l = has_inside is_letter t i e in
       name_was_read t i j s (omega arith) (goes_on at_place (goes_on (chosen given) (first e x)))
-  name_was i j s (goes_on at_place (goes_on (chosen given) (second e x))) = elim x [ ]
+  name_inversion i j s (goes_on at_place (goes_on (chosen given) (second e x))) = elim x [ ]
 
   -- ---- numbers
 
@@ -128,20 +128,20 @@ module _ (t : List ℕ) where
   no_minus i k j f w x = let v = unsigned_range i k j f w x in
       record { number = unsigned_number (slice_range t i j) v; unsigned = λ d. v }
 
-  pub number_was : (i j : ℕ) (s : Span) → number t i (Read s j) → IsNumber i s
-  number_was i j s
+  pub number_inversion : (i j : ℕ) (s : Span) → number t i (Read s j) → IsNumber i s
+  number_inversion i j s
       (goes_on at_place
       (goes_on (chosen (first e (goes_on (passed {j = m} o) given)))
       (goes_on (chosen (first f (passed {j = k} w)))
       (goes_on {j = p} {a = found} x (goes_on {a = u} y (goes_on at_place given)))))) =
       after_minus i m k j e o.by f w (fraction_of k p j found u x y)
-  number_was i j s
+  number_inversion i j s
       (goes_on at_place
       (goes_on (chosen (second e given))
       (goes_on (chosen (first f (passed {j = k} w)))
       (goes_on {j = p} {a = found} x (goes_on {a = u} y (goes_on at_place given)))))) =
       no_minus i k j f w (fraction_of k p j found u x y)
-  number_was i j s (goes_on at_place (goes_on z (goes_on (chosen (second f x)) y))) = elim x [ ]
+  number_inversion i j s (goes_on at_place (goes_on z (goes_on (chosen (second f x)) y))) = elim x [ ]
 
   -- ---- strings
 
@@ -154,9 +154,9 @@ module _ (t : List ℕ) where
       rw (range_first t i j b.0 (omega arith) b.1)
       (both b.2 (hex_range n (i + 1) j k (omega arith) (λ m x y. e m (omega arith) y) l h))
 
-  hex_was : (w i j k : ℕ) (u : Unit {0}) → hex_digits t w i (Read u k) → k ≤ j → is_units 0 (slice_range t k j) ≡ true →
+  hex_inversion : (w i j k : ℕ) (u : Unit {0}) → hex_digits t w i (Read u k) → k ≤ j → is_units 0 (slice_range t k j) ≡ true →
       is_units w (slice_range t i j) ≡ true
-  hex_was w i j k u (all_there h e) l r = hex_range w i j k (sym e) (λ m x y. h.each m x y) l r
+  hex_inversion w i j k u (all_there h e) l r = hex_range w i j k (sym e) (λ m x y. h.each m x y) l r
 
   -- where a unit leads, and that what it passed over and more units are units
   pub record UnitAt (i m : ℕ) : Type 0 where
@@ -177,10 +177,10 @@ module _ (t : List ℕ) where
   hex_on w i m u (all_there h e) = e
 
   -- after a backslash, by the byte there
-  escape_was : (i m : ℕ) (u : Unit {0}) (o : Option ℕ) → slice_get t (i + 1) ≡ o → slice_get t i ≡ Some 92 →
+  escape_inversion : (i m : ℕ) (u : Unit {0}) (o : Option ℕ) → slice_get t (i + 1) ≡ o → slice_get t i ≡ Some 92 →
       escaped t o i (Read u m) → UnitAt i m
-  escape_was i m u None e f x = elim x [ ]
-  escape_was i m u (Some c) e f (first g (passed o)) =
+  escape_inversion i m u None e f x = elim x [ ]
+  escape_inversion i m u (Some c) e f (first g (passed o)) =
       let by = o.by in
       record {
         on = omega arith;
@@ -190,7 +190,7 @@ module _ (t : List ℕ) where
             (c == 117 && is_units 4 (slice_range t (i + 2) j)) (c == 85 && is_units 6 (slice_range t (i + 2) j))
             (both g (subst (λ k. is_units 0 (slice_range t k j) ≡ true) by r)));
       }
-  escape_was i m u (Some c) e f (second g (first h (goes_on (passed {j = k} o) y))) =
+  escape_inversion i m u (Some c) e f (second g (first h (goes_on (passed {j = k} o) y))) =
       let by = o.by in
       let on = hex_on 4 k m u y in
       record {
@@ -199,9 +199,9 @@ module _ (t : List ℕ) where
             λ j l r. two_on i j c f e (omega arith)
             (or_second ((c == 92 || c == 34 || c == 123) && is_units 0 (slice_range t (i + 2) j))
             (c == 117 && is_units 4 (slice_range t (i + 2) j)) (c == 85 && is_units 6 (slice_range t (i + 2) j))
-            (both h (subst (λ k. is_units 4 (slice_range t k j) ≡ true) by (hex_was 4 k j m u y l r))));
+            (both h (subst (λ k. is_units 4 (slice_range t k j) ≡ true) by (hex_inversion 4 k j m u y l r))));
       }
-  escape_was i m u (Some c) e f (second g (second h (first n (goes_on (passed {j = k} o) y)))) =
+  escape_inversion i m u (Some c) e f (second g (second h (first n (goes_on (passed {j = k} o) y)))) =
       let by = o.by in
       let on = hex_on 6 k m u y in
       record {
@@ -210,9 +210,9 @@ module _ (t : List ℕ) where
             λ j l r. two_on i j c f e (omega arith)
             (or_third ((c == 92 || c == 34 || c == 123) && is_units 0 (slice_range t (i + 2) j))
             (c == 117 && is_units 4 (slice_range t (i + 2) j)) (c == 85 && is_units 6 (slice_range t (i + 2) j))
-            (both n (subst (λ k. is_units 6 (slice_range t k j) ≡ true) by (hex_was 6 k j m u y l r))));
+            (both n (subst (λ k. is_units 6 (slice_range t k j) ≡ true) by (hex_inversion 6 k j m u y l r))));
       }
-  escape_was i m u (Some c) e f (second g (second h (second n x))) = elim x [ ]
+  escape_inversion i m u (Some c) e f (second g (second h (second n x))) = elim x [ ]
 
   other_byte : (b : ℕ) → (b == 92) ≡ false → (b == 34) ≡ false → (b == lf) ≡ false →
       not (b == 92 || b == 34 || b == lf) ≡ true
@@ -222,13 +222,13 @@ module _ (t : List ℕ) where
   quote_not i b e f = ap (holds (λ c. c == 34)) (sym e) ∙ f
 
   -- a unit, by its first byte
-  unit_was : (i m : ℕ) (u : Unit {0}) (o : Option ℕ) → slice_get t i ≡ o → has_byte t 34 i ≡ false →
+  unit_inversion : (i m : ℕ) (u : Unit {0}) (o : Option ℕ) → slice_get t i ≡ o → has_byte t 34 i ≡ false →
       string_unit t o i (Read u m) → UnitAt i m
-  unit_was i m u None e q x = elim x [ ]
-  unit_was i m u (Some b) e q (first f x) = elim x [ ]
-  unit_was i m u (Some b) e q (second f (first g (chosen x))) =
-      escape_was i m u (slice_get t (i + 1)) refl (byte_at t 92 i (byte_holds (λ c. c == 92) (slice_get t i) b e g)) x
-  unit_was i m u (Some b) e q (second f (second g (passed o))) =
+  unit_inversion i m u None e q x = elim x [ ]
+  unit_inversion i m u (Some b) e q (first f x) = elim x [ ]
+  unit_inversion i m u (Some b) e q (second f (first g (chosen x))) =
+      escape_inversion i m u (slice_get t (i + 1)) refl (byte_at t 92 i (byte_holds (λ c. c == 92) (slice_get t i) b e g)) x
+  unit_inversion i m u (Some b) e q (second f (second g (passed o))) =
       let by = o.by in
       record {
         on = omega arith;
@@ -238,16 +238,16 @@ module _ (t : List ℕ) where
             _ (both (other_byte b g (quote_not i b e q) f) (subst (λ k. is_units 0 (slice_range t k j) ≡ true) by r));
       }
 
-  units_was : (i j : ℕ) (a : Unit {0}) → string_units t i (Read a j) → (i ≤ j) × (is_units 0 (slice_range t i j) ≡ true)
-  units_was i j a (before_quote e) = (omega arith, ap (is_units 0) (range_none t i))
-  units_was i j a (unit_and_more {j = m} e x y) =
-      let u = unit_was i m tt (slice_get t i) refl e x in
-      let r = units_was m j a y in
+  units_inversion : (i j : ℕ) (a : Unit {0}) → string_units t i (Read a j) → (i ≤ j) × (is_units 0 (slice_range t i j) ≡ true)
+  units_inversion i j a (before_quote e) = (omega arith, ap (is_units 0) (range_none t i))
+  units_inversion i j a (unit_and_more {j = m} e x y) =
+      let u = unit_inversion i m tt (slice_get t i) refl e x in
+      let r = units_inversion m j a y in
       let on = u.on in
       let far = r.0 in
       (omega arith, u.more j far r.1)
 
-  pub string_was : (i j : ℕ) (s : Span) → string_literal t i (Read s j) → is_string (bytes_at t s) ≡ true
-  string_was i j s
+  pub string_inversion : (i j : ℕ) (s : Span) → string_literal t i (Read s j) → is_string (bytes_at t s) ≡ true
+  string_inversion i j s
       (goes_on x (goes_on {j = m} at_place
-      (goes_on {j = n} {a = u} y (goes_on (goes_on at_place given) (goes_on z given))))) = (units_was m n u y).1
+      (goes_on {j = n} {a = u} y (goes_on (goes_on at_place given) (goes_on z given))))) = (units_inversion m n u y).1

@@ -30,7 +30,7 @@ use Rattle.fluent_syntax_grammar.specs.Grammar.{family, inline_expression, call_
 use Rattle.fluent_syntax_grammar.proofs.Facts.{left_true, equal}
 use Rattle.fluent_syntax_grammar.proofs.Tests.{or_cases, differ}
 use Rattle.fluent_syntax_grammar.proofs.Nesting.{into_argument_list}
-use Rattle.fluent_syntax_grammar.proofs.Left.{Left, left_as, first, left_first, left_has}
+use Rattle.fluent_syntax_grammar.proofs.SuffixAt.{SuffixAt, suffix_as, first, suffix_first, suffix_has}
 use Rattle.fluent_syntax_grammar.proofs.forward.Reading.{Reads, Passes, reads_bind, reads_yields, passes_then}
 use Rattle.fluent_syntax_grammar.proofs.forward.Reading.{reads_peek, reads_look, reads_first, reads_second}
 use Rattle.fluent_syntax_grammar.proofs.forward.Reading.{reads_into, reads_present, reads_absent, passes_token}
@@ -38,7 +38,7 @@ use Rattle.fluent_syntax_grammar.proofs.forward.Reading.{more_map, reads_end, re
 use Rattle.fluent_syntax_grammar.proofs.marks.WrittenBytes.{inline_bytes, arguments_bytes, positional_bytes}
 use Rattle.fluent_syntax_grammar.proofs.marks.WrittenBytes.{named_bytes, is_none_of}
 use Rattle.fluent_syntax_grammar.proofs.forward.Inline.{Follows, past, passes_blank, passes_blanks, starts_with}
-use Rattle.fluent_syntax_grammar.proofs.forward.Inline.{digit_start, name_start, message_back}
+use Rattle.fluent_syntax_grammar.proofs.forward.Inline.{digit_start, name_start, message_reads_back}
 
 -- a byte that begins an inline expression
 abbrev pub is_start : ℕ → Bool
@@ -129,19 +129,19 @@ said t (positional e) = says_positional (inline_map (bytes_at t) e)
 said t (named name e) = says_named (bytes_at t name) (inline_map (bytes_at t) e)
 
 -- An inline expression is read back, whatever may follow it.
-pub record InlineBack (edition : Edition) (t : List ℕ) (level : ℕ) (e : InlineTree Text) : Type 0 where
+pub record InlineReadsBack (edition : Edition) (t : List ℕ) (level : ℕ) (e : InlineTree Text) : Type 0 where
   pub obeys : inline_obeys (canonical_rules edition) e ≡ true
-  pub back : (i : ℕ) (gap more : List ℕ) → Follows gap more → Left t i (inline_bytes level e (gap ++ more)) →
+  pub back : (i : ℕ) (gap more : List ℕ) → Follows gap more → SuffixAt t i (inline_bytes level e (gap ++ more)) →
       Reads t (inline_expression edition t) (inline_map (bytes_at t)) i e (past e gap more)
 
 -- The rest of an argument list is read back, after named arguments of these names.
-pub record ListBack (edition : Edition) (t : List ℕ) (level : ℕ) (names : List Text) (ps : InlineTrees Text)
+pub record ArgumentListReadsBack (edition : Edition) (t : List ℕ) (level : ℕ) (names : List Text) (ps : InlineTrees Text)
     (ns : NamedTrees Text) : Type 0 where
   -- what it begins with
   pub begins : (tail : List ℕ) → Begins (positional_bytes level true ps (named_bytes level (is_none_of ps) ns tail)) ⊎
       ((ps ≡ no_inlines) × (ns ≡ no_named))
   pub back : (i : ℕ) (tail : List ℕ) →
-      Left t i (positional_bytes level true ps (named_bytes level (is_none_of ps) ns (41 ∷ tail))) →
+      SuffixAt t i (positional_bytes level true ps (named_bytes level (is_none_of ps) ns (41 ∷ tail))) →
       Reads t (grammar.more_arguments edition t names) (arguments_map (bytes_at t)) i (arguments ps ns) tail
 
 module _ (edition : Edition) (t : List ℕ) where
@@ -154,27 +154,27 @@ module _ (edition : Edition) (t : List ℕ) where
 
   -- the rest of a list, after these names
   after_names : (level : ℕ) (names : List Text) (ps : InlineTrees Text) (ns : NamedTrees Text) (tail : List ℕ) →
-      ListBack edition t level names ps ns → (p : List Text) (j : ℕ) → p ≡ names →
-      Left t j (positional_bytes level true ps (named_bytes level (is_none_of ps) ns (41 ∷ tail))) →
+      ArgumentListReadsBack edition t level names ps ns → (p : List Text) (j : ℕ) → p ≡ names →
+      SuffixAt t j (positional_bytes level true ps (named_bytes level (is_none_of ps) ns (41 ∷ tail))) →
       ReadsMore p j (arguments ps ns) tail
   after_names level names ps ns tail h p j e m =
       subst (λ p. ReadsMore p j (arguments ps ns) tail) (sym e) (h.back j tail m)
 
   -- the end of a list
-  pub nothing_back : (level : ℕ) (names : List Text) → ListBack edition t level names no_inlines no_named
-  nothing_back level names = record {
+  pub nothing_reads_back : (level : ℕ) (names : List Text) → ArgumentListReadsBack edition t level names no_inlines no_named
+  nothing_reads_back level names = record {
     begins = λ tail. inr (refl, refl);
     back =
         λ i tail l. reads_end {f = said t} {g = λ ns. ns}
-        (reads_peek (Some 41) (left_first l)
+        (reads_peek (Some 41) (suffix_first l)
         (reads_first refl (passes_then (passes_token 41 refl l) (λ j m. reads_yields refl m)))) refl;
   }
 
   -- between two arguments, or before the end of the list
   passes_separator :
       (level : ℕ) (names : List Text) (ps : InlineTrees Text) (ns : NamedTrees Text) (i : ℕ) (tail : List ℕ) →
-      ListBack edition t level names ps ns →
-      Left t i (positional_bytes level false ps (named_bytes level false ns (41 ∷ tail))) →
+      ArgumentListReadsBack edition t level names ps ns →
+      SuffixAt t i (positional_bytes level false ps (named_bytes level false ns (41 ∷ tail))) →
       Passes t (separator t) i (positional_bytes level true ps (named_bytes level (is_none_of ps) ns (41 ∷ tail)))
   passes_separator level names no_inlines no_named i tail h l =
       passes_then (passes_blanks [] (41 ∷ tail) refl refl refl refl l)
@@ -260,28 +260,28 @@ module _ (edition : Edition) (t : List ℕ) where
 
   -- the rest of a list, at an argument's first byte
   at_argument : (names : List Text) (i : ℕ) (bs : List ℕ) (a : More Said (List Text)) (left : List ℕ) → Begins bs →
-      Left t i bs →
+      SuffixAt t i bs →
       Reads t (grammar.inline_expression edition t >>= λ e. peek (has_byte t 58) yields >>= λ colon.
       argument_rest t (family edition t) names e (argument_name e) colon) (more_map (said t) (λ ns. ns)) i a
       left →
       ReadsNext names i a left
   at_argument names i bs a left b l r =
-      (reads_peek (Some b.byte) (left_first l ∙ ap first b.are)
+      (reads_peek (Some b.byte) (suffix_first l ∙ ap first b.are)
       (reads_second (differ is_start b.byte 41 b.start refl) r))
 
-  pub positional_back : (level : ℕ) (e : InlineTree Text) (es : InlineTrees Text) (ns : NamedTrees Text) →
-      InlineBack edition t level e → ListBack edition t level [] es ns → ListBack edition t level [] (inlines e es) ns
-  positional_back level e es ns h more = record {
+  pub positional_reads_back : (level : ℕ) (e : InlineTree Text) (es : InlineTrees Text) (ns : NamedTrees Text) →
+      InlineReadsBack edition t level e → ArgumentListReadsBack edition t level [] es ns → ArgumentListReadsBack edition t level [] (inlines e es) ns
+  positional_reads_back level e es ns h more = record {
     begins = λ tail. inl (inline_begins edition level e _ h.obeys);
     back = λ i tail l.
         let rest = positional_bytes level false es (named_bytes level false ns (41 ∷ tail)) in
         reads_item {c = says_positional e} {q = []}
         (at_argument [] i _ _ _ (inline_begins edition level e rest h.obeys) l
         (reads_bind (h.back i [] rest (follows_positional level es ns tail) l) (λ v j f m.
-        let n = left_as (past_same e rest) m in
+        let n = suffix_as (past_same e rest) m in
         reads_look (has_byte t 58 j) refl
         (as_positional [] v (argument_name v) (has_byte t 58 j) j _ _
-        (left_has (λ b. b == 58) n ∙ no_colon level es ns tail)
+        (suffix_has (λ b. b == 58) n ∙ no_colon level es ns tail)
         (passes_then (passes_separator level [] es ns j tail more n)
         (λ k q. reads_yields (ap (λ e. item (says_positional e) []) f) q))))))
         (after_names level [] es ns tail more) (λ v a f g. added_positional v a e es ns f g);
@@ -325,7 +325,7 @@ module _ (edition : Edition) (t : List ℕ) where
   -- a value that may be one, by its start
   value_at : (level : ℕ) (e : InlineTree Text) (i : ℕ) (tail left : List ℕ) →
       inline_obeys (canonical_rules edition) e ≡ true → is_argument_value e ≡ true →
-      Left t i (inline_bytes level e tail) →
+      SuffixAt t i (inline_bytes level e tail) →
       Reads t (grammar.inline_expression edition t) (inline_map (bytes_at t)) i e left →
       Reads t (peek (start t) (argument_value t (family edition t))) (inline_map (bytes_at t)) i e left
   value_at level (string_literal v) i tail left h a l r = reads_peek quote (starts_with quote refl l) r
@@ -342,10 +342,10 @@ module _ (edition : Edition) (t : List ℕ) where
 
   -- from the colon on
   from_colon : (level : ℕ) (names : List Text) (name : Text) (e : InlineTree Text) (ns : NamedTrees Text) →
-      InlineBack edition t level e → is_used name names ≡ false → is_argument_value e ≡ true →
-      ListBack edition t level (name ∷ names) no_inlines ns →
+      InlineReadsBack edition t level e → is_used name names ≡ false → is_argument_value e ≡ true →
+      ArgumentListReadsBack edition t level (name ∷ names) no_inlines ns →
       (id : Span) (i : ℕ) (tail : List ℕ) → bytes_at t id ≡ name →
-      Left t i (58 ∷ 32 ∷ inline_bytes level e (named_bytes level false ns (41 ∷ tail))) →
+      SuffixAt t i (58 ∷ 32 ∷ inline_bytes level e (named_bytes level false ns (41 ∷ tail))) →
       Reads t (named_rest t (family edition t) names id) (more_map (said t) (λ ns. ns)) i
       (item (says_named name e) (name ∷ names)) (named_bytes level true ns (41 ∷ tail))
   from_colon level names name e ns h used value more id i tail f l =
@@ -358,7 +358,7 @@ module _ (edition : Edition) (t : List ℕ) where
       m) (λ k n.
       reads_bind (value_at level e k rest (past e [] rest) h.obeys value n
       (h.back k [] rest (follows_positional level no_inlines ns tail) n)) (λ v p g q.
-      passes_then (passes_separator level (name ∷ names) no_inlines ns p tail more (left_as (past_same e rest) q))
+      passes_then (passes_separator level (name ∷ names) no_inlines ns p tail more (suffix_as (past_same e rest) q))
       (λ y z. reads_yields (same_item v f g) z)))))
     where
       same_item : (v : InlineTree Span) → bytes_at t id ≡ name → inline_map (bytes_at t) v ≡ e →
@@ -366,11 +366,11 @@ module _ (edition : Edition) (t : List ℕ) where
           item (says_named name e) (name ∷ names)
       same_item v f g = cc
 
-  pub named_back : (level : ℕ) (names : List Text) (name : Text) (e : InlineTree Text) (ns : NamedTrees Text) →
-      is_name name ≡ true → InlineBack edition t level e → is_used name names ≡ false → is_argument_value e ≡ true →
-      ListBack edition t level (name ∷ names) no_inlines ns →
-      ListBack edition t level names no_inlines (nameds (named_argument name e) ns)
-  named_back level names name e ns is h used value more = record {
+  pub named_reads_back : (level : ℕ) (names : List Text) (name : Text) (e : InlineTree Text) (ns : NamedTrees Text) →
+      is_name name ≡ true → InlineReadsBack edition t level e → is_used name names ≡ false → is_argument_value e ≡ true →
+      ArgumentListReadsBack edition t level (name ∷ names) no_inlines ns →
+      ArgumentListReadsBack edition t level names no_inlines (nameds (named_argument name e) ns)
+  named_reads_back level names name e ns is h used value more = record {
     begins = λ tail. inl (name_begins name _ is);
     back = λ i tail l.
         let rest = 58 ∷ 32 ∷ inline_bytes level e (named_bytes level false ns (41 ∷ tail)) in
@@ -388,10 +388,10 @@ module _ (edition : Edition) (t : List ℕ) where
         } in
         reads_item {c = says_named name e} {q = name ∷ names}
         (at_argument names i _ _ _ (name_begins name rest is) l
-        (reads_bind (message_back edition t i level name [] rest is f l) (λ v j g m.
+        (reads_bind (message_reads_back edition t i level name [] rest is f l) (λ v j g m.
         let n = name_of v name g in
         reads_look (has_byte t 58 j) refl
-        (as_named names v n.id (argument_name v) (has_byte t 58 j) j _ _ n.is (left_has (λ b. b == 58) m)
+        (as_named names v n.id (argument_name v) (has_byte t 58 j) j _ _ n.is (suffix_has (λ b. b == 58) m)
         (from_colon level names name e ns h used value more n.id j tail n.spells m)))))
         (after_names level (name ∷ names) no_inlines ns tail more)
         (λ v a f g. added_named v a name e no_inlines ns f g);
@@ -400,10 +400,10 @@ module _ (edition : Edition) (t : List ℕ) where
   -- ---- the whole list
 
   -- a list with its brackets
-  pub call_back : (level : ℕ) (ps : InlineTrees Text) (ns : NamedTrees Text) → ListBack edition t level [] ps ns →
-      (i : ℕ) (tail : List ℕ) → Left t i (arguments_bytes level (arguments ps ns) tail) →
+  pub call_reads_back : (level : ℕ) (ps : InlineTrees Text) (ns : NamedTrees Text) → ArgumentListReadsBack edition t level [] ps ns →
+      (i : ℕ) (tail : List ℕ) → SuffixAt t i (arguments_bytes level (arguments ps ns) tail) →
       Reads t (call_arguments edition t) (maybe_map (bytes_at t)) i (some_arguments (arguments ps ns)) tail
-  call_back level ps ns h i tail l =
+  call_reads_back level ps ns h i tail l =
       passes_then (passes_blanks [] _ refl refl refl refl l)
       (λ j m. reads_bind (reads_present 40 refl m) (λ b k e n. reads_first e
       (reads_bind (passes_then (inside k n) (λ p q.
@@ -412,13 +412,13 @@ module _ (edition : Edition) (t : List ℕ) where
     where
       at_end : (ps : InlineTrees Text) (ns : NamedTrees Text) (k : ℕ) → (ps ≡ no_inlines) ×
           (ns ≡ no_named) →
-          Left t k (positional_bytes level true ps (named_bytes level (is_none_of ps) ns (41 ∷ tail))) →
+          SuffixAt t k (positional_bytes level true ps (named_bytes level (is_none_of ps) ns (41 ∷ tail))) →
           Passes t (blank t) k (positional_bytes level true ps (named_bytes level (is_none_of ps) ns (41 ∷ tail)))
       at_end no_inlines no_named k x n = passes_blanks [] _ refl refl refl refl n
       at_end no_inlines (nameds y ys) k x n = absurd cc
       at_end (inlines y ys) ns k x n = absurd cc
 
-      inside : (k : ℕ) → Left t k (positional_bytes level true ps (named_bytes level (is_none_of ps) ns (41 ∷ tail))) →
+      inside : (k : ℕ) → SuffixAt t k (positional_bytes level true ps (named_bytes level (is_none_of ps) ns (41 ∷ tail))) →
           Passes t (blank t) k (positional_bytes level true ps (named_bytes level (is_none_of ps) ns (41 ∷ tail)))
       inside k n = elim (h.begins (41 ∷ tail)) [
         | inl b ↦ passes_blanks [] _ refl (begins_other 32 b refl) (begins_other lf b refl) (begins_other cr b refl) n

@@ -28,7 +28,7 @@ use Rattle.fluent_syntax_grammar.specs.RoundTrip.{ReadsAs, tree_of}
 use Rattle.fluent_syntax_grammar.proofs.Facts.{left_true, right_true, same_number}
 use Rattle.fluent_syntax_grammar.proofs.Tests.{differ}
 use Rattle.fluent_syntax_grammar.proofs.Cuts.{block_forward}
-use Rattle.fluent_syntax_grammar.proofs.Left.{Left, left_as, left_whole, left_first, left_next, left_end}
+use Rattle.fluent_syntax_grammar.proofs.SuffixAt.{SuffixAt, suffix_as, suffix_whole, suffix_first, suffix_next, suffix_end}
 use Rattle.fluent_syntax_grammar.proofs.forward.Reading.{Reads, reads_into}
 use Rattle.fluent_syntax_grammar.proofs.forward.Lines.{Ends, stop, blank_line, no_spaces, lf_after}
 use Rattle.fluent_syntax_grammar.proofs.forward.Entries.{EntryStart, no_entry, begins, entry_stops, no_block, Tiles}
@@ -36,8 +36,8 @@ use Rattle.fluent_syntax_grammar.proofs.forward.Entries.{tiles_end}
 use Rattle.fluent_syntax_grammar.proofs.marks.WrittenBytes.{pattern_bytes}
 use Rattle.fluent_syntax_grammar.proofs.marks.WrittenEntries.{after_hashes, comment_bytes, more_attributes}
 use Rattle.fluent_syntax_grammar.proofs.marks.WrittenEntries.{own_comment_bytes, value_bytes, message_bytes, term_bytes}
-use Rattle.fluent_syntax_grammar.proofs.forward.Fields.{message_back, term_back}
-use Rattle.fluent_syntax_grammar.proofs.forward.Comments.{comment_back}
+use Rattle.fluent_syntax_grammar.proofs.forward.Fields.{message_reads_back, term_reads_back}
+use Rattle.fluent_syntax_grammar.proofs.forward.Comments.{comment_reads_back}
 use Rattle.fluent_syntax_grammar.proofs.LineEnds.{hash_entry, letter_entry}
 
 -- ---- what a body is written as
@@ -130,32 +130,32 @@ free_comment edition t i j k regular c (refused x ∷ tiles) n (next b l (refuse
 free_comment edition t i j k regular c (dropped ∷ tiles) n (next b l a m) = elim a [ ]
 
 module _ (edition : Edition) (t : List ℕ) where
-  pub entry_within : (i b : ℕ) (bs : List ℕ) → Left t i (b ∷ bs) → i < length t
-  entry_within i b bs l = let n = left_end l in omega arith
+  pub entry_within : (i b : ℕ) (bs : List ℕ) → SuffixAt t i (b ∷ bs) → i < length t
+  entry_within i b bs l = let n = suffix_end l in omega arith
 
   -- a blank line before tiles
-  pub line_before : (i : ℕ) (bs : List ℕ) (tiles : List Tile) → Left t i (lf ∷ bs) →
+  pub line_before : (i : ℕ) (bs : List ℕ) (tiles : List Tile) → SuffixAt t i (lf ∷ bs) →
       Tiled t (TileAt edition t) (i + 1) tiles → Tiled t (TileAt edition t) i tiles
   line_before i bs tiles l (done b) = done (line (no_spaces edition t refl l) (lf_after edition t l) b)
   line_before i bs tiles l (next b m a n) = next (line (no_spaces edition t refl l) (lf_after edition t l) b) m a n
 
   -- blank lines before tiles
-  tiles_after : (tail rest : List ℕ) (es : BodyTree Text) (i : ℕ) → Ends tail rest → Left t i tail →
-      ((j : ℕ) → Left t j rest → Tiles edition t j es) → Tiles edition t i es
+  tiles_after : (tail rest : List ℕ) (es : BodyTree Text) (i : ℕ) → Ends tail rest → SuffixAt t i tail →
+      ((j : ℕ) → SuffixAt t j rest → Tiles edition t j es) → Tiles edition t i es
   tiles_after tail rest es i (stop s) l k = k i l
   tiles_after tail rest es i (blank_line {tail = more} e) l k =
-      let n = tiles_after more rest es (i + 1) e (left_next l) k in
+      let n = tiles_after more rest es (i + 1) e (suffix_next l) k in
       record { tiles = n.tiles; tiled = line_before i more n.tiles l n.tiled; no_faults = n.no_faults; same = n.same }
 
-  pub reads_comment : (i b : ℕ) (bs : List ℕ) (e : EntryTree Span) (j : ℕ) → (b == 35) ≡ true → Left t i (b ∷ bs) →
+  pub reads_comment : (i b : ℕ) (bs : List ℕ) (e : EntryTree Span) (j : ℕ) → (b == 35) ≡ true → SuffixAt t i (b ∷ bs) →
       comment_entry t i (Read e j) → entry_at edition t i (Read e j)
   reads_comment i b bs e j is l r =
-      chosen (subst (λ o. entry_of edition t (family edition t) o i (Read e j)) (sym (left_first l)) (first_of is r))
+      chosen (subst (λ o. entry_of edition t (family edition t) o i (Read e j)) (sym (suffix_first l)) (first_of is r))
 
   -- a message or a term
   tiles_alone : (e : EntryTree Text) (es : BodyTree Text) (i b : ℕ) (bs rest : List ℕ) → takes_comment e ≡ true →
-      is_entry_byte b ≡ true → Left t i (b ∷ bs) → Reads t (entry_at edition t) (entry_map (bytes_at t)) i e rest →
-      ((j : ℕ) → Left t j rest → Tiles edition t j es) → Tiles edition t i (e ∷ es)
+      is_entry_byte b ≡ true → SuffixAt t i (b ∷ bs) → Reads t (entry_at edition t) (entry_map (bytes_at t)) i e rest →
+      ((j : ℕ) → SuffixAt t j rest → Tiles edition t j es) → Tiles edition t i (e ∷ es)
   tiles_alone e es i b bs rest h is l r k =
       let n = k r.end r.rest in
       let takes : takes_comment r.value ≡ true = sym (takes_map (bytes_at t) r.value) ∙ ap takes_comment r.spells ∙ h in
@@ -172,10 +172,10 @@ module _ (edition : Edition) (t : List ℕ) where
   -- a message or a term with the comment that is attached to it
   tiles_attached :
       (content : List Text) (e : EntryTree Text) (es : BodyTree Text) (i c : ℕ) (cs : List ℕ) (b : ℕ)
-      (bs rest : List ℕ) → takes_comment e ≡ true → (c == 35) ≡ true → Left t i (c ∷ cs) → is_entry_byte b ≡ true →
+      (bs rest : List ℕ) → takes_comment e ≡ true → (c == 35) ≡ true → SuffixAt t i (c ∷ cs) → is_entry_byte b ≡ true →
       Reads t (comment_entry t) (entry_map (bytes_at t)) i (comment regular content) (b ∷ bs) →
-      ((j : ℕ) → Left t j (b ∷ bs) → Reads t (entry_at edition t) (entry_map (bytes_at t)) j e rest) →
-      ((j : ℕ) → Left t j rest → Tiles edition t j es) → Tiles edition t i (with_comment content e ∷ es)
+      ((j : ℕ) → SuffixAt t j (b ∷ bs) → Reads t (entry_at edition t) (entry_map (bytes_at t)) j e rest) →
+      ((j : ℕ) → SuffixAt t j rest → Tiles edition t j es) → Tiles edition t i (with_comment content e ∷ es)
   tiles_attached content e es i c cs b bs rest h is l is' q r k = attached_tiles q.value q.spells q.reads
     where
       attached_tiles : (v : EntryTree Span) → entry_map (bytes_at t) v ≡ comment regular content →
@@ -217,9 +217,9 @@ module _ (edition : Edition) (t : List ℕ) where
 
   -- a free comment and the blank lines after it
   tiles_free : (level : Level) (content : List Text) (es : BodyTree Text) (i c : ℕ) (cs tail rest : List ℕ) →
-      (c == 35) ≡ true → is_entry_byte c ≡ true → Left t i (c ∷ cs) →
+      (c == 35) ≡ true → is_entry_byte c ≡ true → SuffixAt t i (c ∷ cs) →
       Reads t (comment_entry t) (entry_map (bytes_at t)) i (comment level content) (lf ∷ tail) → Ends tail rest →
-      ((j : ℕ) → Left t j rest → Tiles edition t j es) → Tiles edition t i (comment level content ∷ es)
+      ((j : ℕ) → SuffixAt t j rest → Tiles edition t j es) → Tiles edition t i (comment level content ∷ es)
   tiles_free level content es i c cs tail rest is is' l q ends k = free_tiles q.value q.spells q.reads
     where
       same_content : (d : List Span) (v : Level) → entry_map (bytes_at t) (comment v d) ≡ comment level content →
@@ -232,7 +232,7 @@ module _ (edition : Edition) (t : List ℕ) where
       free_tiles (term m) f x = absurd cc
       free_tiles (junk m) f x = absurd cc
       free_tiles (comment v d) f x =
-          let n = tiles_after tail rest es (q.end + 1) ends (left_next q.rest) k in
+          let n = tiles_after tail rest es (q.end + 1) ends (suffix_next q.rest) k in
           record {
             tiles = entry (record { start = i; end = q.end }) (comment v d) ∷ n.tiles;
             tiled =
@@ -248,51 +248,51 @@ module _ (edition : Edition) (t : List ℕ) where
 
   -- ---- entries as they are written
 
-  pub letter_reads : (i b : ℕ) (bs : List ℕ) (e : EntryTree Text) (rest : List ℕ) → is_letter b ≡ true → Left t i
+  pub letter_reads : (i b : ℕ) (bs : List ℕ) (e : EntryTree Text) (rest : List ℕ) → is_letter b ≡ true → SuffixAt t i
       (b ∷ bs) →
       Reads t (message_entry edition t) (entry_map (bytes_at t)) i e rest →
       Reads t (entry_at edition t) (entry_map (bytes_at t)) i e rest
   letter_reads i b bs e rest is l r =
       reads_into (λ o x.
-      chosen (subst (λ b. entry_of edition t (family edition t) b i o) (sym (left_first l))
+      chosen (subst (λ b. entry_of edition t (family edition t) b i o) (sym (suffix_first l))
       (second (differ is_letter b 35 is refl) (second (differ is_letter b 45 is refl) x)))) r
 
-  pub minus_reads : (i : ℕ) (bs : List ℕ) (e : EntryTree Text) (rest : List ℕ) → Left t i (45 ∷ bs) →
+  pub minus_reads : (i : ℕ) (bs : List ℕ) (e : EntryTree Text) (rest : List ℕ) → SuffixAt t i (45 ∷ bs) →
       Reads t (term_entry edition t) (entry_map (bytes_at t)) i e rest →
       Reads t (entry_at edition t) (entry_map (bytes_at t)) i e rest
   minus_reads i bs e rest l r =
       reads_into (λ o x.
-      chosen (subst (λ b. entry_of edition t (family edition t) b i o) (sym (left_first l))
+      chosen (subst (λ b. entry_of edition t (family edition t) b i o) (sym (suffix_first l))
       (second refl (first_of refl x)))) r
 
   -- The text from here on is tiled into these entries, after blank lines.
-  pub record BodyBack (es : BodyTree Text) (tail : List ℕ) : Type 0 where
+  pub record BodyReadsBack (es : BodyTree Text) (tail : List ℕ) : Type 0 where
     pub rest : List ℕ
     pub ends : Ends tail rest
     pub starts : EntryStart rest
-    pub tiles : (j : ℕ) → Left t j rest → Tiles edition t j es
+    pub tiles : (j : ℕ) → SuffixAt t j rest → Tiles edition t j es
 
-  begins_there : (es : BodyTree Text) (bs : List ℕ) → EntryStart bs → ((j : ℕ) → Left t j bs → Tiles edition t j es) →
-      BodyBack es bs
+  begins_there : (es : BodyTree Text) (bs : List ℕ) → EntryStart bs → ((j : ℕ) → SuffixAt t j bs → Tiles edition t j es) →
+      BodyReadsBack es bs
   begins_there es bs s k = record { rest = bs; ends = stop (entry_stops bs s); starts = s; tiles = k }
 
   -- the entry alone, or with its comment
-  field_back : (content : Option (List Text)) (e : EntryTree Text) (es : BodyTree Text) (b : ℕ) (bs rest : List ℕ) →
+  field_reads_back : (content : Option (List Text)) (e : EntryTree Text) (es : BodyTree Text) (b : ℕ) (bs rest : List ℕ) →
       option_obeys (canonical_rules edition).comment content ≡ true → takes_comment e ≡ true → is_entry_byte b ≡ true →
       (b == 35) ≡ false →
-      ((j : ℕ) → Left t j (b ∷ bs) → Reads t (entry_at edition t) (entry_map (bytes_at t)) j e rest) →
-      ((j : ℕ) → Left t j rest → Tiles edition t j es) →
-      BodyBack (worn content e ∷ es) (own_comment_bytes content (b ∷ bs))
-  field_back None e es b bs rest o h is n r k =
+      ((j : ℕ) → SuffixAt t j (b ∷ bs) → Reads t (entry_at edition t) (entry_map (bytes_at t)) j e rest) →
+      ((j : ℕ) → SuffixAt t j rest → Tiles edition t j es) →
+      BodyReadsBack (worn content e ∷ es) (own_comment_bytes content (b ∷ bs))
+  field_reads_back None e es b bs rest o h is n r k =
       begins_there (e ∷ es) (b ∷ bs) (begins b bs is) (λ j l. tiles_alone e es j b bs rest h is l (r j l) k)
-  field_back (Some []) e es b bs rest o h is n r k = absurd cc
-  field_back (Some (x ∷ xs)) e es b bs rest o h is n r k =
+  field_reads_back (Some []) e es b bs rest o h is n r k = absurd cc
+  field_reads_back (Some (x ∷ xs)) e es b bs rest o h is n r k =
       begins_there (with_comment (x ∷ xs) e ∷ es) (comment_bytes (35 ∷ []) (x ∷ xs) (b ∷ bs))
       (begins 35 (after_hashes (is_nonblank_line x) x (comment_bytes (35 ∷ []) xs (b ∷ bs))) refl)
       (λ j l. tiles_attached (x ∷ xs) e es j 35 (after_hashes (is_nonblank_line x) x
       (comment_bytes (35 ∷ []) xs (b ∷ bs))) b bs
       rest h refl l is
-      (comment_back t regular (x ∷ xs) j (b ∷ bs) (right_true (are_lines (x ∷ xs)) _ o)
+      (comment_reads_back t regular (x ∷ xs) j (b ∷ bs) (right_true (are_lines (x ∷ xs)) _ o)
       (left_true (are_lines (x ∷ xs)) _ o) n l) r k)
 
   pub worn_message : (m : MessageTree Text) (c : Option (List Text)) → m.comment ≡ c →
@@ -315,48 +315,48 @@ module _ (edition : Edition) (t : List ℕ) where
       option_obeys (canonical_rules edition).comment content ≡ true → is_name id ≡ true →
       option_obeys (pattern_obeys (canonical_rules edition)) value ≡ true →
       list_all (attribute_obeys (canonical_rules edition)) more ≡ true →
-      BodyBack es tail →
-      BodyBack (worn content (message (record { id = id; value = value; attributes = more; comment = None })) ∷ es)
+      BodyReadsBack es tail →
+      BodyReadsBack (worn content (message (record { id = id; value = value; attributes = more; comment = None })) ∷ es)
       (own_comment_bytes content (message_bytes id value more tail))
   message_body [] value more content es tail f o is h a k = absurd cc
   message_body (b ∷ bs) value more content es tail f o is h a k =
       let letter = left_true (is_letter b) (list_all is_name_byte bs) is in
       let after = bs ++ (32 ∷ 61 ∷ value_bytes value (lf ∷ more_attributes more tail)) in
-      field_back content (message (record { id = b ∷ bs; value = value; attributes = more; comment = None })) es b after
+      field_reads_back content (message (record { id = b ∷ bs; value = value; attributes = more; comment = None })) es b after
       k.rest o refl (letter_entry b letter) (differ is_letter b 35 letter refl)
       (λ j l. letter_reads j b after
       (message (record { id = b ∷ bs; value = value; attributes = more; comment = None })) k.rest letter l
-      (message_back edition t (b ∷ bs) value more j tail k.rest is f h a k.ends k.starts l)) k.tiles
+      (message_reads_back edition t (b ∷ bs) value more j tail k.rest is f h a k.ends k.starts l)) k.tiles
 
   term_body :
       (id : Text) (value : PatternTree Text) (more : List (AttributeTree Text)) (content : Option (List Text))
       (es : BodyTree Text) (tail : Text) → option_obeys (canonical_rules edition).comment content ≡ true →
       is_name id ≡ true → pattern_obeys (canonical_rules edition) value ≡ true →
       list_all (attribute_obeys (canonical_rules edition)) more ≡ true →
-      BodyBack es tail →
-      BodyBack (worn content (term (record { id = id; value = value; attributes = more; comment = None })) ∷ es)
+      BodyReadsBack es tail →
+      BodyReadsBack (worn content (term (record { id = id; value = value; attributes = more; comment = None })) ∷ es)
       (own_comment_bytes content (term_bytes id value more tail))
   term_body id value more content es tail o is h a k =
       let after = id ++ (32 ∷ 61 ∷ pattern_bytes 0 value (lf ∷ more_attributes more tail)) in
-      field_back content (term (record { id = id; value = value; attributes = more; comment = None })) es 45 after
+      field_reads_back content (term (record { id = id; value = value; attributes = more; comment = None })) es 45 after
       k.rest o refl refl refl
       (λ j l. minus_reads j after (term (record { id = id; value = value; attributes = more; comment = None })) k.rest l
-      (term_back edition t id value more j tail k.rest is h a k.ends k.starts l)) k.tiles
+      (term_reads_back edition t id value more j tail k.rest is h a k.ends k.starts l)) k.tiles
 
   hashes_from : (level : Level) (content : List Text) (es : BodyTree Text) (tail : Text) (c : ℕ) (cs : List ℕ) →
       comment_bytes (hashes_of level) content (lf ∷ tail) ≡ c ∷ cs → (c == 35) ≡ true →
-      (canonical_rules edition).comment content ≡ true → BodyBack es tail →
-      BodyBack (comment level content ∷ es) (comment_bytes (hashes_of level) content (lf ∷ tail))
+      (canonical_rules edition).comment content ≡ true → BodyReadsBack es tail →
+      BodyReadsBack (comment level content ∷ es) (comment_bytes (hashes_of level) content (lf ∷ tail))
   hashes_from level content es tail c cs e is o k =
       begins_there (comment level content ∷ es) (comment_bytes (hashes_of level) content (lf ∷ tail))
       (subst EntryStart (sym e) (begins c cs (hash_entry c is)))
-      (λ j l. tiles_free level content es j c cs tail k.rest is (hash_entry c is) (left_as e l)
-      (comment_back t level content j (lf ∷ tail) (right_true (are_lines content) _ o)
+      (λ j l. tiles_free level content es j c cs tail k.rest is (hash_entry c is) (suffix_as e l)
+      (comment_reads_back t level content j (lf ∷ tail) (right_true (are_lines content) _ o)
       (left_true (are_lines content) _ o) refl l) k.ends k.tiles)
 
   hashes_begin : (level : Level) (content : List Text) (es : BodyTree Text) (tail : Text) →
-      (canonical_rules edition).comment content ≡ true → BodyBack es tail →
-      BodyBack (comment level content ∷ es) (comment_bytes (hashes_of level) content (lf ∷ tail))
+      (canonical_rules edition).comment content ≡ true → BodyReadsBack es tail →
+      BodyReadsBack (comment level content ∷ es) (comment_bytes (hashes_of level) content (lf ∷ tail))
   hashes_begin level [] es tail o k = absurd (right_absurd (are_lines []) o)
     where
       right_absurd : (b : Bool) → (b && false) ≡ true → ⊥
@@ -366,54 +366,54 @@ module _ (edition : Edition) (t : List ℕ) where
   hashes_begin group (x ∷ xs) es tail o k = hashes_from group (x ∷ xs) es tail 35 _ refl refl o k
   hashes_begin resource (x ∷ xs) es tail o k = hashes_from resource (x ∷ xs) es tail 35 _ refl refl o k
 
-  gap_back : (gap : Bool) (es : BodyTree Text) (bs : List ℕ) → BodyBack es bs → BodyBack es (gap_bytes gap bs)
-  gap_back true es bs k = record { rest = k.rest; ends = blank_line k.ends; starts = k.starts; tiles = k.tiles }
-  gap_back false es bs k = k
+  gap_reads_back : (gap : Bool) (es : BodyTree Text) (bs : List ℕ) → BodyReadsBack es bs → BodyReadsBack es (gap_bytes gap bs)
+  gap_reads_back true es bs k = record { rest = k.rest; ends = blank_line k.ends; starts = k.starts; tiles = k.tiles }
+  gap_reads_back false es bs k = k
 
   -- a written body is read back
-  body_back : (es : BodyTree Text) (tail : Text) → body_obeys (canonical_rules edition) es ≡ true →
-      IsWritten es tail → BodyBack es tail
-  body_back [] tail h nothing =
+  body_reads_back : (es : BodyTree Text) (tail : Text) → body_obeys (canonical_rules edition) es ≡ true →
+      IsWritten es tail → BodyReadsBack es tail
+  body_reads_back [] tail h nothing =
       record {
         rest = [];
         ends = stop (entry_stops [] no_entry);
         starts = no_entry;
         tiles = λ j l. tiles_end edition t j l;
       }
-  body_back (message m ∷ es) tail' h (a_message n fs tail w) =
+  body_reads_back (message m ∷ es) tail' h (a_message n fs tail w) =
       let x = left_true (entry_obeys (canonical_rules edition) (message m)) _ h in
       let y = right_true (has_field m.value m.attributes) _ x in
       let z = right_true (option_obeys (canonical_rules edition).comment m.comment) _ y in
       let q = right_true (is_name m.id) _ z in
-      subst (λ e. BodyBack (e ∷ es) (own_comment_bytes m.comment (message_bytes m.id m.value m.attributes tail)))
+      subst (λ e. BodyReadsBack (e ∷ es) (own_comment_bytes m.comment (message_bytes m.id m.value m.attributes tail)))
       (worn_message m m.comment refl)
       (message_body m.id m.value m.attributes m.comment es tail (left_true (has_field m.value m.attributes) _ x)
       (left_true (option_obeys (canonical_rules edition).comment m.comment) _ y) (left_true (is_name m.id) _ z)
       (left_true (option_obeys (pattern_obeys (canonical_rules edition)) m.value) _ q)
       (right_true (option_obeys (pattern_obeys (canonical_rules edition)) m.value) _ q)
-      (body_back es tail (right_true (entry_obeys (canonical_rules edition) (message m)) _ h) w))
-  body_back (term m ∷ es) tail' h (a_term n fs tail w) =
+      (body_reads_back es tail (right_true (entry_obeys (canonical_rules edition) (message m)) _ h) w))
+  body_reads_back (term m ∷ es) tail' h (a_term n fs tail w) =
       let y = left_true (entry_obeys (canonical_rules edition) (term m)) _ h in
       let z = right_true (option_obeys (canonical_rules edition).comment m.comment) _ y in
       let q = right_true (is_name m.id) _ z in
-      subst (λ e. BodyBack (e ∷ es) (own_comment_bytes m.comment (term_bytes m.id m.value m.attributes tail)))
+      subst (λ e. BodyReadsBack (e ∷ es) (own_comment_bytes m.comment (term_bytes m.id m.value m.attributes tail)))
       (worn_term m m.comment refl)
       (term_body m.id m.value m.attributes m.comment es tail
       (left_true (option_obeys (canonical_rules edition).comment m.comment) _ y) (left_true (is_name m.id) _ z)
       (left_true (pattern_obeys (canonical_rules edition) m.value) _ q)
       (right_true (pattern_obeys (canonical_rules edition) m.value) _ q)
-      (body_back es tail (right_true (entry_obeys (canonical_rules edition) (term m)) _ h) w))
-  body_back (comment level content ∷ es) tail' h (a_comment gap l c fs tail w) =
+      (body_reads_back es tail (right_true (entry_obeys (canonical_rules edition) (term m)) _ h) w))
+  body_reads_back (comment level content ∷ es) tail' h (a_comment gap l c fs tail w) =
       let x = left_true (entry_obeys (canonical_rules edition) (comment level content)) _ h in
-      gap_back gap (comment level content ∷ es) (comment_bytes (hashes_of level) content (lf ∷ tail))
+      gap_reads_back gap (comment level content ∷ es) (comment_bytes (hashes_of level) content (lf ∷ tail))
       (hashes_begin level content es tail x
-      (body_back es tail (right_true (entry_obeys (canonical_rules edition) (comment level content)) _ h) w))
-  body_back (junk x ∷ es) tail' h w = elim w [ ]
+      (body_reads_back es tail (right_true (entry_obeys (canonical_rules edition) (comment level content)) _ h) w))
+  body_reads_back (junk x ∷ es) tail' h w = elim w [ ]
 
 -- A text that a canonical body is written as reads as that body.
 pub reads_back : (edition : Edition) (es : BodyTree Text) (t : Text) → is_canonical edition es ≡ true → IsWritten es t →
     ReadsAs edition t es
 reads_back edition es t h w =
-    let k = body_back edition t es t h w in
-    let n = tiles_after edition t t k.rest es 0 k.ends (left_whole t) k.tiles in
+    let k = body_reads_back edition t es t h w in
+    let n = tiles_after edition t t k.rest es 0 k.ends (suffix_whole t) k.tiles in
     record { tiles = n.tiles; tiling = n.tiled; no_faults = n.no_faults; same = n.same }

@@ -18,7 +18,7 @@ use Rattle.fluent_syntax_grammar.specs.Readable.{are_lines}
 use Rattle.fluent_syntax_grammar.specs.Canonical.{is_plain_line, is_plain_comment}
 use Rattle.fluent_syntax_grammar.proofs.Facts.{left_true, right_true, two_on}
 use Rattle.fluent_syntax_grammar.proofs.Computed.{find_here, find_on}
-use Rattle.fluent_syntax_grammar.proofs.Left.{Left, first, left_first, left_next, left_past, left_has}
+use Rattle.fluent_syntax_grammar.proofs.SuffixAt.{SuffixAt, first, suffix_first, suffix_next, suffix_past, suffix_has}
 use Rattle.fluent_syntax_grammar.proofs.forward.Reading.{Reads, Passes, reads_bind, reads_yields, reads_peek}
 use Rattle.fluent_syntax_grammar.proofs.forward.Reading.{reads_here, passes_then, passes_over, passes_token}
 use Rattle.fluent_syntax_grammar.proofs.forward.Reading.{reads_spanned}
@@ -27,24 +27,24 @@ use Rattle.fluent_syntax_grammar.proofs.Tests.{neither_left, neither_right, not_
 
 -- ---- the end of a line
 
-doubled_end : (t : List ℕ) (b : Bool) (i : ℕ) (tail : List ℕ) → Left t i (doubled b tail) → is_line_place t i ≡ false
-doubled_end t false i tail l = rw (left_first l) refl
-doubled_end t true i tail l = rw (left_first l, left_first (left_next l)) refl
+doubled_end : (t : List ℕ) (b : Bool) (i : ℕ) (tail : List ℕ) → SuffixAt t i (doubled b tail) → is_line_place t i ≡ false
+doubled_end t false i tail l = rw (suffix_first l) refl
+doubled_end t true i tail l = rw (suffix_first l, suffix_first (suffix_next l)) refl
 
-doubled_eol : (t : List ℕ) (b : Bool) (i : ℕ) (tail : List ℕ) → Left t i (doubled b tail) →
+doubled_eol : (t : List ℕ) (b : Bool) (i : ℕ) (tail : List ℕ) → SuffixAt t i (doubled b tail) →
     Passes t (optional_eol t) i tail
 doubled_eol t false i tail l =
-    reads_peek (Some (i + 1)) (rw (left_first l) refl)
-    (passes_over {j = i + 1} (record { there = refl }) (left_next l))
+    reads_peek (Some (i + 1)) (rw (suffix_first l) refl)
+    (passes_over {j = i + 1} (record { there = refl }) (suffix_next l))
 doubled_eol t true i tail l =
-    reads_peek (Some (i + 2)) (rw (left_first l, left_first (left_next l)) refl)
+    reads_peek (Some (i + 2)) (rw (suffix_first l, suffix_first (suffix_next l)) refl)
     (passes_over {j = i + 2} (record { there = refl })
-    (subst (λ n. Left t n tail) (two_on i) (left_next (left_next l))))
+    (subst (λ n. SuffixAt t n tail) (two_on i) (suffix_next (suffix_next l))))
 
 -- no line end begins at the byte
 line_place : (t : List ℕ) (i x : ℕ) (bs : List ℕ) → (x == lf) ≡ false →
-    ((x == cr) && holds (λ b. b == lf) (first bs)) ≡ false → Left t i (x ∷ bs) → is_line_place t i ≡ true
-line_place t i x bs e f l = rw (left_first l, left_first (left_next l), e, f) refl
+    ((x == cr) && holds (λ b. b == lf) (first bs)) ≡ false → SuffixAt t i (x ∷ bs) → is_line_place t i ≡ true
+line_place t i x bs e f l = rw (suffix_first l, suffix_first (suffix_next l), e, f) refl
 
 and_no : (b : Bool) (c : Bool) → c ≡ false → (b && c) ≡ false
 and_no true c e = e
@@ -55,24 +55,24 @@ last_safe true tail = refl
 last_safe false tail = refl
 
 -- a line reaches to its end
-left_line : (t line tail : List ℕ) (i : ℕ) → has_lf line ≡ false →
-    Left t i (line ++ doubled (is_last cr (last_of None line)) tail) → LongestRun (is_line_place t) i (i + length line)
-left_line t [] tail i e l = let s : i ≡ i + 0 = omega arith in
+suffix_line : (t line tail : List ℕ) (i : ℕ) → has_lf line ≡ false →
+    SuffixAt t i (line ++ doubled (is_last cr (last_of None line)) tail) → LongestRun (is_line_place t) i (i + length line)
+suffix_line t [] tail i e l = let s : i ≡ i + 0 = omega arith in
     subst (λ n. LongestRun (is_line_place t) i n) s (find_here (is_line_place t) i i
     (doubled_end t false i tail l) refl)
-left_line t (x ∷ []) tail i e l =
-    let n = left_next l in
+suffix_line t (x ∷ []) tail i e l =
+    let n = suffix_next l in
     find_on (is_line_place t) i (i + 1)
     (line_place t i x (doubled (x == cr) tail) (neither_left (x == lf) false e) (last_safe (x == cr) tail) l)
     (find_here (is_line_place t) (i + 1) (i + 1) (doubled_end t (x == cr) (i + 1) tail n) refl)
-left_line t (x ∷ y ∷ xs) tail i e l =
+suffix_line t (x ∷ y ∷ xs) tail i e l =
     let s : (i + 1) + length (y ∷ xs) ≡ i + length (x ∷ y ∷ xs) = omega arith in
     let more = neither_right (x == lf) (has_lf (y ∷ xs)) e in
     subst (λ n. LongestRun (is_line_place t) i n) s
     (find_on (is_line_place t) i
     _ (line_place t i x _ (neither_left (x == lf) (has_lf (y ∷ xs)) e)
     (and_no (x == cr) (y == lf) (neither_left (y == lf) (has_lf xs) more)) l)
-    (left_line t (y ∷ xs) tail (i + 1) more (left_next l)))
+    (suffix_line t (y ∷ xs) tail (i + 1) more (suffix_next l)))
 
 -- ---- hashes
 
@@ -81,25 +81,25 @@ abbrev pub count : Level → ℕ
 count level = length (hashes_of level)
 
 hash_count : (t : List ℕ) (level : Level) (i : ℕ) (more : List ℕ) → holds (λ b. b == 35) (first more) ≡ false →
-    Left t i (hashes_of level ++ more) → hashes t i ≡ count level
-hash_count t regular i more e l = rw (left_first l, left_has (λ b. b == 35) (left_next l), e) refl
+    SuffixAt t i (hashes_of level ++ more) → hashes t i ≡ count level
+hash_count t regular i more e l = rw (suffix_first l, suffix_has (λ b. b == 35) (suffix_next l), e) refl
 hash_count t group i more e l =
-    let two : Left t (i + 2) more = subst (λ n. Left t n more) (two_on i) (left_next (left_next l)) in
-    rw (left_first l, left_first (left_next l), left_has (λ b. b == 35) two, e) refl
+    let two : SuffixAt t (i + 2) more = subst (λ n. SuffixAt t n more) (two_on i) (suffix_next (suffix_next l)) in
+    rw (suffix_first l, suffix_first (suffix_next l), suffix_has (λ b. b == 35) two, e) refl
 hash_count t resource i more e l =
-    let two : Left t (i + 2) (35 ∷ more) = subst (λ n. Left t n (35 ∷ more)) (two_on i) (left_next (left_next l)) in
-    rw (left_first l, left_first (left_next l), left_first two) refl
+    let two : SuffixAt t (i + 2) (35 ∷ more) = subst (λ n. SuffixAt t n (35 ∷ more)) (two_on i) (suffix_next (suffix_next l)) in
+    rw (suffix_first l, suffix_first (suffix_next l), suffix_first two) refl
 
 zero_no : (n : ℕ) → 0 ≡ suc n → ⊥
 zero_no n e = cc
 
 no_hash : (t : List ℕ) (level : Level) (i : ℕ) (more : List ℕ) → holds (λ b. b == 35) (first more) ≡ false →
-    Left t i more → hashes t i ≢ count level
-no_hash t regular i more e l f = let none : hashes t i ≡ 0 = rw (left_has (λ b. b == 35) l, e) refl in
+    SuffixAt t i more → hashes t i ≢ count level
+no_hash t regular i more e l f = let none : hashes t i ≡ 0 = rw (suffix_has (λ b. b == 35) l, e) refl in
     zero_no 0 (sym none ∙ f)
-no_hash t group i more e l f = let none : hashes t i ≡ 0 = rw (left_has (λ b. b == 35) l, e) refl in
+no_hash t group i more e l f = let none : hashes t i ≡ 0 = rw (suffix_has (λ b. b == 35) l, e) refl in
     zero_no 1 (sym none ∙ f)
-no_hash t resource i more e l f = let none : hashes t i ≡ 0 = rw (left_has (λ b. b == 35) l, e) refl in
+no_hash t resource i more e l f = let none : hashes t i ≡ 0 = rw (suffix_has (λ b. b == 35) l, e) refl in
     zero_no 2 (sym none ∙ f)
 
 same_level : (level : Level) → level_of (count level) ≡ level
@@ -128,32 +128,32 @@ map_both f (x ∷ xs) ys = ap (λ zs. f x ∷ zs) (map_both f xs ys)
 
 module _ (t : List ℕ) where
   -- the rest of a line after its hashes
-  rest_back : (line : Text) (shown : Bool) (i : ℕ) (tail : List ℕ) → LineForm line shown → has_lf line ≡ false →
-      Left t i (after_hashes shown line tail) →
+  rest_reads_back : (line : Text) (shown : Bool) (i : ℕ) (tail : List ℕ) → LineForm line shown → has_lf line ≡ false →
+      SuffixAt t i (after_hashes shown line tail) →
       Reads t (peek (slice_get t) (comment_rest t)) (map (bytes_at t)) i (line ∷ []) tail
-  rest_back [] false i tail blank_line e l =
-      reads_peek (Some lf) (left_first l)
-      (reads_bind (reads_peek true (rw (left_first l) refl) (reads_here (reads_spanned [] (lf ∷ tail) l l)))
+  rest_reads_back [] false i tail blank_line e l =
+      reads_peek (Some lf) (suffix_first l)
+      (reads_bind (reads_peek true (rw (suffix_first l) refl) (reads_here (reads_spanned [] (lf ∷ tail) l l)))
       (λ x j f m. passes_then (doubled_eol t false j tail m)
       (λ k n. reads_yields (one_text (bytes_at t) x [] f) n)))
-  rest_back (b ∷ line) false i tail x e l = elim x [ ]
-  rest_back line true i tail shown_line e l =
+  rest_reads_back (b ∷ line) false i tail x e l = elim x [ ]
+  rest_reads_back line true i tail shown_line e l =
       let end = doubled (is_last cr (last_of None line)) tail in
-      reads_peek (Some space) (left_first l)
-      (reads_bind (reads_peek false (rw (left_first l) refl)
+      reads_peek (Some space) (suffix_first l)
+      (reads_bind (reads_peek false (rw (suffix_first l) refl)
       (passes_then (passes_token 32 refl l)
       (λ j m. reads_here
-      (passes_then (passes_over (left_line t line tail j e m) (left_past line m))
+      (passes_then (passes_over (suffix_line t line tail j e m) (suffix_past line m))
       (λ k n. reads_spanned line end m n)))))
       (λ x j f m. passes_then (doubled_eol t (is_last cr (last_of None line)) j tail m)
       (λ k n. reads_yields (one_text (bytes_at t) x line f) n)))
 
-  line_back : (level : Level) (line : Text) (i : ℕ) (tail : List ℕ) → is_plain_line line ≡ true → has_lf line ≡ false →
-      Left t i (hashes_of level ++ after_hashes (is_nonblank_line line) line tail) →
+  line_reads_back : (level : Level) (line : Text) (i : ℕ) (tail : List ℕ) → is_plain_line line ≡ true → has_lf line ≡ false →
+      SuffixAt t i (hashes_of level ++ after_hashes (is_nonblank_line line) line tail) →
       Reads t (comment_line t (count level)) (map (bytes_at t)) i (line ∷ []) tail
-  line_back level line i tail p e l =
-      passes_then (passes_over {j = i + count level} (record { by = refl }) (left_past (hashes_of level) l))
-      (λ j m. rest_back line (is_nonblank_line line) j tail (line_form line (is_nonblank_line line) p) e m)
+  line_reads_back level line i tail p e l =
+      passes_then (passes_over {j = i + count level} (record { by = refl }) (suffix_past (hashes_of level) l))
+      (λ j m. rest_reads_back line (is_nonblank_line line) j tail (line_form line (is_nonblank_line line) p) e m)
 
   after_no_hash : (line : Text) (shown : Bool) (tail : List ℕ) →
       holds (λ b. b == 35) (first (after_hashes shown line tail)) ≡ false
@@ -165,18 +165,18 @@ module _ (t : List ℕ) where
   same_lines xs ys line lines e f =
       map_both (bytes_at t) xs ys ∙ ap (λ zs. zs ++ map (bytes_at t) ys) e ∙ ap (λ zs. line ∷ zs) f
 
-  lines_back : (level : Level) (lines : List Text) (i : ℕ) (tail : List ℕ) → list_all is_plain_line lines ≡ true →
+  lines_read_back : (level : Level) (lines : List Text) (i : ℕ) (tail : List ℕ) → list_all is_plain_line lines ≡ true →
       are_lines lines ≡ true → holds (λ b. b == 35) (first tail) ≡ false →
-      Left t i (comment_bytes (hashes_of level) lines tail) →
+      SuffixAt t i (comment_bytes (hashes_of level) lines tail) →
       Reads t (comment_lines t (count level)) (map (bytes_at t)) i lines tail
-  lines_back level [] i tail p a e l =
+  lines_read_back level [] i tail p a e l =
       record { value = []; end = i; reads = other_level (no_hash t level i tail e l); spells = refl; rest = l }
-  lines_back level (line ∷ lines) i tail p a e l =
+  lines_read_back level (line ∷ lines) i tail p a e l =
       let one =
-      line_back level line i (comment_bytes (hashes_of level) lines tail) (left_true (is_plain_line line) _ p)
+      line_reads_back level line i (comment_bytes (hashes_of level) lines tail) (left_true (is_plain_line line) _ p)
       (not_true (has_lf line) (left_true (not (has_lf line)) _ a)) l in
       let others =
-      lines_back level lines one.end tail (right_true (is_plain_line line) _ p) (right_true (not (has_lf line)) _ a)
+      lines_read_back level lines one.end tail (right_true (is_plain_line line) _ p) (right_true (not (has_lf line)) _ a)
       e one.rest in
       record {
         value = one.value ++ others.value;
@@ -196,18 +196,18 @@ module _ (t : List ℕ) where
   same_comment level xs ys line lines e f = rw (same_level level, same_lines xs ys line lines e f) refl
 
   -- a comment, before a byte that is no hash
-  pub comment_back : (level : Level) (content : List Text) (i : ℕ) (tail : List ℕ) → is_plain_comment content ≡ true →
+  pub comment_reads_back : (level : Level) (content : List Text) (i : ℕ) (tail : List ℕ) → is_plain_comment content ≡ true →
       are_lines content ≡ true → holds (λ b. b == 35) (first tail) ≡ false →
-      Left t i (comment_bytes (hashes_of level) content tail) →
+      SuffixAt t i (comment_bytes (hashes_of level) content tail) →
       Reads t (comment_entry t) (entry_map (bytes_at t)) i (comment level content) tail
-  comment_back level [] i tail p a e l = absurd cc
-  comment_back level (line ∷ lines) i tail p a e l =
+  comment_reads_back level [] i tail p a e l = absurd cc
+  comment_reads_back level (line ∷ lines) i tail p a e l =
       reads_peek (count level)
       (hash_count t level i (after_hashes (is_nonblank_line line) line (comment_bytes (hashes_of level) lines tail))
       (after_no_hash line (is_nonblank_line line) (comment_bytes (hashes_of level) lines tail)) l)
-      (reads_bind (line_back level line i (comment_bytes (hashes_of level) lines tail)
+      (reads_bind (line_reads_back level line i (comment_bytes (hashes_of level) lines tail)
       (left_true (is_plain_line line) _ p) (not_true (has_lf line) (left_true (not (has_lf line)) _ a)) l)
       (λ x j f m.
-      reads_bind (lines_back level lines j tail (right_true (is_plain_line line) _ p)
+      reads_bind (lines_read_back level lines j tail (right_true (is_plain_line line) _ p)
       (right_true (not (has_lf line)) _ a) e m)
       (λ y k g n. reads_yields (same_comment level x y line lines f g) n)))

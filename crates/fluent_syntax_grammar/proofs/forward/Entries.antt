@@ -17,14 +17,14 @@ use Rattle.fluent_syntax_grammar.specs.Grammar as grammar
 use Rattle.fluent_syntax_grammar.specs.Written.{Text}
 use Rattle.fluent_syntax_grammar.specs.RoundTrip.{tree_of}
 use Rattle.fluent_syntax_grammar.proofs.Tests.{differ}
-use Rattle.fluent_syntax_grammar.proofs.Left.{Left, first, left_end, left_has, left_no_eol_after}
+use Rattle.fluent_syntax_grammar.proofs.SuffixAt.{SuffixAt, first, suffix_end, suffix_has, suffix_no_eol_after}
 use Rattle.fluent_syntax_grammar.proofs.forward.Reading.{Reads}
 use Rattle.fluent_syntax_grammar.proofs.marks.WrittenBytes.{pattern_bytes}
-use Rattle.fluent_syntax_grammar.proofs.forward.Lines.{Ends, Stops, text_ends, column, no_spaces}
+use Rattle.fluent_syntax_grammar.proofs.forward.Lines.{Ends, EndsPattern, text_ends, column, no_spaces}
 
 -- A pattern is read back, before a line end and lines that do not belong to it.
-pub record PatternBack (edition : Edition) (t : List ℕ) (level : ℕ) (p : PatternTree Text) : Type 0 where
-  pub back : (i : ℕ) (tail rest : List ℕ) → Ends tail rest → Left t i (pattern_bytes level p (lf ∷ tail)) →
+pub record PatternReadsBack (edition : Edition) (t : List ℕ) (level : ℕ) (p : PatternTree Text) : Type 0 where
+  pub back : (i : ℕ) (tail rest : List ℕ) → Ends tail rest → SuffixAt t i (pattern_bytes level p (lf ∷ tail)) →
       Reads t (grammar.pattern edition t) (option_map (pattern_map (bytes_at t))) i (Some p) rest
 
 -- The text ends, or an entry begins.
@@ -32,7 +32,7 @@ pub data EntryStart : List ℕ → Type 0 where
   no_entry : EntryStart []
   begins : (b : ℕ) (bs : List ℕ) → is_entry_byte b ≡ true → EntryStart (b ∷ bs)
 
-pub entry_stops : (rest : List ℕ) → EntryStart rest → Stops rest
+pub entry_stops : (rest : List ℕ) → EntryStart rest → EndsPattern rest
 entry_stops [] no_entry = text_ends
 entry_stops (b ∷ bs) (begins c cs e) =
     column (column_of b (differ is_entry_byte b space e refl) (differ is_entry_byte b lf e refl)
@@ -57,26 +57,26 @@ pub record Tiles (edition : Edition) (t : List ℕ) (i : ℕ) (b : BodyTree Text
 
 module _ (edition : Edition) (t : List ℕ) where
   -- no blank line stands there
-  pub no_block : (i : ℕ) (rest : List ℕ) → EntryStart rest → Left t i rest → BlankBlock t i i
+  pub no_block : (i : ℕ) (rest : List ℕ) → EntryStart rest → SuffixAt t i rest → BlankBlock t i i
   no_block i rest e l =
       no_line (no_spaces edition t (entry_other space rest e refl) l)
-      (left_no_eol_after l (entry_other lf rest e refl) (entry_other cr rest e refl))
+      (suffix_no_eol_after l (entry_other lf rest e refl) (entry_other cr rest e refl))
 
-  no_token : (i c : ℕ) (rest : List ℕ) → holds (λ b. b == c) (first rest) ≡ false → Left t i rest →
+  no_token : (i c : ℕ) (rest : List ℕ) → holds (λ b. b == c) (first rest) ≡ false → SuffixAt t i rest →
       token t c i (Refused (ExpectedToken c) i (i + 1))
-  no_token i c rest e l = goes_on (chosen (second (left_has (λ b. b == c) l ∙ e) given)) (second refl (failed refl))
+  no_token i c rest e l = goes_on (chosen (second (suffix_has (λ b. b == c) l ∙ e) given)) (second refl (failed refl))
 
   -- no attribute stands there
-  pub no_attributes : (i : ℕ) (rest : List ℕ) → EntryStart rest → Left t i rest → attributes edition t i (Read [] i)
+  pub no_attributes : (i : ℕ) (rest : List ℕ) → EntryStart rest → SuffixAt t i rest → attributes edition t i (Read [] i)
   no_attributes i rest e l =
       no_more (goes_on (passed (no_spaces edition t (entry_other space rest e refl) l))
       (stops (no_token i 46 rest (entry_other 46 rest e refl) l)))
 
   -- ---- tilings
 
-  pub tiles_end : (i : ℕ) → Left t i [] → Tiles edition t i []
+  pub tiles_end : (i : ℕ) → SuffixAt t i [] → Tiles edition t i []
   tiles_end i l =
-      let e : i ≡ length t = let n = left_end l in omega arith in
+      let e : i ≡ length t = let n = suffix_end l in omega arith in
       record {
         tiles = [];
         tiled = done (subst (λ n. BlankBlock t i n) e (no_block i [] no_entry l));

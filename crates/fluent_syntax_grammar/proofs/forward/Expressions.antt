@@ -20,13 +20,13 @@ use Rattle.fluent_syntax_grammar.specs.Grammar.{inline_expression, expression, p
 use Rattle.fluent_syntax_grammar.proofs.Facts.{left_true, right_true, equal}
 use Rattle.fluent_syntax_grammar.proofs.Tests.{both}
 use Rattle.fluent_syntax_grammar.proofs.Nesting.{into_expression}
-use Rattle.fluent_syntax_grammar.proofs.Left.{Left, left_first, is_blank_byte}
+use Rattle.fluent_syntax_grammar.proofs.SuffixAt.{SuffixAt, suffix_first, is_blank_byte}
 use Rattle.fluent_syntax_grammar.proofs.forward.Reading.{Reads, Passes, reads_bind, reads_yields, passes_then}
 use Rattle.fluent_syntax_grammar.proofs.forward.Reading.{reads_peek, reads_look, reads_second, reads_into}
 use Rattle.fluent_syntax_grammar.proofs.forward.Reading.{passes_token, passes_inline_blank}
 use Rattle.fluent_syntax_grammar.proofs.marks.WrittenBytes.{expression_bytes, element_bytes, closing_indent}
 use Rattle.fluent_syntax_grammar.proofs.forward.Inline.{Follows, past, passes_blank, passes_blanks, starts_with}
-use Rattle.fluent_syntax_grammar.proofs.forward.Arguments.{Begins, InlineBack, inline_begins, begins_other}
+use Rattle.fluent_syntax_grammar.proofs.forward.Arguments.{Begins, InlineReadsBack, inline_begins, begins_other}
 
 -- what a tree of ranges is, its tree of texts is
 pub same_fault : {X Y : Type 0} (f : X → Y) (e : InlineTree X) → selector_fault (inline_map f e) ≡ selector_fault e
@@ -86,25 +86,25 @@ follows_brace (b ∷ bs) more e =
     }
 
 -- An expression is read back, before the brace that closes its placeable.
-pub record ExpressionBack (edition : Edition) (t : List ℕ) (level : ℕ) (e : ExpressionTree Text) : Type 0 where
+pub record ExpressionReadsBack (edition : Edition) (t : List ℕ) (level : ℕ) (e : ExpressionTree Text) : Type 0 where
   pub begins : (tail : List ℕ) → Begins (expression_bytes level e tail)
   pub back : (i : ℕ) (gap more : List ℕ) → list_all is_space gap ≡ true →
-      Left t i (expression_bytes level e (closing_indent level e ++ (gap ++ (125 ∷ more)))) →
+      SuffixAt t i (expression_bytes level e (closing_indent level e ++ (gap ++ (125 ∷ more)))) →
       Reads t (expression edition t) (expression_map (bytes_at t)) i e (125 ∷ more)
 
 module _ (edition : Edition) (t : List ℕ) where
-  passes_if : (b : Bool) (gap more : List ℕ) (i : ℕ) → Follows gap more → Left t i (if b then more else gap ++ more) →
+  passes_if : (b : Bool) (gap more : List ℕ) (i : ℕ) → Follows gap more → SuffixAt t i (if b then more else gap ++ more) →
       Passes t (blank t) i more
   passes_if true gap more i f l = passes_blanks [] more refl f.no_space f.no_lf f.no_cr l
   passes_if false gap more i f l = passes_blanks gap more f.spaces f.no_space f.no_lf f.no_cr l
 
   -- the blank after an inline expression, which reading it may have passed
-  pub passes_after : (e : InlineTree Text) (gap more : List ℕ) (i : ℕ) → Follows gap more → Left t i (past e gap more) →
+  pub passes_after : (e : InlineTree Text) (gap more : List ℕ) (i : ℕ) → Follows gap more → SuffixAt t i (past e gap more) →
       Passes t (blank t) i more
   passes_after e gap more i f l = passes_if (passes_blank e) gap more i f l
 
-  no_arrow : (i : ℕ) (more : List ℕ) → Left t i (125 ∷ more) → has_arrow t i ≡ false
-  no_arrow i more l = rw (left_first l) refl
+  no_arrow : (i : ℕ) (more : List ℕ) → SuffixAt t i (125 ∷ more) → has_arrow t i ≡ false
+  no_arrow i more l = rw (suffix_first l) refl
 
   -- an inline expression that was read, before the brace
   expression_after : (e : InlineTree Text) (gap more : List ℕ) (i : ℕ) → is_term_attribute e ≡ false →
@@ -119,9 +119,9 @@ module _ (edition : Edition) (t : List ℕ) where
       (reads_second (sym (same_attribute (bytes_at t) v) ∙ ap is_term_attribute f ∙ a)
       (reads_yields (ap inline f) n)))))
 
-  pub inline_is_back : (level : ℕ) (e : InlineTree Text) → is_term_attribute e ≡ false → InlineBack edition t level e →
-      ExpressionBack edition t level (inline e)
-  inline_is_back level e a h = record {
+  pub inline_is_read_back : (level : ℕ) (e : InlineTree Text) → is_term_attribute e ≡ false → InlineReadsBack edition t level e →
+      ExpressionReadsBack edition t level (inline e)
+  inline_is_read_back level e a h = record {
     begins = λ tail. inline_begins edition level e tail h.obeys;
     back = λ i gap more g l. expression_after e gap more i a g (h.back i gap (125 ∷ more) (follows_brace gap more g) l);
   }
@@ -129,11 +129,11 @@ module _ (edition : Edition) (t : List ℕ) where
   -- ---- placeables
 
   -- a placeable, with spaces after its opening and before its closing brace
-  pub placeable_back : (level : ℕ) (e : ExpressionTree Text) (before gap more : List ℕ) (i : ℕ) →
-      list_all is_space before ≡ true → list_all is_space gap ≡ true → ExpressionBack edition t level e →
-      Left t i (123 ∷ (before ++ expression_bytes level e (closing_indent level e ++ (gap ++ (125 ∷ more))))) →
+  pub placeable_reads_back : (level : ℕ) (e : ExpressionTree Text) (before gap more : List ℕ) (i : ℕ) →
+      list_all is_space before ≡ true → list_all is_space gap ≡ true → ExpressionReadsBack edition t level e →
+      SuffixAt t i (123 ∷ (before ++ expression_bytes level e (closing_indent level e ++ (gap ++ (125 ∷ more))))) →
       Reads t (placeable edition t) (expression_map (bytes_at t)) i e more
-  placeable_back level e before gap more i a g h l =
+  placeable_reads_back level e before gap more i a g h l =
       let b = h.begins (closing_indent level e ++ (gap ++ (125 ∷ more))) in
       passes_then (passes_token 123 refl l)
       (λ j m. passes_then
@@ -145,27 +145,27 @@ module _ (edition : Edition) (t : List ℕ) where
 
   -- the same as an inline expression
   braced : (level : ℕ) (e : ExpressionTree Text) (before gap more : List ℕ) (i : ℕ) → list_all is_space before ≡ true →
-      list_all is_space gap ≡ true → ExpressionBack edition t level e →
-      Left t i (123 ∷ (before ++ expression_bytes level e (closing_indent level e ++ (gap ++ (125 ∷ more))))) →
+      list_all is_space gap ≡ true → ExpressionReadsBack edition t level e →
+      SuffixAt t i (123 ∷ (before ++ expression_bytes level e (closing_indent level e ++ (gap ++ (125 ∷ more))))) →
       Reads t (inline_expression edition t) (inline_map (bytes_at t)) i (inline_placeable e) more
   braced level e before gap more i a g h l =
       reads_peek brace (starts_with brace refl l)
-      (reads_bind (placeable_back level e before gap more i a g h l)
+      (reads_bind (placeable_reads_back level e before gap more i a g h l)
       (λ v j f m. reads_yields (ap inline_placeable f) m))
 
-  pub placeable_is_back : (level : ℕ) (e : ExpressionTree Text) →
-      inline_obeys (canonical_rules edition) (inline_placeable e) ≡ true → ExpressionBack edition t level e →
-      InlineBack edition t level (inline_placeable e)
-  placeable_is_back level e o h =
+  pub placeable_is_read_back : (level : ℕ) (e : ExpressionTree Text) →
+      inline_obeys (canonical_rules edition) (inline_placeable e) ≡ true → ExpressionReadsBack edition t level e →
+      InlineReadsBack edition t level (inline_placeable e)
+  placeable_is_read_back level e o h =
       record { obeys = o; back = λ i gap more f l. braced level e [] [] (gap ++ more) i refl refl h l }
 
   -- ---- placeables that are elements
 
   -- a placeable as an element of a pattern is read back
-  pub double_back : (level : ℕ) (e : ExpressionTree Text) (i : ℕ) (tail : List ℕ) → ExpressionBack edition t level e →
-      Left t i (element_bytes level (placeable_element (inline (inline_placeable e))) tail) →
+  pub double_reads_back : (level : ℕ) (e : ExpressionTree Text) (i : ℕ) (tail : List ℕ) → ExpressionReadsBack edition t level e →
+      SuffixAt t i (element_bytes level (placeable_element (inline (inline_placeable e))) tail) →
       Reads t (placeable edition t) (expression_map (bytes_at t)) i (inline (inline_placeable e)) tail
-  double_back level e i tail h l =
+  double_reads_back level e i tail h l =
       passes_then (passes_token 123 refl l) (λ j m. passes_then (passes_blanks [] _ refl refl refl refl m) (λ k n.
       reads_bind (reads_into (λ o x. into_expression edition t k o x)
       (expression_after (inline_placeable e) [] tail k refl refl

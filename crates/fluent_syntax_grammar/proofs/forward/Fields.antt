@@ -20,7 +20,7 @@ use Rattle.fluent_syntax_grammar.specs.Rules.{option_obeys, pattern_obeys, attri
 use Rattle.fluent_syntax_grammar.specs.Readable.{has_field}
 use Rattle.fluent_syntax_grammar.specs.Canonical.{canonical_rules}
 use Rattle.fluent_syntax_grammar.proofs.Facts.{left_true, right_true, some_same}
-use Rattle.fluent_syntax_grammar.proofs.Left.{Left, left_next, left_past, left_no_eol_after, left_word}
+use Rattle.fluent_syntax_grammar.proofs.SuffixAt.{SuffixAt, suffix_next, suffix_past, suffix_no_eol_after, suffix_byte_run}
 use Rattle.fluent_syntax_grammar.proofs.forward.Reading.{Reads, reads_bind, reads_yields, reads_here, passes_then}
 use Rattle.fluent_syntax_grammar.proofs.forward.Reading.{passes_over, passes_token, passes_inline_blank}
 use Rattle.fluent_syntax_grammar.proofs.forward.Words.{reads_name}
@@ -28,7 +28,7 @@ use Rattle.fluent_syntax_grammar.proofs.marks.WrittenBytes.{pattern_bytes}
 use Rattle.fluent_syntax_grammar.proofs.marks.WrittenEntries.{more_attributes, value_bytes, message_bytes, term_bytes}
 use Rattle.fluent_syntax_grammar.proofs.forward.Lines.{Ends, stop, indented, no_spaces, lf_after, mark_stops}
 use Rattle.fluent_syntax_grammar.proofs.forward.Entries.{EntryStart, no_block, no_attributes}
-use Rattle.fluent_syntax_grammar.proofs.forward.Trees.{pattern_back}
+use Rattle.fluent_syntax_grammar.proofs.forward.Trees.{pattern_reads_back}
 
 -- what is left after a pattern before these attributes: where there is none, the blank lines are passed
 abbrev pub before : List (AttributeTree Text) → (tail rest : Text) → Text
@@ -48,7 +48,7 @@ attributes_end (a ∷ more) tail rest e =
 
 module _ (edition : Edition) (t : List ℕ) where
   attribute_then : (id : Span) (a : AttributeTree Text) (v : Option (PatternTree Span)) (i : ℕ) (bs : List ℕ) →
-      bytes_at t id ≡ a.id → option_map (pattern_map (bytes_at t)) v ≡ Some a.value → Left t i bs →
+      bytes_at t id ≡ a.id → option_map (pattern_map (bytes_at t)) v ≡ Some a.value → SuffixAt t i bs →
       Reads t (attribute_with id v) (attribute_map (bytes_at t)) i a bs
   attribute_then id a None i bs e f l = absurd cc
   attribute_then id a (Some p) i bs e f l = reads_yields (same_attribute (some_same f)) l
@@ -57,32 +57,32 @@ module _ (edition : Edition) (t : List ℕ) where
           attribute_map (bytes_at t) (record { id = id; value = p }) ≡ a
       same_attribute f = rw (e, f) refl
 
-  attribute_back : (a : AttributeTree Text) (i : ℕ) (tail rest : List ℕ) →
+  attribute_reads_back : (a : AttributeTree Text) (i : ℕ) (tail rest : List ℕ) →
       attribute_obeys (canonical_rules edition) a ≡ true → Ends tail rest →
-      Left t i (32 ∷ 32 ∷ 32 ∷ 32 ∷ 46 ∷ (a.id ++ (32 ∷ 61 ∷ pattern_bytes 1 a.value (lf ∷ tail)))) →
+      SuffixAt t i (32 ∷ 32 ∷ 32 ∷ 32 ∷ 46 ∷ (a.id ++ (32 ∷ 61 ∷ pattern_bytes 1 a.value (lf ∷ tail)))) →
       Reads t (attribute edition t) (attribute_map (bytes_at t)) i a rest
-  attribute_back a i tail rest h e l =
+  attribute_reads_back a i tail rest h e l =
       passes_then (passes_inline_blank deep (46 ∷ (a.id ++ (32 ∷ 61 ∷ pattern_bytes 1 a.value (lf ∷ tail)))) refl refl
       l) (λ j m. passes_then (passes_token 46 refl m) (λ k n.
       reads_bind (reads_name a.id (32 ∷ 61 ∷ pattern_bytes 1 a.value (lf ∷ tail)) (left_true (is_name a.id) _ h) refl n)
       (λ x y f o. passes_then (passes_inline_blank (32 ∷ []) (61 ∷ pattern_bytes 1 a.value (lf ∷ tail)) refl refl o)
       (λ z q. passes_then (passes_token 61 refl q) (λ u r.
-      reads_bind ((pattern_back edition t a.value (right_true (is_name a.id) _ h) 1).back u tail rest e r)
+      reads_bind ((pattern_reads_back edition t a.value (right_true (is_name a.id) _ h) 1).back u tail rest e r)
       (λ v w g s. attribute_then x a v w rest f g s))))))
 
   -- the attributes after a pattern
-  attributes_back : (more : List (AttributeTree Text)) (i : ℕ) (tail rest : List ℕ) →
+  attributes_read_back : (more : List (AttributeTree Text)) (i : ℕ) (tail rest : List ℕ) →
       list_all (attribute_obeys (canonical_rules edition)) more ≡ true → Ends tail rest → EntryStart rest →
-      Left t i (before more tail rest) →
+      SuffixAt t i (before more tail rest) →
       Reads t (attributes edition t) (map (attribute_map (bytes_at t))) i more rest
-  attributes_back [] i tail rest h e s l =
+  attributes_read_back [] i tail rest h e s l =
       record { value = []; end = i; reads = no_attributes edition t i rest s l; spells = refl; rest = l }
-  attributes_back (a ∷ more) i tail rest h e s l =
+  attributes_read_back (a ∷ more) i tail rest h e s l =
       let one =
-      attribute_back a i (more_attributes more tail) (before more tail rest)
+      attribute_reads_back a i (more_attributes more tail) (before more tail rest)
       (left_true (attribute_obeys (canonical_rules edition) a) _ h) (attributes_end more tail rest e) l in
       let others =
-      attributes_back more one.end tail rest (right_true (attribute_obeys (canonical_rules edition) a) _ h) e s
+      attributes_read_back more one.end tail rest (right_true (attribute_obeys (canonical_rules edition) a) _ h) e s
       one.rest in
       record {
         value = one.value ∷ others.value;
@@ -98,19 +98,19 @@ module _ (edition : Edition) (t : List ℕ) where
 
   -- no blank line stands there
   no_block_before : (more : List (AttributeTree Text)) (i : ℕ) (tail rest : List ℕ) → EntryStart rest →
-      Left t i (before more tail rest) → BlankBlock t i i
+      SuffixAt t i (before more tail rest) → BlankBlock t i i
   no_block_before [] i tail rest s l = no_block edition t i rest s l
   no_block_before (a ∷ more) i tail rest s l =
       let bs = 46 ∷ (a.id ++ (32 ∷ 61 ∷ pattern_bytes 1 a.value (lf ∷ more_attributes more tail))) in
-      no_line (left_word is_space deep bs refl refl l) (left_no_eol_after (left_past deep l) refl refl)
+      no_line (suffix_byte_run is_space deep bs refl refl l) (suffix_no_eol_after (suffix_past deep l) refl refl)
 
   -- no value, before an attribute
   no_value : (a : AttributeTree Text) (more : List (AttributeTree Text)) (i : ℕ) (tail rest : List ℕ) →
-      EntryStart rest → Left t i (lf ∷ more_attributes (a ∷ more) tail) →
+      EntryStart rest → SuffixAt t i (lf ∷ more_attributes (a ∷ more) tail) →
       Reads t (grammar.pattern edition t) (option_map (pattern_map (bytes_at t))) i None
       (more_attributes (a ∷ more) tail)
   no_value a more i tail rest s l =
-      let m = left_next l in
+      let m = suffix_next l in
       record {
         value = None;
         end = i + 1;
@@ -129,14 +129,14 @@ module _ (edition : Edition) (t : List ℕ) where
       }
 
   -- the value of a message, or none
-  value_back : (value : Option (PatternTree Text)) (more : List (AttributeTree Text)) (i : ℕ) (tail rest : List ℕ) →
+  value_reads_back : (value : Option (PatternTree Text)) (more : List (AttributeTree Text)) (i : ℕ) (tail rest : List ℕ) →
       has_field value more ≡ true → option_obeys (pattern_obeys (canonical_rules edition)) value ≡ true →
-      Ends tail rest → EntryStart rest → Left t i (value_bytes value (lf ∷ more_attributes more tail)) →
+      Ends tail rest → EntryStart rest → SuffixAt t i (value_bytes value (lf ∷ more_attributes more tail)) →
       Reads t (grammar.pattern edition t) (option_map (pattern_map (bytes_at t))) i value (before more tail rest)
-  value_back None [] i tail rest f h e s l = absurd cc
-  value_back None (a ∷ more) i tail rest f h e s l = no_value a more i tail rest s l
-  value_back (Some p) more i tail rest f h e s l =
-      (pattern_back edition t p h 0).back i (more_attributes more tail) (before more tail rest)
+  value_reads_back None [] i tail rest f h e s l = absurd cc
+  value_reads_back None (a ∷ more) i tail rest f h e s l = no_value a more i tail rest s l
+  value_reads_back (Some p) more i tail rest f h e s l =
+      (pattern_reads_back edition t p h 0).back i (more_attributes more tail) (before more tail rest)
       (attributes_end more tail rest e) l
 
   message_then :
@@ -144,7 +144,7 @@ module _ (edition : Edition) (t : List ℕ) where
       (v : Option (PatternTree Span)) (as' : List (AttributeTree Span)) (i : ℕ) (rest : List ℕ) →
       has_field value more ≡ true →
       bytes_at t x ≡ id → option_map (pattern_map (bytes_at t)) v ≡ value →
-      map (attribute_map (bytes_at t)) as' ≡ more → Left t i rest →
+      map (attribute_map (bytes_at t)) as' ≡ more → SuffixAt t i rest →
       Reads t (message_with t start x v as') (entry_map (bytes_at t)) i
       (message (record { id = id; value = value; attributes = more; comment = None })) rest
   message_then start id None [] x v as' i rest h e f g l = absurd cc
@@ -165,29 +165,29 @@ module _ (edition : Edition) (t : List ℕ) where
       same_message e f g = rw (e, f, g) refl
 
   -- a message without its comment
-  pub message_back :
+  pub message_reads_back :
       (id : Text) (value : Option (PatternTree Text)) (more : List (AttributeTree Text)) (i : ℕ) (tail rest : List ℕ) →
       is_name id ≡ true → has_field value more ≡ true →
       option_obeys (pattern_obeys (canonical_rules edition)) value ≡ true →
       list_all (attribute_obeys (canonical_rules edition)) more ≡ true →
-      Ends tail rest → EntryStart rest → Left t i (message_bytes id value more tail) →
+      Ends tail rest → EntryStart rest → SuffixAt t i (message_bytes id value more tail) →
       Reads t (message_entry edition t) (entry_map (bytes_at t)) i
       (message (record { id = id; value = value; attributes = more; comment = None })) rest
-  message_back id value more i tail rest is f h a e s l =
+  message_reads_back id value more i tail rest is f h a e s l =
       reads_here (reads_bind (reads_name id (32 ∷ 61 ∷ value_bytes value (lf ∷ more_attributes more tail)) is refl l)
       (λ x j g m. passes_then
       (passes_inline_blank (32 ∷ []) (61 ∷ value_bytes value (lf ∷ more_attributes more tail)) refl refl m)
       (λ k n. passes_then (passes_token 61 refl n) (λ p o.
-      reads_bind (value_back value more p tail rest f h e s o)
+      reads_bind (value_reads_back value more p tail rest f h e s o)
       (λ v q c r. passes_then (passes_over (no_block_before more q tail rest s r) r) (λ y z.
-      reads_bind (attributes_back more y tail rest a e s z)
+      reads_bind (attributes_read_back more y tail rest a e s z)
       (λ bs w d u. message_then i id value more x v bs w rest f g c d u)))))))
 
   term_then :
       (start : ℕ) (id : Text) (value : PatternTree Text) (more : List (AttributeTree Text)) (x : Span)
       (v : Option (PatternTree Span)) (as' : List (AttributeTree Span)) (i : ℕ) (rest : List ℕ) →
       bytes_at t x ≡ id → option_map (pattern_map (bytes_at t)) v ≡ Some value →
-      map (attribute_map (bytes_at t)) as' ≡ more → Left t i rest →
+      map (attribute_map (bytes_at t)) as' ≡ more → SuffixAt t i rest →
       Reads t (term_with t start x v as') (entry_map (bytes_at t)) i
       (term (record { id = id; value = value; attributes = more; comment = None })) rest
   term_then start id value more x None as' i rest e f g l = absurd cc
@@ -199,22 +199,22 @@ module _ (edition : Edition) (t : List ℕ) where
       same_term e f g = rw (e, f, g) refl
 
   -- a term without its comment
-  pub term_back :
+  pub term_reads_back :
       (id : Text) (value : PatternTree Text) (more : List (AttributeTree Text)) (i : ℕ) (tail rest : List ℕ) →
       is_name id ≡ true → pattern_obeys (canonical_rules edition) value ≡ true →
       list_all (attribute_obeys (canonical_rules edition)) more ≡ true →
-      Ends tail rest → EntryStart rest → Left t i (term_bytes id value more tail) →
+      Ends tail rest → EntryStart rest → SuffixAt t i (term_bytes id value more tail) →
       Reads t (term_entry edition t) (entry_map (bytes_at t)) i
       (term (record { id = id; value = value; attributes = more; comment = None })) rest
-  term_back id value more i tail rest is h a e s l =
+  term_reads_back id value more i tail rest is h a e s l =
       reads_here (passes_then (passes_token 45 refl l)
       (λ b c. reads_bind
       (reads_name id (32 ∷ 61 ∷ pattern_bytes 0 value (lf ∷ more_attributes more tail)) is refl c)
       (λ x j g m. passes_then
       (passes_inline_blank (32 ∷ []) (61 ∷ pattern_bytes 0 value (lf ∷ more_attributes more tail)) refl refl
       m) (λ k n. passes_then (passes_token 61 refl n) (λ p o.
-      reads_bind ((pattern_back edition t value h 0).back p (more_attributes more tail) (before more tail rest)
+      reads_bind ((pattern_reads_back edition t value h 0).back p (more_attributes more tail) (before more tail rest)
       (attributes_end more tail rest e) o)
       (λ v q d r. passes_then (passes_over (no_block_before more q tail rest s r) r) (λ y z.
-      reads_bind (attributes_back more y tail rest a e s z)
+      reads_bind (attributes_read_back more y tail rest a e s z)
       (λ bs w f u. term_then i id value more x v bs w rest g d f u))))))))

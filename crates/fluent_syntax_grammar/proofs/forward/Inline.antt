@@ -23,7 +23,7 @@ use Rattle.fluent_syntax_grammar.specs.Inline as rules'
 use Rattle.fluent_syntax_grammar.specs.Grammar.{inline_expression, call_arguments}
 use Rattle.fluent_syntax_grammar.proofs.Facts.{left_true, right_true, equal}
 use Rattle.fluent_syntax_grammar.proofs.Tests.{or_cases, differ}
-use Rattle.fluent_syntax_grammar.proofs.Left.{Left, first, left_first, left_next, left_past, left_blank, is_blank_byte}
+use Rattle.fluent_syntax_grammar.proofs.SuffixAt.{SuffixAt, first, suffix_first, suffix_next, suffix_past, suffix_blank, is_blank_byte}
 use Rattle.fluent_syntax_grammar.proofs.forward.Reading.{Reads, Passes, reads_bind, reads_yields, passes_then}
 use Rattle.fluent_syntax_grammar.proofs.forward.Reading.{passes_over, reads_peek, reads_first, reads_second}
 use Rattle.fluent_syntax_grammar.proofs.forward.Reading.{reads_present, reads_absent, passes_token}
@@ -85,43 +85,43 @@ module _ {t : List ℕ} where
   pub passes_blanks : {i : ℕ} (gap more : List ℕ) → list_all is_blank_byte gap ≡ true →
       holds is_space (first more) ≡ false → holds (λ b. b == lf) (first more) ≡ false →
       holds (λ b. b == cr) (first more) ≡ false →
-      Left t i (gap ++ more) → Passes t (blank t) i more
-  passes_blanks gap more a d e f l = passes_over (left_blank gap more a d e f l) (left_past gap l)
+      SuffixAt t i (gap ++ more) → Passes t (blank t) i more
+  passes_blanks gap more a d e f l = passes_over (suffix_blank gap more a d e f l) (suffix_past gap l)
 
-  passes_gap : {i : ℕ} (gap more : List ℕ) → Follows gap more → Left t i (gap ++ more) → Passes t (blank t) i more
+  passes_gap : {i : ℕ} (gap more : List ℕ) → Follows gap more → SuffixAt t i (gap ++ more) → Passes t (blank t) i more
   passes_gap gap more f l = passes_blanks gap more f.spaces f.no_space f.no_lf f.no_cr l
 
   -- the start that a byte makes
   pub starts_with : {i b : ℕ} {bs : List ℕ} (s : Start) → start_of (Some b) (holds is_letter (first bs)) ≡ s →
-      Left t i (b ∷ bs) → start t i ≡ s
-  starts_with s e l = rw (left_first l, left_first (left_next l)) e
+      SuffixAt t i (b ∷ bs) → start t i ≡ s
+  starts_with s e l = rw (suffix_first l, suffix_first (suffix_next l)) e
 
 module _ (edition : Edition) (t : List ℕ) where
   abbrev pub ReadsInline : ℕ → InlineTree Text → List ℕ → Type 0
   ReadsInline i e left = Reads t (inline_expression edition t) (inline_map (bytes_at t)) i e left
 
-  pub string_back : (i level : ℕ) (v more : List ℕ) → is_string v ≡ true →
-      Left t i (inline_bytes level (string_literal v) more) → ReadsInline i (string_literal v) more
-  string_back i level v more e l =
+  pub string_reads_back : (i level : ℕ) (v more : List ℕ) → is_string v ≡ true →
+      SuffixAt t i (inline_bytes level (string_literal v) more) → ReadsInline i (string_literal v) more
+  string_reads_back i level v more e l =
       reads_peek quote (starts_with quote refl l)
       (reads_bind (reads_string v more e l) (λ s j f m. reads_yields (ap string_literal f) m))
 
-  pub variable_back : (i level : ℕ) (id gap more : List ℕ) → is_name id ≡ true → Follows gap more →
-      Left t i (inline_bytes level (variable_reference id) (gap ++ more)) →
+  pub variable_reads_back : (i level : ℕ) (id gap more : List ℕ) → is_name id ≡ true → Follows gap more →
+      SuffixAt t i (inline_bytes level (variable_reference id) (gap ++ more)) →
       ReadsInline i (variable_reference id) (gap ++ more)
-  variable_back i level id gap more e f l =
+  variable_reads_back i level id gap more e f l =
       reads_peek dollar (starts_with dollar refl l)
       (passes_then (passes_token 36 refl l)
       (λ j m. reads_bind (reads_name id (gap ++ more) e f.no_name m)
       (λ s j g n. reads_yields (ap variable_reference g) n)))
 
-  number_as : (i : ℕ) (v gap more : List ℕ) → is_number v ≡ true → Follows gap more → Left t i (v ++ (gap ++ more)) →
+  number_as : (i : ℕ) (v gap more : List ℕ) → is_number v ≡ true → Follows gap more → SuffixAt t i (v ++ (gap ++ more)) →
       Reads t (number t >>= λ v. yields (number_literal v)) (inline_map (bytes_at t)) i (number_literal v) (gap ++ more)
   number_as i v gap more e f l =
       reads_bind (reads_number v (gap ++ more) e f.no_digit f.no_point l)
       (λ s j g m. reads_yields (ap number_literal g) m)
 
-  number_start : (i : ℕ) (v more : List ℕ) → is_number v ≡ true → Left t i (v ++ more) → (start t i ≡ digit) ⊎
+  number_start : (i : ℕ) (v more : List ℕ) → is_number v ≡ true → SuffixAt t i (v ++ more) → (start t i ≡ digit) ⊎
       (start t i ≡ minus)
   number_start i [] more e l = cc
   number_start i (b ∷ []) more e l = elim (or_cases (b == 45 && is_unsigned []) (is_unsigned (b ∷ [])) e) [
@@ -140,9 +140,9 @@ module _ (edition : Edition) (t : List ℕ) where
         | inr h ↦ inl (starts_with digit (digit_start b _ (left_true (is_digit b) (is_number_rest (c ∷ bs)) h)) l)
       ]
 
-  pub number_back : (i level : ℕ) (v gap more : List ℕ) → is_number v ≡ true → Follows gap more →
-      Left t i (inline_bytes level (number_literal v) (gap ++ more)) → ReadsInline i (number_literal v) (gap ++ more)
-  number_back i level v gap more e f l = elim (number_start i v (gap ++ more) e l) [
+  pub number_reads_back : (i level : ℕ) (v gap more : List ℕ) → is_number v ≡ true → Follows gap more →
+      SuffixAt t i (inline_bytes level (number_literal v) (gap ++ more)) → ReadsInline i (number_literal v) (gap ++ more)
+  number_reads_back i level v gap more e f l = elim (number_start i v (gap ++ more) e l) [
     | inl s ↦ reads_peek digit s (number_as i v gap more e f l)
     | inr s ↦ reads_peek minus s (number_as i v gap more e f l)
   ]
@@ -153,7 +153,7 @@ module _ (edition : Edition) (t : List ℕ) where
   ReadsCall i a left = Reads t (call_arguments edition t) (maybe_map (bytes_at t)) i a left
 
   -- no argument list
-  pub call_none : (i : ℕ) (gap more : List ℕ) → Follows gap more → Left t i (gap ++ more) →
+  pub call_none : (i : ℕ) (gap more : List ℕ) → Follows gap more → SuffixAt t i (gap ++ more) →
       ReadsCall i no_arguments more
   call_none i gap more f l =
       passes_then (passes_gap gap more f l)
@@ -163,24 +163,24 @@ module _ (edition : Edition) (t : List ℕ) where
   no_list_here : (i : ℕ) (more : List ℕ) → holds is_space (first more) ≡ false →
       holds (λ b. b == lf) (first more) ≡ false → holds (λ b. b == cr) (first more) ≡ false →
       holds (λ b. b == 40) (first more) ≡ false →
-      Left t i more → ReadsCall i no_arguments more
+      SuffixAt t i more → ReadsCall i no_arguments more
   no_list_here i more a d e f l =
       passes_then (passes_blanks [] more refl a d e l)
       (λ j m. reads_bind (reads_absent 40 f m) (λ b k h n. reads_second h (reads_yields refl n)))
 
-  pub name_start : (i : ℕ) (id more : List ℕ) → is_name id ≡ true → Left t i (id ++ more) → start t i ≡ letter
+  pub name_start : (i : ℕ) (id more : List ℕ) → is_name id ≡ true → SuffixAt t i (id ++ more) → start t i ≡ letter
   name_start i [] more e l = cc
   name_start i (b ∷ bs) more e l =
       starts_with letter (letter_start b _ (left_true (is_letter b) (list_all is_name_byte bs) e)) l
 
   -- ---- message references
 
-  pub no_accessor : (i : ℕ) (more : List ℕ) → holds (λ b. b == 46) (first more) ≡ false → Left t i more →
+  pub no_accessor : (i : ℕ) (more : List ℕ) → holds (λ b. b == 46) (first more) ≡ false → SuffixAt t i more →
       Reads t (rules.accessor t) (option_texts (bytes_at t)) i None more
   no_accessor i more e l = reads_bind (reads_absent 46 e l) (λ b j f m. reads_second f (reads_yields refl m))
 
   pub some_accessor : (i : ℕ) (a more : List ℕ) → is_name a ≡ true → holds is_name_byte (first more) ≡ false →
-      Left t i (46 ∷ (a ++ more)) → Reads t (rules.accessor t) (option_texts (bytes_at t)) i (Some a) more
+      SuffixAt t i (46 ∷ (a ++ more)) → Reads t (rules.accessor t) (option_texts (bytes_at t)) i (Some a) more
   some_accessor i a more e f l =
       reads_bind (reads_present 46 refl l)
       (λ b j g m. reads_first g (reads_bind (reads_name a more e f m) (λ s k h n. reads_yields (ap Some h) n)))
@@ -194,18 +194,18 @@ module _ (edition : Edition) (t : List ℕ) where
   message_after id name attribute i left no_arguments e f r = reads_bind r (λ a j g m. reads_yields (cc) m)
   message_after id name attribute i left (some_arguments a) e f r = absurd cc
 
-  pub message_back : (i level : ℕ) (id gap more : List ℕ) → is_name id ≡ true → Follows gap more →
-      Left t i (id ++ (gap ++ more)) → ReadsInline i (message_reference id None) more
-  message_back i level id gap more e f l =
+  pub message_reads_back : (i level : ℕ) (id gap more : List ℕ) → is_name id ≡ true → Follows gap more →
+      SuffixAt t i (id ++ (gap ++ more)) → ReadsInline i (message_reference id None) more
+  message_reads_back i level id gap more e f l =
       reads_peek letter (name_start i id (gap ++ more) e l)
       (reads_bind (reads_name id (gap ++ more) e f.no_name l) (λ s j g m.
       reads_bind (call_none j gap more f m)
       (λ a k h n. message_after s id None k more a g h (no_accessor k more f.no_attribute n))))
 
-  pub message_attribute_back : (i level : ℕ) (id a gap more : List ℕ) → is_name id ≡ true → is_name a ≡ true →
-      Follows gap more → Left t i (id ++ (46 ∷ (a ++ (gap ++ more)))) →
+  pub message_attribute_reads_back : (i level : ℕ) (id a gap more : List ℕ) → is_name id ≡ true → is_name a ≡ true →
+      Follows gap more → SuffixAt t i (id ++ (46 ∷ (a ++ (gap ++ more)))) →
       ReadsInline i (message_reference id (Some a)) (gap ++ more)
-  message_attribute_back i level id a gap more e e' f l =
+  message_attribute_reads_back i level id a gap more e e' f l =
       reads_peek letter (name_start i id _ e l) (reads_bind (reads_name id _ e refl l) (λ s j g m.
       reads_bind (no_list_here j _ refl refl refl refl m)
       (λ v k h n. message_after s id (Some a) k (gap ++ more) v g h

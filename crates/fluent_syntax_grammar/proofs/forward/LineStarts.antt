@@ -13,11 +13,11 @@ use Rattle.fluent_syntax_grammar.specs.Layout.{Piece, run, placed, lf_at, counte
 use Rattle.fluent_syntax_grammar.specs.Elements.{Item, with_ending, common_indent_end, items_from, line_items}
 use Rattle.fluent_syntax_grammar.specs.Lines.{belongs}
 use Rattle.fluent_syntax_grammar.specs.Written.{Text}
-use Rattle.fluent_syntax_grammar.proofs.Left.{Left, first, left_first, left_next, left_past, left_word}
-use Rattle.fluent_syntax_grammar.proofs.forward.Spells.{Spells, text_first}
+use Rattle.fluent_syntax_grammar.proofs.SuffixAt.{SuffixAt, first, suffix_first, suffix_next, suffix_past, suffix_byte_run}
+use Rattle.fluent_syntax_grammar.proofs.forward.Spells.{Spells, spells_text}
 use Rattle.fluent_syntax_grammar.proofs.forward.Lines.{is_mark_byte, line_of, reads_own, reads_no_pieces, lf_eol}
 use Rattle.fluent_syntax_grammar.proofs.forward.Lines.{belongs_eol}
-use Rattle.fluent_syntax_grammar.proofs.forward.Pieces.{Mid, Starts, Run}
+use Rattle.fluent_syntax_grammar.proofs.forward.Pieces.{ReadsMidLine, Starts, Run}
 use Rattle.fluent_syntax_grammar.proofs.Tests.{or_true}
 
 less_on : (i n : ℕ) → 1 ≤ n → nat_lt i (i + n) ≡ true
@@ -25,20 +25,20 @@ less_on i n l = grind (arith, nat_tests)
 
 module _ (edition : Edition) (t : List ℕ) where
   -- after leading spaces a byte that is no mark begins a line that belongs
-  belongs_text : (i n b : ℕ) (bs : List ℕ) → 1 ≤ n → not (is_mark_byte b) ≡ true → Left t (i + n) (b ∷ bs) →
+  belongs_text : (i n b : ℕ) (bs : List ℕ) → 1 ≤ n → not (is_mark_byte b) ≡ true → SuffixAt t (i + n) (b ∷ bs) →
       belongs t (nat_lt i (i + n)) (i + n) ≡ true
-  belongs_text i n b bs l e m = rw (less_on i n l, left_first m, e) (or_true _)
+  belongs_text i n b bs l e m = rw (less_on i n l, suffix_first m, e) (or_true _)
 
   -- a line that begins with a run
   pub start_run :
       (ind sp : List ℕ) (b : ℕ) (bs source : List ℕ) (es : PatternTree Text) (numbers rest : List ℕ) (i : ℕ) →
       list_all is_space (ind ++ sp) ≡ true → 1 ≤ length (ind ++ sp) → is_space b ≡ false → not (is_mark_byte b) ≡ true →
-      Left t i ((ind ++ sp) ++ (b ∷ (bs ++ source))) → Left t (i + length ind) ((sp ++ (b ∷ bs)) ++ source) →
+      SuffixAt t i ((ind ++ sp) ++ (b ∷ (bs ++ source))) → SuffixAt t (i + length ind) ((sp ++ (b ∷ bs)) ++ source) →
       Run edition t (Some (length ind)) (sp ++ (b ∷ bs)) es numbers (i + length (ind ++ sp)) source rest →
       Starts edition t (Some (length ind)) (elements (text_element (sp ++ (b ∷ bs))) es) (length (ind ++ sp) ∷ numbers)
       i rest
   start_run ind sp b bs source es numbers rest i a n s e l k r =
-      let m = left_past (ind ++ sp) l in
+      let m = suffix_past (ind ++ sp) l in
       let size = length-append ind sp in
       let kept : i + length ind ≡ i + min ((i + length (ind ++ sp)) - i) (length ind) = omega arith in
       let spaces : (i + length (ind ++ sp)) - i ≡ length (ind ++ sp) = omega arith in
@@ -48,12 +48,12 @@ module _ (edition : Edition) (t : List ℕ) where
         end = r.end;
         reads =
             reads_own edition t (run (i + length (ind ++ sp)) r.to ∷ r.pieces) r.lines r.end
-            (left_word is_space (ind ++ sp) (b ∷ (bs ++ source)) a s l) (left_first m)
+            (suffix_byte_run is_space (ind ++ sp) (b ∷ (bs ++ source)) a s l) (suffix_first m)
             (belongs_text i (length (ind ++ sp)) b (bs ++ source) n e m) r.reads_pieces r.ends r.reads_lines;
         left = r.left;
         spells =
             r.spells (i + min ((i + length (ind ++ sp)) - i) (length ind))
-            (subst (λ p. Left t p ((sp ++ (b ∷ bs)) ++ source)) kept k);
+            (subst (λ p. SuffixAt t p ((sp ++ (b ∷ bs)) ++ source)) kept k);
         counts = ap (λ n. n ∷ flat_map (counted edition) r.lines) spaces ∙ ap (λ ns. length (ind ++ sp) ∷ ns) r.counts;
       }
 
@@ -61,22 +61,22 @@ module _ (edition : Edition) (t : List ℕ) where
   pub start_blank :
       (common : Option ℕ) (gap v more : List ℕ) (e : ElementTree Text) (es : PatternTree Text) (numbers rest : List ℕ)
       (i : ℕ) → list_all is_space gap ≡ true →
-      Left t i (gap ++ (lf ∷ more)) →
-      Left t (common_indent_end common (line_of edition t i (i + length gap) [] (i + length gap))) (v ++ more) →
-      ((j : ℕ) → Left t j more → Starts edition t common (elements e es) numbers j rest) →
+      SuffixAt t i (gap ++ (lf ∷ more)) →
+      SuffixAt t (common_indent_end common (line_of edition t i (i + length gap) [] (i + length gap))) (v ++ more) →
+      ((j : ℕ) → SuffixAt t j more → Starts edition t common (elements e es) numbers j rest) →
       Starts edition t common (elements (text_element v) (elements e es)) numbers i rest
   start_blank common gap v more e es numbers rest i a l k next =
-      let m = left_past gap l in
-      let r = next (i + length gap + 1) (left_next m) in
+      let m = suffix_past gap l in
+      let r = next (i + length gap + 1) (suffix_next m) in
       record {
         lines = line_of edition t i (i + length gap) [] (i + length gap) ∷ r.lines;
         end = r.end;
         reads =
-            reads_own edition t [] r.lines r.end (left_word is_space gap (lf ∷ more) a refl l) (left_first m)
+            reads_own edition t [] r.lines r.end (suffix_byte_run is_space gap (lf ∷ more) a refl l) (suffix_first m)
             (belongs_eol edition t (nat_lt i (i + length gap)) (i + length gap) (lf_eol edition t m))
             (reads_no_pieces edition t m) m r.reads;
         left = r.left;
-        spells = text_first k (left_next m) r.spells;
+        spells = spells_text k (suffix_next m) r.spells;
         counts = r.counts;
       }
 
@@ -114,13 +114,13 @@ module _ (t : List ℕ) where
 
   two_spaces :
       (kept first at : ℕ) (ps : List Piece) (xs : List Item) (e : ExpressionTree Text) (es : PatternTree Text)
-      (v source : List ℕ) → nat_lt kept first ≡ true → Left t kept (v ++ source) → Left t first source →
+      (v source : List ℕ) → nat_lt kept first ≡ true → SuffixAt t kept (v ++ source) → SuffixAt t first source →
       Spells t (with_ending ps (lf_at at) ++ xs) (elements (placeable e) es) →
       Spells t (items_from Two kept first ps (lf_at at) ++ xs) (elements (text_element v) (elements (placeable e) es))
   two_spaces kept first at [] xs e es v source n k l s = elim s [ ]
   two_spaces kept first at (run from to ∷ []) xs e es v source n k l s = elim s [ ]
   two_spaces kept first at (run from to ∷ p ∷ ps) xs e es v source n k l s = elim s [ ]
-  two_spaces kept first at (placed x ∷ ps) xs e es v source n k l s = rw n (text_first k l s)
+  two_spaces kept first at (placed x ∷ ps) xs e es v source n k l s = rw n (spells_text k l s)
 
   two_counts : (spaces at : ℕ) (ps : List Piece) (xs : List Item) (e : ExpressionTree Text) (es : PatternTree Text) →
       Spells t (with_ending ps (lf_at at) ++ xs) (elements (placeable e) es) →
@@ -136,17 +136,17 @@ module _ (t : List ℕ) where
   -- the line, in edition one
   pub start_placeable_one :
       (common : Option ℕ) (ind bs : List ℕ) (e : ExpressionTree Text) (es : PatternTree Text) (numbers rest : List ℕ)
-      (i : ℕ) → list_all is_space ind ≡ true → 1 ≤ length ind → Left t i (ind ++ (123 ∷ bs)) →
-      Mid One t common (elements (placeable e) es) numbers (i + length ind) rest →
+      (i : ℕ) → list_all is_space ind ≡ true → 1 ≤ length ind → SuffixAt t i (ind ++ (123 ∷ bs)) →
+      ReadsMidLine One t common (elements (placeable e) es) numbers (i + length ind) rest →
       Starts One t common (elements (placeable e) es) numbers i rest
   start_placeable_one common ind bs e es numbers rest i a n l m =
-      let k = left_past ind l in
+      let k = suffix_past ind l in
       let line = line_of One t i (i + length ind) m.pieces m.at in
       record {
         lines = line ∷ m.lines;
         end = m.end;
         reads =
-            reads_own One t m.pieces m.lines m.end (left_word is_space ind (123 ∷ bs) a refl l) (left_first k)
+            reads_own One t m.pieces m.lines m.end (suffix_byte_run is_space ind (123 ∷ bs) a refl l) (suffix_first k)
             (belongs_text One t i (length ind) 123 bs n refl k) m.reads_pieces m.ends m.reads_lines;
         left = m.left;
         spells =
@@ -161,18 +161,18 @@ module _ (t : List ℕ) where
   -- the line, in edition two
   pub start_placeable_two :
       (ind bs : List ℕ) (e : ExpressionTree Text) (es : PatternTree Text) (numbers rest : List ℕ) (i : ℕ) →
-      list_all is_space ind ≡ true → 1 ≤ length ind → Left t i (ind ++ (123 ∷ bs)) →
-      Mid Two t (Some (length ind)) (elements (placeable e) es) numbers (i + length ind) rest →
+      list_all is_space ind ≡ true → 1 ≤ length ind → SuffixAt t i (ind ++ (123 ∷ bs)) →
+      ReadsMidLine Two t (Some (length ind)) (elements (placeable e) es) numbers (i + length ind) rest →
       Starts Two t (Some (length ind)) (elements (placeable e) es) (length ind ∷ numbers) i rest
   start_placeable_two ind bs e es numbers rest i a n l m =
-      let k = left_past ind l in
+      let k = suffix_past ind l in
       let line = line_of Two t i (i + length ind) m.pieces m.at in
       let spaces : (i + length ind) - i ≡ length ind = omega arith in
       record {
         lines = line ∷ m.lines;
         end = m.end;
         reads =
-            reads_own Two t m.pieces m.lines m.end (left_word is_space ind (123 ∷ bs) a refl l) (left_first k)
+            reads_own Two t m.pieces m.lines m.end (suffix_byte_run is_space ind (123 ∷ bs) a refl l) (suffix_first k)
             (belongs_text Two t i (length ind) 123 bs n refl k) m.reads_pieces m.ends m.reads_lines;
         left = m.left;
         spells =
@@ -191,15 +191,15 @@ module _ (t : List ℕ) where
   -- in edition two, with more spaces than the common indent
   pub start_spaces_two :
       (ind sp bs : List ℕ) (e : ExpressionTree Text) (es : PatternTree Text) (numbers rest : List ℕ) (i : ℕ) →
-      list_all is_space (ind ++ sp) ≡ true → 1 ≤ length sp → Left t i ((ind ++ sp) ++ (123 ∷ bs)) →
-      Left t (i + length ind) (sp ++ (123 ∷ bs)) →
-      Mid Two t (Some (length ind)) (elements (placeable e) es) numbers (i + length (ind ++ sp)) rest →
+      list_all is_space (ind ++ sp) ≡ true → 1 ≤ length sp → SuffixAt t i ((ind ++ sp) ++ (123 ∷ bs)) →
+      SuffixAt t (i + length ind) (sp ++ (123 ∷ bs)) →
+      ReadsMidLine Two t (Some (length ind)) (elements (placeable e) es) numbers (i + length (ind ++ sp)) rest →
       Starts Two t (Some (length ind)) (elements (text_element sp) (elements (placeable e) es))
       (length (ind ++ sp) ∷ numbers) i rest
   start_spaces_two ind sp bs e es numbers rest i a n l k m =
       let size = length-append ind sp in
       let whole = i + length (ind ++ sp) in
-      let there = left_past (ind ++ sp) l in
+      let there = suffix_past (ind ++ sp) l in
       let line = line_of Two t i whole m.pieces m.at in
       let spaces : whole - i ≡ length (ind ++ sp) = omega arith in
       let kept : i + length ind ≡ i + min (whole - i) (length ind) = omega arith in
@@ -208,14 +208,14 @@ module _ (t : List ℕ) where
         lines = line ∷ m.lines;
         end = m.end;
         reads =
-            reads_own Two t m.pieces m.lines m.end (left_word is_space (ind ++ sp) (123 ∷ bs) a refl l)
-            (left_first there) (belongs_text Two t i (length (ind ++ sp)) 123 bs (omega arith) refl there)
+            reads_own Two t m.pieces m.lines m.end (suffix_byte_run is_space (ind ++ sp) (123 ∷ bs) a refl l)
+            (suffix_first there) (belongs_text Two t i (length (ind ++ sp)) 123 bs (omega arith) refl there)
             m.reads_pieces m.ends m.reads_lines;
         left = m.left;
         spells =
             two_spaces (i + min (whole - i) (length ind)) (i + (whole - i)) m.at m.pieces
             (flat_map (line_items Two (Some (length ind))) m.lines) e es sp (123 ∷ bs) (less_true _ _ (omega arith))
-            (subst (λ p. Left t p (sp ++ (123 ∷ bs))) kept k) (subst (λ p. Left t p (123 ∷ bs)) first_at there)
+            (subst (λ p. SuffixAt t p (sp ++ (123 ∷ bs))) kept k) (subst (λ p. SuffixAt t p (123 ∷ bs)) first_at there)
             m.spells;
         counts =
             ap (λ ns. ns ++ flat_map (counted Two) m.lines)

@@ -14,25 +14,25 @@ use Rattle.fluent_syntax_grammar.specs.Bytes.{lf, cr, space, is_space}
 use Rattle.fluent_syntax_grammar.specs.Places.{holds}
 use Rattle.fluent_syntax_grammar.specs.Written.{Text, is_last, last_of, indent, begins_with_mark}
 use Rattle.fluent_syntax_grammar.specs.Readable.{ElementPosition, after_line, within_line, after_placeable}
-use Rattle.fluent_syntax_grammar.specs.Readable.{ends_well, is_text, are_elements, is_well_placed}
+use Rattle.fluent_syntax_grammar.specs.Readable.{may_precede, is_text, are_elements, may_stand_at}
 use Rattle.fluent_syntax_grammar.specs.Readable.{position_after, indents}
-use Rattle.fluent_syntax_grammar.specs.Canonical.{line_numbers, are_lone, text_numbers, placeable_numbers}
+use Rattle.fluent_syntax_grammar.specs.Canonical.{line_indents, are_lone, text_indents, placeable_indents}
 use Rattle.fluent_syntax_grammar.specs.Elements.{is_nonblank}
 use Rattle.fluent_syntax_grammar.proofs.Facts.{differs, left_true, right_true, equal, add_one}
 use Rattle.fluent_syntax_grammar.proofs.Tests.{both}
-use Rattle.fluent_syntax_grammar.proofs.Left.{Left, left_as, first, left_next, left_past}
+use Rattle.fluent_syntax_grammar.proofs.SuffixAt.{SuffixAt, suffix_as, first, suffix_next, suffix_past}
 use Rattle.fluent_syntax_grammar.proofs.marks.LastBytes.{last_append}
-use Rattle.fluent_syntax_grammar.proofs.forward.Spells.{text_first}
+use Rattle.fluent_syntax_grammar.proofs.forward.Spells.{spells_text}
 use Rattle.fluent_syntax_grammar.proofs.marks.WrittenBytes.{element_bytes, elements_bytes, line_indent}
 use Rattle.fluent_syntax_grammar.proofs.forward.Runs.{without_of, is_run_byte, TextForm, alone, with_lf, text_form}
 use Rattle.fluent_syntax_grammar.proofs.forward.Runs.{run_no_lf}
 use Rattle.fluent_syntax_grammar.proofs.forward.Lines.{Ends, reads_no_pieces, is_mark_byte}
-use Rattle.fluent_syntax_grammar.proofs.forward.Pieces.{Mid, Starts, Run, mid_end, mid_placeable, mid_run, run_end}
+use Rattle.fluent_syntax_grammar.proofs.forward.Pieces.{ReadsMidLine, Starts, Run, mid_end, mid_placeable, mid_run, run_end}
 use Rattle.fluent_syntax_grammar.proofs.forward.Pieces.{run_more, run_line}
 use Rattle.fluent_syntax_grammar.proofs.forward.LineStarts.{start_run, start_blank, start_placeable_one}
 use Rattle.fluent_syntax_grammar.proofs.forward.LineStarts.{start_placeable_two, start_spaces_two}
 use Rattle.fluent_syntax_grammar.proofs.forward.Selects.{all_append, spaces_of}
-use Rattle.fluent_syntax_grammar.proofs.forward.OneLine.{ElementBack, ElementsBack, element_brace, plain_no_cr}
+use Rattle.fluent_syntax_grammar.proofs.forward.OneLine.{ElementReadsBack, ElementsReadBack, element_brace, plain_no_cr}
 use Rattle.fluent_syntax_grammar.proofs.Tests.{and_false, not_true, or_true}
 
 -- ---- the ends of texts
@@ -58,7 +58,7 @@ none_after (x ∷ xs) ys e = absurd cc
 
 module _ (edition : Edition) where
   numbers_within : (es : PatternTree Text) →
-      line_numbers edition within_line es ≡ line_numbers edition after_placeable es
+      line_indents edition within_line es ≡ line_indents edition after_placeable es
   numbers_within no_elements = refl
   numbers_within (elements (text_element v) es) = refl
   numbers_within (elements (placeable e) es) = refl
@@ -69,18 +69,18 @@ module _ (edition : Edition) where
   lone_within (elements (placeable e) es) = refl
 
   numbers_no_line : (v : Text) (es : PatternTree Text) → ends_in_lf v ≡ false →
-      line_numbers edition (position_after v) es ≡ line_numbers edition after_placeable es
+      line_indents edition (position_after v) es ≡ line_indents edition after_placeable es
   numbers_no_line v es e = rw e (numbers_within es)
 
   numbers_line : (v : Text) (es : PatternTree Text) → ends_in_lf v ≡ true →
-      line_numbers edition (position_after v) es ≡ line_numbers edition after_line es
+      line_indents edition (position_after v) es ≡ line_indents edition after_line es
   numbers_line v es e = rw e refl
 
   -- The common indent that fits a pattern's elements from a place on: that of its level; or none, where no line has a
   -- number and each line-start text is one LF.
   pub data Fit (shift : ℕ) : Option ℕ → ElementPosition → PatternTree Text → Type 0 where
     fixed : {s : ElementPosition} {es : PatternTree Text} → Fit shift (Some shift) s es
-    lone : {s : ElementPosition} {es : PatternTree Text} → are_lone s es ≡ true → line_numbers edition s es ≡ [] →
+    lone : {s : ElementPosition} {es : PatternTree Text} → are_lone s es ≡ true → line_indents edition s es ≡ [] →
         Fit shift None s es
 
   -- what fits a text and more, fits the elements after it
@@ -105,7 +105,7 @@ module _ (edition : Edition) where
       lone (sym (ap (λ b. are_lone (if b then after_line else within_line) es) e ∙ lone_within es)
       ∙ right_true (is_lone_lf v) (are_lone (position_after v) es) a)
       (sym (numbers_no_line v es e)
-      ∙ none_after (text_numbers edition v) (line_numbers edition (position_after v) es) b)
+      ∙ none_after (text_indents edition v) (line_indents edition (position_after v) es) b)
 
   fit_line_start : (shift : ℕ) (common : Option ℕ) (v : Text) (es : PatternTree Text) → ends_in_lf v ≡ true →
       Fit shift common after_line (elements (text_element v) es) → Fit shift common after_line es
@@ -113,13 +113,13 @@ module _ (edition : Edition) where
   fit_line_start shift common v es e (lone a b) =
       lone (sym (ap (λ b. are_lone (if b then after_line else within_line) es) e)
       ∙ right_true (is_lone_lf v) (are_lone (position_after v) es) a)
-      (sym (numbers_line v es e) ∙ none_after (text_numbers edition v) (line_numbers edition (position_after v) es) b)
+      (sym (numbers_line v es e) ∙ none_after (text_indents edition v) (line_indents edition (position_after v) es) b)
 
   fit_placeable_line : (shift : ℕ) (common : Option ℕ) (e : ExpressionTree Text) (es : PatternTree Text) →
       Fit shift common after_line (elements (placeable e) es) → Fit shift common after_placeable es
   fit_placeable_line shift common e es fixed = fixed
   fit_placeable_line shift common e es (lone a b) =
-      lone a (none_after (placeable_numbers edition) (line_numbers edition after_placeable es) b)
+      lone a (none_after (placeable_indents edition) (line_indents edition after_placeable es) b)
 
   fit_placeable : (shift : ℕ) (common : Option ℕ) (e : ExpressionTree Text) (es : PatternTree Text) →
       Fit shift common after_placeable (elements (placeable e) es) → Fit shift common after_placeable es
@@ -164,14 +164,14 @@ shown_nonblank [] b (c ∷ bs) e f = rw e refl
 shown_nonblank (x ∷ []) b bs e f = rw (shown_nonblank [] b bs e f) (or_true (not (is_space x)))
 shown_nonblank (x ∷ y ∷ gap) b bs e f = rw (shown_nonblank (y ∷ gap) b bs e f) (or_true (not (is_space x)))
 
-numbers_shown : (edition : Edition) (v : Text) → is_nonblank v ≡ true → text_numbers edition v ≡ leading_spaces v ∷ []
+numbers_shown : (edition : Edition) (v : Text) → is_nonblank v ≡ true → text_indents edition v ≡ leading_spaces v ∷ []
 numbers_shown One v e = rw e refl
 numbers_shown Two v e = rw e refl
 
 module _ (edition : Edition) (t : List ℕ) (level : ℕ) (common : Option ℕ) (tail rest : List ℕ) (ends : Ends tail rest)
   where
     abbrev pub shifted : ElementPosition → PatternTree Text → List ℕ
-    shifted s es = map (λ n. length (indent level) + n) (line_numbers edition s es)
+    shifted s es = map (λ n. length (indent level) + n) (line_indents edition s es)
 
     pub plain_not_line : (v body : List ℕ) → v ≡ body ++ (lf ∷ []) → ends_plainly v ≡ true → ⊥
     plain_not_line v body e p =
@@ -181,12 +181,12 @@ module _ (edition : Edition) (t : List ℕ) (level : ℕ) (common : Option ℕ) 
 
     -- ---- a text within a line
 
-    text_last : (v : Text) (i : ℕ) → is_text v ≡ true → ends_plainly v ≡ true → Left t i (v ++ (lf ∷ tail)) →
-        Mid edition t common (elements (text_element v) no_elements) [] i rest
+    text_last : (v : Text) (i : ℕ) → is_text v ≡ true → ends_plainly v ≡ true → SuffixAt t i (v ++ (lf ∷ tail)) →
+        ReadsMidLine edition t common (elements (text_element v) no_elements) [] i rest
     text_last v i e p l = at_form v i e p l (text_form v e)
       where
-        at_form : (v : Text) (i : ℕ) → is_text v ≡ true → ends_plainly v ≡ true → Left t i (v ++ (lf ∷ tail)) →
-            TextForm v → Mid edition t common (elements (text_element v) no_elements) [] i rest
+        at_form : (v : Text) (i : ℕ) → is_text v ≡ true → ends_plainly v ≡ true → SuffixAt t i (v ++ (lf ∷ tail)) →
+            TextForm v → ReadsMidLine edition t common (elements (text_element v) no_elements) [] i rest
         at_form v i e p l (with_lf body is a c) = absurd (plain_not_line v body is p)
         at_form [] i e p l (alone a) = absurd cc
         at_form (b ∷ bs) i e p l (alone a) =
@@ -196,27 +196,27 @@ module _ (edition : Edition) (t : List ℕ) (level : ℕ) (common : Option ℕ) 
     -- before a placeable
     text_then : (v : Text) (e : ExpressionTree Text) (es : PatternTree Text) (numbers : List ℕ) (i : ℕ) →
         is_text v ≡ true → list_all is_run_byte v ≡ true →
-        Left t i (v ++ element_bytes level (placeable e) (elements_bytes level false es (lf ∷ tail))) →
-        ((j : ℕ) → Left t j (element_bytes level (placeable e) (elements_bytes level false es (lf ∷ tail))) →
-        Mid edition t common (elements (placeable e) es) numbers j rest) →
-        Mid edition t common (elements (text_element v) (elements (placeable e) es)) numbers i rest
+        SuffixAt t i (v ++ element_bytes level (placeable e) (elements_bytes level false es (lf ∷ tail))) →
+        ((j : ℕ) → SuffixAt t j (element_bytes level (placeable e) (elements_bytes level false es (lf ∷ tail))) →
+        ReadsMidLine edition t common (elements (placeable e) es) numbers j rest) →
+        ReadsMidLine edition t common (elements (text_element v) (elements (placeable e) es)) numbers i rest
     text_then [] e es numbers i g a l k = absurd cc
     text_then (b ∷ bs) e es numbers i g a l k =
         let x = element_brace level e (elements_bytes level false es (lf ∷ tail)) in
-        let m = left_as (ap (λ xs. b ∷ (bs ++ xs)) x.are) l in
+        let m = suffix_as (ap (λ xs. b ∷ (bs ++ xs)) x.are) l in
         let r =
-        run_more edition t common (b ∷ bs) e es numbers rest i b bs x.rest a m (λ j n. k j (left_as (sym x.are) n)) in
+        run_more edition t common (b ∷ bs) e es numbers rest i b bs x.rest a m (λ j n. k j (suffix_as (sym x.are) n)) in
         mid_run edition t common (b ∷ bs) (elements (placeable e) es) numbers (123 ∷ x.rest) rest i r m
 
     -- that ends its line
     text_line : (v body : Text) (e : ElementTree Text) (es : PatternTree Text) (numbers : List ℕ) (i : ℕ) →
         v ≡ body ++ (lf ∷ []) → list_all is_run_byte body ≡ true → is_last cr (last_of None body) ≡ false →
-        (more : List ℕ) → Left t i (v ++ more) →
-        ((j : ℕ) → Left t j more → Starts edition t common (elements e es) numbers j rest) →
-        Mid edition t common (elements (text_element v) (elements e es)) numbers i rest
+        (more : List ℕ) → SuffixAt t i (v ++ more) →
+        ((j : ℕ) → SuffixAt t j more → Starts edition t common (elements e es) numbers j rest) →
+        ReadsMidLine edition t common (elements (text_element v) (elements e es)) numbers i rest
     text_line v [] e es numbers i is a c more l k =
-        let n : Left t i (lf ∷ more) = left_as (ap (λ v. v ++ more) is) l in
-        let m = k (i + 1) (left_next n) in
+        let n : SuffixAt t i (lf ∷ more) = suffix_as (ap (λ v. v ++ more) is) l in
+        let m = k (i + 1) (suffix_next n) in
         record {
           pieces = [];
           at = i;
@@ -227,11 +227,11 @@ module _ (edition : Edition) (t : List ℕ) (level : ℕ) (common : Option ℕ) 
           ends = n;
           reads_lines = m.reads;
           left = m.left;
-          spells = text_first l (left_next n) m.spells;
+          spells = spells_text l (suffix_next n) m.spells;
           counts = m.counts;
         }
     text_line v (b ∷ bs) e es numbers i is a c more l k =
-        let m = left_as (ap (λ v. v ++ more) is ∙ ap (λ xs. b ∷ xs) (append_assoc bs (lf ∷ []) more)) l in
+        let m = suffix_as (ap (λ v. v ++ more) is ∙ ap (λ xs. b ∷ xs) (append_assoc bs (lf ∷ []) more)) l in
         mid_run edition t common v (elements e es) numbers more rest i
         (run_line edition t common v e es numbers rest i b bs more a c m k) l
 
@@ -241,8 +241,8 @@ module _ (edition : Edition) (t : List ℕ) (level : ℕ) (tail rest : List ℕ)
   -- A run after the indent and perhaps more spaces: the line counts with these spaces.
   start_shown : (gap : List ℕ) (b : ℕ) (bs source : List ℕ) (es : PatternTree Text) (numbers : List ℕ) (i : ℕ) →
       1 ≤ length (indent level) → list_all is_space gap ≡ true → is_space b ≡ false → not (is_mark_byte b) ≡ true →
-      Left t i (indent level ++ ((gap ++ (b ∷ bs)) ++ source)) →
-      ((j : ℕ) → Left t j (b ∷ (bs ++ source)) →
+      SuffixAt t i (indent level ++ ((gap ++ (b ∷ bs)) ++ source)) →
+      ((j : ℕ) → SuffixAt t j (b ∷ (bs ++ source)) →
       Run edition t (Some (length (indent level))) (gap ++ (b ∷ bs)) es numbers j source rest) →
       Starts edition t (Some (length (indent level))) (elements (text_element (gap ++ (b ∷ bs))) es)
       ((length (indent level) + length gap) ∷ numbers) i rest
@@ -252,43 +252,43 @@ module _ (edition : Edition) (t : List ℕ) (level : ℕ) (tail rest : List ℕ)
       let all : list_all is_space (ind ++ gap) ≡ true = all_append ind gap (spaces_of (4 * level)) a in
       let whole : ind ++ ((gap ++ (b ∷ bs)) ++ source) ≡ (ind ++ gap) ++ (b ∷ (bs ++ source)) =
       ap (λ v. ind ++ v) (append_assoc gap (b ∷ bs) source) ∙ sym (append_assoc ind gap (b ∷ (bs ++ source))) in
-      let m = left_as whole l in
-      let r = k (i + length (ind ++ gap)) (left_past (ind ++ gap) m) in
+      let m = suffix_as whole l in
+      let r = k (i + length (ind ++ gap)) (suffix_past (ind ++ gap) m) in
       subst (λ n. Starts edition t (Some (length ind)) (elements (text_element (gap ++ (b ∷ bs))) es) (n ∷ numbers) i
       rest) size (start_run edition t ind gap b bs source es numbers rest i all (omega arith) s e m
-      (left_past ind l) r)
+      (suffix_past ind l) r)
 
 -- ---- a placeable that begins a line
 
 -- with the level's indent before it
 placeable_starts :
     (edition : Edition) (t : List ℕ) (level : ℕ) (common : Option ℕ) (tail rest : List ℕ) (e : ExpressionTree Text)
-    (es : PatternTree Text) → 1 ≤ length (indent level) → ElementBack edition t level e →
+    (es : PatternTree Text) → 1 ≤ length (indent level) → ElementReadsBack edition t level e →
     Fit edition (length (indent level)) common after_line (elements (placeable e) es) →
-    ((i : ℕ) → Left t i (elements_bytes level false es (lf ∷ tail)) →
-    Mid edition t common es (map (λ n. length (indent level) + n) (line_numbers edition after_placeable es)) i
+    ((i : ℕ) → SuffixAt t i (elements_bytes level false es (lf ∷ tail)) →
+    ReadsMidLine edition t common es (map (λ n. length (indent level) + n) (line_indents edition after_placeable es)) i
     rest) →
-    (i : ℕ) → Left t i (elements_bytes level true (elements (placeable e) es) (lf ∷ tail)) →
+    (i : ℕ) → SuffixAt t i (elements_bytes level true (elements (placeable e) es) (lf ∷ tail)) →
     Starts edition t common (elements (placeable e) es)
-    (map (λ n. length (indent level) + n) (line_numbers edition after_line (elements (placeable e) es))) i rest
+    (map (λ n. length (indent level) + n) (line_indents edition after_line (elements (placeable e) es))) i rest
 placeable_starts One t level common tail rest e es deep h f mid i l =
     let x = element_brace level e (elements_bytes level false es (lf ∷ tail)) in
-    let m = left_as (ap (λ v. indent level ++ v) x.are) l in
-    let n = left_past (indent level) l in
+    let m = suffix_as (ap (λ v. indent level ++ v) x.are) l in
+    let n = suffix_past (indent level) l in
     start_placeable_one t common (indent level) x.rest e es _ rest i (spaces_of (4 * level)) deep m
     (mid_placeable One t common e es _ (i + length (indent level)) x.rest (elements_bytes level false es (lf ∷ tail))
-    rest (left_as x.are n) (h.back (i + length (indent level)) (elements_bytes level false es (lf ∷ tail)) n) mid)
+    rest (suffix_as x.are n) (h.back (i + length (indent level)) (elements_bytes level false es (lf ∷ tail)) n) mid)
 placeable_starts Two t level common tail rest e es deep h (lone a b) mid i l = absurd cc
 placeable_starts Two t level common tail rest e es deep h fixed mid i l =
     let x = element_brace level e (elements_bytes level false es (lf ∷ tail)) in
-    let m = left_as (ap (λ v. indent level ++ v) x.are) l in
-    let n = left_past (indent level) l in
+    let m = suffix_as (ap (λ v. indent level ++ v) x.are) l in
+    let n = suffix_past (indent level) l in
     let zero_more : length (indent level) ≡ length (indent level) + 0 = omega arith in
-    let ns = map (λ n. length (indent level) + n) (line_numbers Two after_placeable es) in
+    let ns = map (λ n. length (indent level) + n) (line_indents Two after_placeable es) in
     subst (λ k. Starts Two t (Some (length (indent level))) (elements (placeable e) es) (k ∷ ns) i rest) zero_more
     (start_placeable_two t (indent level) x.rest e es ns rest i (spaces_of (4 * level)) deep m
     (mid_placeable Two t (Some (length (indent level))) e es ns (i + length (indent level)) x.rest
-    (elements_bytes level false es (lf ∷ tail)) rest (left_as x.are n)
+    (elements_bytes level false es (lf ∷ tail)) rest (suffix_as x.are n)
     (h.back (i + length (indent level)) (elements_bytes level false es (lf ∷ tail)) n) mid))
 
 -- ---- what a text that begins a line is asked
@@ -315,7 +315,7 @@ not_mark b e f = marks (b == 46) (b == 91) (b == 42) (b == 125) (b == lf) (b == 
 
 no_mark_there : (edition : Edition) (v : Text) (es : PatternTree Text) (gap : List ℕ) (b : ℕ) (bs : List ℕ) →
     v ≡ gap ++ (b ∷ bs) → list_all is_space gap ≡ true → is_space b ≡ false →
-    is_well_placed edition true after_line v es ≡ true → begins_with_mark (b ∷ []) ≡ false
+    may_stand_at edition true after_line v es ≡ true → begins_with_mark (b ∷ []) ≡ false
 no_mark_there edition v es gap b bs is a e g =
     sym (ap begins_with_mark (ap after_spaces is ∙ after_of gap b bs a e))
     ∙ not_true (begins_with_mark (after_spaces v)) (right_true (not (is_spaces v) || indents edition v es) _ g)
@@ -337,32 +337,32 @@ module _ (edition : Edition) (t : List ℕ) (level : ℕ) (rest : List ℕ) wher
       v ≡ gap ++ (b ∷ bs) → 1 ≤ length (indent level) → list_all is_space gap ≡ true → is_space b ≡ false →
       (b == lf) ≡ false → not (is_mark_byte b) ≡ true →
       Fit edition (length (indent level)) common after_line (elements (text_element v) es) →
-      Left t i (indent level ++ (v ++ source)) →
-      ((j : ℕ) → Left t j (b ∷ (bs ++ source)) →
-      Run edition t common v es (map (λ n. length (indent level) + n) (line_numbers edition (position_after v) es)) j
+      SuffixAt t i (indent level ++ (v ++ source)) →
+      ((j : ℕ) → SuffixAt t j (b ∷ (bs ++ source)) →
+      Run edition t common v es (map (λ n. length (indent level) + n) (line_indents edition (position_after v) es)) j
       source rest) →
       Starts edition t common (elements (text_element v) es)
-      (map (λ n. length (indent level) + n) (line_numbers edition after_line (elements (text_element v) es))) i rest
+      (map (λ n. length (indent level) + n) (line_indents edition after_line (elements (text_element v) es))) i rest
   shown_starts common v gap b bs source es i is deep a s n e (lone x y) l k =
       absurd (no_numbers
-      (sym (ap (λ ns. ns ++ line_numbers edition (position_after v) es)
+      (sym (ap (λ ns. ns ++ line_indents edition (position_after v) es)
       (numbers_shown edition v (ap is_nonblank is ∙ shown_nonblank gap b bs s n))) ∙ y))
   shown_starts common v gap b bs source es i is deep a s n e fixed l k =
       let shift = length (indent level) in
-      let others = map (λ n. shift + n) (line_numbers edition (position_after v) es) in
-      let numbers : text_numbers edition v ≡ length gap ∷ [] =
+      let others = map (λ n. shift + n) (line_indents edition (position_after v) es) in
+      let numbers : text_indents edition v ≡ length gap ∷ [] =
       numbers_shown edition v (ap is_nonblank is ∙ shown_nonblank gap b bs s n)
       ∙ ap (λ m. m ∷ []) (ap leading_spaces is ∙ leading_of gap b bs a s) in
       let all :
-      map (λ n. shift + n) (line_numbers edition after_line (elements (text_element v) es))
+      map (λ n. shift + n) (line_indents edition after_line (elements (text_element v) es))
       ≡ (shift + length gap) ∷ others =
-      ap (λ ns. map (λ n. shift + n) (ns ++ line_numbers edition (position_after v) es)) numbers in
+      ap (λ ns. map (λ n. shift + n) (ns ++ line_indents edition (position_after v) es)) numbers in
       subst (λ ns. Starts edition t (Some shift) (elements (text_element v) es) ns i rest) (sym all)
       (subst (λ v'.
       Starts edition t (Some shift) (elements (text_element v') es) ((shift + length gap) ∷ others) i rest)
       (sym is)
       (start_shown edition t level source rest gap b bs source es others i deep a s e
-      (left_as (ap (λ v. indent level ++ (v ++ source)) is) l)
+      (suffix_as (ap (λ v. indent level ++ (v ++ source)) is) l)
       (λ j m. subst (λ v'. Run edition t (Some shift) v' es others j source rest) is (k j m))))
 
 -- ---- blank lines
@@ -379,7 +379,7 @@ no_spaces_end (x ∷ gap) = rw (no_spaces_end gap) (and_false (is_space x))
 
 -- a blank line has no number
 blank_number : (edition : Edition) (v gap : List ℕ) → v ≡ gap ++ (lf ∷ []) → list_all is_space gap ≡ true →
-    text_numbers edition v ≡ []
+    text_indents edition v ≡ []
 blank_number One v gap e s =
     rw (ap is_nonblank e ∙ ap (list_any (λ b. not (is_space b))) (without_of gap) ∙ blank_of gap s) refl
 blank_number Two v gap e s =
@@ -399,8 +399,8 @@ module _ (edition : Edition) (t : List ℕ) (level : ℕ) (rest : List ℕ) wher
       (common : Option ℕ) (v gap : List ℕ) (d : ElementTree Text) (es : PatternTree Text) (numbers more : List ℕ)
       (i : ℕ) → v ≡ gap ++ (lf ∷ []) → list_all is_space gap ≡ true →
       Fit edition (length (indent level)) common after_line (elements (text_element v) (elements d es)) →
-      Left t i (indent level ++ (v ++ more)) →
-      ((j : ℕ) → Left t j more → Starts edition t common (elements d es) numbers j rest) →
+      SuffixAt t i (indent level ++ (v ++ more)) →
+      ((j : ℕ) → SuffixAt t j more → Starts edition t common (elements d es) numbers j rest) →
       Starts edition t common (elements (text_element v) (elements d es)) numbers i rest
   blank_starts common v gap d es numbers more i e s fixed l k =
       let ind = indent level in
@@ -410,14 +410,14 @@ module _ (edition : Edition) (t : List ℕ) (level : ℕ) (rest : List ℕ) wher
       ∙ sym (append_assoc ind gap (lf ∷ more)) in
       let kept : i + length ind ≡ i + min ((i + length (ind ++ gap)) - i) (length ind) = omega arith in
       start_blank edition t (Some (length ind)) (ind ++ gap) v more d es numbers rest i
-      (all_append ind gap (spaces_of (4 * level)) s) (left_as whole l)
-      (subst (λ p. Left t p (v ++ more)) kept (left_past ind l)) k
+      (all_append ind gap (spaces_of (4 * level)) s) (suffix_as whole l)
+      (subst (λ p. SuffixAt t p (v ++ more)) kept (suffix_past ind l)) k
   blank_starts common v gap d es numbers more i e s (lone x y) l k =
       let ind = indent level in
       let only = lone_is v (left_true (is_lone_lf v) (are_lone (position_after v) (elements d es)) x) in
       let kept : i + length ind ≡ i + ((i + length ind) - i) = omega arith in
       start_blank edition t None ind v more d es numbers rest i (spaces_of (4 * level))
-      (left_as (ap (λ v. ind ++ (v ++ more)) only) l) (subst (λ p. Left t p (v ++ more)) kept (left_past ind l)) k
+      (suffix_as (ap (λ v. ind ++ (v ++ more)) only) l) (subst (λ p. SuffixAt t p (v ++ more)) kept (suffix_past ind l)) k
 
 -- ---- spaces alone
 
@@ -434,24 +434,24 @@ spaces_blank_text (b ∷ c ∷ v) e =
     rw (left_true (is_space b) (list_all is_space (c ∷ v)) e)
     (spaces_blank_text (c ∷ v) (right_true (is_space b) (list_all is_space (c ∷ v)) e))
 
-spaces_number : (v : List ℕ) → list_all is_space v ≡ true → text_numbers Two v ≡ length v ∷ []
+spaces_number : (v : List ℕ) → list_all is_space v ≡ true → text_indents Two v ≡ length v ∷ []
 spaces_number v e = rw (spaces_blank_text v e, e) refl
 
 spaces_starts :
     (edition : Edition) (t : List ℕ) (level : ℕ) (common : Option ℕ) (tail rest : List ℕ) (v : Text)
     (es : PatternTree Text) → is_text v ≡ true → list_all is_run_byte v ≡ true → list_all is_space v ≡ true →
-    is_well_placed edition true after_line v es ≡ true →
+    may_stand_at edition true after_line v es ≡ true →
     Fit edition (length (indent level)) common after_line (elements (text_element v) es) →
-    ((i : ℕ) → Left t i (elements_bytes level false es (lf ∷ tail)) →
-    Mid edition t common es (map (λ n. length (indent level) + n) (line_numbers edition after_placeable es)) i
+    ((i : ℕ) → SuffixAt t i (elements_bytes level false es (lf ∷ tail)) →
+    ReadsMidLine edition t common es (map (λ n. length (indent level) + n) (line_indents edition after_placeable es)) i
     rest) →
-    (i : ℕ) → Left t i (elements_bytes level true (elements (text_element v) es) (lf ∷ tail)) →
+    (i : ℕ) → SuffixAt t i (elements_bytes level true (elements (text_element v) es) (lf ∷ tail)) →
     Starts edition t common (elements (text_element v) es)
-    (map (λ n. length (indent level) + n) (line_numbers edition after_line (elements (text_element v) es))) i rest
+    (map (λ n. length (indent level) + n) (line_indents edition after_line (elements (text_element v) es))) i rest
 spaces_starts One t level common tail rest v es is a s g f mid i l =
     absurd (false≢true (must_indent (is_spaces v) false _ s g))
 spaces_starts Two t level common tail rest v es is a s g (lone x y) mid i l =
-    absurd (no_numbers (sym (ap (λ ns. ns ++ line_numbers Two (position_after v) es) (spaces_number v s)) ∙ y))
+    absurd (no_numbers (sym (ap (λ ns. ns ++ line_indents Two (position_after v) es) (spaces_number v s)) ∙ y))
 spaces_starts Two t level common tail rest v no_elements is a s g fixed mid i l =
     absurd (false≢true (right_true (is_spaces v) false (must_indent (is_spaces v) (is_spaces v && false) _ s g)))
 spaces_starts Two t level common tail rest v (elements (text_element w) es) is a s g fixed mid i l =
@@ -463,28 +463,28 @@ spaces_starts Two t level common tail rest (c ∷ v) (elements (placeable e) es)
     let brace = element_brace level e (elements_bytes level false es (lf ∷ tail)) in
     let end = run_ends_in sp a in
     let m =
-    left_as (ap (λ b. ind ++
+    suffix_as (ap (λ b. ind ++
     (sp ++
     (line_indent level b ++ element_bytes level (placeable e) (elements_bytes level false es (lf ∷ tail)))))
     end ∙ ap (λ xs. ind ++ (sp ++ xs)) brace.are) l in
-    let n = left_as (sym (append_assoc ind sp (123 ∷ brace.rest))) m in
+    let n = suffix_as (sym (append_assoc ind sp (123 ∷ brace.rest))) m in
     let size = length-append ind sp in
     let numbers :
-    map (λ n. length ind + n) (line_numbers Two after_line (elements (text_element sp) (elements (placeable e) es)))
+    map (λ n. length ind + n) (line_indents Two after_line (elements (text_element sp) (elements (placeable e) es)))
     ≡ length (ind ++ sp) ∷
-    map (λ n. length ind + n) (line_numbers Two after_placeable (elements (placeable e) es)) =
-    ap (λ ns. map (λ n. length ind + n) (ns ++ line_numbers Two (position_after sp) (elements (placeable e) es)))
+    map (λ n. length ind + n) (line_indents Two after_placeable (elements (placeable e) es)) =
+    ap (λ ns. map (λ n. length ind + n) (ns ++ line_indents Two (position_after sp) (elements (placeable e) es)))
     (spaces_number sp s)
     ∙ ap (λ ns. (length ind + length sp) ∷ map (λ n. length ind + n) ns)
     (numbers_no_line Two sp (elements (placeable e) es) end)
-    ∙ ap (λ k. k ∷ map (λ n. length ind + n) (line_numbers Two after_placeable (elements (placeable e) es)))
+    ∙ ap (λ k. k ∷ map (λ n. length ind + n) (line_indents Two after_placeable (elements (placeable e) es)))
     (sym size) in
     subst (λ ns. Starts Two t (Some (length ind)) (elements (text_element sp) (elements (placeable e) es)) ns i rest)
     (sym numbers)
     (start_spaces_two t ind sp brace.rest e es
-    (map (λ n. length ind + n) (line_numbers Two after_placeable (elements (placeable e) es))) rest i
-    (all_append ind sp (spaces_of (4 * level)) s) (omega arith) n (left_past ind m)
-    (mid (i + length (ind ++ sp)) (left_as (sym brace.are) (left_past (ind ++ sp) n))))
+    (map (λ n. length ind + n) (line_indents Two after_placeable (elements (placeable e) es))) rest i
+    (all_append ind sp (spaces_of (4 * level)) s) (omega arith) n (suffix_past ind m)
+    (mid (i + length (ind ++ sp)) (suffix_as (sym brace.are) (suffix_past (ind ++ sp) n))))
 
 -- ---- all elements
 
@@ -495,12 +495,12 @@ module _ (edition : Edition) (t : List ℕ) (level : ℕ) (common : Option ℕ) 
 
   abbrev MidOf : PatternTree Text → Type 0
   MidOf es =
-      (i : ℕ) → Left t i (elements_bytes level false es (lf ∷ tail)) →
-      Mid edition t common es (Numbers after_placeable es) i rest
+      (i : ℕ) → SuffixAt t i (elements_bytes level false es (lf ∷ tail)) →
+      ReadsMidLine edition t common es (Numbers after_placeable es) i rest
 
   abbrev StartsOf : PatternTree Text → Type 0
   StartsOf es =
-      (i : ℕ) → Left t i (elements_bytes level true es (lf ∷ tail)) →
+      (i : ℕ) → SuffixAt t i (elements_bytes level true es (lf ∷ tail)) →
       Starts edition t common es (Numbers after_line es) i rest
 
   -- where there are elements
@@ -514,25 +514,25 @@ module _ (edition : Edition) (t : List ℕ) (level : ℕ) (common : Option ℕ) 
   text_is s v es g = left_true (is_text v) _ g
 
   pub text_holds : (s : ElementPosition) (v : Text) (es : PatternTree Text) →
-      are_elements edition true s (elements (text_element v) es) ≡ true → is_well_placed edition true s v es ≡ true
-  text_holds s v es g = left_true (is_well_placed edition true s v es) _ (right_true (is_text v) _ g)
+      are_elements edition true s (elements (text_element v) es) ≡ true → may_stand_at edition true s v es ≡ true
+  text_holds s v es g = left_true (may_stand_at edition true s v es) _ (right_true (is_text v) _ g)
 
   pub text_ends_well : (s : ElementPosition) (v : Text) (es : PatternTree Text) →
-      are_elements edition true s (elements (text_element v) es) ≡ true → ends_well v es ≡ true
+      are_elements edition true s (elements (text_element v) es) ≡ true → may_precede v es ≡ true
   text_ends_well s v es g =
-      left_true (ends_well v es) _ (right_true (is_well_placed edition true s v es) _ (right_true (is_text v) _ g))
+      left_true (may_precede v es) _ (right_true (may_stand_at edition true s v es) _ (right_true (is_text v) _ g))
 
   pub text_more : (s : ElementPosition) (v : Text) (es : PatternTree Text) →
       are_elements edition true s (elements (text_element v) es) ≡ true →
       are_elements edition true (position_after v) es ≡ true
   text_more s v es g =
-      right_true (ends_well v es) _ (right_true (is_well_placed edition true s v es) _ (right_true (is_text v) _ g))
+      right_true (may_precede v es) _ (right_true (may_stand_at edition true s v es) _ (right_true (is_text v) _ g))
 
   -- a text without LF is followed by no text
   pub no_text_after : (v w : Text) (es : PatternTree Text) → ends_in_lf v ≡ false →
       are_elements edition true (position_after v) (elements (text_element w) es) ≡ true → ⊥
   no_text_after v w es e g =
-      false≢true (sym (ap (λ s. is_well_placed edition true s w es) (ap (λ b. if b then after_line else within_line) e))
+      false≢true (sym (ap (λ s. may_stand_at edition true s w es) (ap (λ b. if b then after_line else within_line) e))
       ∙ text_holds (position_after v) w es g)
 
   after_lf : (v : Text) (es : PatternTree Text) → ends_in_lf v ≡ true →
@@ -545,27 +545,27 @@ module _ (edition : Edition) (t : List ℕ) (level : ℕ) (common : Option ℕ) 
       (ends_in_lf v ≡ true → StartsIf es) → TextForm v → MidOf (elements (text_element v) es)
   mid_of_text v no_elements s g mid start (alone a) i l =
       text_last edition t level common tail rest ends v i (text_is s v no_elements g) (text_ends_well s v no_elements g)
-      (left_as (ap (λ b. v ++ (lf ∷ tail)) (run_ends_in v a)) l)
+      (suffix_as (ap (λ b. v ++ (lf ∷ tail)) (run_ends_in v a)) l)
   mid_of_text v no_elements s g mid start (with_lf body is a c) i l =
       absurd (plain_not_line edition t level common tail rest ends v body is (text_ends_well s v no_elements g))
   mid_of_text v (elements (placeable e) es) s g mid start (alone a) i l =
-      subst (λ ns. Mid edition t common (elements (text_element v) (elements (placeable e) es)) ns i rest)
+      subst (λ ns. ReadsMidLine edition t common (elements (text_element v) (elements (placeable e) es)) ns i rest)
       (ap (map (λ n. length (indent level) + n))
       (sym (numbers_no_line edition v (elements (placeable e) es) (run_ends_in v a))))
       (text_then edition t level common tail rest ends v e es (Numbers after_placeable (elements (placeable e) es)) i
       (text_is s v (elements (placeable e) es) g) a
-      (left_as (ap (λ b. v ++
+      (suffix_as (ap (λ b. v ++
       (line_indent level b ++ element_bytes level (placeable e) (elements_bytes level false es (lf ∷ tail))))
       (run_ends_in v a)) l) (mid (run_ends_in v a)))
   mid_of_text v (elements (text_element w) es) s g mid start (alone a) i l =
       absurd (no_text_after v w es (run_ends_in v a) (text_more s v (elements (text_element w) es) g))
   mid_of_text v (elements d es) s g mid start (with_lf body is a c) i l =
-      subst (λ ns. Mid edition t common (elements (text_element v) (elements d es)) ns i rest)
+      subst (λ ns. ReadsMidLine edition t common (elements (text_element v) (elements d es)) ns i rest)
       (ap (map (λ n. length (indent level) + n))
       (sym (numbers_line edition v (elements d es) (line_ends_in v body is))))
       (text_line edition t level common tail rest ends v body d es (Numbers after_line (elements d es)) i is a c
       (elements_bytes level true (elements d es) (lf ∷ tail))
-      (left_as (ap (λ b. v ++ elements_bytes level b (elements d es) (lf ∷ tail)) (line_ends_in v body is)) l)
+      (suffix_as (ap (λ b. v ++ elements_bytes level b (elements d es) (lf ∷ tail)) (line_ends_in v body is)) l)
       (start (line_ends_in v body is)))
 
   pub run_part : (v gap : List ℕ) (b : ℕ) (bs : List ℕ) → v ≡ gap ++ (b ∷ bs) → list_all is_run_byte v ≡ true →
@@ -600,7 +600,7 @@ module _ (edition : Edition) (t : List ℕ) (level : ℕ) (common : Option ℕ) 
       let brace = element_brace level x (elements_bytes level false es (lf ∷ tail)) in
       let end = run_ends_in v a in
       let m =
-      left_as (ap (λ b. indent level ++
+      suffix_as (ap (λ b. indent level ++
       (v ++
       (line_indent level b ++ element_bytes level (placeable x) (elements_bytes level false es (lf ∷ tail)))))
       end ∙ ap (λ xs. indent level ++ (v ++ xs)) brace.are) l in
@@ -610,7 +610,7 @@ module _ (edition : Edition) (t : List ℕ) (level : ℕ) (common : Option ℕ) 
       (run_no_lf b byte) mark f m (λ j n.
       subst (λ ns. Run edition t common v (elements (placeable x) es) ns j (123 ∷ brace.rest) rest) same
       (run_more edition t common v x es (Numbers after_placeable (elements (placeable x) es)) rest j b bs brace.rest
-      part n (λ k o. mid end k (left_as (sym brace.are) o))))
+      part n (λ k o. mid end k (suffix_as (sym brace.are) o))))
   shown_alone v (elements (text_element w) es) g f mid a gap b bs is c e i l =
       absurd (no_text_after v w es (run_ends_in v a) (text_more after_line v (elements (text_element w) es) g))
 
@@ -647,10 +647,10 @@ module _ (edition : Edition) (t : List ℕ) (level : ℕ) (common : Option ℕ) 
       blank_line_of gap e s i l =
           let more = elements_bytes level true (elements d es) (lf ∷ tail) in
           let m =
-          left_as (ap (λ b. indent level ++ (v ++ elements_bytes level b (elements d es) (lf ∷ tail))) ends_in) l in
+          suffix_as (ap (λ b. indent level ++ (v ++ elements_bytes level b (elements d es) (lf ∷ tail))) ends_in) l in
           let same =
           ap (λ ns. map (λ n. length (indent level) + n)
-          (ns ++ line_numbers edition (position_after v) (elements d es))) (blank_number edition v gap e s)
+          (ns ++ line_indents edition (position_after v) (elements d es))) (blank_number edition v gap e s)
           ∙ ap (map (λ n. length (indent level) + n)) (numbers_line edition v (elements d es) ends_in) in
           subst (λ ns. Starts edition t common (elements (text_element v) (elements d es)) ns i rest) (sym same)
           (blank_starts edition t level rest common v gap d es (Numbers after_line (elements d es)) more i e s f m
@@ -671,13 +671,13 @@ module _ (edition : Edition) (t : List ℕ) (level : ℕ) (common : Option ℕ) 
           sym (ap (is_last cr) (ap (last_of None) e ∙ last_of_part gap b bs)) ∙ c in
           let more = elements_bytes level true (elements d es) (lf ∷ tail) in
           let m =
-          left_as (ap (λ b. indent level ++ (v ++ elements_bytes level b (elements d es) (lf ∷ tail))) ends_in) l in
+          suffix_as (ap (λ b. indent level ++ (v ++ elements_bytes level b (elements d es) (lf ∷ tail))) ends_in) l in
           let same = ap (map (λ n. length (indent level) + n)) (sym (numbers_line edition v (elements d es) ends_in)) in
           shown_starts edition t level rest common v gap b (bs ++ (lf ∷ [])) more (elements d es) i whole deep s n
           (run_no_lf b byte) mark f m (λ j o.
           subst (λ ns. Run edition t common v (elements d es) ns j more rest) same
           (run_line edition t common v d es (Numbers after_line (elements d es)) rest j b bs more part safe
-          (left_as (ap (λ xs. b ∷ xs) (append_assoc bs (lf ∷ []) more)) o) (λ k q. start ends_in k q)))
+          (suffix_as (ap (λ xs. b ∷ xs) (append_assoc bs (lf ∷ []) more)) o) (λ k q. start ends_in k q)))
 
       line_at : (gap more : List ℕ) → body ≡ gap ++ more → list_all is_space gap ≡ true →
           holds is_space (first more) ≡ false → StartsOf (elements (text_element v) (elements d es))
@@ -689,13 +689,13 @@ module _ (edition : Edition) (t : List ℕ) (level : ℕ) (common : Option ℕ) 
 
   mutual
     -- from within a line on
-    pub lines_mid : (es : PatternTree Text) (s : ElementPosition) → ElementsBack edition t level es →
+    pub lines_mid : (es : PatternTree Text) (s : ElementPosition) → ElementsReadBack edition t level es →
         are_elements edition true s es ≡ true → Fit edition (length (indent level)) common after_placeable es → MidOf es
     lines_mid no_elements s h g f i l = mid_end edition t common tail rest i ends l
     lines_mid (elements (placeable e) es) s h g f i l =
         let x = element_brace level e (elements_bytes level false es (lf ∷ tail)) in
         mid_placeable edition t common e es (Numbers after_placeable es) i x.rest
-        (elements_bytes level false es (lf ∷ tail)) rest (left_as x.are l)
+        (elements_bytes level false es (lf ∷ tail)) rest (suffix_as x.are l)
         (h.0.back i (elements_bytes level false es (lf ∷ tail)) l)
         (λ j m. lines_mid es after_placeable h.1 g (fit_placeable edition (length (indent level)) common e es f) j
         m)
@@ -707,7 +707,7 @@ module _ (edition : Edition) (t : List ℕ) (level : ℕ) (common : Option ℕ) 
         (fit_line edition (length (indent level)) common v es e f)) (text_form v (text_is s v es g)) i l
 
     -- from the start of a later line on
-    pub lines_start : (es : PatternTree Text) → ElementsBack edition t level es →
+    pub lines_start : (es : PatternTree Text) → ElementsReadBack edition t level es →
         are_elements edition true after_line es ≡ true → Fit edition (length (indent level)) common after_line es →
         StartsIf es
     lines_start no_elements h g f = tt

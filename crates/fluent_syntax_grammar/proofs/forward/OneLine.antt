@@ -23,30 +23,30 @@ use Rattle.fluent_syntax_grammar.specs.Grammar.{family}
 use Rattle.fluent_syntax_grammar.specs.Grammar as grammar
 use Rattle.fluent_syntax_grammar.specs.Written.{Text, is_last, last_of, has_lf}
 use Rattle.fluent_syntax_grammar.specs.Readable.{ElementPosition, after_line, within_line, after_placeable}
-use Rattle.fluent_syntax_grammar.specs.Readable.{is_text, are_elements, is_well_placed}
+use Rattle.fluent_syntax_grammar.specs.Readable.{is_text, are_elements, may_stand_at}
 use Rattle.fluent_syntax_grammar.specs.Readable.{position_after}
 use Rattle.fluent_syntax_grammar.proofs.Facts.{left_true, right_true}
-use Rattle.fluent_syntax_grammar.proofs.Left.{Left, left_as, first, left_word, left_no_eol_after}
+use Rattle.fluent_syntax_grammar.proofs.SuffixAt.{SuffixAt, suffix_as, first, suffix_byte_run, suffix_no_eol_after}
 use Rattle.fluent_syntax_grammar.proofs.forward.Reading.{Reads}
 use Rattle.fluent_syntax_grammar.proofs.forward.Spells.{spelled_pattern}
 use Rattle.fluent_syntax_grammar.proofs.marks.WrittenBytes.{element_bytes, elements_bytes, line_indent}
 use Rattle.fluent_syntax_grammar.proofs.forward.Runs.{is_run_byte, ends_in_cr_before, run_all, run_place, inside}
 use Rattle.fluent_syntax_grammar.proofs.forward.Lines.{Ends, reads_ending}
-use Rattle.fluent_syntax_grammar.proofs.forward.Pieces.{Mid, mid_end, mid_placeable, mid_run, run_end, run_more}
+use Rattle.fluent_syntax_grammar.proofs.forward.Pieces.{ReadsMidLine, mid_end, mid_placeable, mid_run, run_end, run_more}
 use Rattle.fluent_syntax_grammar.proofs.Tests.{neither_left, neither_right, not_true, without}
 use Rattle.fluent_syntax_grammar.proofs.LineEnds.{eol_none}
 
 -- A placeable that is an element is read back.
-pub record ElementBack (edition : Edition) (t : List ℕ) (level : ℕ) (e : ExpressionTree Text) : Type 0 where
-  pub back : (i : ℕ) (tail : List ℕ) → Left t i (element_bytes level (placeable e) tail) →
+pub record ElementReadsBack (edition : Edition) (t : List ℕ) (level : ℕ) (e : ExpressionTree Text) : Type 0 where
+  pub back : (i : ℕ) (tail : List ℕ) → SuffixAt t i (element_bytes level (placeable e) tail) →
       Reads t (grammar.placeable edition t) (expression_map (bytes_at t)) i e tail
 
 -- Each placeable of a pattern is.
-abbrev pub ElementsBack : (edition : Edition) (t : List ℕ) (level : ℕ) → PatternTree Text → Type 0
-ElementsBack edition t level no_elements = Unit {0}
-ElementsBack edition t level (elements (text_element v) es) = ElementsBack edition t level es
-ElementsBack edition t level (elements (placeable e) es) =
-    ElementBack edition t level e × ElementsBack edition t level es
+abbrev pub ElementsReadBack : (edition : Edition) (t : List ℕ) (level : ℕ) → PatternTree Text → Type 0
+ElementsReadBack edition t level no_elements = Unit {0}
+ElementsReadBack edition t level (elements (text_element v) es) = ElementsReadBack edition t level es
+ElementsReadBack edition t level (elements (placeable e) es) =
+    ElementReadsBack edition t level e × ElementsReadBack edition t level es
 
 -- no text of a pattern holds an LF
 abbrev pub has_no_lf : PatternTree Text → Bool
@@ -93,8 +93,8 @@ no_lf_end (b ∷ v) e = no_lf_from b (b ∷ v) (neither_left (b == lf) (has_lf v
 
 module _ (edition : Edition) (t : List ℕ) (level : ℕ) (common : Option ℕ) (tail rest : List ℕ) (ends : Ends tail rest)
   where
-    abbrev pub Back : PatternTree Text → ℕ → Type 0
-    Back es i = Mid edition t common es [] i rest
+    abbrev pub ReadsBackFrom : PatternTree Text → ℕ → Type 0
+    ReadsBackFrom es i = ReadsMidLine edition t common es [] i rest
 
     pub text_bytes : (v : Text) → is_text v ≡ true → has_lf v ≡ false → list_all is_run_byte v ≡ true
     text_bytes v e f =
@@ -102,7 +102,7 @@ module _ (edition : Edition) (t : List ℕ) (level : ℕ) (common : Option ℕ) 
         (left_true (not (list_any is_brace v)) _ (right_true (not (is_empty v)) _ e))) f
 
     text_ends : (v : Text) (i : ℕ) → is_text v ≡ true → has_lf v ≡ false → ends_plainly v ≡ true →
-        Left t i (v ++ (lf ∷ tail)) → Back (elements (text_element v) no_elements) i
+        SuffixAt t i (v ++ (lf ∷ tail)) → ReadsBackFrom (elements (text_element v) no_elements) i
     text_ends [] i e f p l = absurd cc
     text_ends (b ∷ bs) i e f p l =
         let r =
@@ -112,53 +112,53 @@ module _ (edition : Edition) (t : List ℕ) (level : ℕ) (common : Option ℕ) 
 
     text_before : (v : Text) (e : ExpressionTree Text) (es : PatternTree Text) (i : ℕ) → is_text v ≡ true →
         has_lf v ≡ false →
-        Left t i (v ++ element_bytes level (placeable e) (elements_bytes level false es (lf ∷ tail))) →
-        ((j : ℕ) → Left t j (element_bytes level (placeable e) (elements_bytes level false es (lf ∷ tail))) →
-        Back (elements (placeable e) es) j) → Back (elements (text_element v) (elements (placeable e) es)) i
+        SuffixAt t i (v ++ element_bytes level (placeable e) (elements_bytes level false es (lf ∷ tail))) →
+        ((j : ℕ) → SuffixAt t j (element_bytes level (placeable e) (elements_bytes level false es (lf ∷ tail))) →
+        ReadsBackFrom (elements (placeable e) es) j) → ReadsBackFrom (elements (text_element v) (elements (placeable e) es)) i
     text_before [] e es i g f l k = absurd cc
     text_before (b ∷ bs) e es i g f l k =
         let x = element_brace level e (elements_bytes level false es (lf ∷ tail)) in
-        let m = left_as (ap (λ xs. b ∷ (bs ++ xs)) x.are) l in
+        let m = suffix_as (ap (λ xs. b ∷ (bs ++ xs)) x.are) l in
         let r =
         run_more edition t common (b ∷ bs) e es [] rest i b bs x.rest (text_bytes (b ∷ bs) g f) m
-        (λ j n. k j (left_as (sym x.are) n)) in
+        (λ j n. k j (suffix_as (sym x.are) n)) in
         mid_run edition t common (b ∷ bs) (elements (placeable e) es) [] (123 ∷ x.rest) rest i r m
 
     pub text_after_text : (v w : Text) (es : PatternTree Text) → has_lf v ≡ false →
-        is_well_placed edition false (position_after v) w es ≡ true → ⊥
+        may_stand_at edition false (position_after v) w es ≡ true → ⊥
     text_after_text v w es e f =
         false≢true (sym
-        (ap (λ s. is_well_placed edition false s w es) (ap (λ b. if b then after_line else within_line)
+        (ap (λ s. may_stand_at edition false s w es) (ap (λ b. if b then after_line else within_line)
         (no_lf_end v e)))
         ∙ f)
 
     -- from within a line on
-    pub line_back : (es : PatternTree Text) (s : ElementPosition) (i : ℕ) → ElementsBack edition t level es →
+    pub line_reads_back : (es : PatternTree Text) (s : ElementPosition) (i : ℕ) → ElementsReadBack edition t level es →
         are_elements edition false s es ≡ true → has_no_lf es ≡ true →
-        Left t i (elements_bytes level false es (lf ∷ tail)) → Back es i
-    line_back no_elements s i h g f l = mid_end edition t common tail rest i ends l
-    line_back (elements (placeable e) es) s i h g f l =
+        SuffixAt t i (elements_bytes level false es (lf ∷ tail)) → ReadsBackFrom es i
+    line_reads_back no_elements s i h g f l = mid_end edition t common tail rest i ends l
+    line_reads_back (elements (placeable e) es) s i h g f l =
         let x = element_brace level e (elements_bytes level false es (lf ∷ tail)) in
         mid_placeable edition t common e es [] i x.rest (elements_bytes level false es (lf ∷ tail)) rest
-        (left_as x.are l)
-        (h.0.back i (elements_bytes level false es (lf ∷ tail)) l) (λ j m. line_back es after_placeable j h.1 g f m)
-    line_back (elements (text_element v) no_elements) s i h g f l =
+        (suffix_as x.are l)
+        (h.0.back i (elements_bytes level false es (lf ∷ tail)) l) (λ j m. line_reads_back es after_placeable j h.1 g f m)
+    line_reads_back (elements (text_element v) no_elements) s i h g f l =
         text_ends v i (left_true (is_text v) _ g) (not_true (has_lf v) (left_true (not (has_lf v)) true f))
         (left_true (ends_plainly v)
-        _ (right_true (is_well_placed edition false s v no_elements) _ (right_true (is_text v) _ g))) l
-    line_back (elements (text_element v) (elements (placeable e) es)) s i h g f l =
+        _ (right_true (may_stand_at edition false s v no_elements) _ (right_true (is_text v) _ g))) l
+    line_reads_back (elements (text_element v) (elements (placeable e) es)) s i h g f l =
         text_before v e es i (left_true (is_text v) _ g) (not_true (has_lf v) (left_true (not (has_lf v)) _ f))
-        (left_as (ap (λ b. v ++
+        (suffix_as (ap (λ b. v ++
         (line_indent level b ++ element_bytes level (placeable e) (elements_bytes level false es (lf ∷ tail))))
         (no_lf_end v (not_true (has_lf v) (left_true (not (has_lf v)) _ f)))) l)
-        (λ j m. line_back (elements (placeable e) es) (position_after v) j h
-        (right_true (is_well_placed edition false s v (elements (placeable e) es)) _ (right_true (is_text v) _ g))
+        (λ j m. line_reads_back (elements (placeable e) es) (position_after v) j h
+        (right_true (may_stand_at edition false s v (elements (placeable e) es)) _ (right_true (is_text v) _ g))
         (right_true (not (has_lf v)) _ f) m)
-    line_back (elements (text_element v) (elements (text_element w) es)) s i h g f l =
+    line_reads_back (elements (text_element v) (elements (text_element w) es)) s i h g f l =
         absurd (text_after_text v w es (not_true (has_lf v) (left_true (not (has_lf v)) _ f))
-        (left_true (is_well_placed edition false (position_after v) w es)
+        (left_true (may_stand_at edition false (position_after v) w es)
         _ (right_true (is_text w)
-        _ (right_true (is_well_placed edition false s v (elements (text_element w) es))
+        _ (right_true (may_stand_at edition false s v (elements (text_element w) es))
         _ (right_true (is_text v) _ g)))))
 
 -- ---- the pattern
@@ -170,7 +170,7 @@ pub record OpensAt (t : List ℕ) (i : ℕ) (bs : List ℕ) : Type 0 where
 
 module _ (edition : Edition) (t : List ℕ) where
   pub opens_run : (i b : ℕ) (bs ys : List ℕ) → is_space b ≡ false → list_all is_run_byte (b ∷ bs) ≡ true →
-      ends_in_cr_before (b ∷ bs) ys ≡ false → Left t i (b ∷ (bs ++ ys)) → OpensAt t i (b ∷ (bs ++ ys))
+      ends_in_cr_before (b ∷ bs) ys ≡ false → SuffixAt t i (b ∷ (bs ++ ys)) → OpensAt t i (b ∷ (bs ++ ys))
   opens_run i b bs ys s a c l =
       let on : is_run_place t i ≡ true =
       run_place t i b (bs ++ ys) (left_true (is_run_byte b) (list_all is_run_byte bs) a)
@@ -182,12 +182,12 @@ module _ (edition : Edition) (t : List ℕ) where
             (without _ (has_eol t i) on);
       }
 
-  pub opens_brace : (i : ℕ) (bs ys : List ℕ) → bs ≡ 123 ∷ ys → Left t i bs → OpensAt t i bs
-  opens_brace i bs ys e l = record { no_space = rw e refl; no_eol = left_no_eol_after (left_as e l) refl refl }
+  pub opens_brace : (i : ℕ) (bs ys : List ℕ) → bs ≡ 123 ∷ ys → SuffixAt t i bs → OpensAt t i bs
+  opens_brace i bs ys e l = record { no_space = rw e refl; no_eol = suffix_no_eol_after (suffix_as e l) refl refl }
 
   -- the layout of a pattern that opens within its line
   reads_layout : (i j at end : ℕ) (ps : List Piece) (ls : List Line) (bs : List ℕ) → InlineBlank t i j →
-      after_eol t j ≡ None → grammar.more_pieces edition t j (Read ps at) → Left t at (lf ∷ bs) →
+      after_eol t j ≡ None → grammar.more_pieces edition t j (Read ps at) → SuffixAt t at (lf ∷ bs) →
       grammar.more_lines edition t (at + 1) (Read ls end) →
       layout t (family edition t) i
       (Read (record {
@@ -205,12 +205,12 @@ module _ (edition : Edition) (t : List ℕ) where
       (goes_on at_place (goes_on p (goes_on (reads_ending edition t l) (goes_on m given))))))
 
   -- a pattern that opens within its line is read back, if its elements are
-  pub opening_back :
+  pub opening_reads_back :
       (common : Option ℕ) (numbers : List ℕ) (e : ElementTree Text) (es : PatternTree Text) (i : ℕ) (bs rest : List ℕ) →
-      least numbers ≡ common → Left t i (space ∷ bs) → OpensAt t (i + 1) bs →
-      Mid edition t common (elements e es) numbers (i + 1) rest →
+      least numbers ≡ common → SuffixAt t i (space ∷ bs) → OpensAt t (i + 1) bs →
+      ReadsMidLine edition t common (elements e es) numbers (i + 1) rest →
       Reads t (grammar.pattern edition t) (option_map (pattern_map (bytes_at t))) i (Some (elements e es)) rest
-  opening_back common numbers e es i bs rest c l o m =
+  opening_reads_back common numbers e es i bs rest c l o m =
       let y : Layout =
       record {
         opening =
@@ -226,7 +226,7 @@ module _ (edition : Edition) (t : List ℕ) where
         end = m.end;
         reads =
             goes_on (reads_layout i (i + 1) m.at m.end m.pieces m.lines m.after
-            (left_word is_space (space ∷ []) bs refl o.no_space l) o.no_eol m.reads_pieces m.ends m.reads_lines)
+            (suffix_byte_run is_space (space ∷ []) bs refl o.no_space l) o.no_eol m.reads_pieces m.ends m.reads_lines)
             given;
         spells =
             ap (λ xs. option_map (pattern_map (bytes_at t)) (if_any (spelled t (cut t xs)))) same

@@ -10,17 +10,17 @@ use Rattle.fluent_syntax_grammar.proofs.forward.Reading.{Reads}
 use Rattle.fluent_syntax_tree.specs.declared.edition.Edition.{Edition}
 use Rattle.fluent_syntax_grammar.specs.Bytes.{lf, cr, space, is_space}
 use Rattle.fluent_syntax_grammar.specs.Written.{Text, is_last, last_of, has_lf, is_multiline}
-use Rattle.fluent_syntax_grammar.specs.Readable.{opening, is_text, are_elements, is_well_placed, opens_well}
+use Rattle.fluent_syntax_grammar.specs.Readable.{opening, is_text, are_elements, may_stand_at, may_be_first}
 use Rattle.fluent_syntax_grammar.specs.Readable.{is_pattern, position_after}
 use Rattle.fluent_syntax_grammar.specs.Elements.{is_nonblank}
 use Rattle.fluent_syntax_grammar.proofs.Facts.{left_true, right_true}
-use Rattle.fluent_syntax_grammar.proofs.Left.{Left, left_as, left_next}
+use Rattle.fluent_syntax_grammar.proofs.SuffixAt.{SuffixAt, suffix_as, suffix_next}
 use Rattle.fluent_syntax_grammar.proofs.marks.WrittenBytes.{element_bytes, elements_bytes, pattern_bytes, line_indent}
 use Rattle.fluent_syntax_grammar.proofs.forward.Lines.{Ends}
-use Rattle.fluent_syntax_grammar.proofs.forward.OneLine.{ElementsBack, has_no_lf, element_brace, plain_no_cr, no_lf_end}
-use Rattle.fluent_syntax_grammar.proofs.forward.OneLine.{text_bytes, text_after_text, line_back, OpensAt, opens_run}
-use Rattle.fluent_syntax_grammar.proofs.forward.OneLine.{opens_brace, opening_back}
-use Rattle.fluent_syntax_grammar.proofs.forward.Entries.{PatternBack}
+use Rattle.fluent_syntax_grammar.proofs.forward.OneLine.{ElementsReadBack, has_no_lf, element_brace, plain_no_cr, no_lf_end}
+use Rattle.fluent_syntax_grammar.proofs.forward.OneLine.{text_bytes, text_after_text, line_reads_back, OpensAt, opens_run}
+use Rattle.fluent_syntax_grammar.proofs.forward.OneLine.{opens_brace, opening_reads_back}
+use Rattle.fluent_syntax_grammar.proofs.forward.Entries.{PatternReadsBack}
 use Rattle.fluent_syntax_grammar.proofs.Tests.{and_false, neither_left, neither_right, not_true}
 
 one_line_texts : (p : PatternTree Text) → is_multiline p ≡ false → has_no_lf p ≡ true
@@ -39,7 +39,7 @@ opens_as e o = record { no_space = rw e (o.no_space); no_eol = o.no_eol }
 module _ (edition : Edition) (t : List ℕ) (level : ℕ) (tail rest : List ℕ) (ends : Ends tail rest) where
   -- how a pattern opens
   opens : (p : PatternTree Text) (i : ℕ) → is_multiline p ≡ false → are_elements edition false opening p ≡ true →
-      Left t i (elements_bytes level false p (lf ∷ tail)) → (p ≡ no_elements → ⊥) →
+      SuffixAt t i (elements_bytes level false p (lf ∷ tail)) → (p ≡ no_elements → ⊥) →
       OpensAt t i (elements_bytes level false p (lf ∷ tail))
   opens no_elements i e g l n = absurd (n refl)
   opens (elements (placeable x) es) i e g l n =
@@ -51,9 +51,9 @@ module _ (edition : Edition) (t : List ℕ) (level : ℕ) (tail rest : List ℕ)
       let more = right_true (is_text (b ∷ bs)) _ g in
       let begins =
       not_true (is_space b)
-      (right_true (is_nonblank (b ∷ bs)) _ (left_true (opens_well edition false (b ∷ bs) no_elements) _ more)) in
+      (right_true (is_nonblank (b ∷ bs)) _ (left_true (may_be_first edition false (b ∷ bs) no_elements) _ more)) in
       let plain : ends_plainly (b ∷ bs) ≡ true =
-      left_true (ends_plainly (b ∷ bs)) _ (right_true (opens_well edition false (b ∷ bs) no_elements) _ more) in
+      left_true (ends_plainly (b ∷ bs)) _ (right_true (may_be_first edition false (b ∷ bs) no_elements) _ more) in
       opens_run edition t i b bs (lf ∷ tail) begins
       (text_bytes edition t level None tail rest ends (b ∷ bs) is (neither_left (has_lf (b ∷ bs)) false e))
       (rw (plain_no_cr (b ∷ bs) plain) refl) l
@@ -62,7 +62,7 @@ module _ (edition : Edition) (t : List ℕ) (level : ℕ) (tail rest : List ℕ)
       let begins =
       not_true (is_space b)
       (right_true (is_nonblank (b ∷ bs))
-      _ (left_true (opens_well edition false (b ∷ bs) (elements (placeable x) es))
+      _ (left_true (may_be_first edition false (b ∷ bs) (elements (placeable x) es))
       _ (right_true (is_text (b ∷ bs)) _ g))) in
       let brace = element_brace level x (elements_bytes level false es (lf ∷ tail)) in
       let no_lf : has_lf (b ∷ bs) ≡ false =
@@ -74,38 +74,38 @@ module _ (edition : Edition) (t : List ℕ) (level : ℕ) (tail rest : List ℕ)
       (no_lf_end (b ∷ bs) no_lf) ∙ ap (λ xs. b ∷ (bs ++ xs)) brace.are in
       opens_as are (opens_run edition t i b bs (123 ∷ brace.rest) begins
       (text_bytes edition t level None tail rest ends (b ∷ bs) is no_lf)
-      (and_false (is_last cr (last_of None (b ∷ bs)))) (left_as are l))
+      (and_false (is_last cr (last_of None (b ∷ bs)))) (suffix_as are l))
   opens (elements (text_element (b ∷ bs)) (elements (text_element w) es)) i e g l n =
       absurd (text_after_text edition t level None tail rest ends (b ∷ bs) w es
       (neither_left (has_lf (b ∷ bs)) (is_multiline (elements (text_element w) es)) e)
-      (left_true (is_well_placed edition false (position_after (b ∷ bs)) w es)
+      (left_true (may_stand_at edition false (position_after (b ∷ bs)) w es)
       _ (right_true (is_text w)
-      _ (right_true (opens_well edition false (b ∷ bs) (elements (text_element w) es))
+      _ (right_true (may_be_first edition false (b ∷ bs) (elements (text_element w) es))
       _ (right_true (is_text (b ∷ bs)) _ g)))))
 
   one_line_at : (e : ElementTree Text) (es : PatternTree Text) (i : ℕ) → is_multiline (elements e es) ≡ false →
-      is_pattern edition (elements e es) ≡ true → ElementsBack edition t level (elements e es) →
-      Left t i (pattern_bytes level (elements e es) (lf ∷ tail)) →
+      is_pattern edition (elements e es) ≡ true → ElementsReadBack edition t level (elements e es) →
+      SuffixAt t i (pattern_bytes level (elements e es) (lf ∷ tail)) →
       Reads t (grammar.pattern edition t) (option_map (pattern_map (bytes_at t))) i (Some (elements e es)) rest
   one_line_at e es i a g h l =
-      let m = left_as (one_line_bytes level (elements e es) (lf ∷ tail) a) l in
-      let good = are_one_line (is_multiline (elements e es)) a g in
-      opening_back edition t None [] e es i (elements_bytes level false (elements e es) (lf ∷ tail)) rest refl m
-      (opens (elements e es) (i + 1) a good (left_next m) none_absurd)
-      (line_back edition t level None tail rest ends (elements e es) opening (i + 1) h good
-      (one_line_texts (elements e es) a) (left_next m))
+      let m = suffix_as (one_line_bytes level (elements e es) (lf ∷ tail) a) l in
+      let good = elements_off_line_start (is_multiline (elements e es)) a g in
+      opening_reads_back edition t None [] e es i (elements_bytes level false (elements e es) (lf ∷ tail)) rest refl m
+      (opens (elements e es) (i + 1) a good (suffix_next m) none_absurd)
+      (line_reads_back edition t level None tail rest ends (elements e es) opening (i + 1) h good
+      (one_line_texts (elements e es) a) (suffix_next m))
     where
-      are_one_line : (b : Bool) → b ≡ false → are_elements edition b opening (elements e es) ≡ true →
+      elements_off_line_start : (b : Bool) → b ≡ false → are_elements edition b opening (elements e es) ≡ true →
           are_elements edition false opening (elements e es) ≡ true
-      are_one_line false e g = g
-      are_one_line true e g = absurd cc
+      elements_off_line_start false e g = g
+      elements_off_line_start true e g = absurd cc
 
       none_absurd : elements e es ≡ no_elements → ⊥
       none_absurd e = cc
 
 -- a pattern that is not multiline is read back, if its placeables are
-pub one_line_back : (edition : Edition) (t : List ℕ) (level : ℕ) (p : PatternTree Text) → is_multiline p ≡ false →
-    is_pattern edition p ≡ true → ElementsBack edition t level p → PatternBack edition t level p
-one_line_back edition t level no_elements a g h = absurd cc
-one_line_back edition t level (elements e es) a g h =
+pub one_line_reads_back : (edition : Edition) (t : List ℕ) (level : ℕ) (p : PatternTree Text) → is_multiline p ≡ false →
+    is_pattern edition p ≡ true → ElementsReadBack edition t level p → PatternReadsBack edition t level p
+one_line_reads_back edition t level no_elements a g h = absurd cc
+one_line_reads_back edition t level (elements e es) a g h =
     record { back = λ i tail rest ends l. one_line_at edition t level tail rest ends e es i a g h l }

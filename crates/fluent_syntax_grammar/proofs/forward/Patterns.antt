@@ -26,19 +26,19 @@ use Rattle.fluent_syntax_grammar.specs.Written.{is_last, last_of, is_multiline}
 use Rattle.fluent_syntax_grammar.specs.Readable.{ElementPosition, opening, after_line, after_placeable, are_elements}
 use Rattle.fluent_syntax_grammar.specs.Readable.{is_pattern}
 use Rattle.fluent_syntax_grammar.specs.Readable.{is_text}
-use Rattle.fluent_syntax_grammar.specs.Readable.{indents, opens_well, begins_with_placeable}
-use Rattle.fluent_syntax_grammar.specs.Canonical.{line_numbers, are_flush, hides_mark, first_position, is_flush}
+use Rattle.fluent_syntax_grammar.specs.Readable.{indents, may_be_first, begins_with_placeable}
+use Rattle.fluent_syntax_grammar.specs.Canonical.{line_indents, are_flush, hides_mark, first_position, is_flush}
 use Rattle.fluent_syntax_grammar.proofs.Facts.{left_true, right_true, right_false, equal}
 use Rattle.fluent_syntax_grammar.proofs.Tests.{both, differ}
-use Rattle.fluent_syntax_grammar.proofs.Left.{Left, first, left_as, left_past, left_word, left_next, left_no_eol_after}
+use Rattle.fluent_syntax_grammar.proofs.SuffixAt.{SuffixAt, first, suffix_as, suffix_past, suffix_byte_run, suffix_next, suffix_no_eol_after}
 use Rattle.fluent_syntax_grammar.proofs.forward.Reading.{Reads}
 use Rattle.fluent_syntax_grammar.proofs.marks.WrittenBytes.{element_bytes, elements_bytes, line_indent, pattern_bytes}
-use Rattle.fluent_syntax_grammar.proofs.forward.Entries.{PatternBack}
+use Rattle.fluent_syntax_grammar.proofs.forward.Entries.{PatternReadsBack}
 use Rattle.fluent_syntax_grammar.proofs.forward.Lines.{Ends, lf_after, no_spaces}
 use Rattle.fluent_syntax_grammar.proofs.forward.Pieces.{Starts}
 use Rattle.fluent_syntax_grammar.proofs.forward.Spells.{spelled_pattern}
-use Rattle.fluent_syntax_grammar.proofs.forward.OneLine.{ElementsBack, OpensAt, opens_run, opens_brace, element_brace}
-use Rattle.fluent_syntax_grammar.proofs.forward.OneLine.{plain_no_cr, opening_back}
+use Rattle.fluent_syntax_grammar.proofs.forward.OneLine.{ElementsReadBack, OpensAt, opens_run, opens_brace, element_brace}
+use Rattle.fluent_syntax_grammar.proofs.forward.OneLine.{plain_no_cr, opening_reads_back}
 use Rattle.fluent_syntax_grammar.proofs.forward.Multiline.{Fit, fixed, lone, lines_mid, lines_start, split}
 use Rattle.fluent_syntax_grammar.proofs.forward.Multiline.{plain_not_line, blank_of, no_spaces_end}
 use Rattle.fluent_syntax_grammar.proofs.forward.Runs.{without_of}
@@ -65,12 +65,12 @@ least_none (n ∷ ns) e = absurd cc
 pub record Chosen (edition : Edition) (shift : ℕ) (s : ElementPosition) (p : PatternTree Text) : Type 0 where
   pub common : Option ℕ
   pub fit : Fit edition shift common s p
-  pub least_is : least (map (λ n. shift + n) (line_numbers edition s p)) ≡ common
+  pub least_is : least (map (λ n. shift + n) (line_indents edition s p)) ≡ common
 
 choose_at : (edition : Edition) (shift : ℕ) (s : ElementPosition) (p : PatternTree Text) (o : Option ℕ) →
-    least (line_numbers edition s p) ≡ o → are_flush o s p ≡ true → Chosen edition shift s p
+    least (line_indents edition s p) ≡ o → are_flush o s p ≡ true → Chosen edition shift s p
 choose_at edition shift s p None e f =
-    let none = least_none (line_numbers edition s p) e in
+    let none = least_none (line_indents edition s p) e in
     record { common = None; fit = lone f none; least_is = ap (λ ns. least (map (λ n. shift + n) ns)) none }
 choose_at edition shift s p (Some n) e f =
     let zero_n : n ≡ 0 = equal n 0 f in
@@ -78,46 +78,46 @@ choose_at edition shift s p (Some n) e f =
     record {
       common = Some shift;
       fit = fixed;
-      least_is = least_shift shift (line_numbers edition s p) ∙ ap (option_map (λ n. shift + n)) e ∙ at;
+      least_is = least_shift shift (line_indents edition s p) ∙ ap (option_map (λ n. shift + n)) e ∙ at;
     }
   where
     plus_zero : (n : ℕ) → n ≡ 0 → shift + n ≡ shift
     plus_zero n e = omega arith
 
 pub choose : (edition : Edition) (shift : ℕ) (s : ElementPosition) (p : PatternTree Text) →
-    are_flush (least (line_numbers edition s p)) s p ≡ true → Chosen edition shift s p
-choose edition shift s p f = choose_at edition shift s p (least (line_numbers edition s p)) refl f
+    are_flush (least (line_indents edition s p)) s p ≡ true → Chosen edition shift s p
+choose edition shift s p f = choose_at edition shift s p (least (line_indents edition s p)) refl f
 
 -- ---- a pattern that opens within its line
 
 module _ (edition : Edition) (t : List ℕ) (level : ℕ) (tail rest : List ℕ) (ends : Ends tail rest)
     (deep : 1 ≤ length (indent (level + 1))) where
-  opens_mark : (i b : ℕ) (bs : List ℕ) → is_leading_mark b ≡ true → Left t i (b ∷ bs) → OpensAt t i (b ∷ bs)
+  opens_mark : (i b : ℕ) (bs : List ℕ) → is_leading_mark b ≡ true → SuffixAt t i (b ∷ bs) → OpensAt t i (b ∷ bs)
   opens_mark i b bs e l =
       record {
         no_space = differ is_leading_mark b space e refl;
-        no_eol = left_no_eol_after l (differ is_leading_mark b lf e refl) (differ is_leading_mark b cr e refl);
+        no_eol = suffix_no_eol_after l (differ is_leading_mark b lf e refl) (differ is_leading_mark b cr e refl);
       }
 
   mark_opens : (e : ElementTree Text) (es : PatternTree Text) (i : ℕ) → has_leading_mark (elements e es) ≡ true →
-      Left t i (elements_bytes (level + 1) false (elements e es) (lf ∷ tail)) →
+      SuffixAt t i (elements_bytes (level + 1) false (elements e es) (lf ∷ tail)) →
       OpensAt t i (elements_bytes (level + 1) false (elements e es) (lf ∷ tail))
   mark_opens (text_element []) es i m l = absurd cc
   mark_opens (text_element (b ∷ bs)) es i m l = opens_mark i b _ m l
   mark_opens (placeable x) es i m l = absurd cc
 
   -- with a leading mark
-  marked_back : (e : ElementTree Text) (es : PatternTree Text) (i : ℕ) → has_leading_mark (elements e es) ≡ true →
+  marked_reads_back : (e : ElementTree Text) (es : PatternTree Text) (i : ℕ) → has_leading_mark (elements e es) ≡ true →
       are_elements edition true opening (elements e es) ≡ true →
-      are_flush (least (line_numbers edition after_placeable (elements e es))) after_placeable (elements e es) ≡ true →
-      ElementsBack edition t (level + 1) (elements e es) →
-      Left t i (space ∷ elements_bytes (level + 1) false (elements e es) (lf ∷ tail)) →
+      are_flush (least (line_indents edition after_placeable (elements e es))) after_placeable (elements e es) ≡ true →
+      ElementsReadBack edition t (level + 1) (elements e es) →
+      SuffixAt t i (space ∷ elements_bytes (level + 1) false (elements e es) (lf ∷ tail)) →
       Reads t (grammar.pattern edition t) (option_map (pattern_map (bytes_at t))) i (Some (elements e es)) rest
-  marked_back e es i m g f h l =
+  marked_reads_back e es i m g f h l =
       let c = choose edition (length (indent (level + 1))) after_placeable (elements e es) f in
-      let n = left_next l in
-      opening_back edition t c.common
-      (map (λ n. length (indent (level + 1)) + n) (line_numbers edition after_placeable (elements e es))) e es i
+      let n = suffix_next l in
+      opening_reads_back edition t c.common
+      (map (λ n. length (indent (level + 1)) + n) (line_indents edition after_placeable (elements e es))) e es i
       (elements_bytes (level + 1) false (elements e es) (lf ∷ tail)) rest c.least_is l (mark_opens e es (i + 1) m n)
       (lines_mid edition t (level + 1) c.common tail rest ends deep (elements e es) opening h g c.fit (i + 1) n)
 
@@ -130,8 +130,8 @@ at_line : (edition : Edition) (e : ElementTree Text) (es : PatternTree Text) →
 at_line edition (placeable x) es a b g = g
 at_line edition (text_element v) es a b g =
     both (left_true (is_text v) _ g)
-    (both (stands_at v (is_spaces v) refl (left_true (opens_well edition true v es) _ (right_true (is_text v) _ g))
-    (no_mark v a b)) (right_true (opens_well edition true v es) _ (right_true (is_text v) _ g)))
+    (both (stands_at v (is_spaces v) refl (left_true (may_be_first edition true v es) _ (right_true (is_text v) _ g))
+    (no_mark v a b)) (right_true (may_be_first edition true v es) _ (right_true (is_text v) _ g)))
   where
     no_mark : (v : Text) → (begins_with_space v && begins_with_mark (after_spaces v)) ≡ false →
         begins_with_mark v ≡ false → begins_with_mark (after_spaces v) ≡ false
@@ -157,14 +157,14 @@ flush_at edition e es (Some n) f = f
 flush_at edition (text_element v) es None f = f
 flush_at edition (placeable x) es None f = f
 
-numbers_at : (edition : Edition) (e : ElementTree Text) (es : PatternTree Text) →
-    line_numbers edition opening (elements e es) ≡ line_numbers edition after_line (elements e es)
-numbers_at edition (text_element v) es = refl
-numbers_at edition (placeable x) es = refl
+indents_at : (edition : Edition) (e : ElementTree Text) (es : PatternTree Text) →
+    line_indents edition opening (elements e es) ≡ line_indents edition after_line (elements e es)
+indents_at edition (text_element v) es = refl
+indents_at edition (placeable x) es = refl
 
 module _ (edition : Edition) (t : List ℕ) where
   -- the layout of a pattern that opens a line
-  reads_opened : (i end : ℕ) (ls : List Line) (bs : List ℕ) → Left t i (lf ∷ bs) → BlankBlock t (i + 1) (i + 1) →
+  reads_opened : (i end : ℕ) (ls : List Line) (bs : List ℕ) → SuffixAt t i (lf ∷ bs) → BlankBlock t (i + 1) (i + 1) →
       grammar.more_lines edition t (i + 1) (Read ls end) →
       layout t (family edition t) i (Read (record { opening = None; lines = ls }) end)
   reads_opened i end ls bs l b m =
@@ -174,12 +174,12 @@ module _ (edition : Edition) (t : List ℕ) where
       (goes_on (passed (record { there = refl })) (goes_on (passed b) (goes_on m given)))))
 
   -- it is read back, if its lines are
-  opened_back :
+  opened_reads_back :
       (common : Option ℕ) (numbers : List ℕ) (e : ElementTree Text) (es : PatternTree Text) (i : ℕ) (bs rest : List ℕ) →
-      least numbers ≡ common → Left t i (lf ∷ bs) → BlankBlock t (i + 1) (i + 1) →
+      least numbers ≡ common → SuffixAt t i (lf ∷ bs) → BlankBlock t (i + 1) (i + 1) →
       Starts edition t common (elements e es) numbers (i + 1) rest →
       Reads t (grammar.pattern edition t) (option_map (pattern_map (bytes_at t))) i (Some (elements e es)) rest
-  opened_back common numbers e es i bs rest c l b m =
+  opened_reads_back common numbers e es i bs rest c l b m =
       let y : Layout = record { opening = None; lines = m.lines } in
       let same : items edition y ≡ flat_map (line_items edition common) m.lines =
       ap (λ c. flat_map (line_items edition c) m.lines) (ap least m.counts ∙ c) in
@@ -206,41 +206,41 @@ indents_placeable Two v es e = (left_true (is_spaces v) _ e, right_true (is_spac
 
 module _ (edition : Edition) (t : List ℕ) (level : ℕ) (tail : List ℕ) where
   no_block_at : (i : ℕ) (gap : List ℕ) (bs : List ℕ) → list_all is_space gap ≡ true → OpensAt t (i + length gap) bs →
-      Left t i (gap ++ bs) → BlankBlock t i i
-  no_block_at i gap bs a o l = no_line (left_word is_space gap bs a o.no_space l) o.no_eol
+      SuffixAt t i (gap ++ bs) → BlankBlock t i i
+  no_block_at i gap bs a o l = no_line (suffix_byte_run is_space gap bs a o.no_space l) o.no_eol
 
   first_placeable : (i : ℕ) (gap : List ℕ) (e : ExpressionTree Text) (rest : List ℕ) → list_all is_space gap ≡ true →
-      Left t i (gap ++ element_bytes level (placeable e) rest) → BlankBlock t i i
+      SuffixAt t i (gap ++ element_bytes level (placeable e) rest) → BlankBlock t i i
   first_placeable i gap e rest a l =
       let x = element_brace level e rest in
       no_block_at i gap (element_bytes level (placeable e) rest) a
       (opens_brace edition t (i + length gap) (element_bytes level (placeable e) rest) x.rest x.are
-      (left_past gap l)) l
+      (suffix_past gap l)) l
 
   first_run : (i : ℕ) (gap : List ℕ) (b : ℕ) (bs ys : List ℕ) → list_all is_space (indent level ++ gap) ≡ true →
       is_space b ≡ false → list_all is_run_byte (b ∷ bs) ≡ true → ends_in_cr_before (b ∷ bs) ys ≡ false →
-      Left t i (indent level ++ ((gap ++ (b ∷ bs)) ++ ys)) → BlankBlock t i i
+      SuffixAt t i (indent level ++ ((gap ++ (b ∷ bs)) ++ ys)) → BlankBlock t i i
   first_run i gap b bs ys a s r c l =
       let whole : indent level ++ ((gap ++ (b ∷ bs)) ++ ys) ≡ (indent level ++ gap) ++ (b ∷ (bs ++ ys)) =
       ap (λ v. indent level ++ v) (append_assoc gap (b ∷ bs) ys)
       ∙ sym (append_assoc (indent level) gap (b ∷ (bs ++ ys))) in
-      let m = left_as whole l in
+      let m = suffix_as whole l in
       no_block_at i (indent level ++ gap) (b ∷ (bs ++ ys)) a
-      (opens_run edition t (i + length (indent level ++ gap)) b bs ys s r c (left_past (indent level ++ gap) m)) m
+      (opens_run edition t (i + length (indent level ++ gap)) b bs ys s r c (suffix_past (indent level ++ gap) m)) m
 
 module _ (edition : Edition) (t : List ℕ) (level : ℕ) (common : Option ℕ) (tail rest : List ℕ) (ends : Ends tail rest)
     (deep : 1 ≤ length (indent level)) where
   first_alone : (v : Text) (es : PatternTree Text) (i : ℕ) →
       are_elements edition true opening (elements (text_element v) es) ≡ true → list_all is_run_byte v ≡ true →
       (gap more : List ℕ) → v ≡ gap ++ more → list_all is_space gap ≡ true → holds is_space (first more) ≡ false →
-      Left t i (elements_bytes level true (elements (text_element v) es) (lf ∷ tail)) → BlankBlock t i i
+      SuffixAt t i (elements_bytes level true (elements (text_element v) es) (lf ∷ tail)) → BlankBlock t i i
   first_alone v no_elements i g a gap (b ∷ bs) is c s l =
       let plain = text_ends_well edition t level common tail rest ends deep opening v no_elements g in
       let safe : is_last cr (last_of None (b ∷ bs)) ≡ false =
       sym (ap (is_last cr) (ap (last_of None) is ∙ last_of_part gap b bs)) ∙ plain_no_cr v plain in
       first_run edition t level tail i gap b bs (lf ∷ tail) (all_append (indent level) gap (spaces_of (4 * level)) c) s
       (run_part edition t level common tail rest ends deep v gap b bs is a) (rw safe refl)
-      (left_as (ap (λ v. indent level ++ (v ++ (lf ∷ tail))) is) l)
+      (suffix_as (ap (λ v. indent level ++ (v ++ (lf ∷ tail))) is) l)
   first_alone v (elements (placeable x) es) i g a gap (b ∷ bs) is c s l =
       let brace = element_brace level x (elements_bytes level false es (lf ∷ tail)) in
       let are =
@@ -252,7 +252,7 @@ module _ (edition : Edition) (t : List ℕ) (level : ℕ) (common : Option ℕ) 
       first_run edition t level tail i gap b bs (123 ∷ brace.rest)
       (all_append (indent level) gap (spaces_of (4 * level)) c) s
       (run_part edition t level common tail rest ends deep v gap b bs is a)
-      (and_false (is_last cr (last_of None (b ∷ bs)))) (left_as are l)
+      (and_false (is_last cr (last_of None (b ∷ bs)))) (suffix_as are l)
   first_alone v (elements (text_element w) es) i g a gap more is c s l =
       absurd (no_text_after edition t level common tail rest ends deep v w es (run_ends_in v a)
       (text_more edition t level common tail rest ends deep opening v (elements (text_element w) es) g))
@@ -272,13 +272,13 @@ module _ (edition : Edition) (t : List ℕ) (level : ℕ) (common : Option ℕ) 
       ∙ sym (append_assoc (indent level) v
       (element_bytes level (placeable x) (elements_bytes level false es (lf ∷ tail)))) in
       first_placeable edition t level tail i (indent level ++ v) x (elements_bytes level false es (lf ∷ tail))
-      (all_append (indent level) v (spaces_of (4 * level)) all) (left_as are l)
+      (all_append (indent level) v (spaces_of (4 * level)) all) (suffix_as are l)
 
   first_lined : (v : Text) (d : ElementTree Text) (es : PatternTree Text) (body : Text) (i : ℕ) →
       are_elements edition true opening (elements (text_element v) (elements d es)) ≡ true → v ≡ body ++ (lf ∷ []) →
       list_all is_run_byte body ≡ true → is_last cr (last_of None body) ≡ false →
       (gap more : List ℕ) → body ≡ gap ++ more → list_all is_space gap ≡ true → holds is_space (first more) ≡ false →
-      Left t i (elements_bytes level true (elements (text_element v) (elements d es)) (lf ∷ tail)) →
+      SuffixAt t i (elements_bytes level true (elements (text_element v) (elements d es)) (lf ∷ tail)) →
       BlankBlock t i i
   first_lined v d es body i g is a c gap (b ∷ bs) e s n l =
       let after = elements_bytes level (ends_in_lf v) (elements d es) (lf ∷ tail) in
@@ -288,7 +288,7 @@ module _ (edition : Edition) (t : List ℕ) (level : ℕ) (common : Option ℕ) 
       ap (λ v. v ++ after) (is ∙ ap (λ v. v ++ (lf ∷ [])) e) ∙ append_assoc (gap ++ (b ∷ bs)) (lf ∷ []) after in
       first_run edition t level tail i gap b bs (lf ∷ after) (all_append (indent level) gap (spaces_of (4 * level)) s) n
       (run_part edition t level common tail rest ends deep body gap b bs e a) (rw safe refl)
-      (left_as (ap (λ xs. indent level ++ xs) are) l)
+      (suffix_as (ap (λ xs. indent level ++ xs) are) l)
   first_lined v d es body i g is a c gap [] e s n l =
       let whole : v ≡ gap ++ (lf ∷ []) = is ∙ ap (λ v. v ++ (lf ∷ [])) (e ∙ append_none gap) in
       let blank : is_nonblank v ≡ false =
@@ -302,7 +302,7 @@ module _ (edition : Edition) (t : List ℕ) (level : ℕ) (common : Option ℕ) 
   -- The first line is not blank.
   first_line : (e : ElementTree Text) (es : PatternTree Text) (i : ℕ) →
       are_elements edition true opening (elements e es) ≡ true →
-      Left t i (elements_bytes level true (elements e es) (lf ∷ tail)) → BlankBlock t i i
+      SuffixAt t i (elements_bytes level true (elements e es) (lf ∷ tail)) → BlankBlock t i i
   first_line (placeable x) es i g l =
       first_placeable edition t level tail i (indent level) x (elements_bytes level false es (lf ∷ tail))
       (spaces_of (4 * level)) l
@@ -310,7 +310,7 @@ module _ (edition : Edition) (t : List ℕ) (level : ℕ) (common : Option ℕ) 
       by_form es g (text_form v (text_is edition t level common tail rest ends deep opening v es g)) l
     where
       by_form : (es : PatternTree Text) → are_elements edition true opening (elements (text_element v) es) ≡ true →
-          TextForm v → Left t i (elements_bytes level true (elements (text_element v) es) (lf ∷ tail)) →
+          TextForm v → SuffixAt t i (elements_bytes level true (elements (text_element v) es) (lf ∷ tail)) →
           BlankBlock t i i
       by_form es g (alone a) l = let s = split v in first_alone v es i g a s.gap s.more s.are s.spaces s.plain l
       by_form no_elements g (with_lf body is a c) l =
@@ -322,20 +322,20 @@ module _ (edition : Edition) (t : List ℕ) (level : ℕ) (common : Option ℕ) 
 module _ (edition : Edition) (t : List ℕ) (level : ℕ) (tail rest : List ℕ) (ends : Ends tail rest)
     (deep : 1 ≤ length (indent (level + 1))) where
   -- a multiline pattern that opens a line
-  line_opened_back : (e : ElementTree Text) (es : PatternTree Text) (i : ℕ) → hides_mark (elements e es) ≡ false →
+  line_opened_reads_back : (e : ElementTree Text) (es : PatternTree Text) (i : ℕ) → hides_mark (elements e es) ≡ false →
       has_leading_mark (elements e es) ≡ false → are_elements edition true opening (elements e es) ≡ true →
-      are_flush (least (line_numbers edition opening (elements e es))) opening (elements e es) ≡ true →
-      ElementsBack edition t (level + 1) (elements e es) →
-      Left t i (lf ∷ elements_bytes (level + 1) true (elements e es) (lf ∷ tail)) →
+      are_flush (least (line_indents edition opening (elements e es))) opening (elements e es) ≡ true →
+      ElementsReadBack edition t (level + 1) (elements e es) →
+      SuffixAt t i (lf ∷ elements_bytes (level + 1) true (elements e es) (lf ∷ tail)) →
       Reads t (grammar.pattern edition t) (option_map (pattern_map (bytes_at t))) i (Some (elements e es)) rest
-  line_opened_back e es i a m g f h l =
+  line_opened_reads_back e es i a m g f h l =
       let shift = length (indent (level + 1)) in
       let flush =
-      subst (λ ns. are_flush (least ns) after_line (elements e es) ≡ true) (numbers_at edition e es)
-      (flush_at edition e es (least (line_numbers edition opening (elements e es))) f) in
+      subst (λ ns. are_flush (least ns) after_line (elements e es) ≡ true) (indents_at edition e es)
+      (flush_at edition e es (least (line_indents edition opening (elements e es))) f) in
       let c = choose edition shift after_line (elements e es) flush in
-      let n = left_next l in
-      opened_back edition t c.common (map (λ n. shift + n) (line_numbers edition after_line (elements e es))) e es i
+      let n = suffix_next l in
+      opened_reads_back edition t c.common (map (λ n. shift + n) (line_indents edition after_line (elements e es))) e es i
       (elements_bytes (level + 1) true (elements e es) (lf ∷ tail)) rest c.least_is l
       (first_line edition t (level + 1) c.common tail rest ends deep e es (i + 1) g n)
       (lines_start edition t (level + 1) c.common tail rest ends deep (elements e es) h (at_line edition e es a m g)
@@ -364,39 +364,39 @@ marked_bytes : (level : ℕ) (p : PatternTree Text) (tail : Text) → is_multili
 marked_bytes level p tail e f = rw (e, f) refl
 
 flush_of : (edition : Edition) (p : PatternTree Text) → is_multiline p ≡ true → is_flush edition p ≡ true →
-    (not (hides_mark p) && are_flush (least (line_numbers edition (first_position p) p)) (first_position p) p) ≡ true
+    (not (hides_mark p) && are_flush (least (line_indents edition (first_position p) p)) (first_position p) p) ≡ true
 flush_of edition p e f = or_second (not (is_multiline p)) _ (ap not e) f
 
 multiline_at : (edition : Edition) (t : List ℕ) (level : ℕ) (e : ElementTree Text) (es : PatternTree Text) (x : Bool) →
     has_leading_mark (elements e es) ≡ x → is_multiline (elements e es) ≡ true →
     are_elements edition true opening (elements e es) ≡ true → is_flush edition (elements e es) ≡ true →
-    ElementsBack edition t (level + 1) (elements e es) → 1 ≤ length (indent (level + 1)) →
-    (i : ℕ) (tail rest : List ℕ) → Ends tail rest → Left t i (pattern_bytes level (elements e es) (lf ∷ tail)) →
+    ElementsReadBack edition t (level + 1) (elements e es) → 1 ≤ length (indent (level + 1)) →
+    (i : ℕ) (tail rest : List ℕ) → Ends tail rest → SuffixAt t i (pattern_bytes level (elements e es) (lf ∷ tail)) →
     Reads t (grammar.pattern edition t) (option_map (pattern_map (bytes_at t))) i (Some (elements e es)) rest
 multiline_at edition t level e es true m a g f h deep i tail rest ends l =
     let p = elements e es in
     let parts = flush_of edition p a f in
     let flush =
-    subst (λ s. are_flush (least (line_numbers edition s p)) s p ≡ true) (marked_position p a m)
+    subst (λ s. are_flush (least (line_indents edition s p)) s p ≡ true) (marked_position p a m)
     (right_true (not (hides_mark p)) _ parts) in
-    marked_back edition t level tail rest ends deep e es i m g flush h
-    (left_as (marked_bytes level p (lf ∷ tail) a m) l)
+    marked_reads_back edition t level tail rest ends deep e es i m g flush h
+    (suffix_as (marked_bytes level p (lf ∷ tail) a m) l)
 multiline_at edition t level e es false m a g f h deep i tail rest ends l =
     let p = elements e es in
     let parts = flush_of edition p a f in
     let flush =
-    subst (λ s. are_flush (least (line_numbers edition s p)) s p ≡ true) (opened_position p a m)
+    subst (λ s. are_flush (least (line_indents edition s p)) s p ≡ true) (opened_position p a m)
     (right_true (not (hides_mark p)) _ parts) in
-    line_opened_back edition t level tail rest ends deep e es i
+    line_opened_reads_back edition t level tail rest ends deep e es i
     (not_true (hides_mark p) (left_true (not (hides_mark p)) _ parts)) m g flush h
-    (left_as (opened_bytes level p (lf ∷ tail) a m) l)
+    (suffix_as (opened_bytes level p (lf ∷ tail) a m) l)
 
 -- A multiline pattern is read back, if its placeables are.
-pub multiline_back : (edition : Edition) (t : List ℕ) (level : ℕ) (p : PatternTree Text) → is_multiline p ≡ true →
-    is_pattern edition p ≡ true → is_flush edition p ≡ true → ElementsBack edition t (level + 1) p →
-    PatternBack edition t level p
-multiline_back edition t level no_elements a g f h = absurd cc
-multiline_back edition t level (elements e es) a g f h =
+pub multiline_reads_back : (edition : Edition) (t : List ℕ) (level : ℕ) (p : PatternTree Text) → is_multiline p ≡ true →
+    is_pattern edition p ≡ true → is_flush edition p ≡ true → ElementsReadBack edition t (level + 1) p →
+    PatternReadsBack edition t level p
+multiline_reads_back edition t level no_elements a g f h = absurd cc
+multiline_reads_back edition t level (elements e es) a g f h =
     let deep : 1 ≤ length (indent (level + 1)) = let n = replicated (4 * (level + 1)) in omega arith in
     record {
       back =

@@ -20,16 +20,16 @@ use Rattle.fluent_syntax_grammar.specs.Grammar.{family}
 use Rattle.fluent_syntax_grammar.specs.Grammar as grammar
 use Rattle.fluent_syntax_grammar.specs.Written.{Text, is_last, last_of}
 use Rattle.fluent_syntax_grammar.proofs.Facts.{left_true}
-use Rattle.fluent_syntax_grammar.proofs.Left.{Left, left_first, left_next, left_past, left_no_eol}
+use Rattle.fluent_syntax_grammar.proofs.SuffixAt.{SuffixAt, suffix_first, suffix_next, suffix_past, suffix_no_eol}
 use Rattle.fluent_syntax_grammar.proofs.forward.Reading.{Reads}
-use Rattle.fluent_syntax_grammar.proofs.forward.Spells.{Spells, nothing, last_text, text_first, placed_first}
-use Rattle.fluent_syntax_grammar.proofs.forward.Runs.{is_run_byte, ends_in_cr_before, left_run}
-use Rattle.fluent_syntax_grammar.proofs.forward.Lines.{Ends, after_back, reads_no_pieces, lf_cut}
+use Rattle.fluent_syntax_grammar.proofs.forward.Spells.{Spells, nothing, last_text, spells_text, spells_placeable}
+use Rattle.fluent_syntax_grammar.proofs.forward.Runs.{is_run_byte, ends_in_cr_before, suffix_run}
+use Rattle.fluent_syntax_grammar.proofs.forward.Lines.{Ends, after_reads_back, reads_no_pieces, lf_cut}
 use Rattle.fluent_syntax_grammar.proofs.Tests.{and_false, without}
 
 -- From a place within a line on, the rest of a pattern is read: the pieces of this line and its LF, and the later
 -- lines. Under this common indent their items spell the elements, and the lines count with these numbers.
-pub record Mid (edition : Edition) (t : List ℕ) (common : Option ℕ) (es : PatternTree Text) (numbers : List ℕ) (i : ℕ)
+pub record ReadsMidLine (edition : Edition) (t : List ℕ) (common : Option ℕ) (es : PatternTree Text) (numbers : List ℕ) (i : ℕ)
     (rest : List ℕ) : Type 0 where
   pub pieces : List Piece
   pub at : ℕ
@@ -37,9 +37,9 @@ pub record Mid (edition : Edition) (t : List ℕ) (common : Option ℕ) (es : Pa
   pub lines : List Line
   pub end : ℕ
   pub reads_pieces : grammar.more_pieces edition t i (Read pieces at)
-  pub ends : Left t at (lf ∷ after)
+  pub ends : SuffixAt t at (lf ∷ after)
   pub reads_lines : grammar.more_lines edition t (at + 1) (Read lines end)
-  pub left : Left t end rest
+  pub left : SuffixAt t end rest
   pub spells : Spells t (with_ending pieces (lf_at at) ++ flat_map (line_items edition common) lines) es
   pub counts : flat_map (counted edition) lines ≡ numbers
 
@@ -49,7 +49,7 @@ pub record Starts (edition : Edition) (t : List ℕ) (common : Option ℕ) (es :
   pub lines : List Line
   pub end : ℕ
   pub reads : grammar.more_lines edition t i (Read lines end)
-  pub left : Left t end rest
+  pub left : SuffixAt t end rest
   pub spells : Spells t (flat_map (line_items edition common) lines) es
   pub counts : flat_map (counted edition) lines ≡ numbers
 
@@ -64,20 +64,20 @@ pub record Run (edition : Edition) (t : List ℕ) (common : Option ℕ) (v : Tex
   pub lines : List Line
   pub end : ℕ
   pub reads_pieces : grammar.more_pieces edition t i (Read (run i to ∷ pieces) at)
-  pub ends : Left t at (lf ∷ after)
+  pub ends : SuffixAt t at (lf ∷ after)
   pub reads_lines : grammar.more_lines edition t (at + 1) (Read lines end)
-  pub left : Left t end rest
-  pub spells : (kept : ℕ) → Left t kept (v ++ source) →
+  pub left : SuffixAt t end rest
+  pub spells : (kept : ℕ) → SuffixAt t kept (v ++ source) →
       Spells t (with_ending (run kept to ∷ pieces) (lf_at at) ++ flat_map (line_items edition common) lines)
       (elements (text_element v) es)
   pub counts : flat_map (counted edition) lines ≡ numbers
 
 module _ (edition : Edition) (t : List ℕ) where
   -- the end of the elements
-  pub mid_end : (common : Option ℕ) (tail rest : List ℕ) (i : ℕ) → Ends tail rest → Left t i (lf ∷ tail) →
-      Mid edition t common no_elements [] i rest
+  pub mid_end : (common : Option ℕ) (tail rest : List ℕ) (i : ℕ) → Ends tail rest → SuffixAt t i (lf ∷ tail) →
+      ReadsMidLine edition t common no_elements [] i rest
   mid_end common tail rest i e l =
-      let a = after_back edition t common tail rest (i + 1) e (left_next l) in
+      let a = after_reads_back edition t common tail rest (i + 1) e (suffix_next l) in
       record {
         pieces = [];
         at = i;
@@ -93,20 +93,20 @@ module _ (edition : Edition) (t : List ℕ) where
       }
 
   -- a placeable within a line
-  reads_placed : {i j : ℕ} {bs : List ℕ} (x : ExpressionTree Span) (ps : List Piece) (at : ℕ) → Left t i (123 ∷ bs) →
+  reads_placed : {i j : ℕ} {bs : List ℕ} (x : ExpressionTree Span) (ps : List Piece) (at : ℕ) → SuffixAt t i (123 ∷ bs) →
       grammar.placeable edition t i (Read x j) → grammar.more_pieces edition t j (Read ps at) →
       grammar.more_pieces edition t i (Read (placed x ∷ ps) at)
   reads_placed {i = i} {j = j} x ps at l p q =
       item_and_more (chosen (subst (λ o. next_piece_at t (family edition t) o i (Read (item (placed x) tt) j))
-      (sym (left_first l))
-      (chosen (second (left_no_eol l refl refl) (second refl (first_of refl (goes_on p given))))))) q
+      (sym (suffix_first l))
+      (chosen (second (suffix_no_eol l refl refl) (second refl (first_of refl (goes_on p given))))))) q
 
   pub mid_placeable :
       (common : Option ℕ) (e : ExpressionTree Text) (es : PatternTree Text) (numbers : List ℕ) (i : ℕ)
-      (bs left rest : List ℕ) → Left t i (123 ∷ bs) →
+      (bs left rest : List ℕ) → SuffixAt t i (123 ∷ bs) →
       Reads t (grammar.placeable edition t) (expression_map (bytes_at t)) i e left →
-      ((j : ℕ) → Left t j left → Mid edition t common es numbers j rest) →
-      Mid edition t common (elements (placeable e) es) numbers i rest
+      ((j : ℕ) → SuffixAt t j left → ReadsMidLine edition t common es numbers j rest) →
+      ReadsMidLine edition t common (elements (placeable e) es) numbers i rest
   mid_placeable common e es numbers i bs left rest l r k =
       let m = k r.end r.rest in
       record {
@@ -119,7 +119,7 @@ module _ (edition : Edition) (t : List ℕ) where
         ends = m.ends;
         reads_lines = m.reads_lines;
         left = m.left;
-        spells = placed_first r.spells m.spells;
+        spells = spells_placeable r.spells m.spells;
         counts = m.counts;
       }
 
@@ -131,25 +131,25 @@ module _ (edition : Edition) (t : List ℕ) where
   third_false false true z e = absurd cc
   third_false false false true e = absurd cc
 
-  reads_run : {i j b : ℕ} {bs : List ℕ} (ps : List Piece) (at : ℕ) → is_run_byte b ≡ true → Left t i (b ∷ bs) → i < j →
+  reads_run : {i j b : ℕ} {bs : List ℕ} (ps : List Piece) (at : ℕ) → is_run_byte b ≡ true → SuffixAt t i (b ∷ bs) → i < j →
       LongestRun (is_run_place t) i j → grammar.more_pieces edition t j (Read ps at) →
       grammar.more_pieces edition t i (Read (run i j ∷ ps) at)
   reads_run {i = i} {j = j} {b = b} ps at e l m w q =
       let f = third_false (b == lf) (b == 123) (b == 125) e in
       let no_eol : has_eol t i ≡ false = without _ (has_eol t i) (w.each i (omega arith) m) in
       item_and_more (chosen (subst (λ o. next_piece_at t (family edition t) o i (Read (item (run i j) tt) j))
-      (sym (left_first l))
+      (sym (suffix_first l))
       (chosen (second no_eol (second f.1 (second f.0
       (goes_on (goes_on at_place (goes_on (passed w) (goes_on at_place given))) given))))))) q
 
   -- a text that ends the pattern
   pub run_end : (common : Option ℕ) (v tail rest : List ℕ) (i b : ℕ) (bs : List ℕ) → ends_plainly v ≡ true →
       Ends tail rest → list_all is_run_byte (b ∷ bs) ≡ true → ends_in_cr_before (b ∷ bs) (lf ∷ tail) ≡ false →
-      Left t i (b ∷ (bs ++ (lf ∷ tail))) → Run edition t common v no_elements [] i (lf ∷ tail) rest
+      SuffixAt t i (b ∷ (bs ++ (lf ∷ tail))) → Run edition t common v no_elements [] i (lf ∷ tail) rest
   run_end common v tail rest i b bs p e a c l =
       let to = i + suc (length bs) in
-      let m : Left t to (lf ∷ tail) = left_past (b ∷ bs) l in
-      let r = after_back edition t common tail rest (to + 1) e (left_next m) in
+      let m : SuffixAt t to (lf ∷ tail) = suffix_past (b ∷ bs) l in
+      let r = after_reads_back edition t common tail rest (to + 1) e (suffix_next m) in
       record {
         to = to;
         pieces = [];
@@ -159,34 +159,34 @@ module _ (edition : Edition) (t : List ℕ) where
         end = r.end;
         reads_pieces =
             reads_run [] to (left_true (is_run_byte b) (list_all is_run_byte bs) a) l (omega arith)
-            (left_run t (b ∷ bs) (lf ∷ tail) i a c refl l) (reads_no_pieces edition t m);
+            (suffix_run t (b ∷ bs) (lf ∷ tail) i a c refl l) (reads_no_pieces edition t m);
         ends = m;
         reads_lines = r.reads;
         left = r.left;
-        spells = λ kept k. last_text k (left_next m) p r.blank;
+        spells = λ kept k. last_text k (suffix_next m) p r.blank;
         counts = r.counts;
       }
 
   -- a run before a placeable is a text of its own
   run_before :
       (kept to at : ℕ) (v source : List ℕ) (ps : List Piece) (xs : List Item) (e : ExpressionTree Text)
-      (es : PatternTree Text) → Left t kept (v ++ source) → Left t to source →
+      (es : PatternTree Text) → SuffixAt t kept (v ++ source) → SuffixAt t to source →
       Spells t (with_ending ps (lf_at at) ++ xs) (elements (placeable e) es) →
       Spells t (with_ending (run kept to ∷ ps) (lf_at at) ++ xs) (elements (text_element v) (elements (placeable e) es))
   run_before kept to at v source [] xs e es k l s = elim s [ ]
   run_before kept to at v source (run from o ∷ []) xs e es k l s = elim s [ ]
   run_before kept to at v source (run from o ∷ p ∷ ps) xs e es k l s = elim s [ ]
-  run_before kept to at v source (placed x ∷ ps) xs e es k l s = text_first k l s
+  run_before kept to at v source (placed x ∷ ps) xs e es k l s = spells_text k l s
 
   -- a text before a placeable
   pub run_more :
       (common : Option ℕ) (v : List ℕ) (e : ExpressionTree Text) (es : PatternTree Text) (numbers rest : List ℕ)
-      (i b : ℕ) (bs more : List ℕ) → list_all is_run_byte (b ∷ bs) ≡ true → Left t i (b ∷ (bs ++ (123 ∷ more))) →
-      ((j : ℕ) → Left t j (123 ∷ more) → Mid edition t common (elements (placeable e) es) numbers j rest) →
+      (i b : ℕ) (bs more : List ℕ) → list_all is_run_byte (b ∷ bs) ≡ true → SuffixAt t i (b ∷ (bs ++ (123 ∷ more))) →
+      ((j : ℕ) → SuffixAt t j (123 ∷ more) → ReadsMidLine edition t common (elements (placeable e) es) numbers j rest) →
       Run edition t common v (elements (placeable e) es) numbers i (123 ∷ more) rest
   run_more common v e es numbers rest i b bs more a l k =
       let to = i + suc (length bs) in
-      let n : Left t to (123 ∷ more) = left_past (b ∷ bs) l in
+      let n : SuffixAt t to (123 ∷ more) = suffix_past (b ∷ bs) l in
       let m = k to n in
       record {
         to = to;
@@ -197,7 +197,7 @@ module _ (edition : Edition) (t : List ℕ) where
         end = m.end;
         reads_pieces =
             reads_run m.pieces m.at (left_true (is_run_byte b) (list_all is_run_byte bs) a) l (omega arith)
-            (left_run t (b ∷ bs) (123 ∷ more) i a (and_false (is_last cr (last_of None (b ∷ bs)))) refl l)
+            (suffix_run t (b ∷ bs) (123 ∷ more) i a (and_false (is_last cr (last_of None (b ∷ bs)))) refl l)
             m.reads_pieces;
         ends = m.ends;
         reads_lines = m.reads_lines;
@@ -212,13 +212,13 @@ module _ (edition : Edition) (t : List ℕ) where
   pub run_line :
       (common : Option ℕ) (v : List ℕ) (e : ElementTree Text) (es : PatternTree Text) (numbers rest : List ℕ) (i b : ℕ)
       (bs more : List ℕ) → list_all is_run_byte (b ∷ bs) ≡ true → is_last cr (last_of None (b ∷ bs)) ≡ false →
-      Left t i (b ∷ (bs ++ (lf ∷ more))) →
-      ((j : ℕ) → Left t j more → Starts edition t common (elements e es) numbers j rest) →
+      SuffixAt t i (b ∷ (bs ++ (lf ∷ more))) →
+      ((j : ℕ) → SuffixAt t j more → Starts edition t common (elements e es) numbers j rest) →
       Run edition t common v (elements e es) numbers i more rest
   run_line common v e es numbers rest i b bs more a c l k =
       let to = i + suc (length bs) in
-      let n : Left t to (lf ∷ more) = left_past (b ∷ bs) l in
-      let m = k (to + 1) (left_next n) in
+      let n : SuffixAt t to (lf ∷ more) = suffix_past (b ∷ bs) l in
+      let m = k (to + 1) (suffix_next n) in
       record {
         to = to;
         pieces = [];
@@ -228,19 +228,19 @@ module _ (edition : Edition) (t : List ℕ) where
         end = m.end;
         reads_pieces =
             reads_run [] to (left_true (is_run_byte b) (list_all is_run_byte bs) a) l (omega arith)
-            (left_run t (b ∷ bs) (lf ∷ more) i a (rw c refl) refl l) (reads_no_pieces edition t n);
+            (suffix_run t (b ∷ bs) (lf ∷ more) i a (rw c refl) refl l) (reads_no_pieces edition t n);
         ends = n;
         reads_lines = m.reads;
         left = m.left;
-        spells = λ kept x. text_first x (left_next n) m.spells;
+        spells = λ kept x. spells_text x (suffix_next n) m.spells;
         counts = m.counts;
       }
 
   -- a run that begins its text
   pub mid_run :
       (common : Option ℕ) (v : List ℕ) (es : PatternTree Text) (numbers source rest : List ℕ) (i : ℕ)
-      (r : Run edition t common v es numbers i source rest) → Left t i (v ++ source) →
-      Mid edition t common (elements (text_element v) es) numbers i rest
+      (r : Run edition t common v es numbers i source rest) → SuffixAt t i (v ++ source) →
+      ReadsMidLine edition t common (elements (text_element v) es) numbers i rest
   mid_run common v es numbers source rest i r l = record {
     pieces = run i r.to ∷ r.pieces;
     at = r.at;

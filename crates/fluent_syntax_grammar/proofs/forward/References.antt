@@ -20,21 +20,21 @@ use Rattle.fluent_syntax_grammar.specs.Arguments.{accessor}
 use Rattle.fluent_syntax_grammar.specs.Inline.{is_callee_byte, named_reference}
 use Rattle.fluent_syntax_grammar.specs.Grammar.{inline_expression, call_arguments}
 use Rattle.fluent_syntax_grammar.proofs.Facts.{left_true, right_true}
-use Rattle.fluent_syntax_grammar.proofs.Left.{Left, first}
+use Rattle.fluent_syntax_grammar.proofs.SuffixAt.{SuffixAt, first}
 use Rattle.fluent_syntax_grammar.proofs.forward.Reading.{Reads, reads_bind, reads_yields, passes_then, reads_peek}
 use Rattle.fluent_syntax_grammar.proofs.forward.Reading.{reads_first, passes_token}
 use Rattle.fluent_syntax_grammar.proofs.forward.Words.{reads_name}
 use Rattle.fluent_syntax_grammar.proofs.marks.WrittenBytes.{attribute_bytes, maybe_bytes}
-use Rattle.fluent_syntax_grammar.proofs.forward.Inline.{Follows, starts_with, name_start, string_back, variable_back}
-use Rattle.fluent_syntax_grammar.proofs.forward.Inline.{number_back, message_back, message_attribute_back, call_none}
+use Rattle.fluent_syntax_grammar.proofs.forward.Inline.{Follows, starts_with, name_start, string_reads_back, variable_reads_back}
+use Rattle.fluent_syntax_grammar.proofs.forward.Inline.{number_reads_back, message_reads_back, message_attribute_reads_back, call_none}
 use Rattle.fluent_syntax_grammar.proofs.forward.Inline.{no_accessor, some_accessor}
-use Rattle.fluent_syntax_grammar.proofs.forward.Arguments.{InlineBack, ListBack, call_back}
+use Rattle.fluent_syntax_grammar.proofs.forward.Arguments.{InlineReadsBack, ArgumentListReadsBack, call_reads_back}
 
 -- What may follow a reference's arguments follows the arguments, if there are none.
-no_name_before : (level : ℕ) (a : MaybeArguments Text) (gap more : List ℕ) → Follows gap more →
+arguments_begin_no_name : (level : ℕ) (a : MaybeArguments Text) (gap more : List ℕ) → Follows gap more →
     holds is_name_byte (first (maybe_bytes level a (gap ++ more))) ≡ false
-no_name_before level no_arguments gap more f = f.no_name
-no_name_before level (some_arguments (arguments ps ns)) gap more f = refl
+arguments_begin_no_name level no_arguments gap more f = f.no_name
+arguments_begin_no_name level (some_arguments (arguments ps ns)) gap more f = refl
 
 no_point_before : (level : ℕ) (a : MaybeArguments Text) (gap more : List ℕ) → Follows gap more →
     holds (λ b. b == 46) (first (maybe_bytes level a (gap ++ more))) ≡ false
@@ -47,41 +47,41 @@ after_maybe no_arguments gap more = more
 after_maybe (some_arguments a) gap more = gap ++ more
 
 -- Arguments, or none, are read back.
-pub record MaybeBack (edition : Edition) (t : List ℕ) (level : ℕ) (a : MaybeArguments Text) : Type 0 where
-  pub back : (i : ℕ) (gap more : List ℕ) → Follows gap more → Left t i (maybe_bytes level a (gap ++ more)) →
+pub record MaybeArgumentsReadBack (edition : Edition) (t : List ℕ) (level : ℕ) (a : MaybeArguments Text) : Type 0 where
+  pub back : (i : ℕ) (gap more : List ℕ) → Follows gap more → SuffixAt t i (maybe_bytes level a (gap ++ more)) →
       Reads t (call_arguments edition t) (maybe_map (bytes_at t)) i a (after_maybe a gap more)
 
 module _ (edition : Edition) (t : List ℕ) where
-  pub string_is_back : (level : ℕ) (v : Text) → inline_obeys (canonical_rules edition) (string_literal v) ≡ true →
-      InlineBack edition t level (string_literal v)
-  string_is_back level v h =
-      record { obeys = h; back = λ i gap more f l. string_back edition t i level v (gap ++ more) h l }
+  pub string_is_read_back : (level : ℕ) (v : Text) → inline_obeys (canonical_rules edition) (string_literal v) ≡ true →
+      InlineReadsBack edition t level (string_literal v)
+  string_is_read_back level v h =
+      record { obeys = h; back = λ i gap more f l. string_reads_back edition t i level v (gap ++ more) h l }
 
-  pub number_is_back : (level : ℕ) (v : Text) → inline_obeys (canonical_rules edition) (number_literal v) ≡ true →
-      InlineBack edition t level (number_literal v)
-  number_is_back level v h =
-      record { obeys = h; back = λ i gap more f l. number_back edition t i level v gap more h f l }
+  pub number_is_read_back : (level : ℕ) (v : Text) → inline_obeys (canonical_rules edition) (number_literal v) ≡ true →
+      InlineReadsBack edition t level (number_literal v)
+  number_is_read_back level v h =
+      record { obeys = h; back = λ i gap more f l. number_reads_back edition t i level v gap more h f l }
 
-  pub variable_is_back : (level : ℕ) (id : Text) →
+  pub variable_is_read_back : (level : ℕ) (id : Text) →
       inline_obeys (canonical_rules edition) (variable_reference id) ≡ true →
-      InlineBack edition t level (variable_reference id)
-  variable_is_back level id h =
-      record { obeys = h; back = λ i gap more f l. variable_back edition t i level id gap more h f l }
+      InlineReadsBack edition t level (variable_reference id)
+  variable_is_read_back level id h =
+      record { obeys = h; back = λ i gap more f l. variable_reads_back edition t i level id gap more h f l }
 
-  pub message_is_back : (level : ℕ) (id : Text) (attribute : Option Text) →
+  pub message_is_read_back : (level : ℕ) (id : Text) (attribute : Option Text) →
       inline_obeys (canonical_rules edition) (message_reference id attribute) ≡ true →
-      InlineBack edition t level (message_reference id attribute)
-  message_is_back level id None h =
+      InlineReadsBack edition t level (message_reference id attribute)
+  message_is_read_back level id None h =
       record {
         obeys = h;
-        back = λ i gap more f l. message_back edition t i level id gap more (left_true (is_name id) _ h) f l;
+        back = λ i gap more f l. message_reads_back edition t i level id gap more (left_true (is_name id) _ h) f l;
       }
-  message_is_back level id (Some a) h =
+  message_is_read_back level id (Some a) h =
       record {
         obeys = h;
         back =
             λ i gap more f l.
-            message_attribute_back edition t i level id a gap more (left_true (is_name id) _ h)
+            message_attribute_reads_back edition t i level id a gap more (left_true (is_name id) _ h)
             (right_true (is_name id) (is_name a) h) f l;
       }
 
@@ -90,60 +90,60 @@ module _ (edition : Edition) (t : List ℕ) where
   function_after :
       (id : Span) (name : Text) (x : ArgumentsTree Text) (i : ℕ) (left : List ℕ) (v : MaybeArguments Span) →
       bytes_at t id ≡ name → maybe_map (bytes_at t) v ≡ some_arguments x → list_all is_callee_byte name ≡ true →
-      Left t i left →
+      SuffixAt t i left →
       Reads t (named_reference t id v) (inline_map (bytes_at t)) i (function_reference name x) left
   function_after id name x i left no_arguments e f g l = absurd cc
   function_after id name x i left (some_arguments a) e f g l =
       reads_first (ap (list_all is_callee_byte) e ∙ g) (reads_yields (cc) l)
 
-  pub function_is_back : (level : ℕ) (id : Text) (ps : InlineTrees Text) (ns : NamedTrees Text) →
+  pub function_is_read_back : (level : ℕ) (id : Text) (ps : InlineTrees Text) (ns : NamedTrees Text) →
       inline_obeys (canonical_rules edition) (function_reference id (arguments ps ns)) ≡ true →
-      ListBack edition t level [] ps ns → InlineBack edition t level (function_reference id (arguments ps ns))
-  function_is_back level id ps ns h more = record {
+      ArgumentListReadsBack edition t level [] ps ns → InlineReadsBack edition t level (function_reference id (arguments ps ns))
+  function_is_read_back level id ps ns h more = record {
     obeys = h;
     back = λ i gap rest f l.
         let is : is_name id ≡ true = left_true (is_name id) _ h in
         reads_peek letter (name_start edition t i id _ is l)
         (reads_bind (reads_name id _ is refl l)
-        (λ s j g m. reads_bind (call_back edition t level ps ns more j (gap ++ rest) m) (λ a k x n.
+        (λ s j g m. reads_bind (call_reads_back edition t level ps ns more j (gap ++ rest) m) (λ a k x n.
         function_after s id (arguments ps ns) k (gap ++ rest) a g x
         (left_true (list_all is_callee_byte id) _ (right_true (is_name id) _ h)) n)));
   }
 
   -- ---- terms
 
-  pub no_arguments_back : (level : ℕ) → MaybeBack edition t level no_arguments
-  no_arguments_back level = record { back = λ i gap more f l. call_none edition t i gap more f l }
+  pub no_arguments_read_back : (level : ℕ) → MaybeArgumentsReadBack edition t level no_arguments
+  no_arguments_read_back level = record { back = λ i gap more f l. call_none edition t i gap more f l }
 
-  pub some_arguments_back : (level : ℕ) (ps : InlineTrees Text) (ns : NamedTrees Text) →
-      ListBack edition t level [] ps ns → MaybeBack edition t level (some_arguments (arguments ps ns))
-  some_arguments_back level ps ns h =
-      record { back = λ i gap more f l. call_back edition t level ps ns h i (gap ++ more) l }
+  pub some_arguments_read_back : (level : ℕ) (ps : InlineTrees Text) (ns : NamedTrees Text) →
+      ArgumentListReadsBack edition t level [] ps ns → MaybeArgumentsReadBack edition t level (some_arguments (arguments ps ns))
+  some_arguments_read_back level ps ns h =
+      record { back = λ i gap more f l. call_reads_back edition t level ps ns h i (gap ++ more) l }
 
-  term_start : (i : ℕ) (id more : List ℕ) → is_name id ≡ true → Left t i (45 ∷ (id ++ more)) → start t i ≡ term
+  term_start : (i : ℕ) (id more : List ℕ) → is_name id ≡ true → SuffixAt t i (45 ∷ (id ++ more)) → start t i ≡ term
   term_start i [] more e l = absurd cc
   term_start i (b ∷ bs) more e l = starts_with term (rw (left_true (is_letter b) (list_all is_name_byte bs) e) refl) l
 
   -- the attribute of a term, if it has one, before its arguments
-  accessor_back : (level : ℕ) (attribute : Option Text) (a : MaybeArguments Text) (i : ℕ) (gap more : List ℕ) →
+  accessor_reads_back : (level : ℕ) (attribute : Option Text) (a : MaybeArguments Text) (i : ℕ) (gap more : List ℕ) →
       option_obeys is_name attribute ≡ true → Follows gap more →
-      Left t i (attribute_bytes attribute (maybe_bytes level a (gap ++ more))) →
+      SuffixAt t i (attribute_bytes attribute (maybe_bytes level a (gap ++ more))) →
       Reads t (accessor t) (option_texts (bytes_at t)) i attribute (maybe_bytes level a (gap ++ more))
-  accessor_back level None a i gap more e f l = no_accessor edition t i _ (no_point_before level a gap more f) l
-  accessor_back level (Some x) a i gap more e f l =
-      some_accessor edition t i x _ e (no_name_before level a gap more f) l
+  accessor_reads_back level None a i gap more e f l = no_accessor edition t i _ (no_point_before level a gap more f) l
+  accessor_reads_back level (Some x) a i gap more e f l =
+      some_accessor edition t i x _ e (arguments_begin_no_name level a gap more f) l
 
-  name_before_accessor : (level : ℕ) (attribute : Option Text) (a : MaybeArguments Text) (gap more : List ℕ) →
+  accessor_begins_no_name : (level : ℕ) (attribute : Option Text) (a : MaybeArguments Text) (gap more : List ℕ) →
       Follows gap more →
       holds is_name_byte (first (attribute_bytes attribute (maybe_bytes level a (gap ++ more)))) ≡ false
-  name_before_accessor level None a gap more f = no_name_before level a gap more f
-  name_before_accessor level (Some x) a gap more f = refl
+  accessor_begins_no_name level None a gap more f = arguments_begin_no_name level a gap more f
+  accessor_begins_no_name level (Some x) a gap more f = refl
 
   term_at :
       (level : ℕ) (id : Text) (attribute : Option Text) (a : MaybeArguments Text) (i : ℕ) (gap more : List ℕ) →
-      inline_obeys (canonical_rules edition) (term_reference id attribute a) ≡ true → MaybeBack edition t level a →
+      inline_obeys (canonical_rules edition) (term_reference id attribute a) ≡ true → MaybeArgumentsReadBack edition t level a →
       Follows gap more →
-      Left t i (45 ∷ (id ++ attribute_bytes attribute (maybe_bytes level a (gap ++ more)))) →
+      SuffixAt t i (45 ∷ (id ++ attribute_bytes attribute (maybe_bytes level a (gap ++ more)))) →
       Reads t (inline_expression edition t) (inline_map (bytes_at t)) i (term_reference id attribute a)
       (after_maybe a gap more)
   term_at level id attribute a i gap more h b f l =
@@ -152,14 +152,14 @@ module _ (edition : Edition) (t : List ℕ) where
       left_true (option_obeys is_name attribute) _ (right_true (is_name id) _ h) in
       reads_peek term (term_start i id _ is l)
       (passes_then (passes_token 45 refl l)
-      (λ j m. reads_bind (reads_name id _ is (name_before_accessor level attribute a gap more f) m) (λ s k g n.
-      reads_bind (accessor_back level attribute a k gap more accessor_is f n)
+      (λ j m. reads_bind (reads_name id _ is (accessor_begins_no_name level attribute a gap more f) m) (λ s k g n.
+      reads_bind (accessor_reads_back level attribute a k gap more accessor_is f n)
       (λ x p d o. reads_bind (b.back p gap more f o) (λ y q w r. reads_yields (cc) r)))))
 
-  pub term_is_back : (level : ℕ) (id : Text) (attribute : Option Text) (a : MaybeArguments Text) →
-      inline_obeys (canonical_rules edition) (term_reference id attribute a) ≡ true → MaybeBack edition t level a →
-      InlineBack edition t level (term_reference id attribute a)
-  term_is_back level id attribute no_arguments h b =
+  pub term_is_read_back : (level : ℕ) (id : Text) (attribute : Option Text) (a : MaybeArguments Text) →
+      inline_obeys (canonical_rules edition) (term_reference id attribute a) ≡ true → MaybeArgumentsReadBack edition t level a →
+      InlineReadsBack edition t level (term_reference id attribute a)
+  term_is_read_back level id attribute no_arguments h b =
       record { obeys = h; back = λ i gap more f l. term_at level id attribute no_arguments i gap more h b f l }
-  term_is_back level id attribute (some_arguments x) h b =
+  term_is_read_back level id attribute (some_arguments x) h b =
       record { obeys = h; back = λ i gap more f l. term_at level id attribute (some_arguments x) i gap more h b f l }

@@ -13,7 +13,7 @@ use Rattle.fluent_syntax_grammar.specs.Readable.{is_text}
 use Rattle.fluent_syntax_grammar.proofs.Facts.{left_true, right_true, equal}
 use Rattle.fluent_syntax_grammar.proofs.Tests.{both, and_right}
 use Rattle.fluent_syntax_grammar.proofs.Computed.{find_here, find_on}
-use Rattle.fluent_syntax_grammar.proofs.Left.{Left, first, left_first, left_next}
+use Rattle.fluent_syntax_grammar.proofs.SuffixAt.{SuffixAt, first, suffix_first, suffix_next}
 use Rattle.fluent_syntax_grammar.proofs.forward.Spells.{last_from}
 use Rattle.fluent_syntax_grammar.proofs.Tests.{neither_left, neither_right, not_true}
 
@@ -44,25 +44,25 @@ rest_safe x [] ys e = refl
 rest_safe x (y ∷ xs) ys e = e
 
 pub run_place : (t : List ℕ) (i x : ℕ) (bs : List ℕ) → is_run_byte x ≡ true →
-    ((x == cr) && holds (λ b. b == lf) (first bs)) ≡ false → Left t i (x ∷ bs) → is_run_place t i ≡ true
-run_place t i x bs e f l = rw (left_first l, left_first (left_next l), e, run_no_lf x e, f) refl
+    ((x == cr) && holds (λ b. b == lf) (first bs)) ≡ false → SuffixAt t i (x ∷ bs) → is_run_place t i ≡ true
+run_place t i x bs e f l = rw (suffix_first l, suffix_first (suffix_next l), e, run_no_lf x e, f) refl
 
-run_ends : (t : List ℕ) (i : ℕ) (bs : List ℕ) → holds is_run_byte (first bs) ≡ false → Left t i bs →
+run_ends : (t : List ℕ) (i : ℕ) (bs : List ℕ) → holds is_run_byte (first bs) ≡ false → SuffixAt t i bs →
     is_run_place t i ≡ false
-run_ends t i bs e l = rw (left_first l, e) refl
+run_ends t i bs e l = rw (suffix_first l, e) refl
 
 -- a run reaches over these bytes
-pub left_run : (t xs ys : List ℕ) (i : ℕ) → list_all is_run_byte xs ≡ true → ends_in_cr_before xs ys ≡ false →
-    holds is_run_byte (first ys) ≡ false → Left t i (xs ++ ys) → LongestRun (is_run_place t) i (i + length xs)
-left_run t [] ys i a f e l = let s : i ≡ i + 0 = omega arith in
+pub suffix_run : (t xs ys : List ℕ) (i : ℕ) → list_all is_run_byte xs ≡ true → ends_in_cr_before xs ys ≡ false →
+    holds is_run_byte (first ys) ≡ false → SuffixAt t i (xs ++ ys) → LongestRun (is_run_place t) i (i + length xs)
+suffix_run t [] ys i a f e l = let s : i ≡ i + 0 = omega arith in
     subst (λ n. LongestRun (is_run_place t) i n) s (find_here (is_run_place t) i i (run_ends t i ys e l) refl)
-left_run t (x ∷ xs) ys i a f e l =
+suffix_run t (x ∷ xs) ys i a f e l =
     let s : (i + 1) + length xs ≡ i + suc (length xs) = omega arith in
     let more = right_true (is_run_byte x) (list_all is_run_byte xs) a in
     subst (λ n. LongestRun (is_run_place t) i n) s
     (find_on (is_run_place t) i
     _ (run_place t i x (xs ++ ys) (left_true (is_run_byte x) (list_all is_run_byte xs) a) (inside x xs ys more f)
-    l) (left_run t xs ys (i + 1) more (rest_safe x xs ys f) e (left_next l)))
+    l) (suffix_run t xs ys (i + 1) more (rest_safe x xs ys f) e (suffix_next l)))
 
 -- ---- the texts of a pattern
 

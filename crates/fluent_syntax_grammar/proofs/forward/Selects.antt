@@ -22,7 +22,7 @@ use Rattle.fluent_syntax_grammar.specs.Grammar as grammar
 use Rattle.fluent_syntax_grammar.specs.Grammar.{family}
 use Rattle.fluent_syntax_grammar.proofs.Facts.{left_true, right_true, equal, some_same}
 use Rattle.fluent_syntax_grammar.proofs.Tests.{both, or_cases, differ}
-use Rattle.fluent_syntax_grammar.proofs.Left.{Left, left_as, left_first, left_next, left_has}
+use Rattle.fluent_syntax_grammar.proofs.SuffixAt.{SuffixAt, suffix_as, suffix_first, suffix_next, suffix_has}
 use Rattle.fluent_syntax_grammar.proofs.forward.Reading.{Reads, Passes, reads_bind, reads_yields, passes_nothing}
 use Rattle.fluent_syntax_grammar.proofs.forward.Reading.{passes_then, passes_over, reads_peek, reads_look}
 use Rattle.fluent_syntax_grammar.proofs.forward.Reading.{reads_first, reads_second, reads_present, more_map, reads_end}
@@ -31,21 +31,21 @@ use Rattle.fluent_syntax_grammar.proofs.forward.Reading.{reads_absent, passes_to
 use Rattle.fluent_syntax_grammar.proofs.forward.Words.{reads_name, reads_number}
 use Rattle.fluent_syntax_grammar.proofs.marks.WrittenBytes.{inline_bytes, variants_bytes, pattern_bytes}
 use Rattle.fluent_syntax_grammar.proofs.forward.Inline.{Follows, passes_blanks, letter_no_digit}
-use Rattle.fluent_syntax_grammar.proofs.forward.Arguments.{Begins, InlineBack, inline_begins, name_begins}
+use Rattle.fluent_syntax_grammar.proofs.forward.Arguments.{Begins, InlineReadsBack, inline_begins, name_begins}
 use Rattle.fluent_syntax_grammar.proofs.forward.Arguments.{number_begins, begins_other}
-use Rattle.fluent_syntax_grammar.proofs.forward.Expressions.{ExpressionBack, passes_after, same_fault, spaces_blank}
-use Rattle.fluent_syntax_grammar.proofs.forward.Lines.{lf_after, stop, Stops, column, indented, is_mark_byte}
+use Rattle.fluent_syntax_grammar.proofs.forward.Expressions.{ExpressionReadsBack, passes_after, same_fault, spaces_blank}
+use Rattle.fluent_syntax_grammar.proofs.forward.Lines.{lf_after, stop, EndsPattern, column, indented, is_mark_byte}
 use Rattle.fluent_syntax_grammar.proofs.forward.Lines.{is_column_byte}
-use Rattle.fluent_syntax_grammar.proofs.forward.Entries.{PatternBack}
+use Rattle.fluent_syntax_grammar.proofs.forward.Entries.{PatternReadsBack}
 use Rattle.fluent_syntax_grammar.proofs.Tests.{and_false, or_left, or_right}
 
 -- a line that begins, perhaps after spaces, with a mark that is no pattern's
 stops_gap : (gap : List ℕ) (b : ℕ) (bs : List ℕ) → list_all is_space gap ≡ true → is_mark_byte b ≡ true →
-    is_column_byte b ≡ true → Stops (gap ++ (b ∷ bs))
+    is_column_byte b ≡ true → EndsPattern (gap ++ (b ∷ bs))
 stops_gap [] b bs a e f = column f
 stops_gap (x ∷ gap) b bs a e f =
     let s : x ≡ space = equal x space (left_true (is_space x) (list_all is_space gap) a) in
-    subst (λ x. Stops (x ∷ (gap ++ (b ∷ bs)))) (sym s)
+    subst (λ x. EndsPattern (x ∷ (gap ++ (b ∷ bs)))) (sym s)
     (indented gap b bs (right_true (is_space x) (list_all is_space gap) a) e)
 
 pub spaces_of : (n : ℕ) → list_all is_space (replicate n space) ≡ true
@@ -68,7 +68,7 @@ bare_bytes level (variants (variant key value false) vs) close more =
     91 ∷ (key_text key ++ (93 ∷ pattern_bytes level value (lf ∷ variants_bytes level vs (close ++ (125 ∷ more)))))
 
 variants_stop : (level : ℕ) (vs : VariantTrees Text) (close more : Text) → list_all is_space close ≡ true →
-    Stops (variants_bytes level vs (close ++ (125 ∷ more)))
+    EndsPattern (variants_bytes level vs (close ++ (125 ∷ more)))
 variants_stop level no_variants close more a = stops_gap close 125 more a refl refl
 variants_stop level (variants (variant key value true) vs) close more a =
     stops_gap (star_indent level) 42 _ (spaces_of (4 * level - 1)) refl refl
@@ -76,10 +76,10 @@ variants_stop level (variants (variant key value false) vs) close more a =
     stops_gap (indent level) 91 _ (spaces_of (4 * level)) refl refl
 
 -- The rest of a list of variants is read back; the flag says whether a default stood before.
-pub record VariantsBack (edition : Edition) (t : List ℕ) (level : ℕ) (starred : Bool) (vs : VariantTrees Text) :
+pub record VariantsReadBack (edition : Edition) (t : List ℕ) (level : ℕ) (starred : Bool) (vs : VariantTrees Text) :
     Type 0 where
   pub back : (i : ℕ) (close more : List ℕ) → list_all is_space close ≡ true →
-      Left t i (bare_bytes level vs close more) →
+      SuffixAt t i (bare_bytes level vs close more) →
       Reads t (grammar.more_variants edition t starred) (variants_map (bytes_at t)) i vs (125 ∷ more)
 
 abbrev pub key_obeys' : KeyTree Text → Bool
@@ -89,7 +89,7 @@ key_obeys' (number_key v) = is_number v
 module _ (edition : Edition) (t : List ℕ) where
   -- the blank before variants
   passes_indent : (level : ℕ) (vs : VariantTrees Text) (close more : Text) (i : ℕ) → list_all is_space close ≡ true →
-      Left t i (variants_bytes level vs (close ++ (125 ∷ more))) →
+      SuffixAt t i (variants_bytes level vs (close ++ (125 ∷ more))) →
       Passes t (Rattle.fluent_syntax_grammar.specs.Tokens.blank t) i (bare_bytes level vs close more)
   passes_indent level no_variants close more i a l =
       passes_blanks close (125 ∷ more) (spaces_blank close a) refl refl refl l
@@ -105,8 +105,8 @@ module _ (edition : Edition) (t : List ℕ) where
 
   -- the rest of the list, behind an item
   after_item : (level : ℕ) (starred : Bool) (vs : VariantTrees Text) (q : Bool) → q ≡ starred →
-      VariantsBack edition t level starred vs → VariantsBack edition t level q vs
-  after_item level starred vs q e h = subst (λ b. VariantsBack edition t level b vs) (sym e) h
+      VariantsReadBack edition t level starred vs → VariantsReadBack edition t level q vs
+  after_item level starred vs q e h = subst (λ b. VariantsReadBack edition t level b vs) (sym e) h
 
   added : (v : VariantTree Span) (ws : VariantTrees Span) (x : VariantTree Text) (vs : VariantTrees Text) →
       variant_map (bytes_at t) v ≡ x → variants_map (bytes_at t) ws ≡ vs →
@@ -114,8 +114,8 @@ module _ (edition : Edition) (t : List ℕ) where
   added v ws x vs f g = cc
 
   -- the end of the list, which has a default
-  pub variants_end_back : (level : ℕ) → VariantsBack edition t level true no_variants
-  variants_end_back level =
+  pub variants_end_reads_back : (level : ℕ) → VariantsReadBack edition t level true no_variants
+  variants_end_reads_back level =
       record {
         back =
             λ i close more a l.
@@ -127,26 +127,26 @@ module _ (edition : Edition) (t : List ℕ) where
             (λ c p f o. rw f (reads_second refl (ends_with edition o))))))) refl;
       }
     where
-      ends_with : (d : Edition) {p : ℕ} {left : List ℕ} → Left t p left →
+      ends_with : (d : Edition) {p : ℕ} {left : List ℕ} → SuffixAt t p left →
           Reads t (variants_end d true false) said p no_item left
       ends_with One o = reads_first refl (reads_yields refl o)
       ends_with Two o = reads_first refl (reads_yields refl o)
 
   -- a key before its bracket
-  key_back : (key : KeyTree Text) (i : ℕ) (tail : Text) → key_obeys' key ≡ true →
-      Left t i (key_text key ++ (93 ∷ tail)) → Reads t (variant_key t) (key_map (bytes_at t)) i key (93 ∷ tail)
-  key_back (name_key []) i tail e l = absurd cc
-  key_back (name_key (b ∷ bs)) i tail e l =
+  key_reads_back : (key : KeyTree Text) (i : ℕ) (tail : Text) → key_obeys' key ≡ true →
+      SuffixAt t i (key_text key ++ (93 ∷ tail)) → Reads t (variant_key t) (key_map (bytes_at t)) i key (93 ∷ tail)
+  key_reads_back (name_key []) i tail e l = absurd cc
+  key_reads_back (name_key (b ∷ bs)) i tail e l =
       reads_peek false
-      (left_has is_number_start l ∙ no_number b (left_true (is_letter b) (list_all is_name_byte bs) e))
+      (suffix_has is_number_start l ∙ no_number b (left_true (is_letter b) (list_all is_name_byte bs) e))
       (reads_second refl
       (reads_bind (reads_name (b ∷ bs) (93 ∷ tail) e refl l) (λ s j f m. reads_yields (ap name_key f) m)))
     where
       no_number : (b : ℕ) → is_letter b ≡ true → is_number_start b ≡ false
       no_number b e = rw (letter_no_digit b e, differ is_letter b 45 e refl) refl
-  key_back (number_key []) i tail e l = absurd cc
-  key_back (number_key (b ∷ bs)) i tail e l =
-      reads_peek true (left_has is_number_start l ∙ starts_number b bs e)
+  key_reads_back (number_key []) i tail e l = absurd cc
+  key_reads_back (number_key (b ∷ bs)) i tail e l =
+      reads_peek true (suffix_has is_number_start l ∙ starts_number b bs e)
       (reads_first refl
       (reads_bind (reads_number (b ∷ bs) (93 ∷ tail) e refl refl l) (λ s j f m. reads_yields (ap number_key f) m)))
     where
@@ -166,7 +166,7 @@ module _ (edition : Edition) (t : List ℕ) where
       (k : KeyTree Span) (v : Option (PatternTree Span)) (i : ℕ) (close more : Text) →
       list_all is_space close ≡ true → key_map (bytes_at t) k ≡ key →
       option_map (pattern_map (bytes_at t)) v ≡ Some value →
-      Left t i (variants_bytes level vs (close ++ (125 ∷ more))) →
+      SuffixAt t i (variants_bytes level vs (close ++ (125 ∷ more))) →
       Reads t (variant_of t starred star k v) said i (item (variant key value star) (starred || star))
       (bare_bytes level vs close more)
   after_value level starred star key value vs k None i close more a e f l = absurd cc
@@ -183,8 +183,8 @@ module _ (edition : Edition) (t : List ℕ) where
   from_bracket :
       (level : ℕ) (starred star : Bool) (key : KeyTree Text) (value : PatternTree Text) (vs : VariantTrees Text) (i : ℕ)
       (close more : Text) → list_all is_space close ≡ true → key_obeys' key ≡ true →
-      PatternBack edition t level value →
-      Left t i (key_text key ++
+      PatternReadsBack edition t level value →
+      SuffixAt t i (key_text key ++
       (93 ∷ pattern_bytes level value (lf ∷ variants_bytes level vs (close ++ (125 ∷ more))))) →
       Reads t (variant_after edition t (family edition t) starred star) said i
       (item (variant key value star) (starred || star)) (bare_bytes level vs close more)
@@ -192,18 +192,18 @@ module _ (edition : Edition) (t : List ℕ) where
       let b =
       key_begins key (93 ∷ pattern_bytes level value (lf ∷ variants_bytes level vs (close ++ (125 ∷ more)))) o in
       passes_then (passes_blanks [] _ refl (begins_other 32 b refl) (begins_other lf b refl) (begins_other cr b refl) l)
-      (λ j m. reads_bind (key_back key j _ o m) (λ k q e n.
+      (λ j m. reads_bind (key_reads_back key j _ o m) (λ k q e n.
       passes_then (passes_blanks [] _ refl refl refl refl n) (λ r x. passes_then (passes_token 93 refl x) (λ y z.
       reads_bind (p.back y (variants_bytes level vs (close ++ (125 ∷ more)))
       (variants_bytes level vs (close ++ (125 ∷ more))) (stop (variants_stop level vs close more a)) z)
       (λ v w f u. after_value level starred star key value vs k v w close more a e f u)))))
 
   -- one more variant, which is not the default
-  pub variant_back :
+  pub variant_reads_back :
       (level : ℕ) (starred : Bool) (key : KeyTree Text) (value : PatternTree Text) (vs : VariantTrees Text) →
-      key_obeys' key ≡ true → PatternBack edition t level value → VariantsBack edition t level starred vs →
-      VariantsBack edition t level starred (variants (variant key value false) vs)
-  variant_back level starred key value vs o p h = record {
+      key_obeys' key ≡ true → PatternReadsBack edition t level value → VariantsReadBack edition t level starred vs →
+      VariantsReadBack edition t level starred (variants (variant key value false) vs)
+  variant_reads_back level starred key value vs o p h = record {
     back = λ i close more a l. reads_item {c = variant key value false} {q = starred || false}
         (reads_bind (reads_absent 42 refl l)
         (λ b j e m. rw e
@@ -220,10 +220,10 @@ module _ (edition : Edition) (t : List ℕ) where
       or_false false = refl
 
   -- the default
-  pub default_back : (level : ℕ) (key : KeyTree Text) (value : PatternTree Text) (vs : VariantTrees Text) →
-      key_obeys' key ≡ true → PatternBack edition t level value → VariantsBack edition t level true vs →
-      VariantsBack edition t level false (variants (variant key value true) vs)
-  default_back level key value vs o p h = record {
+  pub default_reads_back : (level : ℕ) (key : KeyTree Text) (value : PatternTree Text) (vs : VariantTrees Text) →
+      key_obeys' key ≡ true → PatternReadsBack edition t level value → VariantsReadBack edition t level true vs →
+      VariantsReadBack edition t level false (variants (variant key value true) vs)
+  default_reads_back level key value vs o p h = record {
     back = λ i close more a l. reads_item {c = variant key value true} {q = true}
         (reads_bind (reads_present 42 refl l)
         (λ b j e m. rw e
@@ -236,8 +236,8 @@ module _ (edition : Edition) (t : List ℕ) where
 
   -- ---- the select
 
-  arrow_there : (i : ℕ) (more : List ℕ) → Left t i (45 ∷ 62 ∷ more) → has_arrow t i ≡ true
-  arrow_there i more l = rw (left_first l, left_first (left_next l)) refl
+  arrow_there : (i : ℕ) (more : List ℕ) → SuffixAt t i (45 ∷ 62 ∷ more) → has_arrow t i ≡ true
+  arrow_there i more l = rw (suffix_first l, suffix_first (suffix_next l)) refl
 
   follows_arrow : (more : List ℕ) → Follows (32 ∷ []) (45 ∷ 62 ∷ more)
   follows_arrow more =
@@ -261,8 +261,8 @@ module _ (edition : Edition) (t : List ℕ) where
   from_arrow :
       (level : ℕ) (e : InlineTree Text) (vs : VariantTrees Text) (v : InlineTree Span) (i : ℕ) (close more : Text) →
       list_all is_space close ≡ true → inline_map (bytes_at t) v ≡ e → is_none (selector_fault e) ≡ true →
-      VariantsBack edition t (level + 1) false vs →
-      Left t i (45 ∷ 62 ∷ lf ∷ variants_bytes (level + 1) vs (close ++ (125 ∷ more))) →
+      VariantsReadBack edition t (level + 1) false vs →
+      SuffixAt t i (45 ∷ 62 ∷ lf ∷ variants_bytes (level + 1) vs (close ++ (125 ∷ more))) →
       Reads t (select_with edition t (family edition t) v (selector_fault v)) (expression_map (bytes_at t)) i
       (select e vs)
       (125 ∷ more)
@@ -276,26 +276,26 @@ module _ (edition : Edition) (t : List ℕ) where
       (λ p o. passes_then (passes_indent (level + 1) vs close more p a o)
       (λ q x. h.back q close more a x))))) (λ ws y d z. reads_yields (same_select ws d) z))
     where
-      line_end_passes : {bs : List ℕ} (k : ℕ) → Left t k (lf ∷ bs) →
+      line_end_passes : {bs : List ℕ} (k : ℕ) → SuffixAt t k (lf ∷ bs) →
           Passes t (peek (after_eol t) arrow_line_end) k bs
       line_end_passes k n =
           reads_peek (Some (k + 1)) (lf_after edition t n)
-          (passes_over {j = k + 1} (record { there = refl }) (left_next n))
+          (passes_over {j = k + 1} (record { there = refl }) (suffix_next n))
 
       same_select : (ws : VariantTrees Span) → variants_map (bytes_at t) ws ≡ vs →
           expression_map (bytes_at t) (select v ws) ≡ select e vs
       same_select ws d = cc
 
-  pub select_is_back : (level : ℕ) (e : InlineTree Text) (vs : VariantTrees Text) → is_none (selector_fault e) ≡ true →
-      InlineBack edition t level e → VariantsBack edition t (level + 1) false vs →
-      ExpressionBack edition t level (select e vs)
-  select_is_back level e vs g h k = record {
+  pub select_is_read_back : (level : ℕ) (e : InlineTree Text) (vs : VariantTrees Text) → is_none (selector_fault e) ≡ true →
+      InlineReadsBack edition t level e → VariantsReadBack edition t (level + 1) false vs →
+      ExpressionReadsBack edition t level (select e vs)
+  select_is_read_back level e vs g h k = record {
     begins = λ tail. inline_begins edition level e _ h.obeys;
     back = λ i gap more a l.
         let close = indent level ++ gap in
         let spaces : list_all is_space close ≡ true = all_append (indent level) gap (spaces_of (4 * level)) a in
         let m =
-        left_as (ap (λ x. inline_bytes level e (32 ∷ 45 ∷ 62 ∷ lf ∷ variants_bytes (level + 1) vs x))
+        suffix_as (ap (λ x. inline_bytes level e (32 ∷ 45 ∷ 62 ∷ lf ∷ variants_bytes (level + 1) vs x))
         (sym (append_assoc (indent level) gap (125 ∷ more)))) l in
         reads_bind (h.back i (32 ∷ []) (45 ∷ 62 ∷ lf ∷ variants_bytes (level + 1) vs (close ++ (125 ∷ more)))
         (follows_arrow _) m) (λ v j f n.

@@ -13,7 +13,7 @@ use Rattle.fluent_syntax_grammar.specs.Strings.{before_quote, unit_and_more, str
 use Rattle.fluent_syntax_grammar.specs.Spellings.{is_units, is_escape, is_string}
 use Rattle.fluent_syntax_grammar.proofs.Facts.{left_true, right_true, equal}
 use Rattle.fluent_syntax_grammar.proofs.Tests.{both, or_cases}
-use Rattle.fluent_syntax_grammar.proofs.Left.{Left, left_as, left_first, left_next, left_past, left_has, left_each}
+use Rattle.fluent_syntax_grammar.proofs.SuffixAt.{SuffixAt, suffix_as, suffix_first, suffix_next, suffix_past, suffix_has, suffix_each}
 use Rattle.fluent_syntax_grammar.proofs.forward.Reading.{Reads, Passes, reads_bind, reads_yields, passes_then}
 use Rattle.fluent_syntax_grammar.proofs.forward.Reading.{reads_here, reads_peek, reads_first, reads_second}
 use Rattle.fluent_syntax_grammar.proofs.forward.Reading.{passes_one, passes_two, passes_token, reads_spanned}
@@ -49,18 +49,18 @@ neither false false true e = cc
 
 -- texts no longer than the number are read as units
 pub record UnitsPass (t : List ℕ) (m : ℕ) : Type 0 where
-  pub passes : (v more : List ℕ) (i : ℕ) → length v ≤ m → is_units zero v ≡ true → Left t i (v ++ (34 ∷ more)) →
+  pub passes : (v more : List ℕ) (i : ℕ) → length v ≤ m → is_units zero v ≡ true → SuffixAt t i (v ++ (34 ∷ more)) →
       Passes t (string_units t) i (34 ∷ more)
 
 module _ {t : List ℕ} where
   passes_hex : {i : ℕ} (n : ℕ) (hex more : List ℕ) → length hex ≡ n → list_all is_ascii_hexdigit hex ≡ true →
-      Left t i (hex ++ more) → Passes t (hex_digits t n) i more
+      SuffixAt t i (hex ++ more) → Passes t (hex_digits t n) i more
   passes_hex {i = i} n hex more e a l =
       let d : HexDigits t i n (i + length hex) =
       record {
         forward = omega arith;
         most = omega arith;
-        each = left_each is_ascii_hexdigit hex more a l;
+        each = suffix_each is_ascii_hexdigit hex more a l;
         longest = λ m. absurd (omega arith);
       } in
       record {
@@ -68,12 +68,12 @@ module _ {t : List ℕ} where
         end = i + length hex;
         reads = all_there d (ap (λ n. i + n) e);
         spells = refl;
-        rest = left_past hex l;
+        rest = suffix_past hex l;
       }
 
   -- a unit, and units after it
-  unit_then : {i b : ℕ} {bs mid left : List ℕ} → Left t i (b ∷ bs) → (b == 34) ≡ false →
-      Passes t (string_unit t (Some b)) i mid → ((j : ℕ) → Left t j mid → Passes t (string_units t) j left) →
+  unit_then : {i b : ℕ} {bs mid left : List ℕ} → SuffixAt t i (b ∷ bs) → (b == 34) ≡ false →
+      Passes t (string_unit t (Some b)) i mid → ((j : ℕ) → SuffixAt t j mid → Passes t (string_units t) j left) →
       Passes t (string_units t) i left
   unit_then {i = i} {b = b} l e m k =
       let n = k m.end m.rest in
@@ -81,36 +81,36 @@ module _ {t : List ℕ} where
         value = tt;
         end = n.end;
         reads =
-            unit_and_more (left_has (λ c. c == 34) l ∙ e)
-            (subst (λ o. string_unit t o i (Read tt m.end)) (sym (left_first l)) m.reads) n.reads;
+            unit_and_more (suffix_has (λ c. c == 34) l ∙ e)
+            (subst (λ o. string_unit t o i (Read tt m.end)) (sym (suffix_first l)) m.reads) n.reads;
         spells = refl;
         rest = n.rest;
       }
 
-  passes_plain : {i b : ℕ} {bs : List ℕ} → (b == lf) ≡ false → (b == 92) ≡ false → Left t i (b ∷ bs) →
+  passes_plain : {i b : ℕ} {bs : List ℕ} → (b == lf) ≡ false → (b == 92) ≡ false → SuffixAt t i (b ∷ bs) →
       Passes t (string_unit t (Some b)) i bs
   passes_plain e f l = reads_second e (reads_second f (passes_one l))
 
-  passes_escape : {i b c : ℕ} {bs left : List ℕ} → b ≡ 92 → Left t i (b ∷ c ∷ bs) →
+  passes_escape : {i b c : ℕ} {bs left : List ℕ} → b ≡ 92 → SuffixAt t i (b ∷ c ∷ bs) →
       Passes t (escaped t (Some c)) i left → Passes t (string_unit t (Some b)) i left
   passes_escape {c = c} e l m =
       reads_second (ap (λ b. b == lf) e)
-      (reads_first (ap (λ b. b == 92) e) (reads_peek (Some c) (left_first (left_next l)) m))
+      (reads_first (ap (λ b. b == 92) e) (reads_peek (Some c) (suffix_first (suffix_next l)) m))
 
   passes_hex_escape : {i b c : ℕ} {bs : List ℕ} (left : List ℕ) (n : ℕ) (r : HexThen n bs) →
-      Left t i (b ∷ c ∷ (bs ++ left)) → Passes t (skip (Steps 2) >> hex_digits t n) i (r.more ++ left)
+      SuffixAt t i (b ∷ c ∷ (bs ++ left)) → Passes t (skip (Steps 2) >> hex_digits t n) i (r.more ++ left)
   passes_hex_escape left n r l =
       passes_then (passes_two l)
       (λ j m. passes_hex n r.hex (r.more ++ left) r.count r.digits
-      (left_as (ap (λ v. v ++ left) (sym r.joins) ∙ append_assoc r.hex r.more left) m))
+      (suffix_as (ap (λ v. v ++ left) (sym r.joins) ∙ append_assoc r.hex r.more left) m))
 
-  passes_quote : {i : ℕ} {more : List ℕ} → Left t i (34 ∷ more) → Passes t (string_units t) i (34 ∷ more)
+  passes_quote : {i : ℕ} {more : List ℕ} → SuffixAt t i (34 ∷ more) → Passes t (string_units t) i (34 ∷ more)
   passes_quote {i = i} l =
-      record { value = tt; end = i; reads = before_quote (left_has (λ c. c == 34) l); spells = refl; rest = l }
+      record { value = tt; end = i; reads = before_quote (suffix_has (λ c. c == 34) l); spells = refl; rest = l }
 
   -- an escape with hexadecimal digits, and units after it
   hex_escape_then : (m n : ℕ) → UnitsPass t m → (b c : ℕ) (cs more : List ℕ) (i : ℕ) → length cs ≤ m → b ≡ 92 →
-      is_units n cs ≡ true → Left t i (b ∷ c ∷ (cs ++ (34 ∷ more))) →
+      is_units n cs ≡ true → SuffixAt t i (b ∷ c ∷ (cs ++ (34 ∷ more))) →
       ((left : List ℕ) → Passes t (skip (Steps 2) >> hex_digits t n) i left → Passes t (escaped t (Some c)) i left) →
       Passes t (string_units t) i (34 ∷ more)
   hex_escape_then m n h b c cs more i l e f x k =
@@ -121,7 +121,7 @@ module _ {t : List ℕ} where
       (λ j y. h.passes r.more more j size r.units y)
 
   escape_then : (m : ℕ) → UnitsPass t m → (b : ℕ) (bs more : List ℕ) (i : ℕ) → length bs ≤ m → b ≡ 92 →
-      is_escape bs ≡ true → Left t i (b ∷ (bs ++ (34 ∷ more))) → Passes t (string_units t) i (34 ∷ more)
+      is_escape bs ≡ true → SuffixAt t i (b ∷ (bs ++ (34 ∷ more))) → Passes t (string_units t) i (34 ∷ more)
   escape_then m h b [] more i l e f x = cc
   escape_then m h b (c ∷ cs) more i l e f x =
       elim (or_cases ((c == 92 || c == 34 || c == 123) && is_units zero cs || c == 117 && is_units 4 cs)
@@ -144,7 +144,7 @@ module _ {t : List ℕ} where
       ]
 
   units_more : (m : ℕ) → UnitsPass t m → (b : ℕ) (bs more : List ℕ) (i : ℕ) → length bs ≤ m →
-      is_units zero (b ∷ bs) ≡ true → Left t i (b ∷ (bs ++ (34 ∷ more))) → Passes t (string_units t) i (34 ∷ more)
+      is_units zero (b ∷ bs) ≡ true → SuffixAt t i (b ∷ (bs ++ (34 ∷ more))) → Passes t (string_units t) i (34 ∷ more)
   units_more m h b bs more i l e x =
       elim (or_cases (b == 92 && is_escape bs) (not (b == 92 || b == 34 || b == lf) && is_units zero bs) e) [
         | inl f ↦ escape_then m h b bs more i l (equal b 92 (left_true (b == 92) (is_escape bs) f))
@@ -157,14 +157,14 @@ module _ {t : List ℕ} where
       ]
 
   units_within : (m : ℕ) → (v more : List ℕ) (i : ℕ) → length v ≤ m → is_units zero v ≡ true →
-      Left t i (v ++ (34 ∷ more)) → Passes t (string_units t) i (34 ∷ more)
+      SuffixAt t i (v ++ (34 ∷ more)) → Passes t (string_units t) i (34 ∷ more)
   units_within m [] more i l e x = passes_quote x
   units_within zero (b ∷ bs) more i l e x = absurd (omega arith)
   units_within (suc m) (b ∷ bs) more i l e x =
       units_more m (record { passes = λ v more i. units_within m v more i }) b bs more i (omega arith) e x
 
   -- a string in its quotes
-  pub reads_string : {i : ℕ} (v more : List ℕ) → is_string v ≡ true → Left t i (34 ∷ (v ++ (34 ∷ more))) →
+  pub reads_string : {i : ℕ} (v more : List ℕ) → is_string v ≡ true → SuffixAt t i (34 ∷ (v ++ (34 ∷ more))) →
       Reads t (string_literal t) (bytes_at t) i v more
   reads_string v more e l =
       passes_then (passes_token 34 refl l)

@@ -15,106 +15,106 @@ use Rattle.fluent_syntax_grammar.specs.Spellings.{is_name}
 use Rattle.fluent_syntax_grammar.specs.Inline.{is_callee_byte}
 use Rattle.fluent_syntax_grammar.specs.Arguments.{is_used}
 use Rattle.fluent_syntax_grammar.specs.Expressions.{is_term_attribute, selector_fault}
-use Rattle.fluent_syntax_grammar.specs.Rules.{inline_obeys, maybe_obeys, arguments_obey, inlines_obey, nameds_obey}
+use Rattle.fluent_syntax_grammar.specs.Rules.{inline_obeys, optional_arguments_obey, arguments_obey, inlines_obey, named_arguments_obey}
 use Rattle.fluent_syntax_grammar.specs.Rules.{named_obeys, expression_obeys, variants_obey, variant_obeys, key_obeys}
 use Rattle.fluent_syntax_grammar.specs.Rules.{option_obeys, elements_obey, pattern_obeys}
 use Rattle.fluent_syntax_grammar.specs.Readable.{are_named_well, is_argument_value, is_expression, is_pattern, defaults}
 use Rattle.fluent_syntax_grammar.specs.Canonical.{canonical_rules, is_flush}
 use Rattle.fluent_syntax_grammar.proofs.Obeys.{inline_part, select_parts}
 use Rattle.fluent_syntax_grammar.proofs.Facts.{left_true, right_true, equal}
-use Rattle.fluent_syntax_grammar.proofs.forward.Arguments.{InlineBack, ListBack, nothing_back, positional_back}
-use Rattle.fluent_syntax_grammar.proofs.forward.Arguments.{named_back}
-use Rattle.fluent_syntax_grammar.proofs.forward.References.{MaybeBack, string_is_back, number_is_back, variable_is_back}
-use Rattle.fluent_syntax_grammar.proofs.forward.References.{message_is_back, function_is_back, term_is_back}
-use Rattle.fluent_syntax_grammar.proofs.forward.References.{no_arguments_back, some_arguments_back}
-use Rattle.fluent_syntax_grammar.proofs.forward.Expressions.{ExpressionBack, inline_is_back, placeable_is_back}
-use Rattle.fluent_syntax_grammar.proofs.forward.Expressions.{placeable_back, double_back}
-use Rattle.fluent_syntax_grammar.proofs.forward.Selects.{VariantsBack, select_is_back, variants_end_back, variant_back}
-use Rattle.fluent_syntax_grammar.proofs.forward.Selects.{default_back, key_obeys'}
-use Rattle.fluent_syntax_grammar.proofs.forward.OneLine.{ElementBack, ElementsBack}
-use Rattle.fluent_syntax_grammar.proofs.forward.OneLinePatterns.{one_line_back}
-use Rattle.fluent_syntax_grammar.proofs.forward.Patterns.{multiline_back}
-use Rattle.fluent_syntax_grammar.proofs.forward.Entries.{PatternBack}
+use Rattle.fluent_syntax_grammar.proofs.forward.Arguments.{InlineReadsBack, ArgumentListReadsBack, nothing_reads_back, positional_reads_back}
+use Rattle.fluent_syntax_grammar.proofs.forward.Arguments.{named_reads_back}
+use Rattle.fluent_syntax_grammar.proofs.forward.References.{MaybeArgumentsReadBack, string_is_read_back, number_is_read_back, variable_is_read_back}
+use Rattle.fluent_syntax_grammar.proofs.forward.References.{message_is_read_back, function_is_read_back, term_is_read_back}
+use Rattle.fluent_syntax_grammar.proofs.forward.References.{no_arguments_read_back, some_arguments_read_back}
+use Rattle.fluent_syntax_grammar.proofs.forward.Expressions.{ExpressionReadsBack, inline_is_read_back, placeable_is_read_back}
+use Rattle.fluent_syntax_grammar.proofs.forward.Expressions.{placeable_reads_back, double_reads_back}
+use Rattle.fluent_syntax_grammar.proofs.forward.Selects.{VariantsReadBack, select_is_read_back, variants_end_reads_back, variant_reads_back}
+use Rattle.fluent_syntax_grammar.proofs.forward.Selects.{default_reads_back, key_obeys'}
+use Rattle.fluent_syntax_grammar.proofs.forward.OneLine.{ElementReadsBack, ElementsReadBack}
+use Rattle.fluent_syntax_grammar.proofs.forward.OneLinePatterns.{one_line_reads_back}
+use Rattle.fluent_syntax_grammar.proofs.forward.Patterns.{multiline_reads_back}
+use Rattle.fluent_syntax_grammar.proofs.forward.Entries.{PatternReadsBack}
 use Rattle.fluent_syntax_grammar.proofs.Tests.{not_true}
 
 -- An argument list is read back.
-abbrev ListOf : (edition : Edition) (t : List ℕ) (level : ℕ) → ArgumentsTree Text → Type 0
-ListOf edition t level (arguments ps ns) = ListBack edition t level [] ps ns
+abbrev ArgumentsReadBack : (edition : Edition) (t : List ℕ) (level : ℕ) → ArgumentsTree Text → Type 0
+ArgumentsReadBack edition t level (arguments ps ns) = ArgumentListReadsBack edition t level [] ps ns
 
 module _ (edition : Edition) (t : List ℕ) where
   -- a pattern by whether it is multiline
   pattern_by : (p : PatternTree Text) (x : Bool) → is_multiline p ≡ x → is_pattern edition p ≡ true →
-      is_flush edition p ≡ true → ((level : ℕ) → ElementsBack edition t level p) → (level : ℕ) →
-      PatternBack edition t level p
-  pattern_by p true e g f h level = multiline_back edition t level p e g f (h (level + 1))
-  pattern_by p false e g f h level = one_line_back edition t level p e g (h level)
+      is_flush edition p ≡ true → ((level : ℕ) → ElementsReadBack edition t level p) → (level : ℕ) →
+      PatternReadsBack edition t level p
+  pattern_by p true e g f h level = multiline_reads_back edition t level p e g f (h (level + 1))
+  pattern_by p false e g f h level = one_line_reads_back edition t level p e g (h level)
 
   select_element : (level : ℕ) (e : InlineTree Text) (vs : VariantTrees Text) →
-      ExpressionBack edition t level (select e vs) → ElementBack edition t level (select e vs)
+      ExpressionReadsBack edition t level (select e vs) → ElementReadsBack edition t level (select e vs)
   select_element level e vs h =
-      record { back = λ i tail l. placeable_back edition t level (select e vs) (32 ∷ []) [] tail i refl refl h l }
+      record { back = λ i tail l. placeable_reads_back edition t level (select e vs) (32 ∷ []) [] tail i refl refl h l }
 
-  double_element : (level : ℕ) (e : ExpressionTree Text) → ExpressionBack edition t level e →
-      ElementBack edition t level (inline (inline_placeable e))
-  double_element level e h = record { back = λ i tail l. double_back edition t level e i tail h l }
+  double_element : (level : ℕ) (e : ExpressionTree Text) → ExpressionReadsBack edition t level e →
+      ElementReadsBack edition t level (inline (inline_placeable e))
+  double_element level e h = record { back = λ i tail l. double_reads_back edition t level e i tail h l }
 
-  string_element : (level : ℕ) (v : Text) → InlineBack edition t level (string_literal v) →
-      ElementBack edition t level (inline (string_literal v))
+  string_element : (level : ℕ) (v : Text) → InlineReadsBack edition t level (string_literal v) →
+      ElementReadsBack edition t level (inline (string_literal v))
   string_element level v h =
       record {
         back =
-            λ i tail l. placeable_back edition t level (inline (string_literal v)) (32 ∷ []) (32 ∷ []) tail i refl refl
-            (inline_is_back edition t level (string_literal v) refl h) l;
+            λ i tail l. placeable_reads_back edition t level (inline (string_literal v)) (32 ∷ []) (32 ∷ []) tail i refl refl
+            (inline_is_read_back edition t level (string_literal v) refl h) l;
       }
 
-  number_element : (level : ℕ) (v : Text) → InlineBack edition t level (number_literal v) →
-      ElementBack edition t level (inline (number_literal v))
+  number_element : (level : ℕ) (v : Text) → InlineReadsBack edition t level (number_literal v) →
+      ElementReadsBack edition t level (inline (number_literal v))
   number_element level v h =
       record {
         back =
-            λ i tail l. placeable_back edition t level (inline (number_literal v)) (32 ∷ []) (32 ∷ []) tail i refl refl
-            (inline_is_back edition t level (number_literal v) refl h) l;
+            λ i tail l. placeable_reads_back edition t level (inline (number_literal v)) (32 ∷ []) (32 ∷ []) tail i refl refl
+            (inline_is_read_back edition t level (number_literal v) refl h) l;
       }
 
   function_element : (level : ℕ) (id : Text) (a : ArgumentsTree Text) →
-      InlineBack edition t level (function_reference id a) →
-      ElementBack edition t level (inline (function_reference id a))
+      InlineReadsBack edition t level (function_reference id a) →
+      ElementReadsBack edition t level (inline (function_reference id a))
   function_element level id a h =
       record {
         back =
-            λ i tail l. placeable_back edition t level (inline (function_reference id a)) (32 ∷ []) (32 ∷ []) tail i
+            λ i tail l. placeable_reads_back edition t level (inline (function_reference id a)) (32 ∷ []) (32 ∷ []) tail i
             refl
-            refl (inline_is_back edition t level (function_reference id a) refl h) l;
+            refl (inline_is_read_back edition t level (function_reference id a) refl h) l;
       }
 
-  message_element : (level : ℕ) (id : Text) (a : Option Text) → InlineBack edition t level (message_reference id a) →
-      ElementBack edition t level (inline (message_reference id a))
+  message_element : (level : ℕ) (id : Text) (a : Option Text) → InlineReadsBack edition t level (message_reference id a) →
+      ElementReadsBack edition t level (inline (message_reference id a))
   message_element level id a h =
       record {
         back =
-            λ i tail l. placeable_back edition t level (inline (message_reference id a)) (32 ∷ []) (32 ∷ []) tail i refl
-            refl (inline_is_back edition t level (message_reference id a) refl h) l;
+            λ i tail l. placeable_reads_back edition t level (inline (message_reference id a)) (32 ∷ []) (32 ∷ []) tail i refl
+            refl (inline_is_read_back edition t level (message_reference id a) refl h) l;
       }
 
   term_element : (level : ℕ) (id : Text) (a : Option Text) (c : MaybeArguments Text) →
-      is_term_attribute (term_reference id a c) ≡ false → InlineBack edition t level (term_reference id a c) →
-      ElementBack edition t level (inline (term_reference id a c))
+      is_term_attribute (term_reference id a c) ≡ false → InlineReadsBack edition t level (term_reference id a c) →
+      ElementReadsBack edition t level (inline (term_reference id a c))
   term_element level id a c e h =
       record {
         back =
-            λ i tail l. placeable_back edition t level (inline (term_reference id a c)) (32 ∷ []) (32 ∷ []) tail i refl
+            λ i tail l. placeable_reads_back edition t level (inline (term_reference id a c)) (32 ∷ []) (32 ∷ []) tail i refl
             refl
-            (inline_is_back edition t level (term_reference id a c) e h) l;
+            (inline_is_read_back edition t level (term_reference id a c) e h) l;
       }
 
-  variable_element : (level : ℕ) (id : Text) → InlineBack edition t level (variable_reference id) →
-      ElementBack edition t level (inline (variable_reference id))
+  variable_element : (level : ℕ) (id : Text) → InlineReadsBack edition t level (variable_reference id) →
+      ElementReadsBack edition t level (inline (variable_reference id))
   variable_element level id h =
       record {
         back =
-            λ i tail l. placeable_back edition t level (inline (variable_reference id)) (32 ∷ []) (32 ∷ []) tail i refl
+            λ i tail l. placeable_reads_back edition t level (inline (variable_reference id)) (32 ∷ []) (32 ∷ []) tail i refl
             refl
-            (inline_is_back edition t level (variable_reference id) refl h) l;
+            (inline_is_read_back edition t level (variable_reference id) refl h) l;
       }
 
   -- what an expression is asked
@@ -152,152 +152,152 @@ module _ (edition : Edition) (t : List ℕ) where
       )
 
   mutual
-    expression_back : (level : ℕ) (e : ExpressionTree Text) → expression_obeys (canonical_rules edition) e ≡ true →
-        ExpressionBack edition t level e
-    expression_back level (inline e) h =
-        inline_is_back edition t level e
+    expression_reads_back : (level : ℕ) (e : ExpressionTree Text) → expression_obeys (canonical_rules edition) e ≡ true →
+        ExpressionReadsBack edition t level e
+    expression_reads_back level (inline e) h =
+        inline_is_read_back edition t level e
         (not_true (is_term_attribute e)
         (left_true (not (is_term_attribute e)) true (left_true (not (is_term_attribute e) && true) _ h)))
-        (inline_back level e (right_true (not (is_term_attribute e) && true) _ h))
-    expression_back level (select e vs) h =
-        select_is_back edition t level e vs (select_simple e vs h)
-        (inline_back level e (left_true (inline_obeys (canonical_rules edition) e) _ (select_parts edition e vs h)))
-        (one_back (level + 1) vs (select_one e vs h)
+        (inline_reads_back level e (right_true (not (is_term_attribute e) && true) _ h))
+    expression_reads_back level (select e vs) h =
+        select_is_read_back edition t level e vs (select_simple e vs h)
+        (inline_reads_back level e (left_true (inline_obeys (canonical_rules edition) e) _ (select_parts edition e vs h)))
+        (one_reads_back (level + 1) vs (select_one e vs h)
         (right_true (inline_obeys (canonical_rules edition) e) _ (select_parts edition e vs h)))
 
-    inline_back : (level : ℕ) (e : InlineTree Text) → inline_obeys (canonical_rules edition) e ≡ true →
-        InlineBack edition t level e
-    inline_back level (string_literal v) h = string_is_back edition t level v h
-    inline_back level (number_literal v) h = number_is_back edition t level v h
-    inline_back level (function_reference id (arguments ps ns)) h =
-        function_is_back edition t level id ps ns h
-        (list_back level (arguments ps ns) (right_true (list_all is_callee_byte id) _ (right_true (is_name id) _ h)))
-    inline_back level (message_reference id a) h = message_is_back edition t level id a h
-    inline_back level (term_reference id a c) h =
-        term_is_back edition t level id a c h
-        (maybe_back level c (right_true (option_obeys is_name a) _ (right_true (is_name id) _ h)))
-    inline_back level (variable_reference id) h = variable_is_back edition t level id h
-    inline_back level (inline_placeable e) h = placeable_is_back edition t level e h (expression_back level e h)
+    inline_reads_back : (level : ℕ) (e : InlineTree Text) → inline_obeys (canonical_rules edition) e ≡ true →
+        InlineReadsBack edition t level e
+    inline_reads_back level (string_literal v) h = string_is_read_back edition t level v h
+    inline_reads_back level (number_literal v) h = number_is_read_back edition t level v h
+    inline_reads_back level (function_reference id (arguments ps ns)) h =
+        function_is_read_back edition t level id ps ns h
+        (list_reads_back level (arguments ps ns) (right_true (list_all is_callee_byte id) _ (right_true (is_name id) _ h)))
+    inline_reads_back level (message_reference id a) h = message_is_read_back edition t level id a h
+    inline_reads_back level (term_reference id a c) h =
+        term_is_read_back edition t level id a c h
+        (maybe_reads_back level c (right_true (option_obeys is_name a) _ (right_true (is_name id) _ h)))
+    inline_reads_back level (variable_reference id) h = variable_is_read_back edition t level id h
+    inline_reads_back level (inline_placeable e) h = placeable_is_read_back edition t level e h (expression_reads_back level e h)
 
-    maybe_back : (level : ℕ) (a : MaybeArguments Text) → maybe_obeys (canonical_rules edition) a ≡ true →
-        MaybeBack edition t level a
-    maybe_back level no_arguments h = no_arguments_back edition t level
-    maybe_back level (some_arguments (arguments ps ns)) h =
-        some_arguments_back edition t level ps ns (list_back level (arguments ps ns) h)
+    maybe_reads_back : (level : ℕ) (a : MaybeArguments Text) → optional_arguments_obey (canonical_rules edition) a ≡ true →
+        MaybeArgumentsReadBack edition t level a
+    maybe_reads_back level no_arguments h = no_arguments_read_back edition t level
+    maybe_reads_back level (some_arguments (arguments ps ns)) h =
+        some_arguments_read_back edition t level ps ns (list_reads_back level (arguments ps ns) h)
 
-    list_back : (level : ℕ) (a : ArgumentsTree Text) → arguments_obey (canonical_rules edition) a ≡ true →
-        ListOf edition t level a
-    list_back level (arguments ps ns) h =
+    list_reads_back : (level : ℕ) (a : ArgumentsTree Text) → arguments_obey (canonical_rules edition) a ≡ true →
+        ArgumentsReadBack edition t level a
+    list_reads_back level (arguments ps ns) h =
         let rest = right_true (are_named_well [] ns) _ h in
-        positionals_back level ps ns (left_true (inlines_obey (canonical_rules edition) ps) _ rest)
-        (nameds_back level [] ns (left_true (are_named_well [] ns) _ h)
+        positionals_read_back level ps ns (left_true (inlines_obey (canonical_rules edition) ps) _ rest)
+        (nameds_read_back level [] ns (left_true (are_named_well [] ns) _ h)
         (right_true (inlines_obey (canonical_rules edition) ps) _ rest))
 
-    positionals_back : (level : ℕ) (ps : InlineTrees Text) (ns : NamedTrees Text) →
-        inlines_obey (canonical_rules edition) ps ≡ true → ListBack edition t level [] no_inlines ns →
-        ListBack edition t level [] ps ns
-    positionals_back level no_inlines ns h k = k
-    positionals_back level (inlines e es) ns h k =
-        positional_back edition t level e es ns
-        (inline_back level e (left_true (inline_obeys (canonical_rules edition) e) _ h))
-        (positionals_back level es ns (right_true (inline_obeys (canonical_rules edition) e) _ h) k)
+    positionals_read_back : (level : ℕ) (ps : InlineTrees Text) (ns : NamedTrees Text) →
+        inlines_obey (canonical_rules edition) ps ≡ true → ArgumentListReadsBack edition t level [] no_inlines ns →
+        ArgumentListReadsBack edition t level [] ps ns
+    positionals_read_back level no_inlines ns h k = k
+    positionals_read_back level (inlines e es) ns h k =
+        positional_reads_back edition t level e es ns
+        (inline_reads_back level e (left_true (inline_obeys (canonical_rules edition) e) _ h))
+        (positionals_read_back level es ns (right_true (inline_obeys (canonical_rules edition) e) _ h) k)
 
-    nameds_back : (level : ℕ) (names : List Text) (ns : NamedTrees Text) → are_named_well names ns ≡ true →
-        nameds_obey (canonical_rules edition) ns ≡ true → ListBack edition t level names no_inlines ns
-    nameds_back level names no_named g h = nothing_back edition t level names
-    nameds_back level names (nameds (named_argument name e) ns) g h =
+    nameds_read_back : (level : ℕ) (names : List Text) (ns : NamedTrees Text) → are_named_well names ns ≡ true →
+        named_arguments_obey (canonical_rules edition) ns ≡ true → ArgumentListReadsBack edition t level names no_inlines ns
+    nameds_read_back level names no_named g h = nothing_reads_back edition t level names
+    nameds_read_back level names (nameds (named_argument name e) ns) g h =
         let this = left_true (named_obeys (canonical_rules edition) (named_argument name e)) _ h in
         let more = right_true (not (is_used name names)) _ g in
-        named_back edition t level names name e ns (left_true (is_name name) _ this)
-        (inline_back level e (right_true (is_name name) _ this))
+        named_reads_back edition t level names name e ns (left_true (is_name name) _ this)
+        (inline_reads_back level e (right_true (is_name name) _ this))
         (not_true (is_used name names) (left_true (not (is_used name names)) _ g))
         (left_true (is_argument_value e) _ more)
-        (nameds_back level (name ∷ names) ns (right_true (is_argument_value e) _ more)
+        (nameds_read_back level (name ∷ names) ns (right_true (is_argument_value e) _ more)
         (right_true (named_obeys (canonical_rules edition) (named_argument name e)) _ h))
 
     -- variants, of which one is the default
-    one_back : (level : ℕ) (vs : VariantTrees Text) → defaults vs ≡ 1 →
-        variants_obey (canonical_rules edition) vs ≡ true → VariantsBack edition t level false vs
-    one_back level no_variants e h = absurd (omega arith)
-    one_back level (variants (variant key value false) vs) e h =
+    one_reads_back : (level : ℕ) (vs : VariantTrees Text) → defaults vs ≡ 1 →
+        variants_obey (canonical_rules edition) vs ≡ true → VariantsReadBack edition t level false vs
+    one_reads_back level no_variants e h = absurd (omega arith)
+    one_reads_back level (variants (variant key value false) vs) e h =
         let this = left_true (variant_obeys (canonical_rules edition) (variant key value false)) _ h in
-        variant_back edition t level false key value vs
+        variant_reads_back edition t level false key value vs
         (key_is key (left_true (key_obeys (canonical_rules edition) key) _ this))
-        (pattern_back value (right_true (key_obeys (canonical_rules edition) key) _ this) level)
-        (one_back level vs e (right_true (variant_obeys (canonical_rules edition) (variant key value false)) _ h))
-    one_back level (variants (variant key value true) vs) e h =
+        (pattern_reads_back value (right_true (key_obeys (canonical_rules edition) key) _ this) level)
+        (one_reads_back level vs e (right_true (variant_obeys (canonical_rules edition) (variant key value false)) _ h))
+    one_reads_back level (variants (variant key value true) vs) e h =
         let this = left_true (variant_obeys (canonical_rules edition) (variant key value true)) _ h in
-        default_back edition t level key value vs
+        default_reads_back edition t level key value vs
         (key_is key (left_true (key_obeys (canonical_rules edition) key) _ this))
-        (pattern_back value (right_true (key_obeys (canonical_rules edition) key) _ this) level)
-        (none_back level vs (omega arith)
+        (pattern_reads_back value (right_true (key_obeys (canonical_rules edition) key) _ this) level)
+        (none_reads_back level vs (omega arith)
         (right_true (variant_obeys (canonical_rules edition) (variant key value true)) _ h))
 
     -- variants after the default
-    none_back : (level : ℕ) (vs : VariantTrees Text) → defaults vs ≡ 0 →
-        variants_obey (canonical_rules edition) vs ≡ true → VariantsBack edition t level true vs
-    none_back level no_variants e h = variants_end_back edition t level
-    none_back level (variants (variant key value false) vs) e h =
+    none_reads_back : (level : ℕ) (vs : VariantTrees Text) → defaults vs ≡ 0 →
+        variants_obey (canonical_rules edition) vs ≡ true → VariantsReadBack edition t level true vs
+    none_reads_back level no_variants e h = variants_end_reads_back edition t level
+    none_reads_back level (variants (variant key value false) vs) e h =
         let this = left_true (variant_obeys (canonical_rules edition) (variant key value false)) _ h in
-        variant_back edition t level true key value vs
+        variant_reads_back edition t level true key value vs
         (key_is key (left_true (key_obeys (canonical_rules edition) key) _ this))
-        (pattern_back value (right_true (key_obeys (canonical_rules edition) key) _ this) level)
-        (none_back level vs e (right_true (variant_obeys (canonical_rules edition) (variant key value false)) _ h))
-    none_back level (variants (variant key value true) vs) e h = absurd (omega arith)
+        (pattern_reads_back value (right_true (key_obeys (canonical_rules edition) key) _ this) level)
+        (none_reads_back level vs e (right_true (variant_obeys (canonical_rules edition) (variant key value false)) _ h))
+    none_reads_back level (variants (variant key value true) vs) e h = absurd (omega arith)
 
     -- Every pattern is read back.
-    pub pattern_back : (p : PatternTree Text) → pattern_obeys (canonical_rules edition) p ≡ true → (level : ℕ) →
-        PatternBack edition t level p
-    pattern_back no_elements h level = absurd cc
-    pattern_back (elements (text_element v) es) h level =
+    pub pattern_reads_back : (p : PatternTree Text) → pattern_obeys (canonical_rules edition) p ≡ true → (level : ℕ) →
+        PatternReadsBack edition t level p
+    pattern_reads_back no_elements h level = absurd cc
+    pattern_reads_back (elements (text_element v) es) h level =
         let c = pattern_is (elements (text_element v) es) _ h in
         pattern_by (elements (text_element v) es) (is_multiline (elements (text_element v) es)) refl c.0 c.1
-        (λ l. elements_back es c.2 l) level
-    pattern_back (elements (placeable x) es) h level =
+        (λ l. elements_read_back es c.2 l) level
+    pattern_reads_back (elements (placeable x) es) h level =
         let c = pattern_is (elements (placeable x) es) _ h in
         pattern_by (elements (placeable x) es) (is_multiline (elements (placeable x) es)) refl c.0 c.1
         (λ l. (
-          element_back x (left_true (expression_obeys (canonical_rules edition) x) _ c.2) l,
-          elements_back es (right_true (expression_obeys (canonical_rules edition) x) _ c.2) l,
+          element_reads_back x (left_true (expression_obeys (canonical_rules edition) x) _ c.2) l,
+          elements_read_back es (right_true (expression_obeys (canonical_rules edition) x) _ c.2) l,
         )) level
 
-    elements_back : (es : PatternTree Text) → elements_obey (canonical_rules edition) es ≡ true → (level : ℕ) →
-        ElementsBack edition t level es
-    elements_back no_elements h level = tt
-    elements_back (elements (text_element v) es) h level = elements_back es h level
-    elements_back (elements (placeable x) es) h level = (
-      element_back x (left_true (expression_obeys (canonical_rules edition) x) _ h) level,
-      elements_back es (right_true (expression_obeys (canonical_rules edition) x) _ h) level,
+    elements_read_back : (es : PatternTree Text) → elements_obey (canonical_rules edition) es ≡ true → (level : ℕ) →
+        ElementsReadBack edition t level es
+    elements_read_back no_elements h level = tt
+    elements_read_back (elements (text_element v) es) h level = elements_read_back es h level
+    elements_read_back (elements (placeable x) es) h level = (
+      element_reads_back x (left_true (expression_obeys (canonical_rules edition) x) _ h) level,
+      elements_read_back es (right_true (expression_obeys (canonical_rules edition) x) _ h) level,
     )
 
-    element_back : (e : ExpressionTree Text) → expression_obeys (canonical_rules edition) e ≡ true → (level : ℕ) →
-        ElementBack edition t level e
-    element_back (select e vs) h level =
+    element_reads_back : (e : ExpressionTree Text) → expression_obeys (canonical_rules edition) e ≡ true → (level : ℕ) →
+        ElementReadsBack edition t level e
+    element_reads_back (select e vs) h level =
         select_element level e vs
-        (select_is_back edition t level e vs (select_simple e vs h)
-        (inline_back level e (left_true (inline_obeys (canonical_rules edition) e) _ (select_parts edition e vs h)))
-        (one_back (level + 1) vs (select_one e vs h)
+        (select_is_read_back edition t level e vs (select_simple e vs h)
+        (inline_reads_back level e (left_true (inline_obeys (canonical_rules edition) e) _ (select_parts edition e vs h)))
+        (one_reads_back (level + 1) vs (select_one e vs h)
         (right_true (inline_obeys (canonical_rules edition) e) _ (select_parts edition e vs h))))
-    element_back (inline (string_literal v)) h level =
-        string_element level v (string_is_back edition t level v (inline_part edition (string_literal v) h))
-    element_back (inline (number_literal v)) h level =
-        number_element level v (number_is_back edition t level v (inline_part edition (number_literal v) h))
-    element_back (inline (function_reference id (arguments ps ns))) h level =
+    element_reads_back (inline (string_literal v)) h level =
+        string_element level v (string_is_read_back edition t level v (inline_part edition (string_literal v) h))
+    element_reads_back (inline (number_literal v)) h level =
+        number_element level v (number_is_read_back edition t level v (inline_part edition (number_literal v) h))
+    element_reads_back (inline (function_reference id (arguments ps ns))) h level =
         function_element level id (arguments ps ns)
-        (function_is_back edition t level id ps ns (inline_part edition (function_reference id (arguments ps ns)) h)
-        (list_back level (arguments ps ns)
+        (function_is_read_back edition t level id ps ns (inline_part edition (function_reference id (arguments ps ns)) h)
+        (list_reads_back level (arguments ps ns)
         (right_true (list_all is_callee_byte id)
         _ (right_true (is_name id) _ (inline_part edition (function_reference id (arguments ps ns)) h)))))
-    element_back (inline (message_reference id a)) h level =
+    element_reads_back (inline (message_reference id a)) h level =
         message_element level id a
-        (message_is_back edition t level id a (inline_part edition (message_reference id a) h))
-    element_back (inline (term_reference id a c)) h level =
+        (message_is_read_back edition t level id a (inline_part edition (message_reference id a) h))
+    element_reads_back (inline (term_reference id a c)) h level =
         term_element level id a c (no_attribute (term_reference id a c) h)
-        (term_is_back edition t level id a c (inline_part edition (term_reference id a c) h)
-        (maybe_back level c
+        (term_is_read_back edition t level id a c (inline_part edition (term_reference id a c) h)
+        (maybe_reads_back level c
         (right_true (option_obeys is_name a)
         _ (right_true (is_name id) _ (inline_part edition (term_reference id a c) h)))))
-    element_back (inline (variable_reference id)) h level =
-        variable_element level id (variable_is_back edition t level id (inline_part edition (variable_reference id) h))
-    element_back (inline (inline_placeable e)) h level =
-        double_element level e (expression_back level e (inline_part edition (inline_placeable e) h))
+    element_reads_back (inline (variable_reference id)) h level =
+        variable_element level id (variable_is_read_back edition t level id (inline_part edition (variable_reference id) h))
+    element_reads_back (inline (inline_placeable e)) h level =
+        double_element level e (expression_reads_back level e (inline_part edition (inline_placeable e) h))

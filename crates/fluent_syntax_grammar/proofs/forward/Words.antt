@@ -11,7 +11,7 @@ use Rattle.fluent_syntax_grammar.specs.Tokens.{optional, digits, identifier, num
 use Rattle.fluent_syntax_grammar.specs.Spellings.{is_name, is_digits, is_number_rest, is_unsigned, is_number}
 use Rattle.fluent_syntax_grammar.proofs.Facts.{left_true, right_true, equal}
 use Rattle.fluent_syntax_grammar.proofs.Tests.{both, or_cases, differ, letter_name}
-use Rattle.fluent_syntax_grammar.proofs.Left.{Left, left_as, first, left_past, left_has, left_word}
+use Rattle.fluent_syntax_grammar.proofs.SuffixAt.{SuffixAt, suffix_as, first, suffix_past, suffix_has, suffix_byte_run}
 use Rattle.fluent_syntax_grammar.proofs.forward.Reading.{Reads, Passes, reads_bind, passes_nothing, passes_then}
 use Rattle.fluent_syntax_grammar.proofs.forward.Reading.{reads_here, passes_over, reads_peek, reads_look}
 use Rattle.fluent_syntax_grammar.proofs.forward.Reading.{reads_first, reads_second, reads_present, reads_absent}
@@ -72,26 +72,26 @@ fraction_begins v more (point x) f = refl
 module _ {t : List ℕ} where
   -- a name, before a byte that is in no name
   pub reads_name : {i : ℕ} (name more : List ℕ) → is_name name ≡ true → holds is_name_byte (first more) ≡ false →
-      Left t i (name ++ more) → Reads t (identifier t) (bytes_at t) i name more
+      SuffixAt t i (name ++ more) → Reads t (identifier t) (bytes_at t) i name more
   reads_name name more e f l =
-      reads_here (reads_look true (left_has is_letter l ∙ name_begins name more e)
+      reads_here (reads_look true (suffix_has is_letter l ∙ name_begins name more e)
       (reads_first refl
-      (reads_bind (passes_over (left_word is_name_byte name more (name_bytes name e) f l) (left_past name l))
+      (reads_bind (passes_over (suffix_byte_run is_name_byte name more (name_bytes name e) f l) (suffix_past name l))
       (λ u k h n. reads_spanned name more l n))))
 
   -- ---- numbers
 
   passes_digits : {i : ℕ} (ds more : List ℕ) → is_digits ds ≡ true → holds is_digit (first more) ≡ false →
-      Left t i (ds ++ more) → Passes t (digits t) i more
+      SuffixAt t i (ds ++ more) → Passes t (digits t) i more
   passes_digits [] more e f l = cc
   passes_digits (d ∷ ds) more e f l =
-      reads_peek true (left_has is_digit l ∙ left_true (is_digit d) (list_all is_digit ds) e)
-      (reads_first refl (passes_over (left_word is_digit (d ∷ ds) more e f l) (left_past (d ∷ ds) l)))
+      reads_peek true (suffix_has is_digit l ∙ left_true (is_digit d) (list_all is_digit ds) e)
+      (reads_first refl (passes_over (suffix_byte_run is_digit (d ∷ ds) more e f l) (suffix_past (d ∷ ds) l)))
 
   -- the fraction of a number, if it has one, and what follows it
   then_fraction : {B Y : Type 0} {c : Construct B} {r : B → Y} {y : Y} {left : List ℕ} {i : ℕ} (v more : List ℕ) →
       Fraction v → holds is_digit (first more) ≡ false → holds (λ c. c == 46) (first more) ≡ false →
-      Left t i (v ++ more) → ((j : ℕ) → Left t j more → Reads t c r j y left) →
+      SuffixAt t i (v ++ more) → ((j : ℕ) → SuffixAt t j more → Reads t c r j y left) →
       Reads t (optional t 46 >>= λ p. branch_on p (digits t) (yields tt) >>= λ u. c) r i y left
   then_fraction v more none f g l k =
       reads_bind (reads_absent 46 g l) (λ p j e m. passes_then (reads_second e (passes_nothing m)) k)
@@ -101,7 +101,7 @@ module _ {t : List ℕ} where
   -- digits and a fraction, and what follows them
   then_unsigned : {B Y : Type 0} {c : Construct B} {r : B → Y} {y : Y} {left : List ℕ} {i : ℕ} (v more : List ℕ) →
       is_unsigned v ≡ true → holds is_digit (first more) ≡ false → holds (λ c. c == 46) (first more) ≡ false →
-      Left t i (v ++ more) → ((j : ℕ) → Left t j more → Reads t c r j y left) →
+      SuffixAt t i (v ++ more) → ((j : ℕ) → SuffixAt t j more → Reads t c r j y left) →
       Reads t (digits t >>= λ d. optional t 46 >>= λ p. branch_on p (digits t) (yields tt) >>= λ u. c) r i y left
   then_unsigned [] more e f g l k = cc
   then_unsigned (b ∷ bs) more e f g l k =
@@ -110,11 +110,11 @@ module _ {t : List ℕ} where
       ap (λ v. b ∷ v) (sym (append_assoc r.whole r.fraction more) ∙ ap (λ v. v ++ more) r.joins) in
       passes_then (passes_digits (b ∷ r.whole) (r.fraction ++ more)
       (both (left_true (is_digit b) (is_number_rest bs) e) r.digits) (fraction_begins r.fraction more r.is f)
-      (left_as (sym parts) l)) (λ j m. then_fraction r.fraction more r.is f g m k)
+      (suffix_as (sym parts) l)) (λ j m. then_fraction r.fraction more r.is f g m k)
 
   -- a number, before a byte that is no digit and no point
   pub reads_number : {i : ℕ} (v more : List ℕ) → is_number v ≡ true → holds is_digit (first more) ≡ false →
-      holds (λ c. c == 46) (first more) ≡ false → Left t i (v ++ more) → Reads t (number t) (bytes_at t) i v more
+      holds (λ c. c == 46) (first more) ≡ false → SuffixAt t i (v ++ more) → Reads t (number t) (bytes_at t) i v more
   reads_number [] more e f g l = cc
   reads_number (b ∷ bs) more e f g l = elim (or_cases (b == 45 && is_unsigned bs) (is_unsigned (b ∷ bs)) e) [
     | inl h ↦ reads_here

@@ -8,7 +8,7 @@ use Rattle.fluent_syntax_tree.specs.declared.edition.Edition.TheVariants.{One}
 use Rattle.fluent_syntax_tree.specs.declared.spans.Span.{Span}
 use Rattle.fluent_syntax_grammar.specs.Tiling.{Tile, Tiling}
 use Rattle.fluent_syntax_grammar.specs.Body.{body, faults}
-use Rattle.fluent_syntax_grammar.specs.Laws.{junk_slice, fault_slice}
+use Rattle.fluent_syntax_grammar.specs.UniqueReading.{junk_slice, fault_slice}
 use Rattle.fluent_syntax_grammar.specs.Written.{Text, text_after, message_marks, term_marks, free_comment_marks}
 use Rattle.fluent_syntax_grammar.specs.Written.{hashes_of}
 use Rattle.fluent_syntax_grammar.specs.Written.{body_marks, written}

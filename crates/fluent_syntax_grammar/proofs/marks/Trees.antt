@@ -21,12 +21,12 @@ use Rattle.fluent_syntax_grammar.specs.Written.{attribute_marks, more_joined, ex
 use Rattle.fluent_syntax_grammar.specs.Written.{variant_marks, inline_marks, maybe_marks, arguments_marks}
 use Rattle.fluent_syntax_grammar.specs.Written.{positional_marks, named_marks, argument_marks, elements_marks}
 use Rattle.fluent_syntax_grammar.specs.Written.{element_marks, pattern_marks}
-use Rattle.fluent_syntax_grammar.specs.Rules.{inline_obeys, maybe_obeys, arguments_obey, inlines_obey, nameds_obey}
+use Rattle.fluent_syntax_grammar.specs.Rules.{inline_obeys, optional_arguments_obey, arguments_obey, inlines_obey, named_arguments_obey}
 use Rattle.fluent_syntax_grammar.specs.Rules.{named_obeys, expression_obeys, variants_obey, variant_obeys, key_obeys}
 use Rattle.fluent_syntax_grammar.specs.Rules.{option_obeys, elements_obey, pattern_obeys}
 use Rattle.fluent_syntax_grammar.specs.Readable.{ElementPosition, opening, position_after, after_placeable}
 use Rattle.fluent_syntax_grammar.specs.Readable.{are_named_well}
-use Rattle.fluent_syntax_grammar.specs.Readable.{ends_well, is_pattern, is_text, is_well_placed}
+use Rattle.fluent_syntax_grammar.specs.Readable.{may_precede, is_pattern, is_text, may_stand_at}
 use Rattle.fluent_syntax_grammar.specs.Readable.{are_elements}
 use Rattle.fluent_syntax_grammar.specs.Canonical.{canonical_rules, is_flush}
 use Rattle.fluent_syntax_grammar.proofs.Obeys.{inline_part, select_parts}
@@ -78,8 +78,8 @@ NamedMarks level ns =
     (ms : List Mark) →
     text_after None (more_joined level (named_marks level ns) ++ ms) ≡ named_bytes level false ns (text_after None ms)
 
-abbrev OneMarks : ℕ → NamedTree Text → Type 0
-OneMarks level n =
+abbrev NamedArgumentMarks : ℕ → NamedTree Text → Type 0
+NamedArgumentMarks level n =
     (ms : List Mark) → text_after None (argument_marks level n ++ ms) ≡ argument_bytes level n (text_after None ms)
 
 abbrev VariantsMarks : ℕ → VariantTrees Text → Type 0
@@ -171,7 +171,7 @@ more_marks level e es h k rest ms =
     ∙ ap (text_after None) (append_assoc (inline_marks level e) more ms) ∙ h (more ++ ms)
     ∙ ap (inline_bytes level e) (k rest ms))
 
-named_more : (level : ℕ) (n : NamedTree Text) (ns : NamedTrees Text) → OneMarks level n → NamedMarks level ns →
+named_more : (level : ℕ) (n : NamedTree Text) (ns : NamedTrees Text) → NamedArgumentMarks level n → NamedMarks level ns →
     NamedMarks level (nameds n ns)
 named_more level n ns h k ms =
     let more = more_joined level (named_marks level ns) in
@@ -181,7 +181,7 @@ named_more level n ns h k ms =
     ∙ ap (argument_bytes level n) (k ms))
 
 one_marks : (level : ℕ) (name : Text) (e : InlineTree Text) → is_name name ≡ true → InlineMarks level e →
-    OneMarks level (named_argument name e)
+    NamedArgumentMarks level (named_argument name e)
 one_marks level name e h k ms =
     literal_then level name (literal level (58 ∷ 32 ∷ []) ∷ (inline_marks level e ++ ms)) (id_plain name h)
     ∙ ap (λ x. name ++ (58 ∷ 32 ∷ x)) (after_byte 32 (inline_marks level e ++ ms) refl refl ∙ k ms)
@@ -201,7 +201,7 @@ parentheses level inside bytes k ms =
 nothing_marks : (level : ℕ) → ArgumentsMarks level (arguments no_inlines no_named)
 nothing_marks level ms = parentheses level [] (λ x. x) (λ ms. refl) ms
 
-named_first : (level : ℕ) (n : NamedTree Text) (ns : NamedTrees Text) → OneMarks level n → NamedMarks level ns →
+named_first : (level : ℕ) (n : NamedTree Text) (ns : NamedTrees Text) → NamedArgumentMarks level n → NamedMarks level ns →
     ArgumentsMarks level (arguments no_inlines (nameds n ns))
 named_first level n ns h k ms =
     let more = more_joined level (named_marks level ns) in
@@ -331,7 +331,7 @@ placeable_more level x es h k last at_line ms s d =
     none_closed no_elements = none_plain
     none_closed (elements e es) = tt
 
-text_closes : (v : Text) (es : PatternTree Text) → ends_well v es ≡ true → Closed es (last_of None v)
+text_closes : (v : Text) (es : PatternTree Text) → may_precede v es ≡ true → Closed es (last_of None v)
 text_closes v no_elements e = plain_text v e
 text_closes v (elements x es) e = tt
 
@@ -358,11 +358,11 @@ pattern_then level e es k ms =
 
 module _ (edition : Edition) where
   elements_rest : (multiline : Bool) (s : ElementPosition) (b : ℕ) (bs : Text) (es : PatternTree Text) →
-      are_elements edition multiline s (elements (text_element (b ∷ bs)) es) ≡ true → (ends_well (b ∷ bs) es ≡ true) ×
+      are_elements edition multiline s (elements (text_element (b ∷ bs)) es) ≡ true → (may_precede (b ∷ bs) es ≡ true) ×
       (are_elements edition multiline (position_after (b ∷ bs)) es ≡ true)
   elements_rest multiline s b bs es g =
-      let m = right_true (is_well_placed edition multiline s (b ∷ bs) es) _ (right_true (is_text (b ∷ bs)) _ g) in
-      (left_true (ends_well (b ∷ bs) es) _ m, right_true (ends_well (b ∷ bs) es) _ m)
+      let m = right_true (may_stand_at edition multiline s (b ∷ bs) es) _ (right_true (is_text (b ∷ bs)) _ g) in
+      (left_true (may_precede (b ∷ bs) es) _ m, right_true (may_precede (b ∷ bs) es) _ m)
 
   mutual
     expression_then : (level : ℕ) (e : ExpressionTree Text) → expression_obeys (canonical_rules edition) e ≡ true →
@@ -390,7 +390,7 @@ module _ (edition : Edition) where
     inline_then level (variable_reference id) h = variable_marks level id h
     inline_then level (inline_placeable e) h = braces_marks level e (expression_then level e h)
 
-    maybe_then : (level : ℕ) (a : MaybeArguments Text) → maybe_obeys (canonical_rules edition) a ≡ true →
+    maybe_then : (level : ℕ) (a : MaybeArguments Text) → optional_arguments_obey (canonical_rules edition) a ≡ true →
         MaybeMarks level a
     maybe_then level no_arguments h = λ ms. refl
     maybe_then level (some_arguments a) h = arguments_then level a h
@@ -416,14 +416,14 @@ module _ (edition : Edition) where
         more_marks level e es (inline_then level e (left_true (inline_obeys (canonical_rules edition) e) _ h))
         (inlines_then level es (right_true (inline_obeys (canonical_rules edition) e) _ h))
 
-    nameds_then : (level : ℕ) (ns : NamedTrees Text) → nameds_obey (canonical_rules edition) ns ≡ true →
+    nameds_then : (level : ℕ) (ns : NamedTrees Text) → named_arguments_obey (canonical_rules edition) ns ≡ true →
         NamedMarks level ns
     nameds_then level no_named h = λ ms. refl
     nameds_then level (nameds n ns) h =
         named_more level n ns (one_then level n (left_true (named_obeys (canonical_rules edition) n) _ h))
         (nameds_then level ns (right_true (named_obeys (canonical_rules edition) n) _ h))
 
-    one_then : (level : ℕ) (n : NamedTree Text) → named_obeys (canonical_rules edition) n ≡ true → OneMarks level n
+    one_then : (level : ℕ) (n : NamedTree Text) → named_obeys (canonical_rules edition) n ≡ true → NamedArgumentMarks level n
     one_then level (named_argument name e) h =
         one_marks level name e (left_true (is_name name) _ h) (inline_then level e (right_true (is_name name) _ h))
 

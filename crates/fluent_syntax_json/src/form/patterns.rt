@@ -85,7 +85,7 @@ fn variant(alloc: Global, variant: &Variant<String>) -> Result<Value, AllocError
 
 #[cycle(form)]
 #[tactic(auto, using(fluent_syntax_tree::proofs::Views::views))]
-fn named(alloc: Global, argument: &NamedArgument<String>) -> Result<Value, AllocError>
+fn named_argument(alloc: Global, argument: &NamedArgument<String>) -> Result<Value, AllocError>
     ensures { IfOk result (λ v. view v ≡ named_form (named_view string_bytes argument.now)) }
 {
     Ok(
@@ -107,7 +107,7 @@ fn arguments(alloc: Global, arguments: &CallArguments<String>) -> Result<Value, 
     }
     let mut nameds = Vec::new(alloc);
     for item in &arguments.named {
-        nameds.push(named(alloc, item)?)?;
+        nameds.push(named_argument(alloc, item)?)?;
     }
     Ok(
         Object::of_type(alloc, "CallArguments")?

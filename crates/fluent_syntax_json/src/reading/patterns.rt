@@ -70,7 +70,7 @@ fn variant(alloc: Global, v: &Value) -> Result<Variant<String>, ValueFault>
 }
 
 #[cycle(reading)]
-fn named(alloc: Global, v: &Value) -> Result<NamedArgument<String>, ValueFault>
+fn named_argument(alloc: Global, v: &Value) -> Result<NamedArgument<String>, ValueFault>
     ensures { Answers (named_view string_bytes) (named_in (view v.now)) result }
 {
     Ok(NamedArgument {
@@ -89,7 +89,7 @@ fn arguments(alloc: Global, v: &Value) -> Result<CallArguments<String>, ValueFau
     }
     let mut nameds = Vec::new(alloc);
     for item in list(field(v, "named")?)? {
-        nameds.push(named(alloc, item)?)?;
+        nameds.push(named_argument(alloc, item)?)?;
     }
     Ok(CallArguments {
         positional,

@@ -204,7 +204,7 @@ fn write_arguments<X, T: ReadTexts<X>, W: TextSink>(
         (arguments_form (arguments_view T.text arguments.now)) }
 {
     writer.write_piece("{\"named\":[");
-    write_nameds(writer, &arguments.named);
+    write_named_arguments(writer, &arguments.named);
     writer.write_piece(",\"positional\":[");
     write_positional(writer, &arguments.positional);
     writer.write_piece(",\"type\":\"CallArguments\"}");
@@ -230,7 +230,7 @@ fn write_positional<X, T: ReadTexts<X>, W: TextSink>(
 
 /// Writes the named arguments, and the bracket that closes their list.
 #[cycle(written)]
-fn write_nameds<X, T: ReadTexts<X>, W: TextSink>(
+fn write_named_arguments<X, T: ReadTexts<X>, W: TextSink>(
     writer: &mut TextWriter<'_, T, W>,
     nameds: &[NamedArgument<X>],
 )

@@ -9,7 +9,7 @@ use Rattle.std.proofs.lemmas.List.{length-take-le, get_or-take, get_or_past, get
 use Rattle.std.proofs.lemmas.List.{take-take}
 use Rattle.std.proofs.Math.Seq.{map-set_same}
 use Rattle.fluent_syntax_names.specs.Graph.{Graph, Reaches, edges, target}
-use Rattle.fluent_syntax_names.specs.Search.{Sound, State_of, at, pending_at, Back, Looked, at_done, at_open, to_come}
+use Rattle.fluent_syntax_names.specs.Search.{SearchInvariant, State_of, at, pending_at, SameOrLaterSegment, EdgeHandled, at_done, at_open, to_come}
 use Rattle.fluent_syntax_names.specs.Search.{LeadsToDone, is_new, last_of, news}
 use Rattle.fluent_syntax_names.specs.declared.graph.search.Pending.{Pending}
 use Rattle.fluent_syntax_names.specs.declared.graph.search.State.{State}
@@ -65,7 +65,7 @@ module _ (m c : ℕ) where
 -- ---- The segment
 
 module _ (g : Graph) (states : List State) (stack starts : List ℕ) (pending : List Pending) (done : ℕ)
-    (sound : Sound g states stack starts pending done) where
+    (sound : SearchInvariant g states stack starts pending done) where
   -- before any is closed
   pub none_closed : (u : ℕ) (s : State) → State_of states u ≡ s → s ≡ closed_at (length stack) done s
   none_closed u state.New e = refl
@@ -196,7 +196,7 @@ module _ (g : Graph) (states : List State) (stack starts : List ℕ) (pending : 
         omega (arith, never_down starts sound.ascending k m below (omega arith))
 
     -- what is behind the last start stays there
-    in_segment : (i j : ℕ) → start ≤ i → Back starts i j → start ≤ j
+    in_segment : (i j : ℕ) → start ≤ i → SameOrLaterSegment starts i j → start ≤ j
     in_segment i j h back = elim (cases_lt 0 (length starts)) [
       | inl some ↦
           let within : m < length starts = omega (arith, some) in
@@ -206,7 +206,7 @@ module _ (g : Graph) (states : List State) (stack starts : List ℕ) (pending : 
           omega (arith, past)
     ]
 
-    one_segment : (i j : ℕ) → start ≤ j → Back starts i j
+    one_segment : (i j : ℕ) → start ≤ j → SameOrLaterSegment starts i j
     one_segment i j h = λ k within le. omega (arith, starts_before k within)
 
     pending_before : (p : ℕ) → p < length pending → (pending_at pending p).place < start
@@ -214,13 +214,13 @@ module _ (g : Graph) (states : List State) (stack starts : List ℕ) (pending : 
         let below : p ≤ length pending - 1 = omega arith in
         omega (arith, sound.pending_ascending p (length pending - 1) below (omega arith), no_pending (omega arith))
 
-    back_short : (i j : ℕ) → Back starts i j → Back short_starts i j
-    back_short i j back = λ k h le.
+    same_or_later_short : (i j : ℕ) → SameOrLaterSegment starts i j → SameOrLaterSegment short_starts i j
+    same_or_later_short i j back = λ k h le.
         let k_in : k < m = omega (arith, starts_length) in
         let is = at_starts k k_in in
         omega (arith, is, back k (omega arith) (omega (arith, is)))
 
-    back_long : (i j : ℕ) → i < start → Back short_starts i j → Back starts i j
+    back_long : (i j : ℕ) → i < start → SameOrLaterSegment short_starts i j → SameOrLaterSegment starts i j
     back_long i j i_in back = λ k h le. elim (cases_lt k m) [
       | inl w ↦
           let is = at_starts k w in
@@ -230,7 +230,7 @@ module _ (g : Graph) (states : List State) (stack starts : List ℕ) (pending : 
           absurd (omega (arith, ap (at starts) same))
     ]
 
-    reach : (i j : ℕ) → i < length short_stack → j < length short_stack → Back short_starts i j
+    reach : (i j : ℕ) → i < length short_stack → j < length short_stack → SameOrLaterSegment short_starts i j
         → Reaches g (at short_stack i) (at short_stack j)
     reach i j i_in j_in back =
         let i_low : i < start = omega (arith, short_stack_length) in
@@ -239,25 +239,25 @@ module _ (g : Graph) (states : List State) (stack starts : List ℕ) (pending : 
         (subst (λ (x : ℕ). Reaches g (at stack i) x) (sym (at_stack j j_low))
         (sound.reach i j (omega arith) (omega arith) (back_long i j i_low back)))
 
-    looked_now : (i k t : ℕ) → i < start → Looked states starts pending i k t → Looked now short_starts pending i k t
+    looked_now : (i k t : ℕ) → i < start → EdgeHandled states starts pending i k t → EdgeHandled now short_starts pending i k t
     looked_now i k t h (at_done c e) = at_done c (now_done t c e)
     looked_now i k t h (at_open j e back) = elim (cases_lt j start) [
-      | inl w ↦ at_open j (now_open t j e w) (back_short i j back)
+      | inl w ↦ at_open j (now_open t j e w) (same_or_later_short i j back)
       | inr w ↦ at_done done (now_closed t j e w)
     ]
     looked_now i k t h (to_come p p_in place next) = to_come p p_in place next
 
     looked : (i : ℕ) → i < length short_stack → (k : ℕ) → k < length (edges g (at short_stack i))
-        → Looked now short_starts pending i k (target g (at short_stack i) k)
+        → EdgeHandled now short_starts pending i k (target g (at short_stack i) k)
     looked i h k l =
         let i_low : i < start = omega (arith, short_stack_length) in
         let is = at_stack i i_low in
         let l_old : k < length (edges g (at stack i)) = subst (λ (x : ℕ). k < length (edges g x)) is l in
-        subst (λ (x : ℕ). Looked now short_starts pending i k (target g x k)) (sym is)
+        subst (λ (x : ℕ). EdgeHandled now short_starts pending i k (target g x k)) (sym is)
         (looked_now i k (target g (at stack i) k) i_low (sound.looked i (omega arith) k l_old))
 
     -- where the edges of a closed node lead
-    leads_closed : (i k t : ℕ) → start ≤ i → Looked states starts pending i k t → LeadsToDone g now done t
+    leads_closed : (i k t : ℕ) → start ≤ i → EdgeHandled states starts pending i k t → LeadsToDone g now done t
     leads_closed i k t h (at_done c e) = (c, now_done t c e, omega (arith, sound.numbered t c e))
     leads_closed i k t h (at_open j e back) = (done, now_closed t j e (in_segment i j h back), omega arith)
     leads_closed i k t h (to_come p p_in place next) = absurd (omega (arith, pending_before p p_in))
@@ -298,7 +298,7 @@ module _ (g : Graph) (states : List State) (stack starts : List ℕ) (pending : 
       | inr w ↦ omega (arith, w.3)
     ]
 
-    pub closed_segment : Sound g now short_stack short_starts pending (done + 1)
+    pub closed_segment : SearchInvariant g now short_stack short_starts pending (done + 1)
     closed_segment = record {
       sizes = sizes ∙ sound.sizes;
       opened = λ i h.

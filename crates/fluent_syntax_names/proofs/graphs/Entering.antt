@@ -3,7 +3,7 @@ use Rattle.std.proofs.Common.{◌≡◌, ℕ, ◌+◌, ◌<◌, ◌≤◌, ◌�
 use Rattle.std.proofs.Common.{get_or, set, refl, sym, ap, ◌∙◌, arith, subst}
 use Rattle.std.proofs.lemmas.List.{length_push, length-set, map-set, length-map}
 use Rattle.fluent_syntax_names.specs.Graph.{Graph, Reaches, here, edges, target}
-use Rattle.fluent_syntax_names.specs.Search.{Sound, State_of, at, pending_at, Back, Looked, at_done, at_open, to_come}
+use Rattle.fluent_syntax_names.specs.Search.{SearchInvariant, State_of, at, pending_at, SameOrLaterSegment, EdgeHandled, at_done, at_open, to_come}
 use Rattle.fluent_syntax_names.specs.Search.{LeadsToDone, is_new, news, count_new}
 use Rattle.fluent_syntax_names.specs.declared.graph.search.Pending.{Pending}
 use Rattle.fluent_syntax_names.specs.declared.graph.search.State.{State}
@@ -22,7 +22,7 @@ fewer_new states node now within fresh old =
     ap (λ (x : List Bool). held x + 1) made ∙ held_less (news states) node inside was
 
 module _ (g : Graph) (states : List State) (stack starts : List ℕ) (pending : List Pending) (done : ℕ)
-    (sound : Sound g states stack starts pending done) (node : ℕ) (in_graph : node < length g)
+    (sound : SearchInvariant g states stack starts pending done) (node : ℕ) (in_graph : node < length g)
     (fresh : State_of states node ≡ state.New)
     (reached : (i : ℕ) → i < length stack → Reaches g (at stack i) node) where
   abbrev n : ℕ
@@ -108,20 +108,20 @@ module _ (g : Graph) (states : List State) (stack starts : List ℕ) (pending : 
   ]
 
   -- among the places that were there
-  back_before : (i j : ℕ) → Back now_starts i j → Back starts i j
+  back_before : (i j : ℕ) → SameOrLaterSegment now_starts i j → SameOrLaterSegment starts i j
   back_before i j back = λ k h le.
       let is = pushed_before starts n 0 k h in
       let far : k < length now_starts = omega (arith, length_push starts n) in
       let more = back k far in
       omega (arith, is, more (omega (arith, is)))
 
-  back_now : (i j : ℕ) → i < n → Back starts i j → Back now_starts i j
+  back_now : (i j : ℕ) → i < n → SameOrLaterSegment starts i j → SameOrLaterSegment now_starts i j
   back_now i j i_in back = λ k h le. elim (pushed starts n 0 k h) [
     | inl w ↦ omega (arith, w.1, back k w.0 (omega (arith, w.1)))
     | inr w ↦ absurd (omega (arith, w.1))
   ]
 
-  reach : (i j : ℕ) → i < length now_stack → j < length now_stack → Back now_starts i j
+  reach : (i j : ℕ) → i < length now_stack → j < length now_stack → SameOrLaterSegment now_starts i j
       → Reaches g (at now_stack i) (at now_stack j)
   reach i j i_in j_in back = elim (pushed stack node 0 i i_in) [
     | inl w ↦ elim (pushed stack node 0 j j_in) [
@@ -145,8 +145,8 @@ module _ (g : Graph) (states : List State) (stack starts : List ℕ) (pending : 
         ]
   ]
 
-  looked_keeps : (i k t : ℕ) → i < n → Looked states starts pending i k t
-      → Looked now_states now_starts now_pending i k t
+  looked_keeps : (i k t : ℕ) → i < n → EdgeHandled states starts pending i k t
+      → EdgeHandled now_states now_starts now_pending i k t
   looked_keeps i k t i_in (at_done c e) = at_done c (keeps t (state.Done c) e (done_known c))
   looked_keeps i k t i_in (at_open j e back) =
       at_open j (keeps t (state.Open j) e (open_known j)) (back_now i j i_in back)
@@ -157,12 +157,12 @@ module _ (g : Graph) (states : List State) (stack starts : List ℕ) (pending : 
       (omega (arith, ap (λ (x : Pending). x.next) is))
 
   looked : (i : ℕ) → i < length now_stack → (k : ℕ) → k < length (edges g (at now_stack i))
-      → Looked now_states now_starts now_pending i k (target g (at now_stack i) k)
+      → EdgeHandled now_states now_starts now_pending i k (target g (at now_stack i) k)
   looked i h k l = elim (pushed stack node 0 i h) [
     | inl w ↦
         let old_l : k < length (edges g (at stack i)) = subst (λ (x : ℕ). k < length (edges g x)) w.1 l in
         let old = looked_keeps i k (target g (at stack i) k) w.0 (sound.looked i w.0 k old_l) in
-        subst (λ (x : ℕ). Looked now_states now_starts now_pending i k (target g x k)) (sym w.1) old
+        subst (λ (x : ℕ). EdgeHandled now_states now_starts now_pending i k (target g x k)) (sym w.1) old
     | inr w ↦
         let none : Pending = record { place = 0; next = 0 } in
         let is = pushed_last pending last none in
@@ -211,7 +211,7 @@ module _ (g : Graph) (states : List State) (stack starts : List ℕ) (pending : 
       let old = sound.closed u c (was_done u c e) k l in
       (old.0, keeps (target g u k) (state.Done old.0) old.1 (done_known old.0), old.2)
 
-  entered : Sound g now_states now_stack now_starts now_pending done
+  entered : SearchInvariant g now_states now_stack now_starts now_pending done
   entered = record {
     sizes = length-set states node (state.Open n) ∙ sound.sizes;
     opened = opened;
@@ -231,11 +231,11 @@ module _ (g : Graph) (states : List State) (stack starts : List ℕ) (pending : 
   pub entered_at : (place : ℕ) → n ≡ place → (stack' starts' : List ℕ) (pending' : List Pending)
       → stack ++ node ∷ [] ≡ stack' → starts ++ place ∷ [] ≡ starts'
       → pending ++ record { place = place; next = 0 } ∷ [] ≡ pending'
-      → Sound g (set states node (state.Open place)) stack' starts' pending' done
+      → SearchInvariant g (set states node (state.Open place)) stack' starts' pending' done
   entered_at place is stack' starts' pending' e f h =
-      subst (λ (x : List ℕ). Sound g (set states node (state.Open place)) x starts' pending' done) e
-      (subst (λ (x : List ℕ). Sound g (set states node (state.Open place)) now_stack x pending' done) f
-      (subst (λ (x : List Pending). Sound g (set states node (state.Open place)) now_stack
+      subst (λ (x : List ℕ). SearchInvariant g (set states node (state.Open place)) x starts' pending' done) e
+      (subst (λ (x : List ℕ). SearchInvariant g (set states node (state.Open place)) now_stack x pending' done) f
+      (subst (λ (x : List Pending). SearchInvariant g (set states node (state.Open place)) now_stack
       (starts ++ place ∷ []) x done) h
-      (subst (λ (x : ℕ). Sound g (set states node (state.Open x)) now_stack (starts ++ x ∷ [])
+      (subst (λ (x : ℕ). SearchInvariant g (set states node (state.Open x)) now_stack (starts ++ x ∷ [])
       (pending ++ record { place = x; next = 0 } ∷ []) done) is entered)))

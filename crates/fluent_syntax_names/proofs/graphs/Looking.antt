@@ -4,14 +4,14 @@ use Rattle.std.proofs.Common.{◌∙◌, arith, subst}
 use Rattle.std.proofs.lemmas.Bool.{cases_lt}
 use Rattle.std.proofs.lemmas.List.{length-take-le, get_or-take, length-set}
 use Rattle.fluent_syntax_names.specs.Graph.{Graph, HasEdge, Reaches, edges, target}
-use Rattle.fluent_syntax_names.specs.Search.{Sound, at, pending_at, Back, Looked, at_done, at_open, to_come}
+use Rattle.fluent_syntax_names.specs.Search.{SearchInvariant, at, pending_at, SameOrLaterSegment, EdgeHandled, at_done, at_open, to_come}
 use Rattle.fluent_syntax_names.specs.declared.graph.search.Pending.{Pending}
 use Rattle.fluent_syntax_names.specs.declared.graph.search.State.{State}
 use Rattle.fluent_syntax_names.proofs.graphs.Lists.{never_down, written}
 use Rattle.fluent_syntax_names.proofs.graphs.Reaching.{reaches_on, reaches_next}
 
 module _ (g : Graph) (states : List State) (stack starts : List ℕ) (pending : List Pending) (done : ℕ)
-    (sound : Sound g states stack starts pending done) where
+    (sound : SearchInvariant g states stack starts pending done) where
   -- ---- An edge back makes one segment of all from its target on
 
   module _ (p j : ℕ) (p_in : p < length stack) (j_in : j < length stack)
@@ -26,8 +26,8 @@ module _ (g : Graph) (states : List State) (stack starts : List ℕ) (pending : 
     at_short : (k : ℕ) → k < m → at fewer_starts k ≡ at starts k
     at_short k h = get_or-take m starts k 0 h
 
-    back_short : (i l : ℕ) → Back starts i l → Back fewer_starts i l
-    back_short i l back = λ k h le.
+    same_or_later_short : (i l : ℕ) → SameOrLaterSegment starts i l → SameOrLaterSegment fewer_starts i l
+    same_or_later_short i l back = λ k h le.
         let small : k < m = omega (arith, short) in
         let is = at_short k small in
         omega (arith, is, back k (omega (arith, fewer)) (omega (arith, is)))
@@ -37,7 +37,7 @@ module _ (g : Graph) (states : List State) (stack starts : List ℕ) (pending : 
     reaches_target i i_in =
         reaches_next g (at stack i) (at stack p) (at stack j) (sound.reach i p i_in p_in (λ k h le. before k h)) leads
 
-    reach : (i l : ℕ) → i < length stack → l < length stack → Back fewer_starts i l
+    reach : (i l : ℕ) → i < length stack → l < length stack → SameOrLaterSegment fewer_starts i l
         → Reaches g (at stack i) (at stack l)
     reach i l i_in l_in back =
         -- a start that the target is not before is there still
@@ -56,12 +56,12 @@ module _ (g : Graph) (states : List State) (stack starts : List ℕ) (pending : 
               (sound.reach j l j_in l_in (λ k h le. kept k h le (omega (arith, w))))
         ]
 
-    looked_short : (i k t : ℕ) → Looked states starts pending i k t → Looked states fewer_starts pending i k t
+    looked_short : (i k t : ℕ) → EdgeHandled states starts pending i k t → EdgeHandled states fewer_starts pending i k t
     looked_short i k t (at_done c e) = at_done c e
-    looked_short i k t (at_open l e back) = at_open l e (back_short i l back)
+    looked_short i k t (at_open l e back) = at_open l e (same_or_later_short i l back)
     looked_short i k t (to_come q h place next) = to_come q h place next
 
-    pub merged : Sound g states stack fewer_starts pending done
+    pub merged : SearchInvariant g states stack fewer_starts pending done
     merged = record {
       sizes = sound.sizes;
       opened = sound.opened;
@@ -84,7 +84,7 @@ module _ (g : Graph) (states : List State) (stack starts : List ℕ) (pending : 
     }
 
     -- the target stands in the last segment now
-    pub back_to_target : (0 < m → at starts (m - 1) ≤ j) → Back fewer_starts p j
+    pub back_to_target : (0 < m → at starts (m - 1) ≤ j) → SameOrLaterSegment fewer_starts p j
     back_to_target last = λ k h le.
         let k_in : k < m = omega (arith, short) in
         let below : k ≤ m - 1 = omega arith in
@@ -95,7 +95,7 @@ module _ (g : Graph) (states : List State) (stack starts : List ℕ) (pending : 
 
   module _ (last p k₀ : ℕ) (last_in : last < length pending)
       (is_last : pending_at pending last ≡ record { place = p; next = k₀ })
-      (seen : Looked states starts [] p k₀ (target g (at stack p) k₀)) where
+      (seen : EdgeHandled states starts [] p k₀ (target g (at stack p) k₀)) where
     abbrev next : Pending
     next = record { place = p; next = k₀ + 1 }
 
@@ -122,13 +122,13 @@ module _ (g : Graph) (states : List State) (stack starts : List ℕ) (pending : 
     same_length = length-set pending last next
 
     -- as it was seen, where nothing is to come
-    looked_seen : (k t : ℕ) → Looked states starts [] p k t → Looked states starts now_pending p k t
+    looked_seen : (k t : ℕ) → EdgeHandled states starts [] p k t → EdgeHandled states starts now_pending p k t
     looked_seen k t (at_done c e) = at_done c e
     looked_seen k t (at_open j e back) = at_open j e back
     looked_seen k t (to_come q h place n) = absurd (omega arith)
 
     looked_left : (i k q : ℕ) → q < length pending → (pending_at pending q).place ≡ i
-        → (pending_at pending q).next ≤ k → Looked states starts now_pending i k (target g (at stack i) k)
+        → (pending_at pending q).next ≤ k → EdgeHandled states starts now_pending i k (target g (at stack i) k)
     looked_left i k q h place n = elim (now_at q) [
       | inl w ↦
           let is_p : i ≡ p =
@@ -141,24 +141,24 @@ module _ (g : Graph) (states : List State) (stack starts : List ℕ) (pending : 
                 (omega (arith, v, ap (λ (x : Pending). x.next) w.1))
             | inr v ↦
                 let same : k₀ ≡ k = omega (arith, v, from) in
-                let here : Looked states starts now_pending p k₀ (target g (at stack p) k₀) =
+                let here : EdgeHandled states starts now_pending p k₀ (target g (at stack p) k₀) =
                 looked_seen k₀ (target g (at stack p) k₀) seen in
-                subst (λ (x : ℕ). Looked states starts now_pending x k (target g (at stack x) k)) (sym is_p)
-                (subst (λ (x : ℕ). Looked states starts now_pending p x (target g (at stack p) x)) same here)
+                subst (λ (x : ℕ). EdgeHandled states starts now_pending x k (target g (at stack x) k)) (sym is_p)
+                (subst (λ (x : ℕ). EdgeHandled states starts now_pending p x (target g (at stack p) x)) same here)
           ]
       | inr w ↦
           to_come q (omega (arith, same_length)) (same_places q ∙ place)
           (omega (arith, ap (λ (x : Pending). x.next) w.1))
     ]
 
-    looked_now : (i k t : ℕ) → target g (at stack i) k ≡ t → Looked states starts pending i k t
-        → Looked states starts now_pending i k t
+    looked_now : (i k t : ℕ) → target g (at stack i) k ≡ t → EdgeHandled states starts pending i k t
+        → EdgeHandled states starts now_pending i k t
     looked_now i k t is (at_done c e) = at_done c e
     looked_now i k t is (at_open j e back) = at_open j e back
     looked_now i k t is (to_come q h place n) =
-        subst (λ (x : ℕ). Looked states starts now_pending i k x) is (looked_left i k q h place n)
+        subst (λ (x : ℕ). EdgeHandled states starts now_pending i k x) is (looked_left i k q h place n)
 
-    pub looked_at : Sound g states stack starts now_pending done
+    pub looked_at : SearchInvariant g states stack starts now_pending done
     looked_at = record {
       sizes = sound.sizes;
       opened = sound.opened;
@@ -191,8 +191,8 @@ module _ (g : Graph) (states : List State) (stack starts : List ℕ) (pending : 
     before_last : (q : ℕ) → q < last → pending_at fewer_pending q ≡ pending_at pending q
     before_last q h = get_or-take last pending q (record { place = 0; next = 0 }) h
 
-    looked_rest : (i k t : ℕ) → k < length (edges g (at stack i)) → Looked states starts pending i k t
-        → Looked states starts fewer_pending i k t
+    looked_rest : (i k t : ℕ) → k < length (edges g (at stack i)) → EdgeHandled states starts pending i k t
+        → EdgeHandled states starts fewer_pending i k t
     looked_rest i k t k_in (at_done c e) = at_done c e
     looked_rest i k t k_in (at_open j e back) = at_open j e back
     looked_rest i k t k_in (to_come q h place n) = elim (cases_lt q last) [
@@ -211,7 +211,7 @@ module _ (g : Graph) (states : List State) (stack starts : List ℕ) (pending : 
           absurd (omega (arith, from, lengths))
     ]
 
-    pub looked_over : Sound g states stack starts fewer_pending done
+    pub looked_over : SearchInvariant g states stack starts fewer_pending done
     looked_over = record {
       sizes = sound.sizes;
       opened = sound.opened;

@@ -4,14 +4,14 @@ use Rattle.std.proofs.Common.{arith}
 use Rattle.std.proofs.lemmas.Bool.{false≢true}
 use Rattle.std.proofs.lemmas.List.{get_or-map}
 use Rattle.fluent_syntax_names.specs.Graph.{Graph, HasEdge, Reaches, here, onward, SameComponents}
-use Rattle.fluent_syntax_names.specs.Search.{Sound, State_of, is_new, news, number_of}
+use Rattle.fluent_syntax_names.specs.Search.{SearchInvariant, State_of, is_new, news, number_of}
 use Rattle.fluent_syntax_names.specs.declared.graph.search.Pending.{Pending}
 use Rattle.fluent_syntax_names.specs.declared.graph.search.State.{State}
 use Rattle.fluent_syntax_names.specs.declared.graph.search.State.TheVariants as state
 use Rattle.fluent_syntax_names.proofs.graphs.News.{news_at}
 
 module _ (g : Graph) (states : List State) (stack starts : List ℕ) (pending : List Pending) (done : ℕ)
-    (sound : Sound g states stack starts pending done) (none_open : length stack ≡ 0)
+    (sound : SearchInvariant g states stack starts pending done) (none_open : length stack ≡ 0)
     (met : (u : ℕ) → u < length g → get_or (news states) u false ≡ false) where
   abbrev IsDone : ℕ → Type 0
   IsDone u = (c : ℕ) × (State_of states u ≡ state.Done c)
@@ -50,8 +50,8 @@ module _ (g : Graph) (states : List State) (stack starts : List ℕ) (pending : 
       let at_v = descends u v reaches at_u.0 at_u.1 in
       omega (arith, number_is u at_u.0 u_in at_u.1, number_is v at_v.0 v_in at_v.1, at_v.2)
 
-  pub parted : SameComponents g numbers
-  parted u v u_in v_in = (
+  pub strongly_connected : SameComponents g numbers
+  strongly_connected u v u_in v_in = (
     λ same.
         let at_u = all_done u u_in in
         let at_v = all_done v v_in in

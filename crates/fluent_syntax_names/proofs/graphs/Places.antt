@@ -4,7 +4,7 @@ use Rattle.std.specs.declared.alloc.Global.{Global}
 use Rattle.std.proofs.lemmas.Bool.{cases_lt}
 use Rattle.std.proofs.lemmas.List.{get_or_past, get_or-map, length-map}
 use Rattle.fluent_syntax_names.specs.Graph.{Graph, HasEdge, Reaches, edges, target, targets_of}
-use Rattle.fluent_syntax_names.specs.Search.{Sound, State_of, at, pending_at, IsBehind}
+use Rattle.fluent_syntax_names.specs.Search.{SearchInvariant, State_of, at, pending_at, IsBehind}
 use Rattle.fluent_syntax_names.specs.declared.graph.search.Pending.{Pending}
 use Rattle.fluent_syntax_names.specs.declared.graph.search.State.{State}
 use Rattle.fluent_syntax_names.specs.declared.graph.search.State.TheVariants as state
@@ -18,7 +18,7 @@ known_within states u known = elim (cases_lt u (length states)) [
 ]
 
 module _ (g : Graph) (states : List State) (stack starts : List ℕ) (pending : List Pending) (done : ℕ)
-    (sound : Sound g states stack starts pending done) where
+    (sound : SearchInvariant g states stack starts pending done) where
   pub stack_within : (i : ℕ) → i < length stack → at stack i < length g
   stack_within i h =
       let is = sound.opened i h in

@@ -15,7 +15,7 @@ use std::alloc::{AllocError, Global};
 pub fn components(alloc: Global, graph: &[Vec<usize>]) -> Result<Vec<usize>, AllocError>
     requires { IsGraph (targets_of graph.now) }
     ensures len { IfOk result (λ numbers. length numbers.items ≡ length graph.now) }
-    ensures parted { IfOk result (λ numbers. SameComponents (targets_of graph.now) numbers.items) }
+    ensures strongly_connected { IfOk result (λ numbers. SameComponents (targets_of graph.now) numbers.items) }
     ensures cycles { IfOk result (λ numbers. (from to : ℕ) → from < length graph.now
         → HasEdge (targets_of graph.now) from to
         → (slice_index numbers.items from ≡ slice_index numbers.items to) ↔ Reaches (targets_of graph.now) to from) }

@@ -2,7 +2,7 @@
 ghost use Rattle.std.specs.Prelude.{◌≡◌, ◌<◌, ◌≤◌, ◌+◌, ◌-◌, ℕ, IfOk, OnOk, false, length, map, slice_set, MatchOption};
 ghost use Rattle.std.specs.Prelude.{get_or, Option, Some, None, vec_len, take};
 ghost use Rattle.fluent_syntax_names.specs.Graph.{IsGraph, HasEdge, edges, targets_of};
-ghost use Rattle.fluent_syntax_names.specs.Search.{IsSound, Fresh, NoneNewer, State_of, news, last_of, at, pending_at};
+ghost use Rattle.fluent_syntax_names.specs.Search.{HasSearchInvariant, Fresh, NoneNewer, State_of, news, last_of, at, pending_at};
 ghost use Rattle.fluent_syntax_names.specs.Search.{IsBehind, IsLastPending, IsSeen, number_of};
 
 use std::alloc::{AllocError, Global};
@@ -43,7 +43,7 @@ pub(crate) struct Search {
 impl Search {
     /// Nothing was met.
     pub(crate) fn new(alloc: Global, graph: &[Vec<usize>]) -> Result<Self, AllocError>
-        ensures sound { IfOk result (IsSound (targets_of graph.now)) }
+        ensures sound { IfOk result (HasSearchInvariant (targets_of graph.now)) }
         ensures stack { IfOk result (λ search. length search.stack.items ≡ 0) }
     {
         Ok(Search {
@@ -58,10 +58,10 @@ impl Search {
     /// Meets the node with all that it reaches, if it is new, while no node is open.
     pub(crate) fn visit(&mut self, graph: &[Vec<usize>], root: usize) -> Result<(), AllocError>
         requires graph { IsGraph (targets_of graph.now) }
-        requires sound { IsSound (targets_of graph.now) self.old }
+        requires sound { HasSearchInvariant (targets_of graph.now) self.old }
         requires stack { length self.old.stack.items ≡ 0 }
         requires root { root < length graph.now }
-        ensures sound { OnOk result (IsSound (targets_of graph.now) self.new) }
+        ensures sound { OnOk result (HasSearchInvariant (targets_of graph.now) self.new) }
         ensures stack { OnOk result (length self.new.stack.items ≡ 0) }
         ensures newer { OnOk result (NoneNewer self.old self.new) }
         ensures met { OnOk result (get_or (news self.new.states.items) root false ≡ false) }
@@ -76,8 +76,8 @@ impl Search {
     /// Goes on until no node is open.
     fn run(&mut self, graph: &[Vec<usize>]) -> Result<(), AllocError>
         requires graph { IsGraph (targets_of graph.now) }
-        requires sound { IsSound (targets_of graph.now) self.old }
-        ensures sound { OnOk result (IsSound (targets_of graph.now) self.new) }
+        requires sound { HasSearchInvariant (targets_of graph.now) self.old }
+        ensures sound { OnOk result (HasSearchInvariant (targets_of graph.now) self.new) }
         ensures stack { OnOk result (length self.new.stack.items ≡ 0) }
         ensures newer { OnOk result (NoneNewer self.old self.new) }
     {
@@ -89,9 +89,9 @@ impl Search {
 
     /// Opens a new node, which all open ones reach.
     fn enter(&mut self, graph: &[Vec<usize>], node: usize) -> Result<(), AllocError>
-        requires sound { IsSound (targets_of graph.now) self.old }
+        requires sound { HasSearchInvariant (targets_of graph.now) self.old }
         requires fresh { Fresh (targets_of graph.now) self.old node }
-        ensures sound { OnOk result (IsSound (targets_of graph.now) self.new) }
+        ensures sound { OnOk result (HasSearchInvariant (targets_of graph.now) self.new) }
         ensures news { OnOk result (news self.new.states.items ≡ slice_set (news self.old.states.items) node false) }
     {
         let place = self.stack.len();
@@ -105,8 +105,8 @@ impl Search {
     /// Goes on until an edge of the last segment leads to a new node; `None` once no node is open.
     fn advance(&mut self, graph: &[Vec<usize>]) -> Option<usize>
         requires graph { IsGraph (targets_of graph.now) }
-        requires sound { IsSound (targets_of graph.now) self.old }
-        ensures sound { IsSound (targets_of graph.now) self.new }
+        requires sound { HasSearchInvariant (targets_of graph.now) self.old }
+        ensures sound { HasSearchInvariant (targets_of graph.now) self.new }
         ensures news { news self.new.states.items ≡ news self.old.states.items }
         ensures found { MatchOption result (length self.new.stack.items ≡ 0) (Fresh (targets_of graph.now) self.new) }
     {
@@ -151,10 +151,10 @@ impl Search {
     /// Looks at the edges of the last pending node, until one leads to a new node. `None` once all were looked at.
     fn look(&mut self, graph: &[Vec<usize>], pending: Pending) -> Option<usize>
         requires graph { IsGraph (targets_of graph.now) }
-        requires sound { IsSound (targets_of graph.now) self.old }
+        requires sound { HasSearchInvariant (targets_of graph.now) self.old }
         requires pending { IsLastPending self.old pending }
         requires start { last_of self.old.starts.items ≤ pending.place }
-        ensures sound { IsSound (targets_of graph.now) self.new }
+        ensures sound { HasSearchInvariant (targets_of graph.now) self.new }
         ensures states { self.new.states.items ≡ self.old.states.items }
         ensures stack { self.new.stack.items ≡ self.old.stack.items }
         ensures found { MatchOption result
@@ -181,13 +181,13 @@ impl Search {
 
     /// Looks at an edge from the node at the place to one that is not new.
     fn see(&mut self, graph: &[Vec<usize>], from: usize, target: usize)
-        requires sound { IsSound (targets_of graph.now) self.old }
+        requires sound { HasSearchInvariant (targets_of graph.now) self.old }
         requires from { from < length self.old.stack.items }
         requires before { IsBehind self.old.starts.items from }
         requires leads { HasEdge (targets_of graph.now) (at self.old.stack.items from) target }
         requires target { target < length graph.now }
         requires known { State_of self.old.states.items target ≡ State.New → ⊥ }
-        ensures sound { IsSound (targets_of graph.now) self.new }
+        ensures sound { HasSearchInvariant (targets_of graph.now) self.new }
         ensures before { IsBehind self.new.starts.items from }
         ensures seen { IsSeen self.new from target }
         ensures states { self.new.states ≡ self.old.states }
@@ -223,12 +223,12 @@ impl Search {
 
     /// Closes the last segment, which starts there: it is a component.
     fn close(&mut self, graph: &[Vec<usize>], start: usize)
-        requires sound { IsSound (targets_of graph.now) self.old }
+        requires sound { HasSearchInvariant (targets_of graph.now) self.old }
         requires stack { start < length self.old.stack.items }
         requires start { start ≡ last_of self.old.starts.items }
         requires pending { 0 < length self.old.pending.items
             → (pending_at self.old.pending.items (length self.old.pending.items - 1)).place < start }
-        ensures sound { IsSound (targets_of graph.now) self.new }
+        ensures sound { HasSearchInvariant (targets_of graph.now) self.new }
         ensures news { news self.new.states.items ≡ news self.old.states.items }
         ensures pending { self.new.pending.items ≡ self.old.pending.items }
         ensures shorter { length self.new.stack.items < length self.old.stack.items }

@@ -47,10 +47,10 @@ module _ (edition : Edition) (t : List ℕ) (content : List Span) (ptr : ℕ) wh
     rest.errors_are,
   )
 
-  pub attaches_on : (e with_comment : EntryTree Span) (j : ℕ) → BlankBlock t ptr ptr → ptr < length t →
+  pub attaches_to : (e with_comment : EntryTree Span) (j : ℕ) → BlankBlock t ptr ptr → ptr < length t →
       entry_at edition t ptr (Read e j) → attached content e ≡ Some with_comment →
       Attaches edition t content ptr with_comment j
-  attaches_on e with_comment j block inside read same = λ i entries errors rest. (
+  attaches_to e with_comment j block inside read same = λ i entries errors rest. (
     entry (record { start = ptr; end = j }) e ∷ rest.tiles,
     next block inside (reads read) rest.tiled,
     rw (same_number ptr, same) (ap (λ b. with_comment ∷ b) rest.yields),

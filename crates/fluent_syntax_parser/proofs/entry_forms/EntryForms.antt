@@ -15,7 +15,7 @@ use Rattle.fluent_syntax_grammar.specs.Grammar.{family}
 use Rattle.fluent_syntax_grammar.specs.Places.{has, holds, has_byte}
 use Rattle.fluent_syntax_grammar.specs.Tiling.{entry_at, entry_in, entry_of}
 use Rattle.fluent_syntax_grammar.proofs.Facts.{differs, excludes}
-use Rattle.fluent_syntax_grammar.proofs.Holds.{gave}
+use Rattle.fluent_syntax_grammar.proofs.HoareTriple.{gave}
 use Rattle.fluent_syntax_parser.specs.Made.{AddsParsed, made}
 use Rattle.fluent_syntax_parser.specs.Outcomes.{Fails}
 use Rattle.fluent_syntax_parser.specs.declared.fault.ReadFault.{ReadFault}

@@ -5,7 +5,7 @@ use Rattle.std.specs.Str.{IsCharBoundary, IsUtf8}
 use Rattle.fluent_syntax_tree.specs.Entry.{AttributeTree, EntryTree}
 use Rattle.fluent_syntax_tree.specs.Every.{list_every, option_every}
 use Rattle.fluent_syntax_tree.specs.Tree.{PatternTree}
-use Rattle.fluent_syntax_tree.specs.Spans.{IsPart}
+use Rattle.fluent_syntax_tree.specs.Spans.{IsTextRange}
 use Rattle.fluent_syntax_tree.specs.declared.edition.Edition.{Edition}
 use Rattle.fluent_syntax_tree.specs.declared.spans.Span.{Span}
 use Rattle.fluent_syntax_grammar.specs.Bytes.{equals_sign, is_letter, is_name_byte}
@@ -15,7 +15,7 @@ use Rattle.fluent_syntax_grammar.specs.Grammar.{family, pattern}
 use Rattle.fluent_syntax_grammar.specs.Places.{InlineBlank, has}
 use Rattle.fluent_syntax_grammar.specs.Tokens.{identifier, token}
 use Rattle.fluent_syntax_grammar.proofs.Boundaries.{boundary_cuts}
-use Rattle.fluent_syntax_grammar.proofs.Cuts.{IsCuts, ascii_has, ascii_name}
+use Rattle.fluent_syntax_grammar.proofs.Cuts.{AreBoundaries, ascii_has, ascii_name}
 use Rattle.fluent_syntax_grammar.proofs.Sound.{Ended, IsSpan, Sound, sound_blank_block, sound_inline_blank}
 use Rattle.fluent_syntax_grammar.proofs.SoundEntries.{sound_attribute, sound_pattern}
 use Rattle.fluent_syntax_grammar.proofs.SoundWords.{sound_identifier, sound_token}
@@ -42,7 +42,7 @@ if_any good place None p e g = tt
 if_any good place (Some s) None e g = cc
 if_any good place (Some s) (Some v) e g = let same : s ≡ place = cc in subst good (sym same) g
 
-module _ (edition : Edition) (t : List ℕ) (P : ℕ → Type 0) (cuts : IsCuts t P) where
+module _ (edition : Edition) (t : List ℕ) (P : ℕ → Type 0) (cuts : AreBoundaries t P) where
   behind : {A : Type 0} {Good : A → Type 0} {c : Construct A} {i j : ℕ} {a : A} → Sound t P i c Good → P i →
       c i (Read a j) → Ended P i Good a j
   behind {i = i} {j = j} {a = a} s p x = s.holds.on_read i j a (record { late = omega arith; place = p }) x
@@ -89,7 +89,7 @@ module _ (edition : Edition) (t : List ℕ) (P : ℕ → Type 0) (cuts : IsCuts 
   entry_in_text i end x e (term_has_parts mark name s) = fields_in_text x _ end name s
 
 pub ranges_in_text : (edition : Edition) (t : List ℕ) → IsUtf8 t → (i : ℕ) (found : Option EntryRanges) →
-    HasRanges edition t i found → IfSome found (each_range (IsPart t))
+    HasRanges edition t i found → IfSome found (each_range (IsTextRange t))
 ranges_in_text edition t utf8 i None s = tt
 ranges_in_text edition t utf8 i (Some x) s =
     entry_in_text edition t (IsCharBoundary t) (boundary_cuts t utf8) i s.end x s.tree s.parts

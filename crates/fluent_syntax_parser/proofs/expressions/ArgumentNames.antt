@@ -55,11 +55,11 @@ module _ (t : List ℕ) (i : ℕ) where
   Named e = is_name e ≡ true → (name : Span) × (end : ℕ) × identifier t i (Read name end) ×
       (argument_name e ≡ Some name)
 
-  yields_same : {A : Type 0} {a b : A} {i j : ℕ} → yields a i (Read b j) → b ≡ a
-  yields_same given = refl
+  yields_unique : {A : Type 0} {a b : A} {i j : ℕ} → yields a i (Read b j) → b ≡ a
+  yields_unique given = refl
 
   no_named : (e a : InlineTree Span) {k j : ℕ} → is_name a ≡ false → yields a k (Read e j) → Named e
-  no_named e a none h is = absurd (true≢false (sym is ∙ ap is_name (yields_same h) ∙ none))
+  no_named e a none h is = absurd (true≢false (sym is ∙ ap is_name (yields_unique h) ∙ none))
 
   is_of : (id : Span) (a : Option Span) → is_name (message_reference id a) ≡ true →
       argument_name (message_reference id a) ≡ Some id
@@ -74,8 +74,8 @@ module _ (t : List ℕ) (i : ℕ) where
     id,
     m,
     read,
-    ap argument_name (yields_same h)
-        ∙ is_of id a (ap is_name (sym (yields_same h)) ∙ is),
+    ap argument_name (yields_unique h)
+        ∙ is_of id a (ap is_name (sym (yields_unique h)) ∙ is),
   )
 
   module _ (R : Family) where

@@ -7,7 +7,7 @@ use Rattle.fluent_syntax_tree.specs.View.{variant_view}
 use Rattle.fluent_syntax_tree.specs.declared.ast.Variant.{Variant}
 use Rattle.fluent_syntax_tree.specs.declared.spans.Span.{Span}
 use Rattle.fluent_syntax_grammar.specs.Construct.{Construct, Read, More, no_item, item, many}
-use Rattle.fluent_syntax_grammar.specs.Laws.{IsFunctional}
+use Rattle.fluent_syntax_grammar.specs.UniqueReading.{IsFunctional}
 use Rattle.fluent_syntax_parser.specs.Gathered.{variants_view}
 use Rattle.fluent_syntax_parser.specs.Made.{IsMade, made}
 use Rattle.fluent_syntax_parser.proofs.readers.ContinuesFrom.{ContinuesFrom, list_read, one_behind}

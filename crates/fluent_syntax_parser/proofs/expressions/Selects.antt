@@ -13,7 +13,7 @@ use Rattle.fluent_syntax_grammar.specs.Inline.{inline_expression}
 use Rattle.fluent_syntax_grammar.specs.Expressions.{expression, has_arrow, select_with, selector_fault}
 use Rattle.fluent_syntax_grammar.specs.Expressions.{variants_of_select}
 use Rattle.fluent_syntax_grammar.specs.Places.{Blank}
-use Rattle.fluent_syntax_grammar.specs.Laws.{IsFunctional}
+use Rattle.fluent_syntax_grammar.specs.UniqueReading.{IsFunctional}
 use Rattle.fluent_syntax_grammar.proofs.Functional.{functional_bind, functional_fails}
 use Rattle.fluent_syntax_grammar.proofs.FunctionalRules.{IsFunctionalFamily, functional_inline}
 use Rattle.fluent_syntax_grammar.proofs.FunctionalWords.{functional_blank, functional_inline_blank}

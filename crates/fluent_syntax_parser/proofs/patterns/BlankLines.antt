@@ -94,15 +94,15 @@ blank_line i k m =
 
 module _ (edition : Edition) (t : List ℕ) (common : Option ℕ) (i k m : ℕ) (blank : InlineBlank t i k)
     (eol : after_eol t k ≡ Some m) (rest : List Item) (none : cut t rest ≡ []) where
-  kept_blank : (c : Option ℕ) → m ≡ k + 1 →
+  blank_line_items_cut : (c : Option ℕ) → m ≡ k + 1 →
       cut t (line_items edition c (record { start = i; spaces = k - i; pieces = []; ending = lf_at k }) ++ rest) ≡ []
-  kept_blank None same =
+  blank_line_items_cut None same =
       let there = lf_byte (has_byte t lf k) _ k m eol same in
       let forward = blank.forward in
       let empty = blank_text t k there 0 (i + (k - i)) (omega (arith, forward)) (omega (arith, forward))
       (λ j a b. absurd (omega (arith, a, b, forward))) in
       rw (none, empty) refl
-  kept_blank (Some c) same =
+  blank_line_items_cut (Some c) same =
       let there = lf_byte (has_byte t lf k) _ k m eol same in
       let forward = blank.forward in
       let empty = blank_text t k there (k - (i + min (k - i) c)) (i + min (k - i) c) refl (omega (arith, forward))
@@ -116,7 +116,7 @@ module _ (edition : Edition) (t : List ℕ) (common : Option ℕ) (i k m : ℕ) 
         pieces = [];
         ending = if b then lf_at k else crlf_at k;
       }) ++ rest) ≡ []
-  by_test true is = kept_blank common (equal m (k + 1) is)
+  by_test true is = blank_line_items_cut common (equal m (k + 1) is)
   by_test false is =
       let other : m ≡ k + 1 → ⊥ = λ same. grind (arith, nat_tests) in
       let empty = lf_blank t (k + 1) (k + 2) (omega arith)

@@ -6,7 +6,7 @@ use Rattle.std.specs.List.{flat_map}
 use Rattle.std.proofs.lemmas.List.{map-append}
 use Rattle.fluent_syntax_tree.specs.declared.edition.Edition.{Edition}
 use Rattle.fluent_syntax_tree.specs.declared.edition.Edition.TheVariants.{One, Two}
-use Rattle.fluent_syntax_grammar.specs.Elements.{ItemOf, text, filled, with_ending, common_indent_end, indented}
+use Rattle.fluent_syntax_grammar.specs.Elements.{ItemOf, text, placeable_item, with_ending, common_indent_end, indented}
 use Rattle.fluent_syntax_grammar.specs.Elements.{items_from}
 use Rattle.fluent_syntax_grammar.specs.Elements.{line_items, opening_items, items, stays, cut_before, cut}
 use Rattle.fluent_syntax_grammar.specs.Layout.{PieceOf, run, placed, Ending, lf_at, crlf_at, text_end, LineOf, LayoutOf}
@@ -40,7 +40,7 @@ module _ {E F : Type 0} (h : E → F) where
   ending_mapped (run from to ∷ []) text_end = refl
   ending_mapped (run from to ∷ run a b ∷ ps) end = ap (λ xs. text from to ∷ xs) (ending_mapped (run a b ∷ ps) end)
   ending_mapped (run from to ∷ placed e ∷ ps) end = ap (λ xs. text from to ∷ xs) (ending_mapped (placed e ∷ ps) end)
-  ending_mapped (placed e ∷ ps) end = ap (λ xs. filled (h e) ∷ xs) (ending_mapped ps end)
+  ending_mapped (placed e ∷ ps) end = ap (λ xs. placeable_item (h e) ∷ xs) (ending_mapped ps end)
 
   kept_mapped : (common : Option ℕ) (l : LineOf E)
       → common_indent_end common (line_map h l) ≡ common_indent_end common l
@@ -100,7 +100,7 @@ module _ {E F : Type 0} (h : E → F) where
   module _ (t : List ℕ) where
     stays_mapped : (x : ItemOf E) → stays t (item_map h x) ≡ stays t x
     stays_mapped (text from to) = refl
-    stays_mapped (filled e) = refl
+    stays_mapped (placeable_item e) = refl
 
     cut_one : (x : ItemOf E) (b : Bool) →
         (if b then item_map h x ∷ [] else []) ≡ map (item_map h) (if b then x ∷ [] else [])

@@ -12,7 +12,7 @@ use Rattle.fluent_syntax_grammar.specs.Bytes.{lf, cr, left_brace, right_brace}
 use Rattle.fluent_syntax_grammar.specs.Construct.{Outcome, Read, Refused, item, list_of, no_item}
 use Rattle.fluent_syntax_grammar.specs.Elements.{with_ending}
 use Rattle.fluent_syntax_grammar.specs.Family.{Family}
-use Rattle.fluent_syntax_grammar.specs.Laws.{IsFunctional}
+use Rattle.fluent_syntax_grammar.specs.UniqueReading.{IsFunctional}
 use Rattle.fluent_syntax_grammar.specs.Layout.{Ending, Piece, crlf_at, lf_at, placed, run, text_end}
 use Rattle.fluent_syntax_grammar.specs.Lines.{ending, is_run_place, next_piece}
 use Rattle.fluent_syntax_grammar.specs.Places.{LongestRun, after_eol, has_byte, has_eol}

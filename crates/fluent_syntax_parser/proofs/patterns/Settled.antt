@@ -2,7 +2,7 @@
 use Rattle.std.proofs.Common.{◌≡◌, ℕ, List, [], ◌∷◌, ◌++◌, map, refl, sym, ap, ◌∙◌}
 use Rattle.fluent_syntax_tree.specs.Tree.{ExpressionTree, placeable, text_element}
 use Rattle.fluent_syntax_tree.specs.declared.spans.Span.{Span}
-use Rattle.fluent_syntax_grammar.specs.Elements.{ItemOf, cut, cut_before, filled, text, with_ending}
+use Rattle.fluent_syntax_grammar.specs.Elements.{ItemOf, cut, cut_before, placeable_item, text, with_ending}
 use Rattle.fluent_syntax_grammar.specs.Layout.{Ending, PieceOf, placed, run}
 use Rattle.fluent_syntax_parser.specs.Elements.{element_of, spelled}
 use Rattle.fluent_syntax_parser.specs.Layouts.{piece_map}
@@ -25,10 +25,10 @@ module _ {E : Type 0} where
   pub settled_ending : {ps : List (PieceOf E)} → Settled ps → (qs : List (PieceOf E)) (end : Ending) →
       with_ending (ps ++ qs) end ≡ map as_item ps ++ with_ending qs end
   settled_ending none qs end = refl
-  settled_ending (by_placeable {e = e} s) qs end = ap (λ xs. filled e ∷ xs) (settled_ending s qs end)
+  settled_ending (by_placeable {e = e} s) qs end = ap (λ xs. placeable_item e ∷ xs) (settled_ending s qs end)
   settled_ending (by_run {from = from} {to = to} s) qs end = ap (λ xs. text from to ∷ xs) (settled_ending s qs end)
 
-  cut_filled : (t : List ℕ) (e : E) (xs : List (ItemOf E)) → cut_before t (filled e) xs ≡ filled e ∷ xs
+  cut_filled : (t : List ℕ) (e : E) (xs : List (ItemOf E)) → cut_before t (placeable_item e) xs ≡ placeable_item e ∷ xs
   cut_filled t e [] = refl
   cut_filled t e (x ∷ xs) = refl
 

@@ -12,7 +12,7 @@ use Rattle.fluent_syntax_tree.specs.declared.ast.PatternElement.{PatternElement}
 use Rattle.fluent_syntax_tree.specs.declared.edition.Edition.{Edition}
 use Rattle.fluent_syntax_tree.specs.declared.spans.Span.{Span}
 use Rattle.fluent_syntax_grammar.specs.Elements as grammar
-use Rattle.fluent_syntax_grammar.specs.Elements.{if_any, Item, ItemOf, items, text, filled}
+use Rattle.fluent_syntax_grammar.specs.Elements.{if_any, Item, ItemOf, items, text, placeable_item}
 use Rattle.fluent_syntax_grammar.specs.Elements.{cut, line_items, opening_items}
 use Rattle.fluent_syntax_grammar.specs.Layout.{Layout, LineOf, PieceOf, least, counted}
 use Rattle.fluent_syntax_parser.specs.Elements.{element_of, last_of, spelled}
@@ -56,19 +56,19 @@ module _ {X : Type 0} (f : Span → X) (t : List ℕ) where
   spelled_of (text from to ∷ []) = refl
   spelled_of (text from to ∷ text a b ∷ xs) =
       ap (λ zs. text_element (f (record { start = from; end = to })) ∷ zs) (spelled_of (text a b ∷ xs))
-  spelled_of (text from to ∷ filled e ∷ xs) =
-      ap (λ zs. text_element (f (record { start = from; end = to })) ∷ zs) (spelled_of (filled e ∷ xs))
-  spelled_of (filled e ∷ xs) = ap (λ zs. element_map f (placeable e) ∷ zs) (spelled_of xs)
+  spelled_of (text from to ∷ placeable_item e ∷ xs) =
+      ap (λ zs. text_element (f (record { start = from; end = to })) ∷ zs) (spelled_of (placeable_item e ∷ xs))
+  spelled_of (placeable_item e ∷ xs) = ap (λ zs. element_map f (placeable e) ∷ zs) (spelled_of xs)
 
   spelled_end : (xs : List (ItemOf (ExpressionTree X))) (x : ItemOf (ExpressionTree X)) →
       spelled f t (xs ++ x ∷ []) ≡ map (element_of f) xs ++ last_of f t x ∷ []
   spelled_end [] (text from to) = refl
-  spelled_end [] (filled e) = refl
+  spelled_end [] (placeable_item e) = refl
   spelled_end (text from to ∷ []) x =
       ap (λ zs. text_element (f (record { start = from; end = to })) ∷ zs) (spelled_end [] x)
   spelled_end (text from to ∷ y ∷ ys) x =
       ap (λ zs. text_element (f (record { start = from; end = to })) ∷ zs) (spelled_end (y ∷ ys) x)
-  spelled_end (filled e ∷ xs) x = ap (λ zs. placeable e ∷ zs) (spelled_end xs x)
+  spelled_end (placeable_item e ∷ xs) x = ap (λ zs. placeable e ∷ zs) (spelled_end xs x)
 
   -- what is added for items that were cut
   module _ (zs : List (ItemOf (ExpressionTree X))) (es : List (ElementTree X)) where

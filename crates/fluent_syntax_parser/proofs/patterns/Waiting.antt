@@ -5,8 +5,8 @@ use Rattle.std.specs.Prelude.{nat_lt, if◌then◌else◌}
 use Rattle.fluent_syntax_tree.specs.declared.edition.Edition.{Edition}
 use Rattle.fluent_syntax_tree.specs.declared.edition.Edition.TheVariants.{One, Two}
 use Rattle.fluent_syntax_grammar.specs.Layout.{Ending, lf_at, crlf_at, text_end, LineOf, PieceOf, placed, run}
-use Rattle.fluent_syntax_parser.specs.Elements.{bare_items, flushed, indent_of, kept_place, leading, pending_run}
-use Rattle.fluent_syntax_grammar.specs.Elements.{ItemOf, filled, items_from, common_indent_end, line_items, text}
+use Rattle.fluent_syntax_parser.specs.Elements.{blank_line_items, flushed, indent_of, kept_place, leading, pending_run}
+use Rattle.fluent_syntax_grammar.specs.Elements.{ItemOf, placeable_item, items_from, common_indent_end, line_items, text}
 use Rattle.fluent_syntax_grammar.specs.Elements.{with_ending}
 
 module _ {E : Type 0} where
@@ -39,10 +39,10 @@ module _ {E : Type 0} where
 
     pub placed_added : (xs : List (ItemOf E)) (pending : Option (ℕ × ℕ)) (led : Option ℕ) (e : E)
         (ps : List (PieceOf E)) →
-        (flushed xs pending ++ filled e ∷ []) ++ with_ending ps end
+        (flushed xs pending ++ placeable_item e ∷ []) ++ with_ending ps end
         ≡ xs ++ with_ending (pending_run pending (leading led (placed e ∷ ps))) end
     placed_added xs pending led e ps =
-        append_assoc (flushed xs pending) (filled e ∷ []) (with_ending ps end)
+        append_assoc (flushed xs pending) (placeable_item e ∷ []) (with_ending ps end)
         ∙ flush xs pending (placed e) ps
         ∙ ap (λ qs. xs ++ with_ending (pending_run pending qs) end) (sym (placed_leads led e ps))
 
@@ -53,7 +53,7 @@ module _ {E : Type 0} where
   kept_is (Some common) l = refl
 
   bare_from : (edition : Edition) (kept first : ℕ) (end : Ending) →
-      bare_items {E = E} kept end ≡ items_from {E = E} edition kept first [] end
+      blank_line_items {E = E} kept end ≡ items_from {E = E} edition kept first [] end
   bare_from edition kept first (lf_at p) = refl
   bare_from edition kept first (crlf_at p) = refl
   bare_from edition kept first text_end = refl
@@ -80,7 +80,7 @@ module _ {E : Type 0} where
     kept_items =
         ap (λ k. items_from edition k (l.start + l.spaces) l.pieces l.ending) (is ∙ kept_is common l)
 
-    pub bare_line : l.pieces ≡ [] → bare_items kept l.ending ≡ line_items edition common l
+    pub bare_line : l.pieces ≡ [] → blank_line_items kept l.ending ≡ line_items edition common l
     bare_line none =
         bare_from edition kept (l.start + l.spaces) l.ending
         ∙ ap (λ ps. items_from edition kept (l.start + l.spaces) ps l.ending) (sym none)

@@ -11,10 +11,10 @@ use Rattle.fluent_syntax_grammar.specs.Bytes.{left_brace, left_parenthesis}
 use Rattle.fluent_syntax_grammar.specs.Construct.{Outcome, Construct, Read, Refused, ◌>>=◌, stops, goes_on, skip}
 use Rattle.fluent_syntax_grammar.specs.Construct.{passed, branch_on, first, second, peek, chosen, yields, here}
 use Rattle.fluent_syntax_grammar.specs.Grammar.{within}
-use Rattle.fluent_syntax_grammar.specs.Laws.{IsFunctional}
+use Rattle.fluent_syntax_grammar.specs.UniqueReading.{IsFunctional}
 use Rattle.fluent_syntax_grammar.specs.Nesting.{TooDeep}
 use Rattle.fluent_syntax_grammar.specs.Expressions.{arrow_line_end, expression, placeable}
-use Rattle.fluent_syntax_grammar.specs.Places.{Blank, Reaches, Steps, after_eol}
+use Rattle.fluent_syntax_grammar.specs.Places.{Blank, JumpsTo, Steps, after_eol}
 use Rattle.fluent_syntax_grammar.specs.Variants.{only_star}
 use Rattle.fluent_syntax_grammar.specs.Tokens.{optional, token}
 use Rattle.fluent_syntax_grammar.proofs.Deeper.{deeper_first, deeper_next, deeper_yes, deeper_no, deeper_peek}
@@ -98,7 +98,7 @@ functional_look look = search functional depth 30
 pub functional_steps : {n : ℕ} → IsFunctional (skip (Steps n))
 functional_steps = search functional depth 30
 
-pub functional_reaches : {k : ℕ} → IsFunctional (skip (Reaches k))
+pub functional_reaches : {k : ℕ} → IsFunctional (skip (JumpsTo k))
 functional_reaches = search functional depth 30
 
 pub functional_star : (starred star : Bool) → IsFunctional (only_star starred star)

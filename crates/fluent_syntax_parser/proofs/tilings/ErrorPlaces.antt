@@ -12,11 +12,11 @@ use Rattle.fluent_syntax_tree.specs.declared.edition.Edition.{Edition}
 use Rattle.fluent_syntax_tree.specs.declared.errors.ParserError.{ParserError}
 use Rattle.fluent_syntax_tree.specs.declared.spans.Span.{Span}
 use Rattle.fluent_syntax_grammar.specs.Body.{faults}
-use Rattle.fluent_syntax_grammar.specs.Laws.{Ascend}
+use Rattle.fluent_syntax_grammar.specs.UniqueReading.{Ascend}
 use Rattle.fluent_syntax_grammar.specs.Tiling.{Fault, Tile}
 use Rattle.fluent_syntax_grammar.proofs.JunkAndSpans.{errors_ascend, runtime_errors_ascend}
 use Rattle.fluent_syntax_parser.specs.Answers.{Answers, AnswersTiling, AnswersRuntimeTiling, ErrorsInText}
-use Rattle.fluent_syntax_parser.specs.Rest.{AnswersIn, EntryTo, Reached, Rest, faults_of}
+use Rattle.fluent_syntax_parser.specs.Rest.{AnswersIn, EntryTo, ReadSoFar, Rest, faults_of}
 use Rattle.fluent_syntax_parser.proofs.tilings.PartsOfEntries.{some_rest}
 use Rattle.fluent_syntax_parser.specs.Faults.{fault_of}
 use Rattle.fluent_syntax_parser.specs.declared.options.Comments.{Comments}
@@ -87,7 +87,7 @@ module _ (t : List ℕ) where
 
   -- and one of an entry that stands behind what was reached
   pub error_behind : (comments : Comments) (edition : Edition) (i j : ℕ) (e : EntryTree Span)
-      (error : Option ParserError) → j ≤ length t → ∥ Reached comments edition t i ∥₁ →
+      (error : Option ParserError) → j ≤ length t → ∥ ReadSoFar comments edition t i ∥₁ →
       EntryTo comments edition t i j e (faults_of error) → IfSome error (λ error. error.pos.start ≤ length t)
   error_behind comments edition i j e None inside reached there = tt
   error_behind comments edition i j e (Some error) inside reached there =

@@ -3,7 +3,7 @@ use Rattle.std.proofs.Common.{ℕ, ◌≤◌, List, [], ◌∷◌, ◌++◌, len
 use Rattle.std.specs.Str.{IsUtf8}
 use Rattle.fluent_syntax_tree.specs.Entry.{BodyTree, EntryTree}
 use Rattle.fluent_syntax_tree.specs.Every.{body_every, entry_every}
-use Rattle.fluent_syntax_tree.specs.Spans.{IsPart}
+use Rattle.fluent_syntax_tree.specs.Spans.{IsTextRange}
 use Rattle.fluent_syntax_tree.specs.declared.edition.Edition.{Edition}
 use Rattle.fluent_syntax_tree.specs.declared.spans.Span.{Span}
 use Rattle.fluent_syntax_grammar.specs.Body.{body, faults}
@@ -50,14 +50,14 @@ module _ (t : List ℕ) (edition : Edition) where
 
   pub body_parts : (comments : Comments) (tiles : List Tile) → IsUtf8 t →
       Tiled t (TileIn comments edition t (family edition t)) 0 tiles →
-      body_every (IsPart t) (body tiles)
+      body_every (IsTextRange t) (body tiles)
   body_parts Kept tiles utf8 tiled = body_in_text edition t tiles utf8 tiled
   body_parts Dropped tiles utf8 tiled = runtime_body_in_text edition t tiles utf8 tiled
 
   -- the texts of an entry that stands in the whole text behind others are parts
   pub parts_of_entry : (comments : Comments) (before : BodyTree Span) (e : EntryTree Span) (after : BodyTree Span)
       (errors : List (Option Fault)) → IsUtf8 t → Rest comments edition t 0 (before ++ e ∷ after) errors →
-      entry_every (IsPart t) e
+      entry_every (IsTextRange t) e
   parts_of_entry comments before e after errors utf8 rest =
-      behind (IsPart t) before e after
-      (subst (body_every (IsPart t)) rest.yields (body_parts comments rest.tiles utf8 rest.tiled))
+      behind (IsTextRange t) before e after
+      (subst (body_every (IsTextRange t)) rest.yields (body_parts comments rest.tiles utf8 rest.tiled))

@@ -6,35 +6,35 @@ use Rattle.std.proofs.Math.Bridge.{le_prop}
 use Rattle.std.proofs.Math.Logic.{∥∥₁_elim}
 use Rattle.fluent_syntax_tree.specs.Entry.{EntryTree}
 use Rattle.fluent_syntax_tree.specs.Every.{entry_every}
-use Rattle.fluent_syntax_tree.specs.Spans.{IsPart}
+use Rattle.fluent_syntax_tree.specs.Spans.{IsTextRange}
 use Rattle.fluent_syntax_tree.specs.declared.ast.Entry.{Entry}
 use Rattle.fluent_syntax_tree.specs.declared.edition.Edition.{Edition}
 use Rattle.fluent_syntax_tree.specs.declared.errors.ParserError.{ParserError}
 use Rattle.fluent_syntax_tree.specs.declared.spans.Span.{Span}
 use Rattle.fluent_syntax_tree.proofs.EveryProps.{entry_every-prop}
 use Rattle.fluent_syntax_grammar.specs.Tiling.{Fault}
-use Rattle.fluent_syntax_parser.specs.Rest.{EntryTo, NextTo, Reached, faults_of, tree_of}
+use Rattle.fluent_syntax_parser.specs.Rest.{EntryTo, NextTo, ReadSoFar, faults_of, tree_of}
 use Rattle.fluent_syntax_parser.proofs.tilings.PartsOfEntries.{parts_of_entry, some_rest}
 use Rattle.fluent_syntax_parser.proofs.tilings.Rests.{entry_to}
 use Rattle.fluent_syntax_parser.specs.declared.options.Comments.{Comments}
 
 module _ (t : List ℕ) where
-  IsPart-prop : (span : Span) → IsProp (IsPart t span)
-  IsPart-prop span = hlevel le_prop
+  IsTextRange-prop : (span : Span) → IsProp (IsTextRange t span)
+  IsTextRange-prop span = hlevel le_prop
 
   module _ (comments : Comments) (edition : Edition) (utf8 : IsUtf8 t) where
     -- the texts of an entry that stands behind what was reached
     parts_behind : (i j : ℕ) (e : EntryTree Span) (faults : List (Option Fault)) → j ≤ length t →
-        ∥ Reached comments edition t i ∥₁ → EntryTo comments edition t i j e faults → entry_every (IsPart t) e
+        ∥ ReadSoFar comments edition t i ∥₁ → EntryTo comments edition t i j e faults → entry_every (IsTextRange t) e
     parts_behind i j e faults inside reached there =
         let left = some_rest t edition comments j inside in
-        ∥∥₁_elim reached (entry_every-prop (IsPart t) IsPart-prop e)
+        ∥∥₁_elim reached (entry_every-prop (IsTextRange t) IsTextRange-prop e)
         (λ r. parts_of_entry t edition comments r.entries e left.0 _ utf8 (r.rest _ _ (there _ _ left.2)))
 
     -- the texts of what is read next, where something is
     pub parts_of_next : {E : Type 0} (i start j : ℕ) (result : Result (Option (Entry Span × Option ParserError)) E) →
-        j ≤ length t → ∥ Reached comments edition t i ∥₁ → IfOk result (NextTo comments edition t i start j) →
-        IfOk result (λ found. IfSome found (λ read. entry_every (IsPart t) (tree_of read.0)))
+        j ≤ length t → ∥ ReadSoFar comments edition t i ∥₁ → IfOk result (NextTo comments edition t i start j) →
+        IfOk result (λ found. IfSome found (λ read. entry_every (IsTextRange t) (tree_of read.0)))
     parts_of_next i start j (Ok None) inside reached next = tt
     parts_of_next i start j (Ok (Some read)) inside reached next =
         parts_behind i j (tree_of read.0) (faults_of read.1) inside reached

@@ -3,7 +3,7 @@ use Rattle.std.proofs.Common.{List, ℕ, sym, subst}
 use Rattle.std.specs.Prelude.{Result, Ok, Err}
 use Rattle.std.specs.Str.{IsUtf8}
 use Rattle.fluent_syntax_tree.specs.Every.{body_every}
-use Rattle.fluent_syntax_tree.specs.Spans.{IsPart}
+use Rattle.fluent_syntax_tree.specs.Spans.{IsTextRange}
 use Rattle.fluent_syntax_tree.specs.declared.ast.Resource.{Resource}
 use Rattle.fluent_syntax_tree.specs.declared.edition.Edition.{Edition}
 use Rattle.fluent_syntax_tree.specs.declared.spans.Span.{Span}
@@ -19,10 +19,10 @@ use Rattle.fluent_syntax_parser.specs.declared.fault.ParseFault.TheVariants.{Syn
 
 module _ (t : List ℕ) where
   parts_given : (tiles : List Tile) (result : Result (Resource Span) (ParseFault Span)) →
-      body_every (IsPart t) (body tiles) → Answers (λ s. s) (λ b. b) tiles result → HasParts t result
-  parts_given tiles (Ok tree) parts (same, none) = subst (body_every (IsPart t)) (sym same) parts
+      body_every (IsTextRange t) (body tiles) → Answers (λ s. s) (λ b. b) tiles result → HasParts t result
+  parts_given tiles (Ok tree) parts (same, none) = subst (body_every (IsTextRange t)) (sym same) parts
   parts_given tiles (Err (Syntax tree errors)) parts (same, told, some) =
-      subst (body_every (IsPart t)) (sym same) parts
+      subst (body_every (IsTextRange t)) (sym same) parts
   parts_given tiles (Err Memory) parts given = tt
 
   pub parts_answered : (comments : Comments) (edition : Edition) (result : Result (Resource Span) (ParseFault Span)) →

@@ -21,7 +21,7 @@ use Rattle.fluent_syntax_grammar.proofs.BareEntries.{bare_tile_at}
 use Rattle.fluent_syntax_grammar.proofs.Runtime.{IsBareTile}
 use Rattle.fluent_syntax_grammar.proofs.IncludedEntries.{included_entry, tile_part}
 use Rattle.fluent_syntax_grammar.proofs.Nesting.{within_family}
-use Rattle.fluent_syntax_parser.specs.Rest.{EntryAt, EntryTo, GivesTile, Attaches, Reached, Rest, RestAt, TiledHere}
+use Rattle.fluent_syntax_parser.specs.Rest.{EntryAt, EntryTo, GivesTile, Attaches, ReadSoFar, Rest, RestAt, TiledHere}
 use Rattle.fluent_syntax_parser.specs.Rest.{TileIn}
 use Rattle.fluent_syntax_parser.specs.Rest.{are_dropped, at_end, at_tile, faults_of, may_attach}
 use Rattle.fluent_syntax_parser.specs.declared.options.Comments.{Comments}
@@ -177,11 +177,11 @@ module _ (comments : Comments) (edition : Edition) (t : List ℕ) where
       EntryAt comments edition t i start j e told → EntryTo comments edition t i j e told
   entry_to i start j e told there = λ entries errors rest. there.before _ _ (there.stands entries errors rest)
 
-  pub none_reached : Reached comments edition t 0
+  pub none_reached : ReadSoFar comments edition t 0
   none_reached = record { entries = []; errors = []; rest = λ others more rest. rest }
 
   reached_on : (i j : ℕ) (e : EntryTree Span) (told : List (Option Fault)) → EntryTo comments edition t i j e told →
-      Reached comments edition t i → Reached comments edition t j
+      ReadSoFar comments edition t i → ReadSoFar comments edition t j
   reached_on i j e told there reached = record {
     entries = reached.entries ++ e ∷ [];
     errors = reached.errors ++ told;
@@ -193,7 +193,7 @@ module _ (comments : Comments) (edition : Edition) (t : List ℕ) where
   }
 
   pub reached_behind : (i start j : ℕ) (e : EntryTree Span) (told : List (Option Fault)) →
-      EntryAt comments edition t i start j e told → ∥ Reached comments edition t i ∥₁ →
-      ∥ Reached comments edition t j ∥₁
+      EntryAt comments edition t i start j e told → ∥ ReadSoFar comments edition t i ∥₁ →
+      ∥ ReadSoFar comments edition t j ∥₁
   reached_behind i start j e told there reached =
       ∥∥₁_map reached (reached_on i j e told (entry_to i start j e told there))

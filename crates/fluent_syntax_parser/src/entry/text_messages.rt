@@ -35,7 +35,7 @@ impl<'s> Source<'s> {
                 return Some(place);
             };
             let opening = self.pattern_start(start)?;
-            let (text, end) = self.short_text(edition, opening)?;
+            let (text, end) = self.one_line_text(edition, opening)?;
             let Some(_text) = text else {
                 return None;
             };
@@ -51,7 +51,7 @@ impl<'s> Source<'s> {
         ensures within { IfSome result (λ end. (start < end) × (end ≤ length self.now.bytes.now)) }
     {
         let opening = self.pattern_start(start)?;
-        let (text, line) = self.short_text(edition, opening)?;
+        let (text, line) = self.one_line_text(edition, opening)?;
         let end = self.text_attributes_end(edition, line)?;
         match text {
             Some(_) => Some(end),

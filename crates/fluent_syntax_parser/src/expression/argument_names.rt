@@ -12,7 +12,7 @@ use std::alloc::{AllocError, Global};
 use std::collections::BTreeSet;
 
 /// From so many names on they are looked up in a table. Fewer are compared one by one.
-const MANY: usize = 32;
+const TABLE_THRESHOLD: usize = 32;
 
 /// The names of the named arguments of a list that were read so far, in order, and in a table where there are many.
 #[derive(Drop)]
@@ -48,7 +48,7 @@ impl<'s> SeenNames<'s> {
             (self.new.names.items ≡ self.old.names.items ++ name ∷ [])
             × Notes (λ k. k.now) self.new.table.keys (names_in_order t self.new.names.items)) }
     {
-        if self.names.len() < MANY {
+        if self.names.len() < TABLE_THRESHOLD {
             if source.has_name(&self.names, name) {
                 return Ok(false);
             }
@@ -71,7 +71,7 @@ impl<'s> SeenNames<'s> {
             OnOk result (Notes (λ k. k.now) self.new.table.keys (names_in_order t self.new.names.items)) }
     {
         self.names.push(name)?;
-        if self.names.len() < MANY {
+        if self.names.len() < TABLE_THRESHOLD {
             return Ok(());
         }
         self.note_all(source)

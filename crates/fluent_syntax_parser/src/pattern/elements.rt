@@ -1,7 +1,7 @@
 //! The items that the lines of a pattern spell.
 ghost use Rattle.std.specs.Prelude.{◌≡◌, ◌+◌, ◌<◌, ◌^◌, ◌++◌, [], map, OnOk};
 ghost use Rattle.std.specs.List.{flat_map};
-ghost use Rattle.fluent_syntax_parser.specs.Elements.{bare_items, flushed, indent_of, item_shape, kept_place, leading};
+ghost use Rattle.fluent_syntax_parser.specs.Elements.{blank_line_items, flushed, indent_of, item_shape, kept_place, leading};
 ghost use Rattle.fluent_syntax_parser.specs.Elements.{pending_run, rest_items};
 ghost use Rattle.fluent_syntax_grammar.specs.Elements.{line_items, with_ending};
 ghost use Rattle.fluent_syntax_parser.specs.Endings.{EndsWithin};
@@ -133,7 +133,7 @@ fn add_bare_line<T: Drop>(
 ) -> Result<(), AllocError>
     requires { EndsWithin ending }
     ensures { OnOk result (map item_shape items.new.items
-        ≡ map item_shape items.old.items ++ bare_items kept (ending_view ending)) }
+        ≡ map item_shape items.old.items ++ blank_line_items kept (ending_view ending)) }
 {
     match ending {
         Ending::Lf(place) => items.push(Piece::Run {

@@ -92,7 +92,7 @@ pub(crate) fn variant<X, Y: Drop, C: CopyTexts<X, Y>>(
 
 #[cycle(copied)]
 #[tactic(auto, using(crate::proofs::Views::views))]
-pub(crate) fn named<X, Y: Drop, C: CopyTexts<X, Y>>(
+pub(crate) fn named_argument<X, Y: Drop, C: CopyTexts<X, Y>>(
     by: &C,
     alloc: Global,
     argument: &NamedArgument<X>,
@@ -122,7 +122,7 @@ pub(crate) fn arguments<X, Y: Drop, C: CopyTexts<X, Y>>(
     }
     let mut nameds = list_for(alloc, &arguments.named);
     for item in &arguments.named {
-        nameds.push(named(by, alloc, item)?)?;
+        nameds.push(named_argument(by, alloc, item)?)?;
     }
     Ok(CallArguments {
         positional,

@@ -18,7 +18,7 @@ use Rattle.fluent_syntax_grammar.specs.PatternTexts.{after_spaces}
 use Rattle.fluent_syntax_grammar.specs.Readable.{is_message, is_callee, is_text}
 use Rattle.fluent_syntax_grammar.specs.Readable.{ElementPosition, opening, after_line, within_line, after_placeable}
 use Rattle.fluent_syntax_grammar.specs.Readable.{position_after}
-use Rattle.fluent_syntax_grammar.specs.Readable.{indents, is_well_placed, ends_well, are_elements, is_pattern, defaults}
+use Rattle.fluent_syntax_grammar.specs.Readable.{indents, may_stand_at, may_precede, are_elements, is_pattern, defaults}
 use Rattle.fluent_syntax_grammar.specs.Readable.{are_lines, is_expression, are_arguments}
 use Rattle.fluent_syntax_grammar.specs.Canonical.{canonical_rules, is_plain_comment, is_plain_line, hides_mark}
 use Rattle.fluent_syntax_grammar.specs.Canonical.{are_lone, are_flush, first_position, is_flush, has_one_default}
@@ -33,7 +33,7 @@ use Rattle.fluent_syntax_writer.specs.SingleRule.{later_is_unmarked}
 use Rattle.fluent_syntax_writer.specs.declared.canonical.rules.Rule.{Rule}
 use Rattle.fluent_syntax_writer.proofs.rules.Named.{nameds_whole}
 use Rattle.fluent_syntax_writer.proofs.rules.Positions.{and_assoc}
-use Rattle.fluent_syntax_grammar.proofs.RulesTogether.{ArePartsOf, both_pass, entry_meets}
+use Rattle.fluent_syntax_grammar.proofs.RuleConjunction.{ArePartsOf, both_pass, entry_obeys_each}
 
 and_true : (x : Bool) → x ≡ (x && true)
 and_true true = refl
@@ -78,20 +78,20 @@ on_later_line false mark false = refl
 
 module _ (edition : Edition) where
   place_whole : (multiline : Bool) (s : ElementPosition) (v : Text) (es : PatternTree Text)
-      → (is_well_placed edition multiline s v es && ends_well v es)
+      → (may_stand_at edition multiline s v es && may_precede v es)
       ≡ (follows_no_text s && (first_is_nonblank edition multiline s v es && (first_is_tight multiline s v
-      && (ends_well v es && (later_is_no_space edition s v es && (later_is_unmarked s v && true))))))
+      && (may_precede v es && (later_is_no_space edition s v es && (later_is_unmarked s v && true))))))
   place_whole true opening v es =
-      ap (λ b. (is_nonblank v || indents edition v es) && b) (and_true (ends_well v es))
-  place_whole false opening v es = on_one_line (is_nonblank v) (not (begins_with_space v)) (ends_well v es)
+      ap (λ b. (is_nonblank v || indents edition v es) && b) (and_true (may_precede v es))
+  place_whole false opening v es = on_one_line (is_nonblank v) (not (begins_with_space v)) (may_precede v es)
   place_whole multiline after_line v es =
       on_later_line (not (is_spaces v) || indents edition v es) (not (begins_with_mark (after_spaces v)))
-      (ends_well v es)
+      (may_precede v es)
   place_whole multiline within_line v es = refl
-  place_whole multiline after_placeable v es = and_true (ends_well v es)
+  place_whole multiline after_placeable v es = and_true (may_precede v es)
 
   text_whole : (multiline : Bool) (s : ElementPosition) (v : Text) (es : PatternTree Text)
-      → (is_text v && (is_well_placed edition multiline s v es && ends_well v es))
+      → (is_text v && (may_stand_at edition multiline s v es && may_precede v es))
       ≡ list_all (λ rule. text_keeps edition rule multiline s v es) every_rule
   text_whole multiline s v es =
       after_four (not (is_empty v)) (not (list_any is_brace v)) (not (has_crlf v)) (not (has_lf (without_last_lf v)))
@@ -104,7 +104,7 @@ module _ (edition : Edition) where
   texts_whole multiline s (elements (text_element v) es) =
       let text = λ (rule : Rule). text_keeps edition rule multiline s v es in
       let rest = λ (rule : Rule). texts_keep edition rule multiline (position_after v) es in
-      and_assoc (is_text v) (is_well_placed edition multiline s v es) (ends_well v es)
+      and_assoc (is_text v) (may_stand_at edition multiline s v es) (may_precede v es)
       (are_elements edition multiline (position_after v) es)
       ∙ rw (text_whole multiline s v es, texts_whole multiline (position_after v) es)
       (sym (both_pass text rest every_rule))
@@ -180,4 +180,4 @@ canonical_parts edition = record {
 pub keeps_every : (edition : Edition) (e : EntryTree Text)
     → entry_obeys (canonical_rules edition) e ≡ list_all (λ rule. entry_keeps edition rule e) every_rule
 keeps_every edition e =
-    entry_meets every_rule (single_rule edition) (canonical_rules edition) (canonical_parts edition) e
+    entry_obeys_each every_rule (single_rule edition) (canonical_rules edition) (canonical_parts edition) e

@@ -4,47 +4,47 @@ use Rattle.std.proofs.Common.{ap, ◌∙◌, arith}
 use Rattle.std.specs.Prelude.{option_to_list}
 use Rattle.fluent_syntax_tree.specs.Tree.{ElementTree, text_element, placeable, PatternTree, elements}
 use Rattle.fluent_syntax_tree.specs.declared.edition.Edition.{Edition}
-use Rattle.fluent_syntax_grammar.specs.Canonical.{line_numbers, hides_mark, first_position, are_flush, is_flush}
+use Rattle.fluent_syntax_grammar.specs.Canonical.{line_indents, hides_mark, first_position, are_flush, is_flush}
 use Rattle.fluent_syntax_grammar.specs.Layout.{least, least_with}
 use Rattle.fluent_syntax_grammar.specs.Readable.{ElementPosition}
 use Rattle.fluent_syntax_grammar.specs.Written.{Text, is_multiline}
-use Rattle.fluent_syntax_writer.specs.Places.{position_past, numbers_at, lesser}
+use Rattle.fluent_syntax_writer.specs.Places.{position_past, indents_at, least_of_two}
 
-lesser-assoc : (a b c : Option ℕ) → lesser a (lesser b c) ≡ lesser (lesser a b) c
-lesser-assoc None b c = refl
-lesser-assoc (Some a) None c = refl
-lesser-assoc (Some a) (Some b) None = refl
-lesser-assoc (Some a) (Some b) (Some c) = let same : min a (min b c) ≡ min (min a b) c = omega arith in ap Some same
+least_of_two-assoc : (a b c : Option ℕ) → least_of_two a (least_of_two b c) ≡ least_of_two (least_of_two a b) c
+least_of_two-assoc None b c = refl
+least_of_two-assoc (Some a) None c = refl
+least_of_two-assoc (Some a) (Some b) None = refl
+least_of_two-assoc (Some a) (Some b) (Some c) = let same : min a (min b c) ≡ min (min a b) c = omega arith in ap Some same
 
 least-before : (number : Option ℕ) (numbers : List ℕ)
-    → least (option_to_list number ++ numbers) ≡ lesser number (least numbers)
+    → least (option_to_list number ++ numbers) ≡ least_of_two number (least numbers)
 least-before None numbers = refl
 least-before (Some n) numbers = by_rest (least numbers)
   where
-    by_rest : (m : Option ℕ) → Some (least_with n m) ≡ lesser (Some n) m
+    by_rest : (m : Option ℕ) → Some (least_with n m) ≡ least_of_two (Some n) m
     by_rest None = refl
     by_rest (Some m) = refl
 
 by_form : (edition : Edition) (s : ElementPosition) (e : ElementTree Text) (es : PatternTree Text)
-    → line_numbers edition s (elements e es) ≡ numbers_at edition s e ++ line_numbers edition (position_past e) es
+    → line_indents edition s (elements e es) ≡ indents_at edition s e ++ line_indents edition (position_past e) es
 by_form edition s (text_element v) es = refl
 by_form edition s (placeable e) es = refl
 
 -- the least so far, and that of the lines that are left
 pub least-step : (edition : Edition) (s : ElementPosition) (e : ElementTree Text) (es : PatternTree Text)
-    (so_far number : Option ℕ) → option_to_list number ≡ numbers_at edition s e
-    → lesser so_far (least (line_numbers edition s (elements e es)))
-    ≡ lesser (lesser so_far number) (least (line_numbers edition (position_past e) es))
+    (so_far number : Option ℕ) → option_to_list number ≡ indents_at edition s e
+    → least_of_two so_far (least (line_indents edition s (elements e es)))
+    ≡ least_of_two (least_of_two so_far number) (least (line_indents edition (position_past e) es))
 least-step edition s e es so_far number is =
-    let later = line_numbers edition (position_past e) es in
-    ap (λ ns. lesser so_far (least ns)) (by_form edition s e es)
-    ∙ ap (λ ns. lesser so_far (least (ns ++ later))) (sym is)
-    ∙ ap (lesser so_far) (least-before number later)
-    ∙ lesser-assoc so_far number (least later)
+    let later = line_indents edition (position_past e) es in
+    ap (λ ns. least_of_two so_far (least ns)) (by_form edition s e es)
+    ∙ ap (λ ns. least_of_two so_far (least (ns ++ later))) (sym is)
+    ∙ ap (least_of_two so_far) (least-before number later)
+    ∙ least_of_two-assoc so_far number (least later)
 
 -- A multiline pattern whose first text hides no mark is flush by its lines.
 pub flush_by_lines : (edition : Edition) (p : PatternTree Text) → is_multiline p ≡ true → hides_mark p ≡ false
-    → is_flush edition p ≡ are_flush (least (line_numbers edition (first_position p) p)) (first_position p) p
+    → is_flush edition p ≡ are_flush (least (line_indents edition (first_position p) p)) (first_position p) p
 flush_by_lines edition p spans shows =
-    let lines = are_flush (least (line_numbers edition (first_position p) p)) (first_position p) p in
+    let lines = are_flush (least (line_indents edition (first_position p) p)) (first_position p) p in
     ap (λ b. not b || not (hides_mark p) && lines) spans ∙ ap (λ b. not b && lines) shows

@@ -8,7 +8,7 @@ use Rattle.fluent_syntax_tree.specs.Tree.{ElementTree, PatternTree, text_element
 use Rattle.fluent_syntax_tree.specs.Tree.{elements_of}
 use Rattle.fluent_syntax_tree.specs.declared.edition.Edition.{Edition}
 use Rattle.fluent_syntax_grammar.specs.Bytes.{lf, space, is_space}
-use Rattle.fluent_syntax_grammar.specs.Canonical.{canonical_rules, hides_mark, first_position, line_numbers, are_flush}
+use Rattle.fluent_syntax_grammar.specs.Canonical.{canonical_rules, hides_mark, first_position, line_indents, are_flush}
 use Rattle.fluent_syntax_grammar.specs.Elements.{without_last_lf}
 use Rattle.fluent_syntax_grammar.specs.Layout.{least}
 use Rattle.fluent_syntax_grammar.specs.PatternTexts.{begins_with_space, ends_plainly, is_empty, is_brace, has_crlf}
@@ -50,7 +50,7 @@ plain_text_obeys edition v plain =
     let on_one_line : (has_lf v || false) ≡ false =
     ap (λ u. has_lf u || false) (sym ends.no_lf) ∙ ap (λ b. b || false) no_lf in
     let shown = ap (list_any (λ b. not (is_space b))) ends.no_lf ∙ ends.shown in
-    let flush = not (hides_mark p) && are_flush (least (line_numbers edition (first_position p) p))
+    let flush = not (hides_mark p) && are_flush (least (line_indents edition (first_position p) p))
     (first_position p) p in
     both
     (ap (λ multiline. are_elements edition multiline opening p) on_one_line

@@ -7,7 +7,7 @@ use Rattle.std.specs.List.{list_any}
 use Rattle.fluent_syntax_tree.specs.Tree.{ElementTree, text_element, placeable, PatternTree, no_elements, elements}
 use Rattle.fluent_syntax_tree.specs.Tree.{elements_of}
 use Rattle.fluent_syntax_tree.specs.declared.edition.Edition.{Edition}
-use Rattle.fluent_syntax_grammar.specs.Readable.{begins_with_placeable, is_text, is_well_placed, ends_well}
+use Rattle.fluent_syntax_grammar.specs.Readable.{begins_with_placeable, is_text, may_stand_at, may_precede}
 use Rattle.fluent_syntax_grammar.specs.Readable.{position_after}
 use Rattle.fluent_syntax_grammar.specs.Readable.{are_elements}
 use Rattle.fluent_syntax_grammar.specs.Readable.{ElementPosition, opening, is_line_start, is_pattern}
@@ -16,7 +16,7 @@ use Rattle.fluent_syntax_grammar.specs.Written.{Text, is_multiline, spans_lines}
 use Rattle.fluent_syntax_writer.specs.SingleRule.{has_element, texts_keep}
 use Rattle.fluent_syntax_writer.specs.Places.{position_past, is_element, element_keeps, is_placeable}
 use Rattle.fluent_syntax_writer.specs.Places.{element_hides_mark}
-use Rattle.fluent_syntax_writer.specs.Places.{is_lone_at_line_start}
+use Rattle.fluent_syntax_writer.specs.Places.{is_lone_lf_at_line_start}
 use Rattle.fluent_syntax_writer.specs.declared.canonical.rules.Rule.{Rule}
 
 pub is_multiline-list : {E : Type 0} (view : E → ElementTree Text) (es : List E)
@@ -79,7 +79,7 @@ module _ {E : Type 0} (view : E → ElementTree Text) where
         → are_elements edition multiline s (elements e es)
         ≡ (is_element edition multiline s e es && are_elements edition multiline (position_past e) es)
     by_form s (text_element v) es =
-        and_assoc (is_text v) (is_well_placed edition multiline s v es) (ends_well v es)
+        and_assoc (is_text v) (may_stand_at edition multiline s v es) (may_precede v es)
         (are_elements edition multiline (position_after v) es)
     by_form s (placeable e) es = refl
 
@@ -109,10 +109,10 @@ module _ {E : Type 0} (view : E → ElementTree Text) where
   lone s es = are_lone s (tree es)
 
   abbrev pub one_lone : ElementPosition → E → List E → Bool
-  one_lone s e es = is_lone_at_line_start s (view e)
+  one_lone s e es = is_lone_lf_at_line_start s (view e)
 
   lone_by_form : (s : ElementPosition) (e : ElementTree Text) (es : PatternTree Text)
-      → are_lone s (elements e es) ≡ (is_lone_at_line_start s e && are_lone (position_past e) es)
+      → are_lone s (elements e es) ≡ (is_lone_lf_at_line_start s e && are_lone (position_past e) es)
   lone_by_form s (text_element v) es = refl
   lone_by_form s (placeable e) es =
       ap (λ b. b && are_lone (position_past (placeable e)) es) (or_true (not (is_line_start s)))
@@ -123,10 +123,10 @@ module _ {E : Type 0} (view : E → ElementTree Text) where
 
 -- ---- Whether there are elements
 
-pub ends_well-before : {E : Type 0} (view : E → ElementTree Text) (v : Text) (es : List E) → (length es == 0) ≡ false
-    → true ≡ ends_well v (elements_of (map view es))
-ends_well-before view v [] some = cc
-ends_well-before view v (e ∷ es) some = refl
+pub may_precede-before : {E : Type 0} (view : E → ElementTree Text) (v : Text) (es : List E) → (length es == 0) ≡ false
+    → true ≡ may_precede v (elements_of (map view es))
+may_precede-before view v [] some = cc
+may_precede-before view v (e ∷ es) some = refl
 
 pub is_pattern-some : {E : Type 0} (view : E → ElementTree Text) (edition : Edition) (es : List E) → 1 ≤ length es
     → is_pattern edition (elements_of (map view es))

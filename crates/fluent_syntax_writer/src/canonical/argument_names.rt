@@ -12,13 +12,13 @@ use std::alloc::{AllocError, Global};
 use std::collections::BTreeSet;
 
 /// From so many arguments on their names are looked up in a table. Fewer are compared one by one.
-const MANY: usize = 32;
+const TABLE_THRESHOLD: usize = 32;
 
 /// Whether the names are distinct. Those of many arguments are looked up in a table, if there is memory for it.
 pub fn have_new_names<X, T: ReadTexts<X>>(alloc: Option<Global>, named: &[NamedArgument<X>]) -> bool
     ensures { result ≡ have_new_names [] (nameds_of (map (named_view T.text) named.now)) }
 {
-    if named.len() >= MANY {
+    if named.len() >= TABLE_THRESHOLD {
         if let Some(alloc) = alloc {
             if let Ok(answer) = have_new_names_by_table::<X, T>(alloc, named) {
                 return answer;

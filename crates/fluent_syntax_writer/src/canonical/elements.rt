@@ -3,7 +3,7 @@ ghost use Rattle.std.specs.Prelude.{◌≡◌, map};
 ghost use Rattle.fluent_syntax_tree.specs.Tree.{text_element, elements_of};
 ghost use Rattle.fluent_syntax_tree.specs.View.{element_view, pattern_view};
 ghost use Rattle.fluent_syntax_grammar.specs.Readable.{opening, is_line_start, position_after, begins_with_placeable};
-ghost use Rattle.fluent_syntax_grammar.specs.Readable.{indents, opens_well, is_well_placed, ends_well, are_elements};
+ghost use Rattle.fluent_syntax_grammar.specs.Readable.{indents, may_be_first, may_stand_at, may_precede, are_elements};
 ghost use Rattle.fluent_syntax_grammar.specs.Readable.{is_pattern};
 ghost use Rattle.fluent_syntax_writer.specs.Places.{position_of, position_past, is_element, is_placeable};
 
@@ -117,23 +117,23 @@ fn is_text_at<X, T: ReadTexts<X>>(
         (elements_of (map (element_view T.text) rest.now)) }
 {
     is_text(text)
-        && is_well_placed::<X, T>(edition, multiline, position, text, rest)
-        && ends_well::<X, T>(text, rest)
+        && may_stand_at::<X, T>(edition, multiline, position, text, rest)
+        && may_precede::<X, T>(text, rest)
 }
 
 /// Whether the text may stand there.
-fn is_well_placed<X, T: ReadTexts<X>>(
+fn may_stand_at<X, T: ReadTexts<X>>(
     edition: Edition,
     multiline: bool,
     position: ElementPosition,
     text: &str,
     rest: &[PatternElement<X>],
 ) -> bool
-    ensures { result ≡ is_well_placed edition multiline (position_of position) text.now
+    ensures { result ≡ may_stand_at edition multiline (position_of position) text.now
         (elements_of (map (element_view T.text) rest.now)) }
 {
     match position {
-        ElementPosition::Opening => opens_well::<X, T>(edition, multiline, text, rest),
+        ElementPosition::Opening => may_be_first::<X, T>(edition, multiline, text, rest),
         ElementPosition::AfterLine => {
             (!is_spaces(text) || indents::<X, T>(edition, text, rest))
                 && !begins_line_with_mark(text)
@@ -144,13 +144,13 @@ fn is_well_placed<X, T: ReadTexts<X>>(
 }
 
 /// Whether the text may be first.
-fn opens_well<X, T: ReadTexts<X>>(
+fn may_be_first<X, T: ReadTexts<X>>(
     edition: Edition,
     multiline: bool,
     text: &str,
     rest: &[PatternElement<X>],
 ) -> bool
-    ensures { result ≡ opens_well edition multiline text.now (elements_of (map (element_view T.text) rest.now)) }
+    ensures { result ≡ may_be_first edition multiline text.now (elements_of (map (element_view T.text) rest.now)) }
 {
     if multiline {
         is_nonblank(text) || indents::<X, T>(edition, text, rest)
@@ -188,8 +188,8 @@ fn is_placeable<X, T: ReadTexts<X>>(element: &PatternElement<X>) -> bool
 }
 
 /// Whether the text may have `rest` after it: a last text ends plainly.
-pub fn ends_well<X, T: ReadTexts<X>>(text: &str, rest: &[PatternElement<X>]) -> bool
-    ensures { result ≡ ends_well text.now (elements_of (map (element_view T.text) rest.now)) }
+pub fn may_precede<X, T: ReadTexts<X>>(text: &str, rest: &[PatternElement<X>]) -> bool
+    ensures { result ≡ may_precede text.now (elements_of (map (element_view T.text) rest.now)) }
 {
     !rest.is_empty() || ends_plainly(text)
 }

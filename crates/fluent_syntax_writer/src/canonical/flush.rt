@@ -2,13 +2,13 @@
 ghost use Rattle.std.specs.Prelude.{◌≡◌, map, option_to_list};
 ghost use Rattle.fluent_syntax_tree.specs.Tree.{text_element, elements_of};
 ghost use Rattle.fluent_syntax_tree.specs.View.{element_view, pattern_view};
-ghost use Rattle.fluent_syntax_grammar.specs.Canonical.{hides_mark, text_numbers, placeable_numbers, line_numbers};
+ghost use Rattle.fluent_syntax_grammar.specs.Canonical.{hides_mark, text_indents, placeable_indents, line_indents};
 ghost use Rattle.fluent_syntax_grammar.specs.Canonical.{are_lone, are_flush, first_position, is_flush};
 ghost use Rattle.fluent_syntax_grammar.specs.Layout.{least};
 ghost use Rattle.fluent_syntax_grammar.specs.PatternTexts.{is_lone_lf};
-ghost use Rattle.fluent_syntax_writer.specs.Places.{position_of, numbers_at, element_numbers, element_hides_mark};
+ghost use Rattle.fluent_syntax_writer.specs.Places.{position_of, indents_at, element_indents, element_hides_mark};
 ghost use Rattle.fluent_syntax_writer.specs.Places.{is_lone};
-ghost use Rattle.fluent_syntax_writer.specs.Places.{is_lone_at_line_start, lesser};
+ghost use Rattle.fluent_syntax_writer.specs.Places.{is_lone_lf_at_line_start, least_of_two};
 
 use crate::canonical::elements::{ElementPosition, is_line_start, position_past};
 use crate::canonical::patterns::{has_leading_mark, is_multiline};
@@ -73,7 +73,7 @@ fn are_flush<X, T: ReadTexts<X>>(
     elements: &[PatternElement<X>],
 ) -> bool
     ensures { result ≡ are_flush
-        (least (line_numbers edition (position_of position) (elements_of (map (element_view T.text) elements.now))))
+        (least (line_indents edition (position_of position) (elements_of (map (element_view T.text) elements.now))))
         (position_of position) (elements_of (map (element_view T.text) elements.now)) }
 {
     match least_number::<X, T>(edition, position, elements) {
@@ -89,19 +89,19 @@ pub fn least_number<X, T: ReadTexts<X>>(
     elements: &[PatternElement<X>],
 ) -> Option<usize>
     ensures { result ≡ least
-        (line_numbers edition (position_of first) (elements_of (map (element_view T.text) elements.now))) }
+        (line_indents edition (position_of first) (elements_of (map (element_view T.text) elements.now))) }
 {
     let mut position = first;
     let mut least = None;
     for element in elements {
-        least = lesser(least, line_number::<X, T>(edition, position, element));
+        least = least_of_two(least, line_number::<X, T>(edition, position, element));
         position = position_past::<X, T>(element);
     }
     least
 }
 
-fn lesser(a: Option<usize>, b: Option<usize>) -> Option<usize>
-    ensures { result ≡ lesser a b }
+fn least_of_two(a: Option<usize>, b: Option<usize>) -> Option<usize>
+    ensures { result ≡ least_of_two a b }
 {
     match (a, b) {
         (None, b) => b,
@@ -116,7 +116,7 @@ fn line_number<X, T: ReadTexts<X>>(
     position: ElementPosition,
     element: &PatternElement<X>,
 ) -> Option<usize>
-    ensures { option_to_list result ≡ numbers_at edition (position_of position) (element_view T.text element.now) }
+    ensures { option_to_list result ≡ indents_at edition (position_of position) (element_view T.text element.now) }
 {
     if is_line_start(position) {
         element_number::<X, T>(edition, element)
@@ -129,7 +129,7 @@ fn element_number<X, T: ReadTexts<X>>(
     edition: Edition,
     element: &PatternElement<X>,
 ) -> Option<usize>
-    ensures { option_to_list result ≡ element_numbers edition (element_view T.text element.now) }
+    ensures { option_to_list result ≡ element_indents edition (element_view T.text element.now) }
 {
     match element {
         PatternElement::TextElement { value } => text_number(edition, T::as_str(value)),
@@ -139,7 +139,7 @@ fn element_number<X, T: ReadTexts<X>>(
 
 /// The spaces that begin the text, if it is nonblank; in edition two also those of spaces alone.
 fn text_number(edition: Edition, text: &str) -> Option<usize>
-    ensures { option_to_list result ≡ text_numbers edition text.now }
+    ensures { option_to_list result ≡ text_indents edition text.now }
 {
     if is_nonblank(text) {
         return Some(leading_spaces(text.as_bytes()));
@@ -151,7 +151,7 @@ fn text_number(edition: Edition, text: &str) -> Option<usize>
 }
 
 fn placeable_number(edition: Edition) -> Option<usize>
-    ensures { option_to_list result ≡ placeable_numbers edition }
+    ensures { option_to_list result ≡ placeable_indents edition }
 {
     match edition {
         Edition::One => None,
@@ -165,7 +165,7 @@ pub fn are_lone<X, T: ReadTexts<X>>(first: ElementPosition, elements: &[PatternE
 {
     let mut position = first;
     for element in elements {
-        if !is_lone_at_line_start::<X, T>(position, element) {
+        if !is_lone_lf_at_line_start::<X, T>(position, element) {
             return false;
         }
         position = position_past::<X, T>(element);
@@ -174,11 +174,11 @@ pub fn are_lone<X, T: ReadTexts<X>>(first: ElementPosition, elements: &[PatternE
 }
 
 /// Whether the element begins no line, is no text, or is one LF.
-fn is_lone_at_line_start<X, T: ReadTexts<X>>(
+fn is_lone_lf_at_line_start<X, T: ReadTexts<X>>(
     position: ElementPosition,
     element: &PatternElement<X>,
 ) -> bool
-    ensures { result ≡ is_lone_at_line_start (position_of position) (element_view T.text element.now) }
+    ensures { result ≡ is_lone_lf_at_line_start (position_of position) (element_view T.text element.now) }
 {
     !is_line_start(position) || is_lone::<X, T>(element)
 }

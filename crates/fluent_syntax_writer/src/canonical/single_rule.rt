@@ -4,7 +4,7 @@ ghost use Rattle.fluent_syntax_tree.specs.Tree.{nameds_of, variants_of};
 ghost use Rattle.fluent_syntax_tree.specs.View.{message_view, comment_view, expression_view, inline_view};
 ghost use Rattle.fluent_syntax_tree.specs.View.{variant_view, arguments_view, named_view};
 ghost use Rattle.fluent_syntax_writer.specs.SingleRule.{junk_keeps, message_keeps, comment_keeps, expression_keeps};
-ghost use Rattle.fluent_syntax_writer.specs.SingleRule.{select_keeps, content_keeps, nameds_keep, arguments_keep};
+ghost use Rattle.fluent_syntax_writer.specs.SingleRule.{select_keeps, content_keeps, named_arguments_keep, arguments_keep};
 ghost use Rattle.fluent_syntax_writer.specs.SingleRule.{callee_keeps, string_keeps, number_keeps, name_keeps};
 
 pub mod patterns;
@@ -93,15 +93,15 @@ pub fn arguments_keep<X, T: ReadTexts<X>>(
 ) -> bool
     ensures { result ≡ arguments_keep rule (arguments_view T.text arguments.now) }
 {
-    nameds_keep::<X, T>(alloc, rule, &arguments.named)
+    named_arguments_keep::<X, T>(alloc, rule, &arguments.named)
 }
 
-fn nameds_keep<X, T: ReadTexts<X>>(
+fn named_arguments_keep<X, T: ReadTexts<X>>(
     alloc: Option<Global>,
     rule: Rule,
     named: &[NamedArgument<X>],
 ) -> bool
-    ensures { result ≡ nameds_keep rule (nameds_of (map (named_view T.text) named.now)) }
+    ensures { result ≡ named_arguments_keep rule (nameds_of (map (named_view T.text) named.now)) }
 {
     match rule {
         Rule::ForbiddenArgument => have_values::<X, T>(named),

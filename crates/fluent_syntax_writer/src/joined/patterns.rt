@@ -150,7 +150,7 @@ fn variant<X, T: ReadTexts<X>>(
 
 #[cycle(joined)]
 #[tactic(auto, using(fluent_syntax_tree::proofs::Views::views))]
-fn named<X, T: ReadTexts<X>>(
+fn named_argument<X, T: ReadTexts<X>>(
     alloc: Global,
     argument: &NamedArgument<X>,
 ) -> Result<NamedArgument<String>, AllocError>
@@ -177,7 +177,7 @@ fn arguments<X, T: ReadTexts<X>>(
     }
     let mut nameds = list_for(alloc, &arguments.named);
     for item in &arguments.named {
-        nameds.push(named::<X, T>(alloc, item)?)?;
+        nameds.push(named_argument::<X, T>(alloc, item)?)?;
     }
     Ok(CallArguments {
         positional,

@@ -9,7 +9,7 @@ returns-in_err-one_entry-clause-none c = λ edition t is.
 
 pub returns-clause-none : goal.returns-clause-none
 returns-clause-none c = λ edition t is.
-    none_on c.own_value.result
+    none_on c.only_value.result
     (λ none v reads. none v
     (one_read edition t _ (value_message v) (c.in_ok-one_entry.ensures.some edition t is) reads))
-    c.own_value.ensures.none
+    c.only_value.ensures.none

@@ -41,9 +41,9 @@ returns-in-Some-edit_refusal-clause-not_edited c = λ edition t p read is.
     (subst (λ r. Answers edition t c.in-Some.index x.0 r) c.in-Some-Err.field-0-is x.2)
     (sym c.edit_refusal.ensures ∙ c.in-Some-edit_refusal.is)
 
-pub returns-in-None-edited-clause-not_edited : goal.returns-in-None-edited-clause-not_edited
-returns-in-None-edited-clause-not_edited c = λ edition t p read is.
-    not_one_entry edition refl (c.in-None-edited.ensures.none edition p is)
+pub returns-in-None-edited_source-clause-not_edited : goal.returns-in-None-edited_source-clause-not_edited
+returns-in-None-edited_source-clause-not_edited c = λ edition t p read is.
+    not_one_entry edition refl (c.in-None-edited_source.ensures.none edition p is)
 
 pub returns-in-None-clause-not_edited : goal.returns-in-None-clause-not_edited
 returns-in-None-clause-not_edited c = λ edition t p read is.

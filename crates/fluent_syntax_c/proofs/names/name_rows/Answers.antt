@@ -1,6 +1,6 @@
 use Rattle.std.proofs.Common.{◌≡◌, ◌++◌, length, ap, arith, subst, sym, ◌∙◌}
 use Rattle.fluent_syntax_tree.specs.Every.{entry_every}
-use Rattle.fluent_syntax_tree.specs.Spans.{IsPart}
+use Rattle.fluent_syntax_tree.specs.Spans.{IsTextRange}
 use Rattle.fluent_syntax_parser.specs.Rest.{tree_of}
 use Rattle.fluent_syntax_c.specs.Names.{entry_rows}
 use Rattle.fluent_syntax_c.proofs.NameRows.{names_of_all, names_of_nothing, names_on, parts_found}
@@ -23,7 +23,7 @@ add_tile-requires c =
     let parts =
     parts_found c.args.edition t c.utf8.text c.loop-found.tiles.ptr c.next_tile.new.self.ptr c.in-Ok-Some.found
     c.loop-found.rows.items inv.names next in
-    subst (λ u. entry_every (IsPart u) (tree_of c.in-Ok-Some.found.entry)) (sym inv.positions) parts
+    subst (λ u. entry_every (IsTextRange u) (tree_of c.in-Ok-Some.found.entry)) (sym inv.positions) parts
 
 pub loop-found-preserved : goal.loop-found-preserved
 loop-found-preserved c =

@@ -109,8 +109,8 @@ add_inlines-returns g t c =
     leaves_none all one c.args.list.now.items c.loop-inline.list.items c.args.inlines.now c.loop-inline.inline-index
     (λ tail. refl) c.loop-inline-test.false c.loop-inline.invariant.left
 
-pub add_nameds-loop-named-preserved : goal.add_nameds-loop-named-preserved
-add_nameds-loop-named-preserved g t c =
+pub add_named_arguments-loop-named-preserved : goal.add_named_arguments-loop-named-preserved
+add_named_arguments-loop-named-preserved g t c =
     let all = λ (nodes : List (NamedArgument g.row.X.Denot)).
     nameds_mentions (nameds_of (map (named_view (λ x. x)) nodes)) in
     let one = λ (x : NamedArgument g.row.X.Denot). named_mentions (named_view (λ x. x) x) in
@@ -121,8 +121,8 @@ add_nameds-loop-named-preserved g t c =
           (rw (view-NamedArgument (λ x. x) c.named-item.result) c.in_ok-add_inline.ensures);
     }
 
-pub add_nameds-returns : goal.add_nameds-returns
-add_nameds-returns g t c =
+pub add_named_arguments-returns : goal.add_named_arguments-returns
+add_named_arguments-returns g t c =
     let all = λ (nodes : List (NamedArgument g.row.X.Denot)).
     nameds_mentions (nameds_of (map (named_view (λ x. x)) nodes)) in
     let one = λ (x : NamedArgument g.row.X.Denot). named_mentions (named_view (λ x. x) x) in
@@ -132,9 +132,9 @@ add_nameds-returns g t c =
 pub add_arguments-returns : goal.add_arguments-returns
 add_arguments-returns g t c =
     let positional = rw c.deref.ensures.value at c.in_ok-add_inlines.ensures in
-    let named = rw c.deref-2.ensures.value at c.add_nameds.ensures in
+    let named = rw c.deref-2.ensures.value at c.add_named_arguments.ensures in
     rw (view-CallArguments (λ x. x) c.args.arguments.now)
-    (adds_last c.add_nameds.result c.args.list.now.items c.add_inlines.new.list.items c.add_nameds.new.list.items _ _
+    (adds_last c.add_named_arguments.result c.args.list.now.items c.add_inlines.new.list.items c.add_named_arguments.new.list.items _ _
     positional named)
 
 pub add_inline-returns-in-StringLiteral : goal.add_inline-returns-in-StringLiteral

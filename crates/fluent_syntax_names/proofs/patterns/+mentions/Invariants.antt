@@ -28,8 +28,8 @@ invariant-add_inlines-loop-inline g l =
     inlines_mentions (inlines_of (map (inline_view (λ x. x)) nodes)) in
     record { left : Leaves l.fn.list.items l.list.items (all (drop l.inline-index l.inlines)) (all l.inlines) }
 
-abbrev pub invariant-add_nameds-loop-named : goal.invariant-add_nameds-loop-named
-invariant-add_nameds-loop-named g l =
+abbrev pub invariant-add_named_arguments-loop-named : goal.invariant-add_named_arguments-loop-named
+invariant-add_named_arguments-loop-named g l =
     let all = λ (nodes : List (NamedArgument g.row.X.Denot)).
     nameds_mentions (nameds_of (map (named_view (λ x. x)) nodes)) in
     record { left : Leaves l.fn.list.items l.list.items (all (drop l.named-index l.nameds)) (all l.nameds) }

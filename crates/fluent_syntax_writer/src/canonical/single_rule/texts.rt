@@ -6,7 +6,7 @@ ghost use Rattle.fluent_syntax_writer.specs.SingleRule.{text_keeps, follows_no_t
 ghost use Rattle.fluent_syntax_writer.specs.SingleRule.{later_is_no_space, later_is_unmarked};
 ghost use Rattle.fluent_syntax_writer.specs.Places.{position_of};
 
-use crate::canonical::elements::{ElementPosition, ends_well, indents};
+use crate::canonical::elements::{ElementPosition, may_precede, indents};
 use crate::canonical::rules::Rule;
 use crate::canonical::texts::*;
 use fluent_syntax_grammar::texts::without_last_lf;
@@ -35,7 +35,7 @@ pub fn text_keeps<X, T: ReadTexts<X>>(
         Rule::TextAfterText => follows_no_text(position),
         Rule::BlankFirstText => first_is_nonblank::<X, T>(edition, multiline, position, text, rest),
         Rule::LeadingSpace => first_is_tight(multiline, position, text),
-        Rule::BlankEnd => ends_well::<X, T>(text, rest),
+        Rule::BlankEnd => may_precede::<X, T>(text, rest),
         Rule::LineOfSpaces => later_is_no_space::<X, T>(edition, position, text, rest),
         Rule::MarkedLine => later_is_unmarked(position, text),
         _ => true,

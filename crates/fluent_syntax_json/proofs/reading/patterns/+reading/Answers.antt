@@ -88,26 +88,26 @@ variant-pattern-requires t c =
     get_depth (codes "value") (view c.args.v.now) (view c.in_ok-field-2.field-0.now) c.in_ok-field-2.ensures in
     (omega (arith, below), tt)
 
-pub named-returns-in_err-field : goal.named-returns-in_err-field
-named-returns-in_err-field t c =
+pub named_argument-returns-in_err-field : goal.named_argument-returns-in_err-field
+named_argument-returns-in_err-field t c =
     let p = err_from_is_err_and c.from_residual.result c.from_residual.ensures.1 in
     handed _ _ _ _ _ _ p.1 p.2 (λ q. rw (named-is (view c.args.v.now), q)) c.in_err-field.ensures
 
-pub named-returns-in_err-identifier : goal.named-returns-in_err-identifier
-named-returns-in_err-identifier t c =
+pub named_argument-returns-in_err-identifier : goal.named_argument-returns-in_err-identifier
+named_argument-returns-in_err-identifier t c =
     let p = err_from_is_err_and c.from_residual-in_err-identifier.result c.from_residual-in_err-identifier.ensures.1 in
     handed _ _ _ _ _ _ p.1 p.2 (λ q. rw (named-is (view c.args.v.now), c.in_ok-field.ensures, q))
     c.in_err-identifier.ensures
 
-pub named-returns-in_err-field-2 : goal.named-returns-in_err-field-2
-named-returns-in_err-field-2 t c =
+pub named_argument-returns-in_err-field-2 : goal.named_argument-returns-in_err-field-2
+named_argument-returns-in_err-field-2 t c =
     let p = err_from_is_err_and c.from_residual-in_err-field-2.result c.from_residual-in_err-field-2.ensures.1 in
     handed _ _ _ _ _ _ p.1 p.2
     (λ q. rw (named-is (view c.args.v.now), c.in_ok-field.ensures, c.in_ok-identifier.ensures, q))
     c.in_err-field-2.ensures
 
-pub named-returns-in_err-inline : goal.named-returns-in_err-inline
-named-returns-in_err-inline t c =
+pub named_argument-returns-in_err-inline : goal.named_argument-returns-in_err-inline
+named_argument-returns-in_err-inline t c =
     let p = err_from_is_err_and c.from_residual-in_err-inline.result c.from_residual-in_err-inline.ensures.1 in
     handed _ _ _ _ _ _ p.1 p.2
     (λ q. rw (
@@ -118,8 +118,8 @@ named-returns-in_err-inline t c =
       q,
     )) c.in_err-inline.ensures
 
-pub named-returns : goal.named-returns
-named-returns t c =
+pub named_argument-returns : goal.named_argument-returns
+named_argument-returns t c =
     rw (
       named-is (view c.args.v.now),
       c.in_ok-field.ensures,
@@ -129,8 +129,8 @@ named-returns t c =
       view-NamedArgument,
     )
 
-pub named-inline-requires : goal.named-inline-requires
-named-inline-requires t c =
+pub named_argument-inline-requires : goal.named_argument-inline-requires
+named_argument-inline-requires t c =
     let below =
     get_depth (codes "value") (view c.args.v.now) (view c.in_ok-field-2.field-0.now) c.in_ok-field-2.ensures in
     (omega (arith, below), tt)
@@ -807,8 +807,8 @@ arguments-returns-in_err-list-2 t c =
       q,
     )) c.in_err-list-2.ensures
 
-pub arguments-named-requires : goal.arguments-named-requires
-arguments-named-requires t c =
+pub arguments-named_argument-requires : goal.arguments-named_argument-requires
+arguments-named_argument-requires t c =
     let below =
     item_depth (codes "named") (view c.args.v.now) (view c.in_ok-field-2.field-0.now)
     c.in_ok-list-2.field-0.now.items c.deref-item-items-2.result.now c.loop-item-2.item-index
@@ -816,13 +816,13 @@ arguments-named-requires t c =
     c.deref-item-items-2.ensures.value c.loop-item-2-test.true c.item-item-in-loop-item-2.is in
     (omega (arith, below), tt)
 
-pub arguments-returns-in_err-named : goal.arguments-returns-in_err-named
-arguments-returns-in_err-named t c =
+pub arguments-returns-in_err-named_argument : goal.arguments-returns-in_err-named_argument
+arguments-returns-in_err-named_argument t c =
     let ps =
     finished inline_in (inline_view string_bytes) c.loop-item.positional.items c.in_ok-list.field-0.now.items
     c.deref-item-items.result.now c.loop-item.item-index c.loop-item.invariant c.loop-item-test.false
     c.deref-item-items.ensures.value in
-    let p = err_from_is_err_and c.from_residual-in_err-named.result c.from_residual-in_err-named.ensures.1 in
+    let p = err_from_is_err_and c.from_residual-in_err-named_argument.result c.from_residual-in_err-named_argument.ensures.1 in
     handed _ _ _ _ _ _ p.1 p.2
     (λ q. rw (
       arguments-is (view c.args.v.now),
@@ -834,13 +834,13 @@ arguments-returns-in_err-named t c =
       stopped named_in c.in_ok-list-2.field-0.now.items c.deref-item-items-2.result.now c.loop-item-2.item-index
           c.item-item-in-loop-item-2.result c.loop-item-2-test.true c.item-item-in-loop-item-2.is
           c.deref-item-items-2.ensures.value q,
-    )) c.in_err-named.ensures
+    )) c.in_err-named_argument.ensures
 
 pub arguments-loop-item-2-preserved : goal.arguments-loop-item-2-preserved
 arguments-loop-item-2-preserved t c =
-    pushed named_in (named_view string_bytes) _ _ c.in_ok-named.field-0 _ c.loop-item-2.item-index
+    pushed named_in (named_view string_bytes) _ _ c.in_ok-named_argument.field-0 _ c.loop-item-2.item-index
     c.item-item-in-loop-item-2.result c.loop-item-2.invariant c.in_ok-push-2.ensures.items c.loop-item-2-test.true
-    c.item-item-in-loop-item-2.is c.in_ok-named.ensures
+    c.item-item-in-loop-item-2.is c.in_ok-named_argument.ensures
 
 pub arguments-returns : goal.arguments-returns
 arguments-returns t c =

@@ -19,8 +19,8 @@ decreases-expression l = 2 * depth (view l.v.now) + 1
 abbrev pub decreases-variant : goal.decreases-variant
 decreases-variant l = 2 * depth (view l.v.now)
 
-abbrev pub decreases-named : goal.decreases-named
-decreases-named l = 2 * depth (view l.v.now)
+abbrev pub decreases-named_argument : goal.decreases-named_argument
+decreases-named_argument l = 2 * depth (view l.v.now)
 
 abbrev pub decreases-arguments : goal.decreases-arguments
 decreases-arguments l = 2 * depth (view l.v.now)

@@ -168,7 +168,7 @@ write_arguments-returns g t c =
     record {
       written = rw (view-CallArguments, ← c.deref.ensures.value, ← c.deref-2.ensures.value)
           (Appends-append c.write_piece.ensures.written
-          (Appends-append c.write_nameds.ensures.written
+          (Appends-append c.write_named_arguments.ensures.written
           closed));
     }
 
@@ -219,13 +219,13 @@ write_positional-returns g t c =
     let none = drop_all _ c.args.inlines.now c.loop-inline-test.false in
     record { written = RemainingBytes-last (rw none at c.loop-inline.invariant.rest) c.write_piece.ensures.written }
 
-pub write_nameds-loop-named-preserved : goal.write_nameds-loop-named-preserved
-write_nameds-loop-named-preserved g t c =
+pub write_named_arguments-loop-named-preserved : goal.write_named_arguments-loop-named-preserved
+write_named_arguments-loop-named-preserved g t c =
     let next = drop_at c.args.nameds.now _ _ c.loop-named-test.true c.named-item.is in
     let item_left = RemainingBytes-more (rw next at c.loop-named.invariant.rest) c.write_comma.ensures.written in
     record { rest = RemainingBytes-more item_left c.write_named.ensures.written }
 
-pub write_nameds-returns : goal.write_nameds-returns
-write_nameds-returns g t c =
+pub write_named_arguments-returns : goal.write_named_arguments-returns
+write_named_arguments-returns g t c =
     let none = drop_all _ c.args.nameds.now c.loop-named-test.false in
     record { written = RemainingBytes-last (rw none at c.loop-named.invariant.rest) c.write_piece.ensures.written }

@@ -34,8 +34,8 @@ invariant-write_positional-loop-inline g l =
     let all = items_text false (forms l.inlines) in
     record { rest : RemainingBytes g.W.TextSink.text g.W.TextSink.room l.initial.writer l.writer left all }
 
-abbrev pub invariant-write_nameds-loop-named : goal.invariant-write_nameds-loop-named
-invariant-write_nameds-loop-named g l =
+abbrev pub invariant-write_named_arguments-loop-named : goal.invariant-write_named_arguments-loop-named
+invariant-write_named_arguments-loop-named g l =
     let forms = λ (xs : List (NamedArgument g.row.X.Denot)).
     named_forms (nameds_of (map (named_view g.T.ReadTexts.text) xs)) in
     let left = items_text l.later (forms (drop l.named-index l.nameds)) in

@@ -3,7 +3,7 @@ use Rattle.std.specs.Prelude.{IfOk, slice_index}
 use Rattle.std.specs.declared.alloc.Global.{Global}
 use Rattle.fluent_syntax_names.specs.Graph.{IsGraph, HasEdge, Reaches, SameComponents, targets_of}
 use Rattle.fluent_syntax_names.specs.Search.{number_of}
-use Rattle.fluent_syntax_names.proofs.graphs.Parts.{parted, on_cycle}
+use Rattle.fluent_syntax_names.proofs.graphs.Parts.{strongly_connected, on_cycle}
 use Rattle.fluent_syntax_names.proofs.graphs.Places.{nodes}
 use Rattle.fluent_syntax_names.proofs.graph.component_numbers.components.Goals as goal
 
@@ -21,14 +21,14 @@ cycles_of graph is_graph list same from to within leads =
     subst (λ (x : ℕ). x < length (targets_of graph)) leads.2 (is_graph from leads.0 leads.1) in
     on_cycle (targets_of graph) list same from to (omega (arith, long)) to_in leads
 
-pub returns-clause-parted : goal.returns-clause-parted
-returns-clause-parted c =
+pub returns-clause-strongly_connected : goal.returns-clause-strongly_connected
+returns-clause-strongly_connected c =
     let g = targets_of c.args.graph.now in
     let s = c.loop-root.search in
     let inv = c.loop-root.invariant in
     let long = nodes c.args.graph.now in
     if_listed (SameComponents g) c.numbers.result (map number_of s.states.items) c.numbers.ensures
-    (parted g s.states.items s.stack.items s.starts.items s.pending.items s.done inv.sound inv.none_open
+    (strongly_connected g s.states.items s.stack.items s.starts.items s.pending.items s.done inv.sound inv.none_open
     (λ u within. inv.met u (omega (arith, long))))
 
 pub returns-clause-cycles : goal.returns-clause-cycles
@@ -42,5 +42,5 @@ returns-clause-cycles c =
     if_listed (λ (l : List ℕ). (from to : ℕ) → from < length graph → HasEdge g from to
     → (slice_index l from ≡ slice_index l to) ↔ Reaches g to from) c.numbers.result list c.numbers.ensures
     (cycles_of graph c.requires list
-    (parted g s.states.items s.stack.items s.starts.items s.pending.items s.done inv.sound inv.none_open
+    (strongly_connected g s.states.items s.stack.items s.starts.items s.pending.items s.done inv.sound inv.none_open
     (λ u within. inv.met u (omega (arith, long)))))

@@ -4,7 +4,7 @@ use Rattle.std.proofs.lemmas.List.{nil_from_length}
 use Rattle.std.proofs.lemmas.Result.{IfOk-equal}
 use Rattle.fluent_syntax_tree.proofs.Lists.{map_added}
 use Rattle.fluent_syntax_parser.specs.Elements.{flushed, item_shape, leading, pending_run}
-use Rattle.fluent_syntax_grammar.specs.Elements.{filled, with_ending}
+use Rattle.fluent_syntax_grammar.specs.Elements.{placeable_item, with_ending}
 use Rattle.fluent_syntax_grammar.specs.Layout.{placed, run}
 use Rattle.fluent_syntax_parser.specs.Lines.{ending_view, piece_shape}
 use Rattle.fluent_syntax_parser.proofs.patterns.Waiting.{none_leads, placed_added, run_waits}
@@ -37,9 +37,9 @@ loop-piece-preserved g c =
     let e = c.in-Placed.expression in
     let found : map piece_shape (into_iter_items old.piece-iterator) ≡ placed e ∷ rest =
     ap (map piece_shape) c.in-Some.ensures.steps.0 ∙ ap (λ p. piece_shape p ∷ rest) c.in-Placed.is in
-    let added : map item_shape c.push.new.self.items ≡ flushed xs old.pending ++ filled e ∷ [] =
-    map_added item_shape _ _ _ (filled e) c.in_ok-push-in-Placed.ensures.items refl
-    ∙ ap (λ ys. ys ++ filled e ∷ []) c.in_ok-add_pending_run.ensures in
+    let added : map item_shape c.push.new.self.items ≡ flushed xs old.pending ++ placeable_item e ∷ [] =
+    map_added item_shape _ _ _ (placeable_item e) c.in_ok-push-in-Placed.ensures.items refl
+    ∙ ap (λ ys. ys ++ placeable_item e ∷ []) c.in_ok-add_pending_run.ensures in
     record {
       whole =
           ap (λ ys. ys ++ with_ending rest end) added

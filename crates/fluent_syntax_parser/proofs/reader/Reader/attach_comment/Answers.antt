@@ -3,7 +3,7 @@ use Rattle.fluent_syntax_tree.specs.Entry.{comment, regular}
 use Rattle.fluent_syntax_tree.specs.declared.ast.Entry.TheVariants as entries
 use Rattle.fluent_syntax_grammar.specs.Tiling.{reads}
 use Rattle.fluent_syntax_parser.proofs.entry_forms.EntryForms.{hash_attaches_not}
-use Rattle.fluent_syntax_parser.proofs.entry_forms.AttachesOn.{behind_blank, attaches_not, attaches_on, no_entry}
+use Rattle.fluent_syntax_parser.proofs.entry_forms.AttachesOn.{behind_blank, attaches_not, attaches_to, no_entry}
 use Rattle.fluent_syntax_parser.proofs.entry_forms.AttachesOn.{other_entry}
 use Rattle.fluent_syntax_grammar.proofs.TotalEntries.{too_deep_left}
 use Rattle.fluent_syntax_parser.proofs.tilings.DeeperTiles.{behind_one, entry_deeper, one_led, text_deeper, tile_deeper}
@@ -53,7 +53,7 @@ returns-then-attaches-clause-attaches g c = λ before comm last.
       (λ content lines. on_made found.adds.2 (λ tree read same.
           let made = attached_made f g.M.MakeTexts.made comm e content tree lines same _ attaches.1 in (
             made.0,
-            attaches_on edition t content c.args.ptr tree made.0 _ block inside
+            attaches_to edition t content c.args.ptr tree made.0 _ block inside
                 (at_any_depth_entry edition t c.args.nesting c.args.ptr read) made.1,
             made.2,
           ))),

@@ -58,8 +58,8 @@ variant-pattern-requires g t c =
     let each = (every-Variant (λ x. x) (g.C.CopyTexts.can c.args.by.now) c.args.variant.now c.requires.each).1 in
     search (rules, the_lemmas)
 
-pub named-inline-requires : goal.named-inline-requires
-named-inline-requires g t c =
+pub named_argument-inline-requires : goal.named_argument-inline-requires
+named_argument-inline-requires g t c =
     let each = (every-NamedArgument (λ x. x) (g.C.CopyTexts.can c.args.by.now) c.args.argument.now c.requires.each).1 in
     search (rules, the_lemmas)
 
@@ -74,8 +74,8 @@ arguments-inline-requires g t c =
     c.deref-item-items.ensures.value c.loop-item-test.true c.item-item.is in
     search (rules, the_lemmas)
 
-pub arguments-named-requires : goal.arguments-named-requires
-arguments-named-requires g t c =
+pub arguments-named_argument-requires : goal.arguments-named_argument-requires
+arguments-named_argument-requires g t c =
     let can = g.C.CopyTexts.can c.args.by.now in
     let each =
     every_item (named_every can) (named_view (λ x. x))
@@ -130,9 +130,9 @@ pattern-returns g t c =
 pub arguments-loop-item-2-preserved : goal.arguments-loop-item-2-preserved
 arguments-loop-item-2-preserved g t c = (
   c.loop-item-2.invariant.0,
-  map_pushed (named_view g.C.CopyTexts.made) (named_view (g.C.CopyTexts.source c.args.by.now)) _ _ c.in_ok-named.field-0
+  map_pushed (named_view g.C.CopyTexts.made) (named_view (g.C.CopyTexts.source c.args.by.now)) _ _ c.in_ok-named_argument.field-0
       _ c.loop-item-2.item-index c.item-item-in-loop-item-2.result c.loop-item-2.invariant.1
-      c.in_ok-push-2.ensures.items c.loop-item-2-test.true c.item-item-in-loop-item-2.is c.in_ok-named.ensures,
+      c.in_ok-push-2.ensures.items c.loop-item-2-test.true c.item-item-in-loop-item-2.is c.in_ok-named_argument.ensures,
 )
 
 pub expression-loop-item-preserved : goal.expression-loop-item-preserved

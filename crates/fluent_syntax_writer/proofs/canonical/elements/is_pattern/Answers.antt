@@ -8,8 +8,8 @@ use Rattle.fluent_syntax_writer.proofs.canonical.elements.is_pattern.Goals as go
 pub returns-then-not-is_empty : goal.returns-then-not-is_empty
 returns-then-not-is_empty g c =
     let elements = c.args.pattern.now.elements in
-    let filled = eqb-false _ _ (sym c.is_empty.ensures ∙ c.if-not-is_empty.true) in
-    let some : 1 ≤ length elements.items = omega (arith, filled, elements.ok.0) in
+    let placeable_item = eqb-false _ _ (sym c.is_empty.ensures ∙ c.if-not-is_empty.true) in
+    let some : 1 ≤ length elements.items = omega (arith, placeable_item, elements.ok.0) in
     let pattern = is_pattern-some (element_view g.T.ReadTexts.text) c.args.edition elements.items some in
     let tested = rw (c.is_multiline.ensures, view-Pattern, c.deref.ensures.value) at c.are_elements.ensures in
     rw (view-Pattern, pattern) tested

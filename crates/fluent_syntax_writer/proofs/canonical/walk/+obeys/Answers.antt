@@ -6,7 +6,7 @@ use Rattle.fluent_syntax_tree.proofs.Views.{view-FunctionReference, view-Message
 use Rattle.fluent_syntax_tree.proofs.Views.{view-VariableReference, view-InlinePlaceable, view-TextElement}
 use Rattle.fluent_syntax_tree.proofs.Views.{view-Placeable, view-Pattern, view-Variant, view-NamedArgument}
 use Rattle.fluent_syntax_tree.proofs.Views.{view-CallArguments}
-use Rattle.fluent_syntax_grammar.specs.Rules.{option_obeys, maybe_obeys, arguments_obey}
+use Rattle.fluent_syntax_grammar.specs.Rules.{option_obeys, optional_arguments_obey, arguments_obey}
 use Rattle.fluent_syntax_writer.specs.RuleSets.{rules_of}
 use Rattle.fluent_syntax_writer.proofs.rules.Nodes.{pattern_parts}
 use Rattle.fluent_syntax_writer.proofs.rules.Steps.{three_hold, three_fail}
@@ -88,7 +88,7 @@ inline_obeys-returns-then-reference_obeys g t c =
     let named = option_obeys name (option_map (identifier_view f) reference.attribute) in
     let both = sym c.reference_obeys-in-TermReference.ensures ∙ c.if-reference_obeys.true in
     rw (reference.is, view-TermReference)
-    (three_hold (name (f reference.id.name)) named _ _ both c.maybe_obeys.ensures)
+    (three_hold (name (f reference.id.name)) named _ _ both c.optional_arguments_obey.ensures)
 
 pub inline_obeys-returns-else-reference_obeys : goal.inline_obeys-returns-else-reference_obeys
 inline_obeys-returns-else-reference_obeys g t c =
@@ -101,7 +101,7 @@ inline_obeys-returns-else-reference_obeys g t c =
     rw (reference.is, view-TermReference)
     (c.if-reference_obeys.false
     ∙ three_fail (name (f reference.id.name)) named
-    (maybe_obeys (rules_of c.args.options.rule_set) given) both)
+    (optional_arguments_obey (rules_of c.args.options.rule_set) given) both)
 
 pub inline_obeys-returns-in-VariableReference : goal.inline_obeys-returns-in-VariableReference
 inline_obeys-returns-in-VariableReference g t c =
@@ -117,7 +117,7 @@ arguments_obey-returns-then-inlines_obey g t c =
     let inlines = rw c.deref.ensures.value at c.inlines_obey.ensures in
     let holds = sym inlines ∙ c.if-inlines_obey.true in
     let parts = view-CallArguments g.T.ReadTexts.text c.args.arguments.now in
-    rw (parts, rw parts at allowed, holds, ← c.deref-then-inlines_obey.ensures.value) c.nameds_obey.ensures
+    rw (parts, rw parts at allowed, holds, ← c.deref-then-inlines_obey.ensures.value) c.named_arguments_obey.ensures
 
 pub arguments_obey-returns-else-inlines_obey : goal.arguments_obey-returns-else-inlines_obey
 arguments_obey-returns-else-inlines_obey g t c =

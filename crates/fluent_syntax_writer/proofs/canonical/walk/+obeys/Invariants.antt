@@ -5,7 +5,7 @@ use Rattle.fluent_syntax_tree.specs.declared.ast.InlineExpression.{InlineExpress
 use Rattle.fluent_syntax_tree.specs.declared.ast.NamedArgument.{NamedArgument}
 use Rattle.fluent_syntax_tree.specs.Tree.{elements_of, variants_of, inlines_of, nameds_of}
 use Rattle.fluent_syntax_tree.specs.View.{element_view, variant_view, inline_view, named_view}
-use Rattle.fluent_syntax_grammar.specs.Rules.{elements_obey, variants_obey, inlines_obey, nameds_obey}
+use Rattle.fluent_syntax_grammar.specs.Rules.{elements_obey, variants_obey, inlines_obey, named_arguments_obey}
 use Rattle.fluent_syntax_writer.specs.RuleSets.{rules_of}
 use Rattle.fluent_syntax_writer.proofs.canonical.walk.+obeys.Given as goal
 
@@ -27,8 +27,8 @@ invariant-inlines_obey-loop-inline g l =
     inlines_obey (rules_of l.options.rule_set) (inlines_of (map (inline_view g.T.ReadTexts.text) nodes)) in
     record { rest : obey (drop l.inline-index l.inlines) ≡ obey l.inlines }
 
-abbrev pub invariant-nameds_obey-loop-named : goal.invariant-nameds_obey-loop-named
-invariant-nameds_obey-loop-named g l =
+abbrev pub invariant-named_arguments_obey-loop-named : goal.invariant-named_arguments_obey-loop-named
+invariant-named_arguments_obey-loop-named g l =
     let obey = λ (nodes : List (NamedArgument g.row.X.Denot)).
-    nameds_obey (rules_of l.options.rule_set) (nameds_of (map (named_view g.T.ReadTexts.text) nodes)) in
+    named_arguments_obey (rules_of l.options.rule_set) (nameds_of (map (named_view g.T.ReadTexts.text) nodes)) in
     record { rest : obey (drop l.named-index l.nameds) ≡ obey l.nameds }

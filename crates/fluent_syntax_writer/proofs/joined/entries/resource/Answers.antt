@@ -5,14 +5,14 @@ use Rattle.std.specs.Option.{option_to_list}
 use Rattle.fluent_syntax_tree.specs.View.{entry_view}
 use Rattle.fluent_syntax_tree.proofs.Lists.{flat_map-end}
 use Rattle.fluent_syntax_grammar.specs.Joined.{joined_entry}
-use Rattle.fluent_syntax_writer.proofs.joining.Bodies.{with_entry}
+use Rattle.fluent_syntax_writer.proofs.joining.Bodies.{flat_map_take_next}
 use Rattle.fluent_syntax_writer.proofs.joined.entries.resource.Goals as goal
 use Rattle.fluent_syntax_writer.proofs.joined.entries.resource.Goals.{in-Some+in_ok-push-in-Some, in-None}
 
 pub loop-item-preserved : goal.loop-item-preserved
 loop-item-preserved g c =
     let old = c.loop-item.body.items in
-    with_entry (entry_view string_bytes) (λ e. joined_entry (entry_view g.T.ReadTexts.text e)) old _
+    flat_map_take_next (entry_view string_bytes) (λ e. joined_entry (entry_view g.T.ReadTexts.text e)) old _
     c.in_ok-entry.field-0 c.deref-item-items.result.now c.loop-item.item-index c.item-item.result
     c.loop-item.invariant
     (elim c.match-branch-2.branch [

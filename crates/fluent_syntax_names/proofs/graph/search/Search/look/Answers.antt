@@ -3,7 +3,7 @@ use Rattle.std.proofs.Common.{get_or, vec_len}
 use Rattle.std.specs.declared.alloc.Global.{Global}
 use Rattle.std.proofs.lemmas.List.{get_or_read, get_or-set_same, length-set}
 use Rattle.fluent_syntax_names.specs.Graph.{targets_of, HasEdge, edges, target}
-use Rattle.fluent_syntax_names.specs.Search.{at, Looked, pending_at, Sound}
+use Rattle.fluent_syntax_names.specs.Search.{at, EdgeHandled, pending_at, SearchInvariant}
 use Rattle.fluent_syntax_names.specs.declared.graph.search.Pending.{Pending}
 use Rattle.fluent_syntax_names.specs.declared.graph.search.State.{State}
 use Rattle.fluent_syntax_names.specs.declared.graph.search.State.TheVariants as state
@@ -113,8 +113,8 @@ loop-next-preserved c =
     omega (arith, ap (λ (y : List Pending). length y) pending_is, inv.last) in
     let is_last : pending_at n.pending.items last ≡ record { place = p; next = k } =
     ap (λ (y : List Pending). pending_at y last) pending_is ∙ inv.pending in
-    let seen : Looked n.states.items n.starts.items [] p k (target g (at n.stack.items p) k) =
-    subst (λ (y : ℕ). Looked n.states.items n.starts.items [] p k y) (sym edge.1) (e.seen k) in
+    let seen : EdgeHandled n.states.items n.starts.items [] p k (target g (at n.stack.items p) k) =
+    subst (λ (y : ℕ). EdgeHandled n.states.items n.starts.items [] p k y) (sym edge.1) (e.seen k) in
     let next : Pending = record { place = p; next = k + 1 } in
     let long = length-set n.pending.items last next in
     record {
@@ -149,6 +149,6 @@ returns-clause-sound c =
     let vec : vec_len l.pending - 1 ≡ last = omega (arith, inv.last) in
     let popped : take last l.pending.items ≡ c.pop.new.self.items =
     ap (λ (y : ℕ). take y l.pending.items) (sym vec) ∙ sym c.pop.ensures.rest in
-    subst (λ (y : List Pending). Sound g l.states.items l.stack.items l.starts.items y l.done) popped
+    subst (λ (y : List Pending). SearchInvariant g l.states.items l.stack.items l.starts.items y l.done) popped
     (looked_over g l.states.items l.stack.items l.starts.items l.pending.items l.done inv.sound last p k inv.last
     inv.pending over)

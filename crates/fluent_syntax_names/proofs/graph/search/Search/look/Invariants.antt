@@ -1,11 +1,11 @@
 use Rattle.std.proofs.Common.{◌≡◌, ◌+◌, length}
 use Rattle.fluent_syntax_names.specs.Graph.{targets_of}
-use Rattle.fluent_syntax_names.specs.Search.{IsBehind, IsSound, pending_at}
+use Rattle.fluent_syntax_names.specs.Search.{IsBehind, HasSearchInvariant, pending_at}
 use Rattle.fluent_syntax_names.proofs.graph.search.Search.look.Given as goal
 
 abbrev pub invariant-loop-next : goal.invariant-loop-next
 invariant-loop-next l = record {
-  sound : IsSound (targets_of l.graph) l.self;
+  sound : HasSearchInvariant (targets_of l.graph) l.self;
   states : l.self.states.items ≡ l.fn.self.states.items;
   stack : l.self.stack.items ≡ l.fn.self.stack.items;
   last : length l.self.pending.items ≡ l.last + 1;

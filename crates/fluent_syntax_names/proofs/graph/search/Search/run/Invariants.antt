@@ -1,10 +1,10 @@
 use Rattle.fluent_syntax_names.specs.Graph.{targets_of}
-use Rattle.fluent_syntax_names.specs.Search.{IsSound, NoneNewer, count_new}
+use Rattle.fluent_syntax_names.specs.Search.{HasSearchInvariant, NoneNewer, count_new}
 use Rattle.fluent_syntax_names.proofs.graph.search.Search.run.Given as goal
 
 abbrev pub invariant-loop-node : goal.invariant-loop-node
 invariant-loop-node l = record {
-  sound : IsSound (targets_of l.graph) l.self;
+  sound : HasSearchInvariant (targets_of l.graph) l.self;
   newer : NoneNewer l.fn.self l.self;
 }
 

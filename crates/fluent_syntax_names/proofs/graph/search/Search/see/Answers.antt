@@ -2,7 +2,7 @@ use Rattle.std.proofs.Common.{◌≡◌, ◌<◌, ℕ, List, Vec, length, take, 
 use Rattle.std.specs.declared.alloc.Global.{Global}
 use Rattle.std.proofs.lemmas.List.{length-map}
 use Rattle.fluent_syntax_names.specs.Graph.{targets_of, HasEdge}
-use Rattle.fluent_syntax_names.specs.Search.{State_of, at, Back, at_done, at_open}
+use Rattle.fluent_syntax_names.specs.Search.{State_of, at, SameOrLaterSegment, at_done, at_open}
 use Rattle.fluent_syntax_names.specs.declared.graph.search.Pending.{Pending}
 use Rattle.fluent_syntax_names.specs.declared.graph.search.State.{State}
 use Rattle.fluent_syntax_names.specs.declared.graph.search.State.TheVariants as state
@@ -51,7 +51,7 @@ returns-in-Open-clause-seen c =
     back_to_target g s.states.items s.stack.items s.starts.items s.pending.items s.done c.requires.sound c.args.from j
     c.requires.from placed.0 c.requires.before leads m (omega (arith, e.fewer)) (λ k a b. e.behind k a (omega arith))
     e.before in
-    λ k. at_open j still (subst (λ (x : List ℕ). Back x c.args.from j) (sym e.starts) back)
+    λ k. at_open j still (subst (λ (x : List ℕ). SameOrLaterSegment x c.args.from j) (sym e.starts) back)
 
 pub returns-in-Done-clause-seen : goal.returns-in-Done-clause-seen
 returns-in-Done-clause-seen c =

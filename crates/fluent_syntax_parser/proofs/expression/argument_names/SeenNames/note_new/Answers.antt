@@ -14,7 +14,7 @@ returns-then-not-is_new-clause-new c =
     let names = c.args.self.now.names in
     let size = length-map names.items (bytes_at t) in
     let many : 32 ≤ length (names_in_order t names.items) =
-    omega (arith, size, c.if-len-lt-MANY.false, c.len.ensures, names.ok.0) in
+    omega (arith, size, c.if-len-lt-TABLE_THRESHOLD.false, c.len.ensures, names.ok.0) in
     is_used-new (λ k. k.now) c.args.self.now.table.keys _ _ _ _ c.in_ok-is_new.ensures.added c.bytes_of.ensures
     (c.requires.1 many) ∙ ap not c.if-not-is_new.true
 
@@ -24,7 +24,7 @@ returns-clause-new c =
     let names = c.args.self.now.names in
     let size = length-map names.items (bytes_at t) in
     let many : 32 ≤ length (names_in_order t names.items) =
-    omega (arith, size, c.if-len-lt-MANY.false, c.len.ensures, names.ok.0) in
+    omega (arith, size, c.if-len-lt-TABLE_THRESHOLD.false, c.len.ensures, names.ok.0) in
     is_used-new (λ k. k.now) c.args.self.now.table.keys _ _ _ _ c.in_ok-is_new.ensures.added c.bytes_of.ensures
     (c.requires.1 many) ∙ ap not c.if-not-is_new.false
 
@@ -34,7 +34,7 @@ returns-clause-noted c = λ is_new.
     let old = c.args.self.now.names.items in
     let size = length-map old (bytes_at t) in
     let many : 32 ≤ length (names_in_order t old) =
-    omega (arith, size, c.if-len-lt-MANY.false, c.len.ensures, c.args.self.now.names.ok.0) in
+    omega (arith, size, c.if-len-lt-TABLE_THRESHOLD.false, c.len.ensures, c.args.self.now.names.ok.0) in
     let noted = notes_many (λ k. k.now) (λ x y. slice_cmp nat_cmp x.now y.now) (λ x y e. exact_bytes x.now y.now e)
     c.args.self.now.table.keys _ (names_in_order t old) c.bytes_of.result _ (c.requires.1 many)
     c.in_ok-is_new.ensures.keys c.bytes_of.ensures (omega (arith, many)) in

@@ -4,7 +4,7 @@ use Rattle.std.specs.Str.{IsUtf8}
 use Rattle.std.specs.List.{flat_map}
 use Rattle.fluent_syntax_tree.specs.Entry.{EntryTree, message, term, comment, junk, BodyTree}
 use Rattle.fluent_syntax_tree.specs.Every.{list_every, body_every}
-use Rattle.fluent_syntax_tree.specs.Spans.{IsPart}
+use Rattle.fluent_syntax_tree.specs.Spans.{IsTextRange}
 use Rattle.fluent_syntax_grammar.specs.Construct.{Outcome, Construct}
 use Rattle.fluent_syntax_grammar.specs.Tokens as tokens
 use Rattle.fluent_syntax_grammar.specs.Strings as strings
@@ -75,7 +75,7 @@ fault_slice f = f.slice
 module _ (edition : Edition) (t : List ℕ) where
   -- Each construct of the grammar has at most one outcome at a place: entries, what they are made of, and the parts of
   -- these down to bytes and blanks.
-  pub record OneReading : Type 0 where
+  pub record IsUnambiguous : Type 0 where
     pub token : (byte : ℕ) → IsFunctional (tokens.token t byte)
     pub inline_blank : IsFunctional (tokens.inline_blank t)
     pub blank : IsFunctional (tokens.blank t)
@@ -139,12 +139,12 @@ module _ (edition : Edition) (t : List ℕ) where
 
   -- where the text is UTF-8, each text of the body is an ordered range of it whose ends are character boundaries
   abbrev pub BodyInText : Type 0
-  BodyInText = (tiles : List Tile) → IsUtf8 t → Tiling edition t tiles → body_every (IsPart t) (body tiles)
+  BodyInText = (tiles : List Tile) → IsUtf8 t → Tiling edition t tiles → body_every (IsTextRange t) (body tiles)
 
   -- the same, without comments
   abbrev pub RuntimeBodyInText : Type 0
   RuntimeBodyInText =
-      (tiles : List Tile) → IsUtf8 t → RuntimeTiling edition t tiles → body_every (IsPart t) (body tiles)
+      (tiles : List Tile) → IsUtf8 t → RuntimeTiling edition t tiles → body_every (IsTextRange t) (body tiles)
 
   -- the tiling without comments gives no comment, and attaches none, also where it has errors
   abbrev pub HasNoComments : Type 0

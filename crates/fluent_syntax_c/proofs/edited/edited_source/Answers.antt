@@ -1,7 +1,7 @@
 use Rattle.std.proofs.Common.{refl}
 use Rattle.fluent_syntax_c.proofs.PartsRead.{insert_spelled, insert_unspelled, none_from, replace_spelled}
 use Rattle.fluent_syntax_c.proofs.PartsRead.{replace_unspelled, value_spelled, value_unspelled}
-use Rattle.fluent_syntax_c.proofs.edited.edited.Goals as goal
+use Rattle.fluent_syntax_c.proofs.edited.edited_source.Goals as goal
 
 pub returns-in_err-one_value-in-SetValue-clause-none : goal.returns-in_err-one_value-in-SetValue-clause-none
 returns-in_err-one_value-in-SetValue-clause-none c = λ edition p is.

@@ -1,7 +1,7 @@
 use Rattle.std.proofs.Common.{◌≡◌, ◌≤◌, arith, length, subst}
 use Rattle.fluent_syntax_parser.specs.OneLine.{EndsLine}
 use Rattle.fluent_syntax_parser.proofs.patterns.OneLine.{none_read, short_read}
-use Rattle.fluent_syntax_parser.proofs.source.Source.short_text.Goals as goal
+use Rattle.fluent_syntax_parser.proofs.source.Source.one_line_text.Goals as goal
 
 pub returns-then-start-to-clause-opens : goal.returns-then-start-to-clause-opens
 returns-then-start-to-clause-opens c = λ n i blank.

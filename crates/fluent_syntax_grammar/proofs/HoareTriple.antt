@@ -7,7 +7,7 @@ use Rattle.fluent_syntax_grammar.specs.Construct.{peek, chosen, branch_on, first
 use Rattle.fluent_syntax_grammar.specs.Construct.{many, list_ends, list_stops, item_and_more, stops_later}
 
 -- From each place with `pre`, every reading has `read value end`, and every refusal `refused kind from to`.
-pub record Holds {A : Type 0} (pre : ℕ → Type 0) (c : Construct A) (read : A → ℕ → Type 0)
+pub record HoareTriple {A : Type 0} (pre : ℕ → Type 0) (c : Construct A) (read : A → ℕ → Type 0)
     (refused : Kind → ℕ → ℕ → Type 0) : Type 0 where
   pub on_read : (i j : ℕ) (a : A) → pre i → c i (Read a j) → read a j
   pub on_refused : (i from to : ℕ) (k : Kind) → pre i → c i (Refused k from to) → refused k from to
@@ -18,15 +18,15 @@ pub holds_weaker :
     {refused refused' : Kind → ℕ → ℕ → Type 0} →
     ((i : ℕ) → pre' i → pre i) → ((a : A) (j : ℕ) → read a j → read' a j) →
     ((k : Kind) (from to : ℕ) → refused k from to → refused' k from to) →
-    Holds pre c read refused → Holds pre' c read' refused'
+    HoareTriple pre c read refused → HoareTriple pre' c read' refused'
 holds_weaker p r f h = record {
   on_read = λ i j a pi x. r a j (h.on_read i j a (p i pi) x);
   on_refused = λ i from to k pi x. f k from to (h.on_refused i from to k (p i pi) x);
 }
 
 module _ {A B : Type 0} (pre : ℕ → Type 0) (c : Construct A) (f : A → Construct B) (mid : A → ℕ → Type 0)
-    (read : B → ℕ → Type 0) (refused : Kind → ℕ → ℕ → Type 0) (h : Holds pre c mid refused)
-    (g : (a : A) → Holds (mid a) (f a) read refused) where
+    (read : B → ℕ → Type 0) (refused : Kind → ℕ → ℕ → Type 0) (h : HoareTriple pre c mid refused)
+    (g : (a : A) → HoareTriple (mid a) (f a) read refused) where
   bind_read : (i j : ℕ) (b : B) → pre i → (c >>= f) i (Read b j) → read b j
   bind_read i j b p (goes_on {j = m} {a = a} x y) = (g a).on_read m j b (h.on_read i m a p x) y
 
@@ -38,7 +38,7 @@ module _ {A B : Type 0} (pre : ℕ → Type 0) (c : Construct A) (f : A → Cons
 pub holds_bind :
     {A B : Type 0} {pre : ℕ → Type 0} {c : Construct A} {f : A → Construct B} {mid : A → ℕ → Type 0}
     {read : B → ℕ → Type 0} {refused : Kind → ℕ → ℕ → Type 0} →
-    Holds pre c mid refused → ((a : A) → Holds (mid a) (f a) read refused) → Holds pre (c >>= f) read refused
+    HoareTriple pre c mid refused → ((a : A) → HoareTriple (mid a) (f a) read refused) → HoareTriple pre (c >>= f) read refused
 holds_bind {pre = pre} {c = c} {f = f} {mid = mid} {read = read} {refused = refused} h g =
     record { on_read = bind_read pre c f mid read refused h g; on_refused = bind_refused pre c f mid read refused h g }
 
@@ -54,7 +54,7 @@ pub gave : {A : Type 0} (a b : A) (i j : ℕ) → yields a i (Read b j) → (a �
 gave a b i j given = (refl, refl)
 
 pub holds_yields : {A : Type 0} {pre : ℕ → Type 0} {a : A} {read : A → ℕ → Type 0} {refused : Kind → ℕ → ℕ → Type 0} →
-    ((i : ℕ) → pre i → read a i) → Holds pre (yields a) read refused
+    ((i : ℕ) → pre i → read a i) → HoareTriple pre (yields a) read refused
 holds_yields {pre = pre} {a = a} {read = read} {refused = refused} h =
     record {
       on_read = yields_read pre a read h;
@@ -69,7 +69,7 @@ here_refused : (X : Type 0) (i from to : ℕ) (k : Kind) → here i (Refused k f
 here_refused X i from to k x = elim x [ ]
 
 pub holds_here : {pre : ℕ → Type 0} {read : ℕ → ℕ → Type 0} {refused : Kind → ℕ → ℕ → Type 0} →
-    ((i : ℕ) → pre i → read i i) → Holds pre here read refused
+    ((i : ℕ) → pre i → read i i) → HoareTriple pre here read refused
 holds_here {pre = pre} {read = read} {refused = refused} h =
     record {
       on_read = here_read pre read h;
@@ -85,7 +85,7 @@ fails_refused : {A : Type 0} (pre : ℕ → Type 0) (k : Kind) (refused : Kind �
 fails_refused pre k refused h i from to l p (failed e) = rw e (h i p)
 
 pub holds_fails : {A : Type 0} {pre : ℕ → Type 0} {k : Kind} {read : A → ℕ → Type 0} {refused : Kind → ℕ → ℕ → Type 0} →
-    ((i : ℕ) → pre i → refused k i (i + 1)) → Holds pre (fails k) read refused
+    ((i : ℕ) → pre i → refused k i (i + 1)) → HoareTriple pre (fails k) read refused
 holds_fails {pre = pre} {k = k} {read = read} {refused = refused} h =
     record { on_read = λ i j a p x. fails_read k (read a j) i j a x; on_refused = fails_refused pre k refused h }
 
@@ -99,7 +99,7 @@ from_refused pre k start refused h i from to l p failed_from = h i p
 
 pub holds_fails_from :
     {A : Type 0} {pre : ℕ → Type 0} {k : Kind} {start : ℕ} {read : A → ℕ → Type 0} {refused : Kind → ℕ → ℕ → Type 0} →
-    ((i : ℕ) → pre i → refused k start i) → Holds pre (fails_from k start) read refused
+    ((i : ℕ) → pre i → refused k start i) → HoareTriple pre (fails_from k start) read refused
 holds_fails_from {pre = pre} {k = k} {start = start} {read = read} {refused = refused} h =
     record {
       on_read = λ i j a p x. from_read k start (read a j) i j a x;
@@ -115,7 +115,7 @@ skip_refused W X i from to k x = elim x [ ]
 
 pub holds_skip :
     {pre : ℕ → Type 0} {W : ℕ → ℕ → Type 0} {read : Unit {0} → ℕ → Type 0} {refused : Kind → ℕ → ℕ → Type 0} →
-    ((i j : ℕ) → pre i → W i j → read tt j) → Holds pre (skip W) read refused
+    ((i j : ℕ) → pre i → W i j → read tt j) → HoareTriple pre (skip W) read refused
 holds_skip {pre = pre} {W = W} {read = read} {refused = refused} h =
     record {
       on_read = skip_read pre W read h;
@@ -123,7 +123,7 @@ holds_skip {pre = pre} {W = W} {read = read} {refused = refused} h =
     }
 
 module _ {A B : Type 0} (pre : ℕ → Type 0) (look : ℕ → A) (part : A → Construct B) (read : B → ℕ → Type 0)
-    (refused : Kind → ℕ → ℕ → Type 0) (h : (a : A) → Holds (λ i. pre i × (look i ≡ a)) (part a) read refused) where
+    (refused : Kind → ℕ → ℕ → Type 0) (h : (a : A) → HoareTriple (λ i. pre i × (look i ≡ a)) (part a) read refused) where
   peek_read : (i j : ℕ) (b : B) → pre i → peek look part i (Read b j) → read b j
   peek_read i j b p (chosen x) = (h (look i)).on_read i j b (p, refl) x
 
@@ -134,7 +134,7 @@ module _ {A B : Type 0} (pre : ℕ → Type 0) (look : ℕ → A) (part : A → 
 pub holds_peek :
     {A B : Type 0} {pre : ℕ → Type 0} {look : ℕ → A} {part : A → Construct B} {read : B → ℕ → Type 0}
     {refused : Kind → ℕ → ℕ → Type 0} →
-    ((a : A) → Holds (λ i. pre i × (look i ≡ a)) (part a) read refused) → Holds pre (peek look part) read refused
+    ((a : A) → HoareTriple (λ i. pre i × (look i ≡ a)) (part a) read refused) → HoareTriple pre (peek look part) read refused
 holds_peek {pre = pre} {look = look} {part = part} {read = read} {refused = refused} h =
     record {
       on_read = peek_read pre look part read refused h;
@@ -142,8 +142,8 @@ holds_peek {pre = pre} {look = look} {part = part} {read = read} {refused = refu
     }
 
 module _ {A : Type 0} (pre : ℕ → Type 0) (test : Bool) (yes no : Construct A) (read : A → ℕ → Type 0)
-    (refused : Kind → ℕ → ℕ → Type 0) (h : test ≡ true → Holds pre yes read refused)
-    (g : test ≡ false → Holds pre no read refused) where
+    (refused : Kind → ℕ → ℕ → Type 0) (h : test ≡ true → HoareTriple pre yes read refused)
+    (g : test ≡ false → HoareTriple pre no read refused) where
   branch_on_read : (i j : ℕ) (a : A) → pre i → branch_on test yes no i (Read a j) → read a j
   branch_on_read i j a p (first e x) = (h e).on_read i j a p x
   branch_on_read i j a p (second e x) = (g e).on_read i j a p x
@@ -156,8 +156,8 @@ module _ {A : Type 0} (pre : ℕ → Type 0) (test : Bool) (yes no : Construct A
 pub holds_branch_on :
     {A : Type 0} {pre : ℕ → Type 0} {test : Bool} {yes no : Construct A} {read : A → ℕ → Type 0}
     {refused : Kind → ℕ → ℕ → Type 0} →
-    (test ≡ true → Holds pre yes read refused) → (test ≡ false → Holds pre no read refused) →
-    Holds pre (branch_on test yes no) read refused
+    (test ≡ true → HoareTriple pre yes read refused) → (test ≡ false → HoareTriple pre no read refused) →
+    HoareTriple pre (branch_on test yes no) read refused
 holds_branch_on {pre = pre} {test = test} {yes = c} {no = d} {read = read} {refused = refused} h g =
     record {
       on_read = branch_on_read pre test c d read refused h g;
@@ -166,7 +166,7 @@ holds_branch_on {pre = pre} {test = test} {yes = c} {no = d} {read = read} {refu
 
 module _ {A S B : Type 0} (next : S → Construct (More A S)) (add : A → B → B) (none : B) (pre : S → ℕ → Type 0)
     (after : More A S → ℕ → Type 0) (read : B → ℕ → Type 0) (refused : Kind → ℕ → ℕ → Type 0)
-    (h : (s : S) → Holds (pre s) (next s) after refused) (at_end : (i : ℕ) → after no_item i → read none i)
+    (h : (s : S) → HoareTriple (pre s) (next s) after refused) (at_end : (i : ℕ) → after no_item i → read none i)
     (goes : (a : A) (s : S) (i : ℕ) → after (item a s) i → pre s i)
     (adds : (a : A) (s : S) (i j : ℕ) (b : B) → after (item a s) i → read b j → read (add a b) j) where
   many_read : (s : S) (i j : ℕ) (b : B) → pre s i → many next add none s i (Read b j) → read b j
@@ -184,10 +184,10 @@ module _ {A S B : Type 0} (next : S → Construct (More A S)) (add : A → B →
 pub holds_many :
     {A S B : Type 0} {next : S → Construct (More A S)} {add : A → B → B} {none : B} {pre : S → ℕ → Type 0}
     {after : More A S → ℕ → Type 0} {read : B → ℕ → Type 0} {refused : Kind → ℕ → ℕ → Type 0} {s : S} →
-    ((s : S) → Holds (pre s) (next s) after refused) → ((i : ℕ) → after no_item i → read none i) →
+    ((s : S) → HoareTriple (pre s) (next s) after refused) → ((i : ℕ) → after no_item i → read none i) →
     ((a : A) (s : S) (i : ℕ) → after (item a s) i → pre s i) →
     ((a : A) (s : S) (i j : ℕ) (b : B) → after (item a s) i → read b j → read (add a b) j) →
-    Holds (pre s) (many next add none s) read refused
+    HoareTriple (pre s) (many next add none s) read refused
 holds_many {next = next} {add = add} {none = none} {pre = pre} {after = after} {read = read} {refused = refused} {s = s}
     h e g a =
     record {
