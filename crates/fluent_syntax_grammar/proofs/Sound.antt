@@ -79,17 +79,17 @@ here_refused t P s Good f g i from to k p (goes_on at_place y) =
     ((g i p).holds.on_refused i from to k (record { late = omega arith; place = p.place }) y)
 
 module _ {t : List ℕ} {P : ℕ → Type 0} {s : ℕ} where
-  pub known : {A B : Type 0} {ReadsMidLine : A → Type 0} {Good : B → Type 0} {a : A} {c : Construct B} →
-      (ReadsMidLine a → Sound t P s c Good) → HoareTriple (Ended P s ReadsMidLine a) c (Ended P s Good) (IsFault t s)
+  pub known : {A B : Type 0} {Mid : A → Type 0} {Good : B → Type 0} {a : A} {c : Construct B} →
+      (Mid a → Sound t P s c Good) → HoareTriple (Ended P s Mid a) c (Ended P s Good) (IsFault t s)
   known f = record {
     on_read = λ i j b p x. (f p.good).holds.on_read i j b (record { late = p.late; place = p.place }) x;
     on_refused =
         λ i from to k p x. (f p.good).holds.on_refused i from to k (record { late = p.late; place = p.place }) x;
   }
 
-  pub sound_bind : {A B : Type 0} {ReadsMidLine : A → Type 0} {Good : B → Type 0} {c : Construct A} {f : A → Construct B} →
-      Sound t P s c ReadsMidLine → ((a : A) → ReadsMidLine a → Sound t P s (f a) Good) → Sound t P s (c >>= f) Good
-  sound_bind {ReadsMidLine = ReadsMidLine} x g = record { holds = holds_bind x.holds (λ a. known {ReadsMidLine = ReadsMidLine} (g a)) }
+  pub sound_bind : {A B : Type 0} {Mid : A → Type 0} {Good : B → Type 0} {c : Construct A} {f : A → Construct B} →
+      Sound t P s c Mid → ((a : A) → Mid a → Sound t P s (f a) Good) → Sound t P s (c >>= f) Good
+  sound_bind {Mid = Mid} x g = record { holds = holds_bind x.holds (λ a. known {Mid = Mid} (g a)) }
 
   pub sound_yields : {A : Type 0} {Good : A → Type 0} {a : A} → Good a → Sound t P s (yields a) Good
   sound_yields g = record { holds = holds_yields (λ i p. record { late = p.late; place = p.place; good = g }) }

@@ -62,21 +62,21 @@ pub record SoundEntry {A : Type 0} (t : List ℕ) (P : ℕ → Type 0) (i s : �
   pub holds : HoareTriple (Inside P s) c (Ended P s Good) (IsEntryFault t i s)
 
 module _ {t : List ℕ} {P : ℕ → Type 0} {i s : ℕ} where
-  pub known_entry : {A B : Type 0} {ReadsMidLine : A → Type 0} {Good : B → Type 0} {a : A} {c : Construct B} →
-      (ReadsMidLine a → SoundEntry t P i s c Good) → HoareTriple (Ended P s ReadsMidLine a) c (Ended P s Good) (IsEntryFault t i s)
+  pub known_entry : {A B : Type 0} {Mid : A → Type 0} {Good : B → Type 0} {a : A} {c : Construct B} →
+      (Mid a → SoundEntry t P i s c Good) → HoareTriple (Ended P s Mid a) c (Ended P s Good) (IsEntryFault t i s)
   known_entry f = record {
     on_read = λ i j b p x. (f p.good).holds.on_read i j b (record { late = p.late; place = p.place }) x;
     on_refused =
         λ i from to k p x. (f p.good).holds.on_refused i from to k (record { late = p.late; place = p.place }) x;
   }
 
-  pub entry_bind : {A B : Type 0} {ReadsMidLine : A → Type 0} {Good : B → Type 0} {c : Construct A} {f : A → Construct B} →
-      i ≤ s → Sound t P s c ReadsMidLine → ((a : A) → ReadsMidLine a → SoundEntry t P i s (f a) Good) → SoundEntry t P i s (c >>= f) Good
-  entry_bind {ReadsMidLine = ReadsMidLine} l x g =
+  pub entry_bind : {A B : Type 0} {Mid : A → Type 0} {Good : B → Type 0} {c : Construct A} {f : A → Construct B} →
+      i ≤ s → Sound t P s c Mid → ((a : A) → Mid a → SoundEntry t P i s (f a) Good) → SoundEntry t P i s (c >>= f) Good
+  entry_bind {Mid = Mid} l x g =
       record {
         holds =
             holds_bind (holds_weaker (λ i p. p) (λ a j e. e) (entry_fault t i s l) x.holds)
-            (λ a. known_entry {ReadsMidLine = ReadsMidLine} (g a));
+            (λ a. known_entry {Mid = Mid} (g a));
       }
 
   pub entry_yields : {A : Type 0} {Good : A → Type 0} {a : A} → Good a → SoundEntry t P i s (yields a) Good
@@ -250,7 +250,7 @@ module _ (edition : Edition) (t : List ℕ) (P : ℕ → Type 0) (cuts : AreBoun
       holds_bind name
       (λ id. holds_weaker {pre = Ended P (i + 1) (IsSpan P) id} (λ j p. p) (λ a j x. x)
       (earlier_fault t i (i + 1) s l)
-      (known_entry {ReadsMidLine = IsSpan P}
+      (known_entry {Mid = IsSpan P}
       (λ f. after_name edition t P cuts i id (message_with t i) f
       (λ value rest g k. sound_message_with edition t P cuts i id value rest f g k))))
 

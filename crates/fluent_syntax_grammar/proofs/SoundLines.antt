@@ -283,7 +283,7 @@ module _ (t : List ℕ) (P : ℕ → Type 0) (cuts : AreBoundaries t P) (R : Fam
   layout_holds s None = holds_weaker {pre = Inside P s} (λ i p. p.0) (λ a j x. x) (λ k from to x. x)
       (sound_here (λ m q. record {
         holds = holds_bind (sound_pieces m) (λ ps. holds_bind (after_pieces m ps q.place) (λ e.
-            known {ReadsMidLine = λ e. LineInBounds P (Opening m ps e)}
+            known {Mid = λ e. LineInBounds P (Opening m ps e)}
             (λ g. sound_bind sound_lines (λ ls k. sound_yields (record { opening = g; lines = k })))));
       })).holds
   layout_holds s (Some k) = holds_bind {mid = λ u. Inside P s}

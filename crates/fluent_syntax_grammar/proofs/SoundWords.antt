@@ -72,12 +72,12 @@ module _ (t : List ℕ) (P : ℕ → Type 0) (cuts : AreBoundaries t P) where
   pub sound_identifier : {s : ℕ} → Sound t P s (identifier t) (IsSpan P)
   sound_identifier =
       sound_here (λ m q.
-      sound_bind {ReadsMidLine = λ letter. Unit {0}} (sound_peek (λ letter. sound_yields tt)) (λ letter u. sound_branch_on
+      sound_bind {Mid = λ letter. Unit {0}} (sound_peek (λ letter. sound_yields tt)) (λ letter u. sound_branch_on
       (λ e. sound_bind (sound_skip (onward_word t P cuts ascii_name)) (λ u v. sound_spanned q.place))
       (λ e. sound_range (codes "a-zA-Z"))))
 
   pub sound_number : {s : ℕ} → Sound t P s (number t) (IsSpan P)
   sound_number = sound_here (λ m q. sound_bind (sound_optional 45 refl) (λ x u. sound_bind sound_digits (λ x u.
       sound_bind (sound_optional 46 refl)
-      (λ point u. sound_bind {ReadsMidLine = λ u. Unit {0}} (sound_branch_on (λ e. sound_digits) (λ e. sound_yields tt))
+      (λ point u. sound_bind {Mid = λ u. Unit {0}} (sound_branch_on (λ e. sound_digits) (λ e. sound_yields tt))
       (λ x u. sound_spanned q.place)))))

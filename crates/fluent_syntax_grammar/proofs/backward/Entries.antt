@@ -220,7 +220,7 @@ module _ (t : List ℕ) (bare : HasNoBareCr t) (Joins : Type 0) (crs : (i : ℕ)
   ensures_comment =
       ensures_peek
       (λ level. ensures_bind (ensures_line t level)
-      (λ c g. ensures_bind {ReadsMidLine = IsLines t} (record { on_read = lines_read t level })
+      (λ c g. ensures_bind {Mid = IsLines t} (record { on_read = lines_read t level })
       (λ rest k. ensures_yields (lines_append t c rest g k))))
 
   ensures_entry_of : (o : Option ℕ) → Ensures (entry_of One t (family One t) o) (IsNotJunk t Joins)

@@ -47,18 +47,18 @@ use Rattle.fluent_syntax_grammar.proofs.Tests.{not_false}
 pub record Ensures {A : Type 0} (c : Construct A) (Good : A → Type 0) : Type 0 where
   pub on_read : (i j : ℕ) (a : A) → c i (Read a j) → Good a
 
-bind_read : {A B : Type 0} (c : Construct A) (f : A → Construct B) (ReadsMidLine : A → Type 0) (Good : B → Type 0) →
-    Ensures c ReadsMidLine → ((a : A) → ReadsMidLine a → Ensures (f a) Good) → (i j : ℕ) (b : B) → (c >>= f) i (Read b j) → Good b
-bind_read c f ReadsMidLine Good x g i j b (goes_on {j = m} {a = a} y z) = (g a (x.on_read i m a y)).on_read m j b z
+bind_read : {A B : Type 0} (c : Construct A) (f : A → Construct B) (Mid : A → Type 0) (Good : B → Type 0) →
+    Ensures c Mid → ((a : A) → Mid a → Ensures (f a) Good) → (i j : ℕ) (b : B) → (c >>= f) i (Read b j) → Good b
+bind_read c f Mid Good x g i j b (goes_on {j = m} {a = a} y z) = (g a (x.on_read i m a y)).on_read m j b z
 
-pub ensures_bind : {A B : Type 0} {ReadsMidLine : A → Type 0} {Good : B → Type 0} {c : Construct A} {f : A → Construct B} →
-    Ensures c ReadsMidLine → ((a : A) → ReadsMidLine a → Ensures (f a) Good) → Ensures (c >>= f) Good
-ensures_bind {ReadsMidLine = ReadsMidLine} {Good = Good} {c = c} {f = f} x g = record { on_read = bind_read c f ReadsMidLine Good x g }
+pub ensures_bind : {A B : Type 0} {Mid : A → Type 0} {Good : B → Type 0} {c : Construct A} {f : A → Construct B} →
+    Ensures c Mid → ((a : A) → Mid a → Ensures (f a) Good) → Ensures (c >>= f) Good
+ensures_bind {Mid = Mid} {Good = Good} {c = c} {f = f} x g = record { on_read = bind_read c f Mid Good x g }
 
 -- what is not asked of a part
 pub ensures_then : {A B : Type 0} {Good : B → Type 0} {c : Construct A} {f : A → Construct B} →
     ((a : A) → Ensures (f a) Good) → Ensures (c >>= f) Good
-ensures_then g = ensures_bind {ReadsMidLine = λ a. Unit {0}} (record { on_read = λ i j a x. tt }) (λ a u. g a)
+ensures_then g = ensures_bind {Mid = λ a. Unit {0}} (record { on_read = λ i j a x. tt }) (λ a u. g a)
 
 yields_read : {A : Type 0} (Good : A → Type 0) (a b : A) (i j : ℕ) → Good a → yields a i (Read b j) → Good b
 yields_read Good a b i j g given = g
