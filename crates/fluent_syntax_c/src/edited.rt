@@ -8,7 +8,8 @@ ghost use Rattle.fluent_syntax_tree.specs.declared.edition.Edition.{Edition as B
 ghost use Rattle.fluent_syntax_grammar.specs.RoundTrip.{ReadsAs};
 ghost use Rattle.fluent_syntax_edits.specs.Changes.{Change};
 ghost use Rattle.fluent_syntax_edits.specs.Edits.{Answers};
-ghost use Rattle.fluent_syntax_c.specs.Edits.{IsTextTree, Spells, first_entry_named, has_entry_name, part_source, place_of};
+ghost use Rattle.fluent_syntax_c.specs.Edits.{IsTextTree, Spells, first_entry_named, has_entry_name, part_source};
+ghost use Rattle.fluent_syntax_c.specs.Edits.{place_of};
 ghost use Rattle.fluent_syntax_c.specs.Edits.{value_message};
 
 use crate::text_trees::TextTree;

@@ -154,4 +154,5 @@ found_longest_run test (suc n) i j h = find_sound test n i j (test i) refl h
 
 -- the longest stretch, within so many places
 abbrev pub computed_longest_run : {test : ℕ → Bool} → ℕ → ComputedRelation (LongestRun test)
-computed_longest_run {test = test} n = record { run = λ i. find test n i; sound = λ i j h. found_longest_run test n i j h }
+computed_longest_run {test = test} n =
+    record { run = λ i. find test n i; sound = λ i j h. found_longest_run test n i j h }

@@ -182,7 +182,8 @@ module _ (t : List ℕ) (n : ℕ) (R : Family) (h : ComputedFamily R) where
   lines_choose : (i k b : ℕ) (own : Bool) (o : Outcome (More Line (Unit {0}))) → find (has t is_space) n i ≡ Some k →
       slice_get t k ≡ Some b → belongs t (nat_lt i k) k ≡ own →
       choose own (λ u. computed_own.run i) (λ u. Some (Read no_item i)) ≡ Some o → next_line t R i o
-  lines_choose i k b true o e f g x = own_line (found_longest_run (has t is_space) n i k e) f g (computed_own.sound i o x)
+  lines_choose i k b true o e f g x =
+      own_line (found_longest_run (has t is_space) n i k e) f g (computed_own.sound i o x)
   lines_choose i k b false o e f g x = let same : Read no_item i ≡ o = cc in
       subst (λ o. next_line t R i o) same (other_line (found_longest_run (has t is_space) n i k e) f g)
 

@@ -88,7 +88,8 @@ module _ (t : List ℕ) (n : ℕ) where
 
   abbrev pub computed_rest_of_line : Computed (rest_of_line t)
   computed_rest_of_line =
-      computed_bind computed_here (λ start. computed_bind (computed_skip (computed_longest_run n)) (λ u. computed_spanned))
+      computed_bind computed_here (λ start. computed_bind (computed_skip (computed_longest_run n))
+      (λ u. computed_spanned))
 
   abbrev pub computed_digits : Computed (digits t)
   computed_digits = computed_peek (λ found. computed_branch_on (computed_skip (computed_longest_run n)) computed_fails)
@@ -96,7 +97,8 @@ module _ (t : List ℕ) (n : ℕ) where
   abbrev pub computed_identifier : Computed (identifier t)
   computed_identifier =
       computed_bind computed_here (λ start. computed_bind (computed_peek (λ letter. computed_yields)) (λ letter.
-      computed_branch_on (computed_bind (computed_skip (computed_longest_run n)) (λ u. computed_spanned)) computed_fails))
+      computed_branch_on (computed_bind (computed_skip (computed_longest_run n)) (λ u. computed_spanned))
+      computed_fails))
 
   abbrev pub computed_number : Computed (number t)
   computed_number =

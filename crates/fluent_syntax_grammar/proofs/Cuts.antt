@@ -160,10 +160,12 @@ module _ (t : List ℕ) (P : ℕ → Type 0) (cuts : AreBoundaries t P) where
       ]
 
   pub word_place : (set : ℕ → Bool) → IsAsciiSet set → (i j : ℕ) → P i → ByteRun t set i j → P j
-  word_place set s i j p w = longest_run_places (has t set) (λ k e. ascii_has t set k s e) i j p w j w.forward (omega arith)
+  word_place set s i j p w =
+      longest_run_places (has t set) (λ k e. ascii_has t set k s e) i j p w j w.forward (omega arith)
 
   pub blank_place : (i j : ℕ) → P i → Blank t i j → P j
-  blank_place i j p w = longest_run_places (is_blank_place t) (λ k e. ascii_blank t k e) i j p w j w.forward (omega arith)
+  blank_place i j p w =
+      longest_run_places (is_blank_place t) (λ k e. ascii_blank t k e) i j p w j w.forward (omega arith)
 
   pub eol_place : (i k : ℕ) → after_eol t i ≡ Some k → P k
   eol_place i k e =

@@ -54,7 +54,8 @@ fails_from_unique k from i o p failed_from failed_from = refl
 pub functional_fails_from : {A : Type 0} {k : Kind} {from : ℕ} → IsFunctional (fails_from {A = A} k from)
 functional_fails_from {k = k} {from = from} = record { same = fails_from_unique k from }
 
-skip_unique : (W : ℕ → ℕ → Type 0) → IsFunctionalRelation W → (i : ℕ) (o p : Outcome (Unit {0})) → skip W i o → skip W i p → o ≡ p
+skip_unique : (W : ℕ → ℕ → Type 0) → IsFunctionalRelation W → (i : ℕ) (o p : Outcome (Unit {0})) → skip W i o →
+    skip W i p → o ≡ p
 skip_unique W single i o p (passed x) (passed y) = let e = single.same i _ _ x y in cc
 
 pub functional_skip : {W : ℕ → ℕ → Type 0} → IsFunctionalRelation W → IsFunctional (skip W)

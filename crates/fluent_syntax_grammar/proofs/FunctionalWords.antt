@@ -78,7 +78,8 @@ module _ (t : List ℕ) where
   units_unique i o p (bad_unit a b) (before_quote d) = cc
   units_unique i o p (bad_unit a b) (unit_and_more d e f) =
       let h = (functional_string_unit (slice_get t i)).same i _ _ b e in cc
-  units_unique i o p (bad_unit a b) (bad_unit d e) = let h = (functional_string_unit (slice_get t i)).same i _ _ b e in cc
+  units_unique i o p (bad_unit a b) (bad_unit d e) = let h = (functional_string_unit (slice_get t i)).same i _ _ b e in
+      cc
 
   pub functional_units : IsFunctional (string_units t)
   functional_units = record { same = units_unique }

@@ -38,7 +38,8 @@ module _ {A B : Type 0} (pre : ℕ → Type 0) (c : Construct A) (f : A → Cons
 pub holds_bind :
     {A B : Type 0} {pre : ℕ → Type 0} {c : Construct A} {f : A → Construct B} {mid : A → ℕ → Type 0}
     {read : B → ℕ → Type 0} {refused : Kind → ℕ → ℕ → Type 0} →
-    HoareTriple pre c mid refused → ((a : A) → HoareTriple (mid a) (f a) read refused) → HoareTriple pre (c >>= f) read refused
+    HoareTriple pre c mid refused → ((a : A) → HoareTriple (mid a) (f a) read refused) →
+    HoareTriple pre (c >>= f) read refused
 holds_bind {pre = pre} {c = c} {f = f} {mid = mid} {read = read} {refused = refused} h g =
     record { on_read = bind_read pre c f mid read refused h g; on_refused = bind_refused pre c f mid read refused h g }
 
@@ -123,7 +124,8 @@ holds_skip {pre = pre} {W = W} {read = read} {refused = refused} h =
     }
 
 module _ {A B : Type 0} (pre : ℕ → Type 0) (look : ℕ → A) (part : A → Construct B) (read : B → ℕ → Type 0)
-    (refused : Kind → ℕ → ℕ → Type 0) (h : (a : A) → HoareTriple (λ i. pre i × (look i ≡ a)) (part a) read refused) where
+    (refused : Kind → ℕ → ℕ → Type 0) (h : (a : A) →
+    HoareTriple (λ i. pre i × (look i ≡ a)) (part a) read refused) where
   peek_read : (i j : ℕ) (b : B) → pre i → peek look part i (Read b j) → read b j
   peek_read i j b p (chosen x) = (h (look i)).on_read i j b (p, refl) x
 
@@ -134,7 +136,8 @@ module _ {A B : Type 0} (pre : ℕ → Type 0) (look : ℕ → A) (part : A → 
 pub holds_peek :
     {A B : Type 0} {pre : ℕ → Type 0} {look : ℕ → A} {part : A → Construct B} {read : B → ℕ → Type 0}
     {refused : Kind → ℕ → ℕ → Type 0} →
-    ((a : A) → HoareTriple (λ i. pre i × (look i ≡ a)) (part a) read refused) → HoareTriple pre (peek look part) read refused
+    ((a : A) → HoareTriple (λ i. pre i × (look i ≡ a)) (part a) read refused) →
+    HoareTriple pre (peek look part) read refused
 holds_peek {pre = pre} {look = look} {part = part} {read = read} {refused = refused} h =
     record {
       on_read = peek_read pre look part read refused h;

@@ -14,7 +14,8 @@ use Rattle.fluent_syntax_grammar.specs.Comments.{comment_entry, level_of, hashes
 use Rattle.fluent_syntax_grammar.specs.Tiling.{Fault, Tile, entry, refused, dropped, Tiled, done, next, entry_of}
 use Rattle.fluent_syntax_grammar.specs.Tiling.{TileAt, reads, refuses, RuntimeTileAt, drops, stands}
 use Rattle.fluent_syntax_grammar.specs.Body.{faults, attached, attached_entry, alone, or_attached, body}
-use Rattle.fluent_syntax_grammar.specs.UniqueReading.{Ascend, junk_slice, fault_slice, JunkOfErrors, RuntimeJunkOfErrors}
+use Rattle.fluent_syntax_grammar.specs.UniqueReading.{Ascend, junk_slice, fault_slice, JunkOfErrors}
+use Rattle.fluent_syntax_grammar.specs.UniqueReading.{RuntimeJunkOfErrors}
 use Rattle.fluent_syntax_grammar.specs.UniqueReading.{ErrorsAscend, RuntimeErrorsAscend, BodyInText, RuntimeBodyInText}
 use Rattle.fluent_syntax_tree.specs.declared.edition.Edition.{Edition}
 use Rattle.fluent_syntax_tree.specs.declared.spans.Span.{Span}
@@ -52,12 +53,14 @@ module _ (P : ℕ → Type 0) where
   good_attached content (comment level x) o p c g h q = cc
   good_attached content (junk s) o p c g h q = cc
 
-  if_in_bounds : (b : Bool) (content : List Span) (e h : EntryTree Span) → list_every (IsSpan P) content → EntrySpansInBounds e →
+  if_in_bounds : (b : Bool) (content : List Span) (e h : EntryTree Span) → list_every (IsSpan P) content →
+      EntrySpansInBounds e →
       (if b then attached content e else None) ≡ Some h → EntrySpansInBounds h
   if_in_bounds true content e h c g p = good_attached content e (attached content e) refl c g h p
   if_in_bounds false content e h c g p = cc
 
-  good_attaches : (x y : Tile) (h : EntryTree Span) → TileSpansInBounds x → TileSpansInBounds y → attached_entry x y ≡ Some h
+  good_attaches : (x y : Tile) (h : EntryTree Span) → TileSpansInBounds x → TileSpansInBounds y →
+      attached_entry x y ≡ Some h
       → EntrySpansInBounds h
   good_attaches (entry s (comment regular c)) (entry r e) h g k p = if_in_bounds (s.end == r.start) c e h g k p
   good_attaches (entry s (comment regular c)) (refused f) h g k p = cc
@@ -80,7 +83,8 @@ module _ (P : ℕ → Type 0) where
   good_append (x ∷ xs) ys (g, k) h = (g, good_append xs ys k h)
 
   good_joined : (x y : Tile) (others after : BodyTree Span) (o : Option (EntryTree Span)) → attached_entry x y ≡ o →
-      TileSpansInBounds x → TileSpansInBounds y → BodySpansInBounds others → BodySpansInBounds after → BodySpansInBounds (or_attached o (alone x) others after)
+      TileSpansInBounds x → TileSpansInBounds y → BodySpansInBounds others → BodySpansInBounds after →
+      BodySpansInBounds (or_attached o (alone x) others after)
   good_joined x y others after None e g h p q = good_append (alone x) others (good_alone x g) p
   good_joined x y others after (Some z) e g h p q = (good_attaches x y z g h e, q)
 
@@ -97,7 +101,8 @@ module _ (edition : Edition) (t : List ℕ) (P : ℕ → Type 0) (cuts : AreBoun
   given (refused f) g = g.1
   given dropped g = tt
 
-  pub all_given : (xs : List Tile) → list_every (IsTileWellFormed edition t P cuts) xs → list_every (TileSpansInBounds P) xs
+  pub all_given : (xs : List Tile) → list_every (IsTileWellFormed edition t P cuts) xs →
+      list_every (TileSpansInBounds P) xs
   all_given [] g = tt
   all_given (x ∷ xs) (g, h) = (given x g, all_given xs h)
 

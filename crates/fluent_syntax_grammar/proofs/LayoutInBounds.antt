@@ -63,15 +63,18 @@ module _ (P : ℕ → Type 0) where
   earlier_pieces s s' e l [] g = tt
   earlier_pieces s s' e l (p ∷ ps) (g, h) = (earlier_piece s s' e l p g, earlier_pieces s s' e l ps h)
 
-  with_in_bounds : (s e : ℕ) → s ≤ e → (ps : List Piece) (x : Ending) → list_every (PieceInBounds s e) ps → EndingInBounds e x →
+  with_in_bounds : (s e : ℕ) → s ≤ e → (ps : List Piece) (x : Ending) → list_every (PieceInBounds s e) ps →
+      EndingInBounds e x →
       list_every ItemInBounds (with_ending ps x)
   with_in_bounds s e l [] (lf_at p) g (a, b, c) = ((omega arith, b, c), tt)
   with_in_bounds s e l [] (crlf_at p) g (a, b, c) = ((omega arith, b, c), tt)
   with_in_bounds s e l [] text_end g h = tt
   with_in_bounds s e l (run from to ∷ []) (lf_at p) ((a, b, c, d, f), g) (h, m, n) = ((omega arith, d, n), tt)
-  with_in_bounds s e l (run from to ∷ []) (crlf_at p) ((a, b, c, d, f), g) (h, m, n) = ((b, d, f), ((omega arith, m, n), tt))
+  with_in_bounds s e l (run from to ∷ []) (crlf_at p) ((a, b, c, d, f), g) (h, m, n) =
+      ((b, d, f), ((omega arith, m, n), tt))
   with_in_bounds s e l (run from to ∷ []) text_end ((a, b, c, d, f), g) h = ((b, d, f), tt)
-  with_in_bounds s e l (run from to ∷ p ∷ ps) x ((a, b, c, d, f), g) h = ((b, d, f), with_in_bounds s e l (p ∷ ps) x g h)
+  with_in_bounds s e l (run from to ∷ p ∷ ps) x ((a, b, c, d, f), g) h =
+      ((b, d, f), with_in_bounds s e l (p ∷ ps) x g h)
   with_in_bounds s e l (placed y ∷ ps) x (g, h) m = (g, with_in_bounds s e l ps x h m)
 
   every_flat : {X Y : Type 0} (Q : X → Type 0) (R : Y → Type 0) (f : X → List Y) →
@@ -120,7 +123,8 @@ module _ (P : ℕ → Type 0) where
 
   items_in_bounds : (edition : Edition) (y : Layout) → LayoutInBounds y → list_every ItemInBounds (items edition y)
   items_in_bounds edition y g =
-      every-append ItemInBounds (opening_items y.opening) (flat_map (line_items edition (common_indent edition y)) y.lines)
+      every-append ItemInBounds (opening_items y.opening)
+      (flat_map (line_items edition (common_indent edition y)) y.lines)
       (opening_in_bounds y.opening g.opening)
       (every_flat LineInBounds ItemInBounds (line_items edition (common_indent edition y))
       (line_items_in_bounds edition (common_indent edition y)) y.lines g.lines)
@@ -173,7 +177,8 @@ module _ (t : List ℕ) (P : ℕ → Type 0) (cuts : AreBoundaries t P) where
       let end : to ≡ from + length (slice_range t from to) = omega arith in
       (omega arith, trimmed_place from to (length (slice_range t from to)) inside (omega arith) p (subst P end q))
 
-  spelled_in_bounds : (xs : List Item) → list_every (ItemInBounds P) xs → list_every (element_every (IsSpan P)) (spelled t xs)
+  spelled_in_bounds : (xs : List Item) → list_every (ItemInBounds P) xs →
+      list_every (element_every (IsSpan P)) (spelled t xs)
   spelled_in_bounds [] g = tt
   spelled_in_bounds (text from to ∷ []) ((a, b, c), g) = let e = end_in_bounds from to a b c in ((e.0, b, e.1), tt)
   spelled_in_bounds (text from to ∷ x ∷ xs) (g, h) = (g, spelled_in_bounds (x ∷ xs) h)
@@ -190,8 +195,10 @@ if_any_in_bounds P [] g = tt
 if_any_in_bounds P (e ∷ es) g = elements_in_bounds P (e ∷ es) g
 
 -- the texts of a pattern lie in the source, if its layout does
-pub pattern_in_bounds : (t : List ℕ) (P : ℕ → Type 0) → AreBoundaries t P → (edition : Edition) (y : Layout) → LayoutInBounds P y →
+pub pattern_in_bounds : (t : List ℕ) (P : ℕ → Type 0) → AreBoundaries t P → (edition : Edition) (y : Layout) →
+    LayoutInBounds P y →
     option_every (pattern_every (IsSpan P)) (pattern_of edition t y)
 pattern_in_bounds t P cuts edition y g =
     if_any_in_bounds P (spelled t (cut t (items edition y)))
-    (spelled_in_bounds t P cuts (cut t (items edition y)) (cut_in_bounds t P cuts (items edition y) (items_in_bounds P edition y g)))
+    (spelled_in_bounds t P cuts (cut t (items edition y))
+    (cut_in_bounds t P cuts (items edition y) (items_in_bounds P edition y g)))

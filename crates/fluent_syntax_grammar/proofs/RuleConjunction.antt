@@ -12,7 +12,8 @@ use Rattle.fluent_syntax_tree.specs.Entry.{EntryTree, message, term, comment, ju
 use Rattle.fluent_syntax_tree.specs.Entry.{BodyTree}
 use Rattle.fluent_syntax_grammar.specs.Written.{Text}
 use Rattle.fluent_syntax_grammar.specs.Rules.{Rules, key_obeys, expression_obeys, inline_obeys, optional_arguments_obey}
-use Rattle.fluent_syntax_grammar.specs.Rules.{arguments_obey, inlines_obey, named_arguments_obey, named_obeys, pattern_obeys}
+use Rattle.fluent_syntax_grammar.specs.Rules.{arguments_obey, inlines_obey, named_arguments_obey, named_obeys}
+use Rattle.fluent_syntax_grammar.specs.Rules.{pattern_obeys}
 use Rattle.fluent_syntax_grammar.specs.Rules.{elements_obey, element_obeys, variants_obey, variant_obeys}
 use Rattle.fluent_syntax_grammar.specs.Rules.{option_obeys, attribute_obeys, entry_obeys, body_obeys}
 
@@ -91,7 +92,8 @@ module _ {K : Type 0} (ks : List K) (parts : K → Rules) (whole : Rules) where
       inline_obeys_each (variable_reference id) = are.name_parts id
       inline_obeys_each (inline_placeable e) = expression_obeys_each e
 
-      maybe_obeys_each : (a : MaybeArguments Text) → optional_arguments_obey whole a ≡ list_all (λ k. optional_arguments_obey (parts k) a) ks
+      maybe_obeys_each : (a : MaybeArguments Text) →
+          optional_arguments_obey whole a ≡ list_all (λ k. optional_arguments_obey (parts k) a) ks
       maybe_obeys_each no_arguments = none_asked ks
       maybe_obeys_each (some_arguments a) = arguments_obey_each a
 
@@ -104,7 +106,8 @@ module _ {K : Type 0} (ks : List K) (parts : K → Rules) (whole : Rules) where
       inlines_obey_each no_inlines = none_asked ks
       inlines_obey_each (inlines e es) = meet _ _ (inline_obeys_each e) (inlines_obey_each es)
 
-      nameds_obey_each : (ns : NamedTrees Text) → named_arguments_obey whole ns ≡ list_all (λ k. named_arguments_obey (parts k) ns) ks
+      nameds_obey_each : (ns : NamedTrees Text) → named_arguments_obey whole ns
+          ≡ list_all (λ k. named_arguments_obey (parts k) ns) ks
       nameds_obey_each no_named = none_asked ks
       nameds_obey_each (nameds n ns) = meet _ _ (named_obeys_each n) (nameds_obey_each ns)
 
@@ -116,7 +119,8 @@ module _ {K : Type 0} (ks : List K) (parts : K → Rules) (whole : Rules) where
       pattern_obeys_each (elements e es) =
           meet _ _ (are.pattern_parts (elements e es)) (meet _ _ (element_obeys_each e) (elements_obey_each es))
 
-      elements_obey_each : (es : PatternTree Text) → elements_obey whole es ≡ list_all (λ k. elements_obey (parts k) es) ks
+      elements_obey_each : (es : PatternTree Text) →
+          elements_obey whole es ≡ list_all (λ k. elements_obey (parts k) es) ks
       elements_obey_each no_elements = none_asked ks
       elements_obey_each (elements e es) = meet _ _ (element_obeys_each e) (elements_obey_each es)
 
@@ -138,7 +142,8 @@ module _ {K : Type 0} (ks : List K) (parts : K → Rules) (whole : Rules) where
 
     attributes_obey_each : (more : List (AttributeTree Text))
         → list_all (attribute_obeys whole) more ≡ list_all (λ k. list_all (attribute_obeys (parts k)) more) ks
-    attributes_obey_each more = list_parts (attribute_obeys whole) (λ k. attribute_obeys (parts k)) attribute_obeys_each more
+    attributes_obey_each more =
+        list_parts (attribute_obeys whole) (λ k. attribute_obeys (parts k)) attribute_obeys_each more
 
     comment_obeys_each : (content : Option (List Text))
         → option_obeys whole.comment content ≡ list_all (λ k. option_obeys (parts k).comment content) ks

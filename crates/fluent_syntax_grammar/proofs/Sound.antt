@@ -11,9 +11,11 @@ use Rattle.fluent_syntax_grammar.specs.Tokens.{spanned, inline_blank, blank, bla
 use Rattle.fluent_syntax_grammar.specs.Tokens.{rest_of_line}
 use Rattle.fluent_syntax_grammar.specs.Meaning.{kind_means}
 use Rattle.fluent_syntax_tree.specs.declared.spans.Span.{Span}
-use Rattle.fluent_syntax_grammar.proofs.HoareTriple.{HoareTriple, holds_weaker, holds_bind, holds_yields, holds_fails, holds_skip}
+use Rattle.fluent_syntax_grammar.proofs.HoareTriple.{HoareTriple, holds_weaker, holds_bind, holds_yields, holds_fails}
+use Rattle.fluent_syntax_grammar.proofs.HoareTriple.{holds_skip}
 use Rattle.fluent_syntax_grammar.proofs.HoareTriple.{holds_peek, holds_branch_on, holds_many}
-use Rattle.fluent_syntax_grammar.proofs.Cuts.{AreBoundaries, IsAsciiSet, ascii_space, word_place, blank_place, block_place}
+use Rattle.fluent_syntax_grammar.proofs.Cuts.{AreBoundaries, IsAsciiSet, ascii_space, word_place, blank_place}
+use Rattle.fluent_syntax_grammar.proofs.Cuts.{block_place}
 use Rattle.fluent_syntax_grammar.proofs.Cuts.{block_forward, eol_forward, eol_place, line_stop, run_stop}
 
 -- an ordered range between two places of the kind

@@ -81,7 +81,8 @@ module _ (t : List ℕ) (P : ℕ → Type 0) (cuts : AreBoundaries t P) where
       }
 
   comment_from : (i level : ℕ) → P i → hashes t i ≡ level →
-      HoareTriple (λ j. j ≡ i) (comment_of t level) (Ended P (i + level) (entry_every (IsSpan P))) (IsFault t (i + level))
+      HoareTriple (λ j. j ≡ i) (comment_of t level) (Ended P (i + level) (entry_every (IsSpan P)))
+      (IsFault t (i + level))
   comment_from i level p e = holds_bind (line_from (i + level) i level (omega arith) p e) (λ content.
       known {Mid = list_every (IsSpan P)}
       (λ g. sound_bind (sound_lines level) (λ rest k. sound_yields (every-append (IsSpan P) content rest g k))))

@@ -272,7 +272,8 @@ module _ (edition : Edition) (t : List ℕ) (P : ℕ → Type 0) (cuts : AreBoun
       (message_from i (i + 1) (omega arith) (name_there t P cuts i p l)).on_refused i from to k refl x
 
   term_from : (i : ℕ) → has_byte t 45 i ≡ true →
-      HoareTriple (λ j. j ≡ i) (token t 45 >> NameTerm i) (Ended P (i + 1) EntrySpansInBounds) (IsEntryFault t i (i + 1))
+      HoareTriple (λ j. j ≡ i) (token t 45 >> NameTerm i) (Ended P (i + 1) EntrySpansInBounds)
+      (IsEntryFault t i (i + 1))
   term_from i e = holds_bind (token_there t P cuts 45 i (omega arith) e (IsEntryFault t i (i + 1)))
       (λ u. (entry_bind (omega arith) (sound_identifier t P cuts)
       (λ id f. after_name edition t P cuts i id (term_with t i) f

@@ -24,7 +24,8 @@ use Rattle.fluent_syntax_grammar.specs.Variants.{variant_of, variant_after, next
 use Rattle.fluent_syntax_grammar.specs.Grammar.{next, within, family}
 use Rattle.fluent_syntax_tree.specs.declared.edition.Edition.{Edition}
 use Rattle.fluent_syntax_tree.specs.declared.spans.Span.{Span}
-use Rattle.fluent_syntax_grammar.proofs.HoareTriple.{HoareTriple, gave, holds_weaker, holds_bind, holds_yields, holds_fails}
+use Rattle.fluent_syntax_grammar.proofs.HoareTriple.{HoareTriple, gave, holds_weaker, holds_bind, holds_yields}
+use Rattle.fluent_syntax_grammar.proofs.HoareTriple.{holds_fails}
 use Rattle.fluent_syntax_grammar.proofs.HoareTriple.{holds_skip, holds_peek, holds_branch_on}
 use Rattle.fluent_syntax_grammar.proofs.Cuts.{AreBoundaries, ascii_byte, ascii_has, ascii_space, eol_cases, eol_forward}
 use Rattle.fluent_syntax_grammar.proofs.Cuts.{eol_place, longest_run_places, word_place}
@@ -33,7 +34,8 @@ use Rattle.fluent_syntax_grammar.proofs.Sound.{sound_yields, sound_fails, sound_
 use Rattle.fluent_syntax_grammar.proofs.Sound.{good_more, sound_many}
 use Rattle.fluent_syntax_grammar.proofs.Sound.{sound_inline_blank, sound_blank, sound_blank_block, onward_run}
 use Rattle.fluent_syntax_grammar.proofs.SoundWords.{sound_optional, sound_token}
-use Rattle.fluent_syntax_grammar.proofs.LayoutInBounds.{PieceInBounds, EndingInBounds, LineInBounds, LayoutInBounds, later_piece}
+use Rattle.fluent_syntax_grammar.proofs.LayoutInBounds.{PieceInBounds, EndingInBounds, LineInBounds, LayoutInBounds}
+use Rattle.fluent_syntax_grammar.proofs.LayoutInBounds.{later_piece}
 use Rattle.fluent_syntax_grammar.proofs.LayoutInBounds.{earlier_pieces, pattern_in_bounds}
 use Rattle.fluent_syntax_grammar.proofs.SoundRules.{IsSoundFamily, sound_key, sound_only, sound_end, plain_fault}
 use Rattle.fluent_syntax_grammar.proofs.SoundRules.{sound_arrow, AtArrow, after_arrow, sound_placeable, sound_inline}
@@ -53,7 +55,8 @@ module _ (t : List ℕ) (P : ℕ → Type 0) (cuts : AreBoundaries t P) where
         | inr x ↦ absurd (two_on_as_one i k x.2 f)
       ]
 
-  crlf_good : (s i k : ℕ) → Inside P s i → after_eol t i ≡ Some k → (k == i + 1) ≡ false → EndingInBounds P s (crlf_at i)
+  crlf_good : (s i k : ℕ) → Inside P s i → after_eol t i ≡ Some k → (k == i + 1) ≡ false →
+      EndingInBounds P s (crlf_at i)
   crlf_good s i k p e f = elim (eol_cases t i k e) [
     | inl x ↦ absurd (not_next i k x.1 f)
     | inr x ↦ (let a = ascii_byte t lf (i + 1) (omega arith) x.1 in
@@ -279,7 +282,8 @@ module _ (t : List ℕ) (P : ℕ → Type 0) (cuts : AreBoundaries t P) (R : Fam
   }
 
   layout_holds : (s : ℕ) (o : Option ℕ) →
-      HoareTriple (λ i. Inside P s i × (after_eol t i ≡ o)) (layout_at t R o) (Ended P s (LayoutInBounds P)) (IsFault t s)
+      HoareTriple (λ i. Inside P s i × (after_eol t i ≡ o)) (layout_at t R o) (Ended P s (LayoutInBounds P))
+      (IsFault t s)
   layout_holds s None = holds_weaker {pre = Inside P s} (λ i p. p.0) (λ a j x. x) (λ k from to x. x)
       (sound_here (λ m q. record {
         holds = holds_bind (sound_pieces m) (λ ps. holds_bind (after_pieces m ps q.place) (λ e.
@@ -297,10 +301,12 @@ module _ (t : List ℕ) (P : ℕ → Type 0) (cuts : AreBoundaries t P) (R : Fam
   sound_layout {s = s} =
       sound_bind (sound_inline_blank t P cuts) (λ u v. record { holds = holds_peek (layout_holds s) })
 
-module _ (edition : Edition) (t : List ℕ) (P : ℕ → Type 0) (cuts : AreBoundaries t P) (R : Family) (h : IsSoundFamily t P R)
+module _ (edition : Edition) (t : List ℕ) (P : ℕ →
+    Type 0) (cuts : AreBoundaries t P) (R : Family) (h : IsSoundFamily t P R)
   where
     pub sound_pattern : {s : ℕ} → Sound t P s (pattern edition t R) (option_every (pattern_every (IsSpan P)))
-    sound_pattern = sound_bind (sound_layout t P cuts R h) (λ y g. sound_yields (pattern_in_bounds t P cuts edition y g))
+    sound_pattern =
+        sound_bind (sound_layout t P cuts R h) (λ y g. sound_yields (pattern_in_bounds t P cuts edition y g))
 
     sound_variant_of : {s : ℕ} (starred star : Bool) (key : KeyTree Span) (p : Option (PatternTree Span)) →
         key_every (IsSpan P) key → option_every (pattern_every (IsSpan P)) p →

@@ -10,7 +10,8 @@ use Rattle.fluent_syntax_grammar.specs.Places.{has_byte, Steps}
 use Rattle.fluent_syntax_grammar.specs.Construct.{Read, Refused}
 use Rattle.fluent_syntax_grammar.specs.Strings.{HexDigits, hex_digits, all_there, too_few, escaped, string_unit}
 use Rattle.fluent_syntax_grammar.specs.Strings.{string_units, before_quote, unit_and_more, bad_unit, string_literal}
-use Rattle.fluent_syntax_grammar.proofs.HoareTriple.{HoareTriple, holds_weaker, holds_bind, holds_fails, holds_skip, holds_peek}
+use Rattle.fluent_syntax_grammar.proofs.HoareTriple.{HoareTriple, holds_weaker, holds_bind, holds_fails, holds_skip}
+use Rattle.fluent_syntax_grammar.proofs.HoareTriple.{holds_peek}
 use Rattle.fluent_syntax_grammar.proofs.HoareTriple.{holds_branch_on}
 use Rattle.fluent_syntax_grammar.proofs.Cuts.{AsciiAt, AreBoundaries, ascii_has, ascii_byte, ascii_hex}
 use Rattle.fluent_syntax_grammar.proofs.Sound.{IsSpan, Inside, Ended, IsFault, Sound, sound_bind, sound_yields}
@@ -84,7 +85,8 @@ module _ (t : List ℕ) where
   abbrev AtUnit : ℕ → Option ℕ → ℕ → Type 0
   AtUnit s o i = Inside (InText t) s i × (slice_get t i ≡ o) × (has_byte t 34 i ≡ false)
 
-  pub unit_holds : (s : ℕ) (o : Option ℕ) → HoareTriple (AtUnit s o) (string_unit t o) (Ended (InText t) s Any) (IsFault t s)
+  pub unit_holds : (s : ℕ) (o : Option ℕ) → HoareTriple (AtUnit s o) (string_unit t o) (Ended (InText t) s Any)
+      (IsFault t s)
   unit_holds s None =
       holds_fails (λ i p. let q = p.0 in
       record { late = q.late; in_text = q.place; one = refl; plain = tt; means = p.2 })

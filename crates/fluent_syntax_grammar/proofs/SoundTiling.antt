@@ -51,7 +51,8 @@ module _ (edition : Edition) (t : List ℕ) (P : ℕ → Type 0) (cuts : AreBoun
   entry_read_of i j a (Some b) e p (second f (second g x)) = message_read edition t P cuts i j a p x
 
   -- an entry that is read passes over a byte at least, and its texts lie in the source
-  pub entry_read : (i j : ℕ) (a : EntryTree Span) → P i → entry_at edition t i (Read a j) → Ended P (i + 1) EntrySpansInBounds a j
+  pub entry_read : (i j : ℕ) (a : EntryTree Span) → P i → entry_at edition t i (Read a j) →
+      Ended P (i + 1) EntrySpansInBounds a j
   entry_read i j a p (chosen x) = entry_read_of i j a (slice_get t i) refl p x
 
   entry_refused_of : (i from to : ℕ) (k : Kind) (o : Option ℕ) → slice_get t i ≡ o → P i →
@@ -130,7 +131,8 @@ module _ (edition : Edition) (t : List ℕ) (P : ℕ → Type 0) (cuts : AreBoun
       let late = f.late in
       let ordered = f.ordered in
       let forward = e.forward in
-      let on = junk_nonempty i j (failing_place k from to) l f.onward (λ h. (entry_onward i from to k p h x).onward) e in
+      let on =
+      junk_nonempty i j (failing_place k from to) l f.onward (λ h. (entry_onward i from to k p h x).onward) e in
       let place = junk_place (failing_place k from to) j e in
       record { onward = on; place = place; good = (on, (omega arith, p, place), late, omega arith, f.means) }
 
@@ -141,7 +143,8 @@ module _ (edition : Edition) (t : List ℕ) (P : ℕ → Type 0) (cuts : AreBoun
       (record { late = omega arith; place = p }) x in
       record { late = q.late; place = q.place }
 
-  pub tiled_good : (i : ℕ) (tiles : List Tile) → P i → Tiled t (TileAt edition t) i tiles → list_every IsTileWellFormed tiles
+  pub tiled_good : (i : ℕ) (tiles : List Tile) → P i → Tiled t (TileAt edition t) i tiles →
+      list_every IsTileWellFormed tiles
   tiled_good i tiles p (done b) = tt
   tiled_good i tiles p (next {start = start} {end = end} {tile = tile} {tiles = more} b l x y) =
       let q = tile_good start end tile (block_place t P cuts i start p b) l x in

@@ -61,7 +61,8 @@ suffix_next {t = t} {i = i} {b = b} {bs = bs} h =
     let s : suc i ≡ i + 1 = omega arith in
     record { within = omega arith; rest = subst (λ n. drop n t ≡ bs) s (drop_more t i ∙ ap after_first h.rest) }
 
-pub suffix_past : {t : List ℕ} (xs : List ℕ) {ys : List ℕ} {i : ℕ} → SuffixAt t i (xs ++ ys) → SuffixAt t (i + length xs) ys
+pub suffix_past : {t : List ℕ} (xs : List ℕ) {ys : List ℕ} {i : ℕ} → SuffixAt t i (xs ++ ys) →
+    SuffixAt t (i + length xs) ys
 suffix_past {t = t} [] {ys = ys} {i = i} h = let e : i ≡ i + 0 = omega arith in subst (λ n. SuffixAt t n ys) e h
 suffix_past {t = t} (x ∷ xs) {ys = ys} {i = i} h = let e : (i + 1) + length xs ≡ i + suc (length xs) = omega arith in
     subst (λ n. SuffixAt t n ys) e (suffix_past xs {i = i + 1} (suffix_next h))
@@ -70,7 +71,8 @@ take_seam : (n : ℕ) (xs ys : List ℕ) → n ≡ length xs → take n (xs ++ y
 take_seam n xs ys e = rw e (take-append_seam xs ys)
 
 -- the bytes from the place to the end of the first part
-pub suffix_range : {t : List ℕ} {i : ℕ} (xs ys : List ℕ) → SuffixAt t i (xs ++ ys) → slice_range t i (i + length xs) ≡ xs
+pub suffix_range : {t : List ℕ} {i : ℕ} (xs ys : List ℕ) → SuffixAt t i (xs ++ ys) →
+    slice_range t i (i + length xs) ≡ xs
 suffix_range {t = t} {i = i} xs ys h = rw (h.rest) (take_seam _ xs ys (omega arith))
 
 -- ---- tests of the place
@@ -83,7 +85,8 @@ pub suffix_no_eol : {t : List ℕ} {i : ℕ} {bs : List ℕ} → SuffixAt t i bs
     holds (λ b. b == cr) (first bs) ≡ false → has_eol t i ≡ false
 suffix_no_eol h e f = rw (suffix_first h, e, f) refl
 
-pub suffix_no_eol_after : {t : List ℕ} {i : ℕ} {bs : List ℕ} → SuffixAt t i bs → holds (λ b. b == lf) (first bs) ≡ false →
+pub suffix_no_eol_after : {t : List ℕ} {i : ℕ} {bs : List ℕ} → SuffixAt t i bs →
+    holds (λ b. b == lf) (first bs) ≡ false →
     holds (λ b. b == cr) (first bs) ≡ false → after_eol t i ≡ None
 suffix_no_eol_after h e f = rw (suffix_first h, e, f) refl
 
@@ -106,7 +109,8 @@ suffix_byte_run {t = t} set (x ∷ xs) ys {i = i} a e h =
     (suffix_byte_run set xs ys {i = i + 1} (right_true (set x) (list_all set xs) a) e (suffix_next h)))
 
 -- Each of these bytes is in the set.
-pub suffix_each : {t : List ℕ} (set : ℕ → Bool) (xs ys : List ℕ) {i : ℕ} → list_all set xs ≡ true → SuffixAt t i (xs ++ ys) →
+pub suffix_each : {t : List ℕ} (set : ℕ → Bool) (xs ys : List ℕ) {i : ℕ} → list_all set xs ≡ true →
+    SuffixAt t i (xs ++ ys) →
     (k : ℕ) → i ≤ k → k < i + length xs → has t set k ≡ true
 suffix_each set [] ys a h k l m = absurd (omega arith)
 suffix_each {t = t} set (x ∷ xs) ys {i = i} a h k l m = elim (here_or_on i k l) [

@@ -5,7 +5,8 @@ use Rattle.fluent_syntax_grammar.specs.Construct.{Outcome, Read, Refused, Constr
 use Rattle.fluent_syntax_grammar.specs.Construct.{given, here, at_place, fails, failed, fails_from, failed_from, skip}
 use Rattle.fluent_syntax_grammar.specs.Construct.{passed, peek, chosen, branch_on, first, second, More, no_item, item}
 use Rattle.fluent_syntax_grammar.specs.Construct.{many, list_ends, list_stops, item_and_more, stops_later}
-use Rattle.fluent_syntax_grammar.proofs.HoareTriple.{HoareTriple, holds_weaker, holds_bind, holds_yields, holds_here, holds_fails}
+use Rattle.fluent_syntax_grammar.proofs.HoareTriple.{HoareTriple, holds_weaker, holds_bind, holds_yields, holds_here}
+use Rattle.fluent_syntax_grammar.proofs.HoareTriple.{holds_fails}
 use Rattle.fluent_syntax_grammar.proofs.HoareTriple.{holds_fails_from, holds_skip, holds_peek, holds_branch_on}
 
 -- a place of the text from s on
@@ -84,7 +85,8 @@ pub record IsTotalRelation (t : List ℕ) (W : ℕ → ℕ → Type 0) : Type 0 
   pub in_text : (i j : ℕ) → i ≤ length t → W i j → j ≤ length t
 
 module _ {t : List ℕ} {s : ℕ} where
-  pub onward_bind : {A B : Type 0} {c : Construct A} {f : A → Construct B} → TotalOnward t s c → ((a : A) → TotalOnward t s (f a)) →
+  pub onward_bind : {A B : Type 0} {c : Construct A} {f : A → Construct B} → TotalOnward t s c →
+      ((a : A) → TotalOnward t s (f a)) →
       TotalOnward t s (c >>= f)
   onward_bind x g = record { total = total_bind x.total x.on (λ a. (g a).total); on = holds_bind x.on (λ a. (g a).on) }
 
@@ -129,23 +131,28 @@ module _ {t : List ℕ} {s : ℕ} where
 
   pub consuming_first : {A B : Type 0} {c : Construct A} {f : A → Construct B} → TotalConsuming t s c →
       ((a : A) → TotalOnward t (s + 1) (f a)) → TotalConsuming t s (c >>= f)
-  consuming_first x g = record { total = total_bind x.total x.on (λ a. (g a).total); on = holds_bind x.on (λ a. (g a).on) }
+  consuming_first x g =
+      record { total = total_bind x.total x.on (λ a. (g a).total); on = holds_bind x.on (λ a. (g a).on) }
 
-  pub consuming_then : {A B : Type 0} {c : Construct A} {f : A → Construct B} → TotalOnward t s c → ((a : A) → TotalConsuming t s (f a)) →
+  pub consuming_then : {A B : Type 0} {c : Construct A} {f : A → Construct B} → TotalOnward t s c →
+      ((a : A) → TotalConsuming t s (f a)) →
       TotalConsuming t s (c >>= f)
-  consuming_then x g = record { total = total_bind x.total x.on (λ a. (g a).total); on = holds_bind x.on (λ a. (g a).on) }
+  consuming_then x g =
+      record { total = total_bind x.total x.on (λ a. (g a).total); on = holds_bind x.on (λ a. (g a).on) }
 
   pub consuming_fails : {A : Type 0} {k : Kind} → TotalConsuming t s (fails {A = A} k)
   consuming_fails = record { total = total_fails; on = holds_fails (λ i p. tt) }
 
-  pub consuming_peek : {A B : Type 0} {look : ℕ → A} {part : A → Construct B} → ((a : A) → TotalConsuming t s (part a)) →
+  pub consuming_peek : {A B : Type 0} {look : ℕ → A} {part : A → Construct B} →
+      ((a : A) → TotalConsuming t s (part a)) →
       TotalConsuming t s (peek look part)
   consuming_peek g = record {
     total = total_peek (λ a. total_weaker (λ i p. p.0) (g a).total);
     on = holds_peek (λ a. holds_weaker (λ i p. p.0) (λ b j x. x) (λ k from to x. x) (g a).on);
   }
 
-  pub consuming_branch_on : {A : Type 0} {test : Bool} {c d : Construct A} → TotalConsuming t s c → TotalConsuming t s d →
+  pub consuming_branch_on : {A : Type 0} {test : Bool} {c d : Construct A} → TotalConsuming t s c →
+      TotalConsuming t s d →
       TotalConsuming t s (branch_on test c d)
   consuming_branch_on x y =
       record { total = total_branch_on (λ e. x.total) (λ e. y.total); on = holds_branch_on (λ e. x.on) (λ e. y.on) }
@@ -166,13 +173,16 @@ pub more_earlier : {A S : Type 0} (t : List ℕ) (s : ℕ) (x : More A S) (j : �
 more_earlier t s no_item j p = earlier j p
 more_earlier t s (item a r) j p = p
 
-pub consuming_item_strict : {A S : Type 0} {t : List ℕ} {s : ℕ} {c : Construct (More A S)} → TotalConsuming t s c → TotalConsumingItem t s c
+pub consuming_item_strict : {A S : Type 0} {t : List ℕ} {s : ℕ} {c : Construct (More A S)} → TotalConsuming t s c →
+    TotalConsumingItem t s c
 consuming_item_strict {t = t} {s = s} x =
     record { total = x.total; on = holds_weaker (λ i p. p) (more_earlier t s) (λ k from to p. p) x.on }
 
-pub consuming_item_then : {A B S : Type 0} {t : List ℕ} {s : ℕ} {c : Construct A} {f : A → Construct (More B S)} → TotalOnward t s c →
+pub consuming_item_then : {A B S : Type 0} {t : List ℕ} {s : ℕ} {c : Construct A} {f : A → Construct (More B S)} →
+    TotalOnward t s c →
     ((a : A) → TotalConsumingItem t s (f a)) → TotalConsumingItem t s (c >>= f)
-consuming_item_then x g = record { total = total_bind x.total x.on (λ a. (g a).total); on = holds_bind x.on (λ a. (g a).on) }
+consuming_item_then x g =
+    record { total = total_bind x.total x.on (λ a. (g a).total); on = holds_bind x.on (λ a. (g a).on) }
 
 pub past_end : {A : Type 0} {t : List ℕ} {c : Construct A} (s : ℕ) → length t < s → TotalOnward t s c
 past_end s l = record {

@@ -23,7 +23,8 @@ use Rattle.fluent_syntax_grammar.proofs.SoundEntries.{sound_attributes}
 use Rattle.fluent_syntax_grammar.proofs.SoundComments.{after_hashes, line_from}
 use Rattle.fluent_syntax_grammar.proofs.Boundaries.{text_cuts}
 use Rattle.fluent_syntax_grammar.proofs.CommentFaults.{some_hash}
-use Rattle.fluent_syntax_grammar.proofs.Total.{From, TotalOnward, TotalConsuming, total_bind, total_skip, onward_bind, onward_yields}
+use Rattle.fluent_syntax_grammar.proofs.Total.{From, TotalOnward, TotalConsuming, total_bind, total_skip, onward_bind}
+use Rattle.fluent_syntax_grammar.proofs.Total.{onward_yields}
 use Rattle.fluent_syntax_grammar.proofs.Total.{onward_here, onward_fails, onward_fails_from, onward_peek, onward_strict}
 use Rattle.fluent_syntax_grammar.proofs.Total.{consuming_first, consuming_then}
 use Rattle.fluent_syntax_grammar.proofs.TotalWords.{on_sound, onward_inline_blank}
@@ -45,7 +46,8 @@ use Rattle.fluent_syntax_grammar.proofs.Nesting.{within_family}
 use Rattle.fluent_syntax_grammar.proofs.Total.{AnyFault}
 use Rattle.fluent_syntax_grammar.proofs.TotalFamily.{pattern_within}
 
-onward_with : {t : List ℕ} {s : ℕ} (id : Span) (value : Option (PatternTree Span)) → TotalOnward t s (attribute_with id value)
+onward_with : {t : List ℕ} {s : ℕ} (id : Span) (value : Option (PatternTree Span)) →
+    TotalOnward t s (attribute_with id value)
 onward_with id None = onward_fails
 onward_with id (Some value) = onward_yields
 
@@ -142,7 +144,8 @@ module _ (t : List ℕ) where
 
   onward_rest : {s : ℕ} (b : Option ℕ) → TotalOnward t s (comment_rest t b)
   onward_rest None = onward_yields
-  onward_rest (Some b) = onward_bind (onward_peek onward_text) (λ content. onward_bind (onward_optional_eol t) (λ u. onward_yields))
+  onward_rest (Some b) =
+      onward_bind (onward_peek onward_text) (λ content. onward_bind (onward_optional_eol t) (λ u. onward_yields))
 
   line_has : (i level : ℕ) → i ≤ length t → hashes t i ≡ level → (o : Outcome (List Span)) × comment_line t level i o
   line_has i level l e =
@@ -207,7 +210,8 @@ module _ (edition : Edition) (t : List ℕ) (R : Family) (h : IsIncludedFamily R
       let x = (onward_term edition t R h low patterns i g).total.has i (record { late = omega arith; in_text = l }) in
       (x.0, first e x.1)
   entry_other i b false g l e =
-      let x = (onward_message edition t R h low patterns i g).total.has i (record { late = omega arith; in_text = l }) in
+      let x = (onward_message edition t R h low patterns i g).total.has i
+      (record { late = omega arith; in_text = l }) in
       (x.0, second e x.1)
 
   entry_choice : (i b : ℕ) (hash : Bool) → low ≤ i → i ≤ length t → slice_get t i ≡ Some b → (b == 35) ≡ hash →

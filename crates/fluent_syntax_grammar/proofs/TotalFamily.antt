@@ -23,21 +23,27 @@ use Rattle.fluent_syntax_grammar.specs.Variants.{more_variants}
 use Rattle.fluent_syntax_tree.specs.declared.edition.Edition.{Edition}
 use Rattle.fluent_syntax_tree.specs.declared.spans.Span.{Span}
 use Rattle.fluent_syntax_grammar.proofs.Functional.{longest_run_functional}
-use Rattle.fluent_syntax_grammar.proofs.HoareTriple.{HoareTriple, gave, holds_weaker, holds_bind, holds_yields, holds_fails}
+use Rattle.fluent_syntax_grammar.proofs.HoareTriple.{HoareTriple, gave, holds_weaker, holds_bind, holds_yields}
+use Rattle.fluent_syntax_grammar.proofs.HoareTriple.{holds_fails}
 use Rattle.fluent_syntax_grammar.proofs.HoareTriple.{holds_skip, holds_peek, holds_branch_on}
 use Rattle.fluent_syntax_grammar.proofs.Cuts.{eol_forward, eol_text}
 use Rattle.fluent_syntax_grammar.proofs.Facts.{has_inside, right_true}
 use Rattle.fluent_syntax_grammar.proofs.SoundStrings.{InText}
 use Rattle.fluent_syntax_grammar.proofs.SoundLines.{sound_family}
 use Rattle.fluent_syntax_grammar.proofs.Boundaries.{text_cuts}
-use Rattle.fluent_syntax_grammar.proofs.Total.{From, AnyFault, Total, TotalOnward, total_bind, total_weaker, total_yields}
+use Rattle.fluent_syntax_grammar.proofs.Total.{From, AnyFault, Total, TotalOnward, total_bind, total_weaker}
+use Rattle.fluent_syntax_grammar.proofs.Total.{total_yields}
 use Rattle.fluent_syntax_grammar.proofs.Total.{total_fails, total_skip, total_peek, total_branch_on, onward_bind}
-use Rattle.fluent_syntax_grammar.proofs.Total.{onward_yields, onward_here, onward_fails, onward_branch_on, onward_strict, more_on}
-use Rattle.fluent_syntax_grammar.proofs.Total.{more_earlier, TotalConsumingItem, consuming_item_then, past_end, onward_many}
-use Rattle.fluent_syntax_grammar.proofs.TotalWords.{total_onward_blank, onward_blank_block, onward_inline_blank, onward_optional}
+use Rattle.fluent_syntax_grammar.proofs.Total.{onward_yields, onward_here, onward_fails, onward_branch_on}
+use Rattle.fluent_syntax_grammar.proofs.Total.{onward_strict, more_on}
+use Rattle.fluent_syntax_grammar.proofs.Total.{more_earlier, TotalConsumingItem, consuming_item_then, past_end}
+use Rattle.fluent_syntax_grammar.proofs.Total.{onward_many}
+use Rattle.fluent_syntax_grammar.proofs.TotalWords.{total_onward_blank, onward_blank_block, onward_inline_blank}
+use Rattle.fluent_syntax_grammar.proofs.TotalWords.{onward_optional}
 use Rattle.fluent_syntax_grammar.proofs.TotalWords.{on_sound, optional_on, consuming_token, total_optional}
 use Rattle.fluent_syntax_grammar.proofs.TotalWords.{word_of}
-use Rattle.fluent_syntax_grammar.proofs.TotalRules.{TotalOnwardFamily, onward_key, onward_arrow, onward_ending, consuming_inline}
+use Rattle.fluent_syntax_grammar.proofs.TotalRules.{TotalOnwardFamily, onward_key, onward_arrow, onward_ending}
+use Rattle.fluent_syntax_grammar.proofs.TotalRules.{consuming_inline}
 use Rattle.fluent_syntax_grammar.proofs.TotalRules.{onward_arguments, onward_pieces, more_read, ending_after}
 
 -- from a place on, over a family that has outcomes from there on
@@ -69,7 +75,8 @@ module _ (edition : Edition) (t : List ℕ) (R : Family) (low : ℕ) (h : (s : �
   own_total : (s : ℕ) → low ≤ s + 1 → (i : ℕ) → From t s i → (o : Outcome (More Line (Unit {0}))) ×
       (line t R >>= λ x. yields (item x tt)) i o
   own_total s l i p =
-      let whole = total_bind (total_onward_line s l).total (total_onward_line s l).on (λ x. total_yields {a = item x tt}) in
+      let whole =
+      total_bind (total_onward_line s l).total (total_onward_line s l).on (λ x. total_yields {a = item x tt}) in
       whole.has i p
 
   lines_own : (s : ℕ) → low ≤ s + 1 → (i k b : ℕ) (own : Bool) → From t s i → InlineBlank t i k →
@@ -105,7 +112,8 @@ module _ (edition : Edition) (t : List ℕ) (R : Family) (low : ℕ) (h : (s : �
   }
 
   onward_lines : (s : ℕ) → low ≤ s + 1 → TotalOnward t s (more_lines t R)
-  onward_lines s l = onward_many t (λ u. next_line t R) _ _ s (λ m k u. consuming_item_line m (omega arith)) s (omega arith) tt
+  onward_lines s l =
+      onward_many t (λ u. next_line t R) _ _ s (λ m k u. consuming_item_line m (omega arith)) s (omega arith) tt
 
   -- ---- patterns and variants
 
@@ -150,7 +158,8 @@ module _ (edition : Edition) (t : List ℕ) (R : Family) (low : ℕ) (h : (s : �
   onward_variant_of s starred star key None = onward_fails
   onward_variant_of s starred star key (Some p) = onward_bind (total_onward_blank t) (λ u. onward_yields)
 
-  onward_after : (s : ℕ) → low ≤ s + 1 → (starred star : Bool) → TotalOnward t s (variant_after edition t R starred star)
+  onward_after : (s : ℕ) → low ≤ s + 1 → (starred star : Bool) →
+      TotalOnward t s (variant_after edition t R starred star)
   onward_after s l starred star =
       onward_bind (total_onward_blank t)
       (λ u. onward_bind (onward_key t)
@@ -182,7 +191,8 @@ module _ (edition : Edition) (t : List ℕ) (R : Family) (low : ℕ) (h : (s : �
   onward_only : (s : ℕ) (starred star : Bool) → TotalOnward t s (only_star starred star)
   onward_only s starred star = onward_branch_on onward_fails onward_yields
 
-  consuming_item_variant : (s : ℕ) → low ≤ s + 1 → (starred : Bool) → TotalConsumingItem t s (next_variant edition t R starred)
+  consuming_item_variant : (s : ℕ) → low ≤ s + 1 → (starred : Bool) →
+      TotalConsumingItem t s (next_variant edition t R starred)
   consuming_item_variant s l starred =
       consuming_item_then (onward_optional t 42)
       (λ star. consuming_item_then (onward_only s starred star) (λ u. consuming_item_bracket s l starred star))
@@ -260,7 +270,8 @@ module _ (edition : Edition) (t : List ℕ) (R : Family) (low : ℕ) (h : (s : �
 
   pub onward_expression : (s : ℕ) → low ≤ s + 1 → TotalOnward t s (expression edition t R)
   onward_expression s l =
-      onward_bind (onward_strict (consuming_inline t R low h s l)) (λ e. onward_bind (total_onward_blank t) (λ u. arrow_at s l e))
+      onward_bind (onward_strict (consuming_inline t R low h s l))
+      (λ e. onward_bind (total_onward_blank t) (λ u. arrow_at s l e))
 
 -- ---- the family
 

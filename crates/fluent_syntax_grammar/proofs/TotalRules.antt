@@ -21,20 +21,25 @@ use Rattle.fluent_syntax_grammar.specs.Lines.{is_run_place, ending_of, ending, t
 use Rattle.fluent_syntax_grammar.specs.Lines.{more_pieces}
 use Rattle.fluent_syntax_grammar.specs.Variants.{variant_key}
 use Rattle.fluent_syntax_tree.specs.declared.spans.Span.{Span}
-use Rattle.fluent_syntax_grammar.proofs.HoareTriple.{HoareTriple, gave, holds_weaker, holds_bind, holds_yields, holds_here}
+use Rattle.fluent_syntax_grammar.proofs.HoareTriple.{HoareTriple, gave, holds_weaker, holds_bind, holds_yields}
+use Rattle.fluent_syntax_grammar.proofs.HoareTriple.{holds_here}
 use Rattle.fluent_syntax_grammar.proofs.HoareTriple.{holds_fails, holds_skip, holds_peek, holds_branch_on}
 use Rattle.fluent_syntax_grammar.proofs.Cuts.{eol_forward, eol_text}
 use Rattle.fluent_syntax_grammar.proofs.SoundStrings.{InText}
 use Rattle.fluent_syntax_grammar.proofs.SoundLines.{ending_holds}
 use Rattle.fluent_syntax_grammar.proofs.Boundaries.{text_cuts}
-use Rattle.fluent_syntax_grammar.proofs.Total.{From, AnyFault, Total, TotalOnward, TotalConsuming, total_bind, total_weaker}
+use Rattle.fluent_syntax_grammar.proofs.Total.{From, AnyFault, Total, TotalOnward, TotalConsuming, total_bind}
+use Rattle.fluent_syntax_grammar.proofs.Total.{total_weaker}
 use Rattle.fluent_syntax_grammar.proofs.Total.{total_yields, total_here, total_fails, total_skip, total_peek}
 use Rattle.fluent_syntax_grammar.proofs.Total.{total_branch_on, onward_bind, onward_yields, onward_here, onward_fails}
 use Rattle.fluent_syntax_grammar.proofs.Total.{onward_peek}
-use Rattle.fluent_syntax_grammar.proofs.Total.{onward_branch_on, onward_strict, consuming_first, consuming_fails, consuming_peek}
-use Rattle.fluent_syntax_grammar.proofs.Total.{consuming_branch_on, TotalConsumingItem, more_on, more_earlier, consuming_item_strict, onward_many}
+use Rattle.fluent_syntax_grammar.proofs.Total.{onward_branch_on, onward_strict, consuming_first, consuming_fails}
+use Rattle.fluent_syntax_grammar.proofs.Total.{consuming_peek}
+use Rattle.fluent_syntax_grammar.proofs.Total.{consuming_branch_on, TotalConsumingItem, more_on, more_earlier}
+use Rattle.fluent_syntax_grammar.proofs.Total.{consuming_item_strict, onward_many}
 use Rattle.fluent_syntax_grammar.proofs.TotalWords.{total_onward_blank, onward_inline_blank, onward_optional, run_word}
-use Rattle.fluent_syntax_grammar.proofs.TotalWords.{consuming_identifier, consuming_number, consuming_string, consuming_token}
+use Rattle.fluent_syntax_grammar.proofs.TotalWords.{consuming_identifier, consuming_number, consuming_string}
+use Rattle.fluent_syntax_grammar.proofs.TotalWords.{consuming_token}
 use Rattle.fluent_syntax_grammar.proofs.Facts.{differs, longest_run_nonempty}
 
 -- each construct of the family has an outcome at each place from s on
@@ -49,10 +54,12 @@ module _ (t : List ℕ) where
   onward_accessor : {s : ℕ} → TotalOnward t s (accessor t)
   onward_accessor =
       onward_bind (onward_optional t 46)
-      (λ dot. onward_branch_on (onward_bind (onward_strict (consuming_identifier t)) (λ a. onward_yields)) onward_yields)
+      (λ dot. onward_branch_on (onward_bind (onward_strict (consuming_identifier t)) (λ a. onward_yields))
+      onward_yields)
 
   onward_separator : {s : ℕ} → TotalOnward t s (separator t)
-  onward_separator = onward_bind (total_onward_blank t) (λ u. onward_bind (onward_optional t 44) (λ u. total_onward_blank t))
+  onward_separator =
+      onward_bind (total_onward_blank t) (λ u. onward_bind (onward_optional t 44) (λ u. total_onward_blank t))
 
   onward_named : {s : ℕ} (id : Span) (a : MaybeArguments Span) → TotalOnward t s (named_reference t id a)
   onward_named id no_arguments = onward_bind onward_accessor (λ a. onward_yields)
@@ -148,7 +155,8 @@ module _ (t : List ℕ) (R : Family) (low : ℕ) (h : (s : ℕ) → low ≤ s �
   onward_call s l =
       onward_bind (total_onward_blank t)
       (λ u. onward_bind (onward_optional t 40)
-      (λ bracket. onward_branch_on (onward_bind (onward_bind (total_onward_blank t) (λ u. (h s l).argument_list)) (λ a. onward_yields))
+      (λ bracket. onward_branch_on (onward_bind (onward_bind (total_onward_blank t) (λ u. (h s l).argument_list))
+      (λ a. onward_yields))
       onward_yields))
 
   pub consuming_placeable : (s : ℕ) → low ≤ s + 1 → TotalConsuming t s (placeable t R)
@@ -168,7 +176,8 @@ module _ (t : List ℕ) (R : Family) (low : ℕ) (h : (s : ℕ) → low ≤ s �
       (λ u. onward_bind (onward_strict (consuming_identifier t))
       (λ id. onward_bind (onward_accessor t) (λ a. onward_bind (onward_call (s + 1) l) (λ c. onward_yields))))
   consuming_inline_of s l dollar =
-      consuming_first (consuming_token t 36) (λ u. onward_bind (onward_strict (consuming_identifier t)) (λ id. onward_yields))
+      consuming_first (consuming_token t 36) (λ u. onward_bind (onward_strict (consuming_identifier t))
+      (λ id. onward_yields))
   consuming_inline_of s l letter =
       consuming_first (consuming_identifier t) (λ id. onward_bind (onward_call (s + 1) l) (λ a. onward_named t id a))
   consuming_inline_of s l brace = consuming_first (consuming_placeable s l) (λ e. onward_yields)
@@ -220,7 +229,8 @@ module _ (t : List ℕ) (R : Family) (low : ℕ) (h : (s : ℕ) → low ≤ s �
   pub onward_arguments : (s : ℕ) → low ≤ s + 1 → (names : List (List ℕ)) → TotalOnward t s (more_arguments t R names)
   onward_arguments s l names =
       onward_many t (next_argument t R) _ _ s
-      (λ m k names. consuming_item_strict (consuming_peek (consuming_argument_at m (omega arith) names))) s (omega arith) names
+      (λ m k names. consuming_item_strict (consuming_peek (consuming_argument_at m (omega arith) names))) s
+      (omega arith) names
 
   -- ---- pieces
 
@@ -317,7 +327,8 @@ module _ (t : List ℕ) (R : Family) (low : ℕ) (h : (s : ℕ) → low ≤ s �
         piece_read i j b p (has_eol t i) q e refl (subst (λ o. next_piece_at t R o i (Read p j)) e x)
 
   pub onward_pieces : (s : ℕ) → low ≤ s + 1 → TotalOnward t s (more_pieces t R)
-  onward_pieces s l = onward_many t (λ u. next_piece t R) _ _ s (λ m k u. consuming_item_piece m (omega arith)) s (omega arith) tt
+  onward_pieces s l =
+      onward_many t (λ u. next_piece t R) _ _ s (λ m k u. consuming_item_piece m (omega arith)) s (omega arith) tt
 
   after_rest : (s : ℕ) (l : low ≤ s + 1) (m j b : ℕ) (ps : List Piece) → From t (s + 1) m →
       more_pieces t R m (Read ps j) → AfterPiece s l j

@@ -13,7 +13,8 @@ use Rattle.fluent_syntax_grammar.specs.Tokens.{optional_eol, rest_of_line, digit
 use Rattle.fluent_syntax_grammar.specs.Strings.{hex_digits, all_there, escaped, string_unit, string_units, before_quote}
 use Rattle.fluent_syntax_grammar.specs.Strings.{unit_and_more, bad_unit, string_literal}
 use Rattle.fluent_syntax_grammar.specs.Lines.{is_run_place}
-use Rattle.fluent_syntax_grammar.proofs.HoareTriple.{HoareTriple, holds_weaker, holds_bind, holds_yields, holds_fails, holds_skip}
+use Rattle.fluent_syntax_grammar.proofs.HoareTriple.{HoareTriple, holds_weaker, holds_bind, holds_yields, holds_fails}
+use Rattle.fluent_syntax_grammar.proofs.HoareTriple.{holds_skip}
 use Rattle.fluent_syntax_grammar.proofs.HoareTriple.{holds_peek, holds_branch_on}
 use Rattle.fluent_syntax_grammar.proofs.Cuts.{ascii_blank, line_inside, run_inside, eol_forward, eol_text}
 use Rattle.fluent_syntax_grammar.proofs.Cuts.{block_forward, block_place}
@@ -23,9 +24,11 @@ use Rattle.fluent_syntax_grammar.proofs.SoundEntries.{identifier_advances}
 use Rattle.fluent_syntax_grammar.proofs.Boundaries.{text_cuts}
 use Rattle.fluent_syntax_grammar.proofs.Computed.{find_here, find_on}
 use Rattle.fluent_syntax_grammar.proofs.ComputedRules.{computed_hex, hex_run, hex_end}
-use Rattle.fluent_syntax_grammar.proofs.Total.{From, AnyFault, Total, TotalOnward, TotalConsuming, IsTotalRelation, total_bind, total_yields}
+use Rattle.fluent_syntax_grammar.proofs.Total.{From, AnyFault, Total, TotalOnward, TotalConsuming, IsTotalRelation}
+use Rattle.fluent_syntax_grammar.proofs.Total.{total_bind, total_yields}
 use Rattle.fluent_syntax_grammar.proofs.Total.{total_fails, total_skip, total_peek, total_branch_on, onward_bind}
-use Rattle.fluent_syntax_grammar.proofs.Total.{onward_yields, onward_here, onward_fails, onward_skip, onward_peek, onward_branch_on}
+use Rattle.fluent_syntax_grammar.proofs.Total.{onward_yields, onward_here, onward_fails, onward_skip, onward_peek}
+use Rattle.fluent_syntax_grammar.proofs.Total.{onward_branch_on}
 use Rattle.fluent_syntax_grammar.proofs.Total.{onward_strict, consuming_first, consuming_then}
 use Rattle.fluent_syntax_grammar.proofs.Facts.{lt_or_same, longest_run_in_text, has_inside}
 
@@ -55,7 +58,8 @@ module _ (t : List ℕ) where
   longest_run_exists test inside (suc m) i l =
       longest_run_at test inside (suc m) i l (test i) refl (λ e. longest_run_exists test inside m (i + 1) (omega arith))
 
-  pub longest_run_word : (test : ℕ → Bool) → ((k : ℕ) → test k ≡ true → k < length t) → IsTotalRelation t (LongestRun test)
+  pub longest_run_word : (test : ℕ → Bool) → ((k : ℕ) → test k ≡ true → k < length t) →
+      IsTotalRelation t (LongestRun test)
   longest_run_word test inside = record {
     exists = λ i l. longest_run_exists test inside (length t) i (omega arith);
     forward = λ i j s. s.forward;
@@ -149,7 +153,8 @@ module _ (t : List ℕ) where
   past_total s None = total_yields
   past_total s (Some k) = total_skip (λ i p. (k, record { there = refl }))
 
-  past_on : (s : ℕ) (o : Option ℕ) → HoareTriple (λ i. From t s i × (after_eol t i ≡ o)) (past_eol o) (λ u. From t s) AnyFault
+  past_on : (s : ℕ) (o : Option ℕ) → HoareTriple (λ i. From t s i × (after_eol t i ≡ o)) (past_eol o)
+      (λ u. From t s) AnyFault
   past_on s None = holds_yields (λ i p. p.0)
   past_on s (Some k) =
       holds_skip (λ i j p w. let q = p.0 in let late = q.late in let there = w.there in let f = eol_forward t i k p.1 in
@@ -188,7 +193,8 @@ module _ (t : List ℕ) where
   onward_identifier =
       onward_bind onward_here
       (λ start. onward_bind (onward_peek (λ letter. onward_yields))
-      (λ letter. onward_branch_on (onward_bind (onward_skip (word_of is_name_byte)) (λ u. onward_spanned)) onward_fails))
+      (λ letter. onward_branch_on (onward_bind (onward_skip (word_of is_name_byte)) (λ u. onward_spanned))
+      onward_fails))
 
   pub consuming_identifier : {s : ℕ} → TotalConsuming t s (identifier t)
   consuming_identifier {s = s} = record {
@@ -304,4 +310,5 @@ module _ (t : List ℕ) where
       consuming_first (consuming_token 34)
       (λ u. onward_bind onward_here
       (λ start. onward_bind onward_units
-      (λ u. onward_bind onward_spanned (λ value. onward_bind (onward_strict (consuming_token 34)) (λ u. onward_yields)))))
+      (λ u. onward_bind onward_spanned (λ value. onward_bind (onward_strict (consuming_token 34))
+      (λ u. onward_yields)))))

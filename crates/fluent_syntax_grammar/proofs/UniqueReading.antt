@@ -5,7 +5,8 @@ use Rattle.fluent_syntax_grammar.specs.Grammar.{family}
 use Rattle.fluent_syntax_grammar.specs.Tiling.{Tile, entry, refused, dropped, OneTiling, OneRuntimeTiling}
 use Rattle.fluent_syntax_grammar.specs.Body.{faults}
 use Rattle.fluent_syntax_grammar.specs.UniqueReading.{IsUnambiguous, FaultMeans, KindsMean}
-use Rattle.fluent_syntax_grammar.specs.UniqueReading.{RuntimeKindsMean, HasNoComments, SameMessagesAndTerms, NoNewErrors}
+use Rattle.fluent_syntax_grammar.specs.UniqueReading.{RuntimeKindsMean, HasNoComments, SameMessagesAndTerms}
+use Rattle.fluent_syntax_grammar.specs.UniqueReading.{NoNewErrors}
 use Rattle.fluent_syntax_grammar.specs.UniqueReading.{SameWithoutComments, messages_and_terms}
 use Rattle.fluent_syntax_tree.specs.declared.edition.Edition.{Edition}
 use Rattle.fluent_syntax_grammar.proofs.FunctionalWords.{functional_token, functional_inline_blank, functional_blank}

@@ -20,7 +20,8 @@ module _ {W : Type 0} (text : W → List ℕ) (room : W → ℕ) where
   -- brackets that close it are to come, and the writer knows whether an entry came; or the sink has taken a beginning
   -- of that text and refused.
   pub data HasWritten (start : W) (body : BodyTree Text) (now : BodyWriter W) : Type 0 where
-    whole : now.refused ≡ false → Takes text room start now.sink (unclosed_text body) → now.later ≡ later_after false body
+    whole : now.refused ≡ false → Takes text room start now.sink (unclosed_text body) →
+        now.later ≡ later_after false body
         → HasWritten start body now
     beginning : now.refused ≡ true → TakesBeginning text room start now.sink (unclosed_text body)
         → HasWritten start body now

@@ -50,7 +50,8 @@ module _ (file : ℕ) (text : Text) where
       → is_local k ≡ false → own (put (undefined_entry D file text k entry a) l) ≡ own l
   undefined_out D k entry a l out =
       let missing = Some (finding_at k file entry.name None) in
-      either_out (D (qualified_name text entry)) (undefined_reference D file text entry a) missing l (part_out D entry a l)
+      either_out (D (qualified_name text entry)) (undefined_reference D file text entry a) missing l
+      (part_out D entry a l)
       (ap (λ b. cond b (finding_at k file entry.name None ∷ own l) (own l)) out)
 
   finding_local : (D E : Text → Bool) (known : Known) (m : Mention Span) (l l' : List Finding) → own l ≡ own l'

@@ -40,7 +40,8 @@ SameOrLaterSegment starts from to = (k : ℕ) → k < length starts → at start
 -- still to come
 pub data EdgeHandled (states : List State) (starts : List ℕ) (pending : List Pending) (i k t : ℕ) : Type 0 where
   at_done : (c : ℕ) → State_of states t ≡ state.Done c → EdgeHandled states starts pending i k t
-  at_open : (j : ℕ) → State_of states t ≡ state.Open j → SameOrLaterSegment starts i j → EdgeHandled states starts pending i k t
+  at_open : (j : ℕ) → State_of states t ≡ state.Open j → SameOrLaterSegment starts i j →
+      EdgeHandled states starts pending i k t
   to_come : (p : ℕ) → p < length pending → (pending_at pending p).place ≡ i → (pending_at pending p).next ≤ k
       → EdgeHandled states starts pending i k t
 

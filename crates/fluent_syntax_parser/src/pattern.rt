@@ -77,7 +77,11 @@ impl<'s> Source<'s> {
     /// Reads a pattern of one line without placeable, after the inline blank that opens it, if that stands there: its
     /// text, if it holds one.
     #[inline(always)]
-    pub(crate) fn one_line_text(&self, edition: Edition, start: usize) -> Option<(Option<Span>, usize)>
+    pub(crate) fn one_line_text(
+        &self,
+        edition: Edition,
+        start: usize,
+    ) -> Option<(Option<Span>, usize)>
         requires { start ≤ length self.now.bytes.now }
         ensures opens { IfSome result
             (λ read. OpensAs edition self.now.bytes.now start (option_map text_pattern read.0) read.1) }

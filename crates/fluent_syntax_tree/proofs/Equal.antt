@@ -150,7 +150,8 @@ module _ {X : Type 0} (S : RattleType) (E : Ghosts S.Denot) (dict : Dict) (lawfu
 
   pub decides_by_view-VariantKey : (i j : VariantKey S.Denot) →
       Decides ((key_eq.ghosts S E dict).eq i j) (key_view text i ≡ key_view text j)
-  decides_by_view-VariantKey (key.Identifier x) (key.Identifier y) = decides_as _ _ refl (by_text x y) (λ h. rw h) (λ q. cc)
+  decides_by_view-VariantKey (key.Identifier x) (key.Identifier y) =
+      decides_as _ _ refl (by_text x y) (λ h. rw h) (λ q. cc)
   decides_by_view-VariantKey (key.Identifier x) (key.NumberLiteral y) = never _ refl (λ q. cc)
   decides_by_view-VariantKey (key.NumberLiteral x) (key.Identifier y) = never _ refl (λ q. cc)
   decides_by_view-VariantKey (key.NumberLiteral x) (key.NumberLiteral y) =
@@ -577,7 +578,8 @@ module _ {X : Type 0} (S : RattleType) (E : Ghosts S.Denot) (dict : Dict) (lawfu
   pub decides_by_view-Attribute : (a b : Attribute S.Denot) →
       Decides ((attribute_eq.ghosts S E dict).eq a b) (attribute_view text a ≡ attribute_view text b)
   decides_by_view-Attribute a b =
-      decides_as _ _ refl (decides_and _ _ (by_text a.id.name b.id.name) (decides_by_view-Pattern a.value b.value)) (λ h. cc)
+      decides_as _ _ refl (decides_and _ _ (by_text a.id.name b.id.name) (decides_by_view-Pattern a.value b.value))
+      (λ h. cc)
       (λ q. (ap (λ x. x.id) q, ap (λ x. x.value) q))
 
   value_decide : (o p : Option (Pattern S.Denot)) →
@@ -588,7 +590,8 @@ module _ {X : Type 0} (S : RattleType) (E : Ghosts S.Denot) (dict : Dict) (lawfu
   attributes_decide : (xs ys : List (Attribute S.Denot)) →
       Decides (pointwise (attribute_eq.ghosts S E dict).eq xs ys)
       (map (attribute_view text) xs ≡ map (attribute_view text) ys)
-  attributes_decide xs ys = list_decide (attribute_eq.ghosts S E dict).eq (attribute_view text) decides_by_view-Attribute xs ys
+  attributes_decide xs ys =
+      list_decide (attribute_eq.ghosts S E dict).eq (attribute_view text) decides_by_view-Attribute xs ys
 
   attached_decide : (o p : Option (Comment S.Denot)) →
       Decides (option_eq (comment_eq.ghosts S E dict).eq o p)
@@ -619,7 +622,8 @@ module _ {X : Type 0} (S : RattleType) (E : Ghosts S.Denot) (dict : Dict) (lawfu
       Decides ((entry_eq.ghosts S E dict).eq a b) (entry_view text a ≡ entry_view text b)
   decides_by_view-Entry (entries.Message a) (entries.Message b) =
       decides_as _ _ refl (decides_by_view-Message a b) (λ h. ap message h) (λ q. cc)
-  decides_by_view-Entry (entries.Term a) (entries.Term b) = decides_as _ _ refl (decides_by_view-Term a b) (λ h. ap term h) (λ q. cc)
+  decides_by_view-Entry (entries.Term a) (entries.Term b) =
+      decides_as _ _ refl (decides_by_view-Term a b) (λ h. ap term h) (λ q. cc)
   decides_by_view-Entry (entries.Comment a) (entries.Comment b) =
       decides_as _ _ refl (decides_by_view-Comment a b) (λ h. ap (comment regular) h) (λ q. cc)
   decides_by_view-Entry (entries.GroupComment a) (entries.GroupComment b) =

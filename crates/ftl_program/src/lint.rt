@@ -13,7 +13,8 @@ use ftl_project::{LintOptions, Streams, Tally, check_summary, lint_files};
 use std::alloc::{AllocError, Global};
 use std::io;
 
-/// Searches all files that the paths name, each language as a set of its own; the exit status. Kinds that the project ignores are not told.
+/// Searches all files that the paths name, each language as a set of its own; the exit status. Kinds that the project
+/// ignores are not told.
 pub(crate) fn lint_paths(rt: &HostRuntime, lint: &Lint<'_>) -> u8 {
     let project = match project_of(rt, &lint.excluded) {
         Ok(project) => project,

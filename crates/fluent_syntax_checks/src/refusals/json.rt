@@ -3,7 +3,7 @@
 use crate::refusals::answers::{HELD, Sunk};
 use crate::refusals::tally::Tally;
 use crate::refusals::trees::{borrowed_tree, owned_tree};
-use crate::refusals::turns::{refuse_each_request, nothing, over};
+use crate::refusals::turns::{nothing, over, refuse_each_request};
 use fluent_syntax_json::{from_value, to_value, write_to};
 use fluent_syntax_tests::corpus::TEXTS;
 use fluent_syntax_tests::json::values::{REFUSED, SPELLED};

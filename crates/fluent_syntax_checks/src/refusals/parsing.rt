@@ -1,7 +1,7 @@
 //! The parsers, and trees of spans with the texts put back.
 
 use crate::refusals::tally::Tally;
-use crate::refusals::turns::{refuse_each_request, nothing, over};
+use crate::refusals::turns::{nothing, over, refuse_each_request};
 use fluent_syntax::parser::{ParseFault, parse, parse_runtime};
 use fluent_syntax::spans::{parse_runtime_spans, parse_spans, resolve};
 use fluent_syntax_tests::corpus::TEXTS;

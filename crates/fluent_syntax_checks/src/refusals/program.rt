@@ -2,7 +2,7 @@
 
 use crate::refusals::answers::Answer;
 use crate::refusals::tally::Tally;
-use crate::refusals::turns::{refuse_each_request, nothing, over};
+use crate::refusals::turns::{nothing, over, refuse_each_request};
 use fluent_syntax_tests::corpus::TEXTS;
 use ftl::{Command, Outcome, RunFault, Watched, answer, run};
 use std::alloc::{AllocError, Global};

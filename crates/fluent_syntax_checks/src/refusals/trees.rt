@@ -1,7 +1,7 @@
 //! Copies of trees and of errors.
 
 use crate::refusals::tally::Tally;
-use crate::refusals::turns::{refuse_each_request, nothing, over};
+use crate::refusals::turns::{nothing, over, refuse_each_request};
 use fluent_syntax::ast::Resource;
 use fluent_syntax::parser::{ParserError, parse, recovered};
 use fluent_syntax_tests::corpus::TEXTS;

@@ -11,11 +11,12 @@ const REQUESTS_LIMIT: u32 = 100_000;
 
 /// Calls with the first request refused, then with the second, and so on, until a call made no request
 /// that was refused. What `make` gives the call is made with ample memory.
-pub(crate) fn refuse_each_request<I, A: Answer + Drop, M: Fn() -> Result<I, AllocError>, F: Fn(I) -> A>(
-    alloc: Global,
-    make: M,
-    call: F,
-) -> Result<Tally, AllocError>
+pub(crate) fn refuse_each_request<
+    I,
+    A: Answer + Drop,
+    M: Fn() -> Result<I, AllocError>,
+    F: Fn(I) -> A,
+>(alloc: Global, make: M, call: F) -> Result<Tally, AllocError>
     requires make { M.IsAlwaysCallable make }
     requires call { F.IsAlwaysCallable call }
 {

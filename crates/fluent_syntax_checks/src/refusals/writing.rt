@@ -3,7 +3,7 @@
 use crate::refusals::answers::{HELD, Sunk};
 use crate::refusals::tally::Tally;
 use crate::refusals::trees::borrowed_tree;
-use crate::refusals::turns::{refuse_each_request, nothing, over};
+use crate::refusals::turns::{nothing, over, refuse_each_request};
 use fluent_syntax::laws::{joined, reparse};
 use fluent_syntax::serializer::{Options, serialize, serialize_to, serialize_with_options};
 use fluent_syntax::unicode::{unescape_unicode, unescape_unicode_to_string};

@@ -29,7 +29,7 @@ impl RoundTrips {
     }
 
     /// Counts a text; whether a law does not hold of it.
-    pub(crate) fn count(&mut self, alloc: Global, text: &str) -> anyhow::Result<bool> {
+    pub(crate) fn breaks_a_law(&mut self, alloc: Global, text: &str) -> anyhow::Result<bool> {
         formatting_is_idempotent(text.as_bytes());
         let (tree, is_clean) = tree_of(alloc, text, self.edition)?;
         let whole = joined(alloc, &tree)?;

@@ -22,13 +22,19 @@ pub(crate) fn parse_owned<R: Clock + AllocGlobal>(rt: &R, text: &str) -> io::Res
     duration_of(rt, || parser::parse(rt.alloc(), copy))
 }
 
-pub(crate) fn parse_runtime_borrowed<R: Clock + AllocGlobal>(rt: &R, text: &str) -> io::Result<Duration>
+pub(crate) fn parse_runtime_borrowed<R: Clock + AllocGlobal>(
+    rt: &R,
+    text: &str,
+) -> io::Result<Duration>
     requires { length text.now + 1 < 2 ^ 64 }
 {
     duration_of(rt, || parser::parse_runtime(rt.alloc(), text))
 }
 
-pub(crate) fn parse_runtime_owned<R: Clock + AllocGlobal>(rt: &R, text: &str) -> io::Result<Duration>
+pub(crate) fn parse_runtime_owned<R: Clock + AllocGlobal>(
+    rt: &R,
+    text: &str,
+) -> io::Result<Duration>
     requires { length text.now + 1 < 2 ^ 64 }
 {
     let copy = String::from_str(rt.alloc(), text)?;

@@ -81,7 +81,8 @@ module _ (t : List ℕ) (Joins Junk : Type 0) where
   parts_append [] ys g h = h
   parts_append (x ∷ xs) ys (g, k) h = (g, parts_append xs ys k h)
 
-  joined_part : (o : Option (EntryTree Span)) (first others after : List (EntryTree Span)) → option_every IsBodyEntry o →
+  joined_part : (o : Option (EntryTree Span)) (first others after : List (EntryTree Span)) →
+      option_every IsBodyEntry o →
       list_every IsBodyEntry first → list_every IsBodyEntry others → list_every IsBodyEntry after →
       list_every IsBodyEntry (or_attached o first others after)
   joined_part None first others after g h k l = parts_append first others h k

@@ -31,7 +31,8 @@ use Rattle.fluent_syntax_grammar.proofs.Tests.{both}
 use Rattle.fluent_syntax_grammar.proofs.backward.Lines.{range_none, range_all}
 use Rattle.fluent_syntax_grammar.proofs.backward.Words.{IsName}
 use Rattle.fluent_syntax_grammar.proofs.backward.Rules.{Ensures, ensures_bind, ensures_then, ensures_yields}
-use Rattle.fluent_syntax_grammar.proofs.backward.Rules.{ensures_fails, ensures_peek, ensures_branch_on, ObeysJoined, IsPattern}
+use Rattle.fluent_syntax_grammar.proofs.backward.Rules.{ensures_fails, ensures_peek, ensures_branch_on, ObeysJoined}
+use Rattle.fluent_syntax_grammar.proofs.backward.Rules.{IsPattern}
 use Rattle.fluent_syntax_grammar.proofs.backward.Rules.{ensures_name}
 use Rattle.fluent_syntax_grammar.proofs.backward.Family as family_back
 use Rattle.fluent_syntax_grammar.proofs.backward.Family.{family_obeys_joined}
@@ -159,7 +160,8 @@ module _ (t : List ℕ) (bare : HasNoBareCr t) (Joins : Type 0) (crs : (i : ℕ)
   ensures_pattern = family_back.ensures_pattern t bare Joins crs (family One t) (family_obeys_joined t bare Joins crs)
 
   abbrev IsAttribute : AttributeTree Span → Type 0
-  IsAttribute a = ObeysJoined Joins (attribute_obeys (readable_rules One)) joined_attribute (attribute_map (bytes_at t) a)
+  IsAttribute a =
+      ObeysJoined Joins (attribute_obeys (readable_rules One)) joined_attribute (attribute_map (bytes_at t) a)
 
   ensures_with : (id : Span) (o : Option (PatternTree Span)) → IsName t id → option_every (IsPattern t Joins) o →
       Ensures (attribute_with id o) IsAttribute

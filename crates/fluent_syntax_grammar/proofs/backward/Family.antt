@@ -39,7 +39,8 @@ use Rattle.fluent_syntax_grammar.proofs.Functional.{longest_run_functional}
 use Rattle.fluent_syntax_grammar.proofs.Facts.{byte_holds, differs, two_on_as_one, not_next}
 use Rattle.fluent_syntax_grammar.proofs.Facts.{longest_run_nonempty}
 use Rattle.fluent_syntax_grammar.proofs.Tests.{both}
-use Rattle.fluent_syntax_grammar.proofs.backward.Shapes.{LastItemStays, kept_cut, shape_cut, tree, Well, items_well, items_same}
+use Rattle.fluent_syntax_grammar.proofs.backward.Shapes.{LastItemStays, kept_cut, shape_cut, tree, Well, items_well}
+use Rattle.fluent_syntax_grammar.proofs.backward.Shapes.{items_same}
 use Rattle.fluent_syntax_grammar.proofs.backward.Shapes.{Shape}
 use Rattle.fluent_syntax_grammar.proofs.backward.Lines.{IsEnd, PiecesAt, no_piece, a_run, a_placeable, EndingAt}
 use Rattle.fluent_syntax_grammar.proofs.backward.Lines.{lf_ends, crlf_ends, text_ends, LineAt, LinesAt}
@@ -48,7 +49,8 @@ use Rattle.fluent_syntax_grammar.proofs.backward.Layouts.{layout_shape}
 use Rattle.fluent_syntax_grammar.proofs.backward.FirstLines.{spare}
 use Rattle.fluent_syntax_grammar.proofs.backward.Words.{number_inversion}
 use Rattle.fluent_syntax_grammar.proofs.backward.Rules.{Ensures, ensures_bind, ensures_then, ensures_yields}
-use Rattle.fluent_syntax_grammar.proofs.backward.Rules.{ensures_fails, ensures_peek, ensures_branch_on, ObeysJoined, IsPattern}
+use Rattle.fluent_syntax_grammar.proofs.backward.Rules.{ensures_fails, ensures_peek, ensures_branch_on, ObeysJoined}
+use Rattle.fluent_syntax_grammar.proofs.backward.Rules.{IsPattern}
 use Rattle.fluent_syntax_grammar.proofs.backward.Rules.{IsKey, IsVariants, ObeysJoinedFamily, ensures_name, IsInline}
 use Rattle.fluent_syntax_grammar.proofs.backward.Rules.{ensures_placeable, inline_inversion, ensures_arguments, Adds}
 use Rattle.fluent_syntax_grammar.proofs.backward.Rules.{ensures_many}
@@ -103,7 +105,8 @@ module _ (t : List ℕ) (bare : HasNoBareCr t) (Joins : Type 0) (crs : (i : ℕ)
         same = λ none. items_same t Joins m none opening (x ∷ xs) s;
       }
 
-  spelled_obeys_joined : (xs : List Item) → Shape t Joins (is_multiline (joined_pattern (tree t xs))) opening xs → LastItemStays t xs →
+  spelled_obeys_joined : (xs : List Item) → Shape t Joins (is_multiline (joined_pattern (tree t xs))) opening xs →
+      LastItemStays t xs →
       option_every (IsPattern t Joins) (if_any (spelled t xs))
   spelled_obeys_joined [] s k = tt
   spelled_obeys_joined (text from to ∷ []) s k = tree_obeys_joined (text from to) [] s k
@@ -212,7 +215,8 @@ module _ (t : List ℕ) (bare : HasNoBareCr t) (Joins : Type 0) (crs : (i : ℕ)
         ending = q;
       }
 
-  line_inversion : (i k b j : ℕ) (l : Line) → InlineBlank t i k → slice_get t k ≡ Some b → belongs t (nat_lt i k) k ≡ true →
+  line_inversion : (i k b j : ℕ) (l : Line) → InlineBlank t i k → slice_get t k ≡ Some b →
+      belongs t (nat_lt i k) k ≡ true →
       lines.line t R i (Read l j) → LineAt t Joins i l j
   line_inversion i k b j l w e f
       (goes_on at_place
@@ -251,7 +255,8 @@ module _ (t : List ℕ) (bare : HasNoBareCr t) (Joins : Type 0) (crs : (i : ℕ)
   layout_was_at i j y None s e
       (goes_on at_place (goes_on {j = m} {a = ps} x (goes_on {j = n} {a = z} w (goes_on {a = ls} v given)))) =
       let p = pieces_inversion i m ps x in
-      on_line s (after_none t i e) p (ending_inversion t Joins m n z (pieces_end t Joins i ps m p) w) (lines_inversion n j ls v)
+      on_line s (after_none t i e) p (ending_inversion t Joins m n z (pieces_end t Joins i ps m p) w)
+      (lines_inversion n j ls v)
   layout_was_at i j y (Some k) s e
       (goes_on (passed {j = m} r) (goes_on (passed {j = n} b) (goes_on {a = ls} v given))) =
       let c = block_stop t m n b in
@@ -389,7 +394,8 @@ module _ (t : List ℕ) (bare : HasNoBareCr t) (Joins : Type 0) (crs : (i : ℕ)
     argument_list = record { on_read = λ i j a x. absurd x };
   }
 
-  suc_obeys_joined : (n : ℕ) → ObeysJoinedFamily t Joins (within One t n) → ObeysJoinedFamily t Joins (within One t (suc n))
+  suc_obeys_joined : (n : ℕ) → ObeysJoinedFamily t Joins (within One t n) →
+      ObeysJoinedFamily t Joins (within One t (suc n))
   unfolding within
   suc_obeys_joined n h = next_obeys_joined t bare Joins crs (within One t n) h
 

@@ -74,7 +74,8 @@ module _ (t : List ℕ) where
   spans_tree (text from to ∷ y ∷ ys) z zs e =
       or_step (has_lf (slice_range t from to)) (list_any spans (y ∷ ys)) (is_multiline (tree t ((y ∷ ys) ++ (z ∷ zs))))
       e (spans_tree (y ∷ ys) z zs)
-  spans_tree (placeable_item x ∷ ys) z zs e = or_right (is_select (expression_map (bytes_at t) x)) _ (spans_tree ys z zs e)
+  spans_tree (placeable_item x ∷ ys) z zs e =
+      or_right (is_select (expression_map (bytes_at t) x)) _ (spans_tree ys z zs e)
 
 module _ (t : List ℕ) (bare : HasNoBareCr t) (Joins : Type 0) (crs : (i : ℕ) → has_byte t cr i ≡ true → Joins)
     (m : Bool) where

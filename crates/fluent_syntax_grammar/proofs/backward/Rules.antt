@@ -31,7 +31,8 @@ use Rattle.fluent_syntax_grammar.specs.Expressions.{selector_fault, is_term_attr
 use Rattle.fluent_syntax_grammar.specs.Inline.{named_reference, inline_of, inline_expression, is_callee_byte}
 use Rattle.fluent_syntax_grammar.specs.Written.{Text}
 use Rattle.fluent_syntax_grammar.specs.Spellings.{is_name}
-use Rattle.fluent_syntax_grammar.specs.Rules.{option_obeys, key_obeys, inline_obeys, optional_arguments_obey, arguments_obey}
+use Rattle.fluent_syntax_grammar.specs.Rules.{option_obeys, key_obeys, inline_obeys, optional_arguments_obey}
+use Rattle.fluent_syntax_grammar.specs.Rules.{arguments_obey}
 use Rattle.fluent_syntax_grammar.specs.Rules.{inlines_obey, named_arguments_obey, variants_obey, pattern_obeys}
 use Rattle.fluent_syntax_grammar.specs.Readable.{is_argument_value, are_named_well, defaults, readable_rules}
 use Rattle.fluent_syntax_grammar.specs.Joined.{joined_inline, joined_maybe, joined_arguments, joined_inlines}
@@ -170,11 +171,13 @@ module _ (t : List ℕ) (Joins : Type 0) where
       IsMaybe (some_arguments a)
   some_obeys_joined a f = record { obeys = f.obeys; same = λ none. ap some_arguments (f.same none) }
 
-  function_obeys_joined : (id : Span) (a : ArgumentsTree Span) → IsName t id → list_all is_callee_byte (bytes_at t id) ≡ true →
+  function_obeys_joined : (id : Span) (a : ArgumentsTree Span) → IsName t id →
+      list_all is_callee_byte (bytes_at t id) ≡ true →
       IsMaybe (some_arguments a) → IsInline (function_reference id a)
   function_obeys_joined id a n c f = record { obeys = both n (both c f.obeys); same = λ none. cc (f.same none) }
 
-  term_obeys_joined : (id : Span) (o : Option Span) (a : MaybeArguments Span) → IsName t id → IsOptionName o → IsMaybe a →
+  term_obeys_joined : (id : Span) (o : Option Span) (a : MaybeArguments Span) → IsName t id → IsOptionName o →
+      IsMaybe a →
       IsInline (term_reference id o a)
   term_obeys_joined id o a n p f =
       record {
@@ -242,7 +245,8 @@ module _ (t : List ℕ) (Joins : Type 0) (R : Family) (h : ObeysJoinedFamily t J
 
   -- ---- expressions
 
-  pub select_obeys_joined : (e : InlineTree Span) (vs : VariantTrees Span) → IsInline t Joins e → selector_fault e ≡ None →
+  pub select_obeys_joined : (e : InlineTree Span) (vs : VariantTrees Span) → IsInline t Joins e →
+      selector_fault e ≡ None →
       IsVariants t Joins false vs → IsRead t Joins (select e vs)
   select_obeys_joined e vs f k g =
       let v = g.fine in
@@ -251,7 +255,8 @@ module _ (t : List ℕ) (Joins : Type 0) (R : Family) (h : ObeysJoinedFamily t J
         same = λ none. cc (f.same none, v.same none);
       }
 
-  pub inline_obeys_joined : (e : InlineTree Span) → IsInline t Joins e → is_term_attribute e ≡ false → IsRead t Joins (inline e)
+  pub inline_obeys_joined : (e : InlineTree Span) → IsInline t Joins e → is_term_attribute e ≡ false →
+      IsRead t Joins (inline e)
   inline_obeys_joined e f k =
       record {
         obeys =
@@ -332,7 +337,8 @@ module _ (t : List ℕ) (Joins : Type 0) (R : Family) (h : ObeysJoinedFamily t J
   value_at : (i j : ℕ) (e : InlineTree Span) → peek (start t) (argument_value t R) i (Read e j) → IsValue t Joins e
   value_at i j e (chosen x) = value_read (start t i) i j e refl x
 
-  add_named_obeys_joined : (names : List Text) (name : Span) (e : InlineTree Span) (a : ArgumentsTree Span) → IsName t name →
+  add_named_obeys_joined : (names : List Text) (name : Span) (e : InlineTree Span) (a : ArgumentsTree Span) →
+      IsName t name →
       is_used (bytes_at t name) names ≡ false → IsValue t Joins e → IsArguments t Joins (bytes_at t name ∷ names) a →
       IsArguments t Joins names (add_named name e a)
   add_named_obeys_joined names name e (arguments ps ns) n u (f, v) (g, k, l) = (
@@ -341,7 +347,8 @@ module _ (t : List ℕ) (Joins : Type 0) (R : Family) (h : ObeysJoinedFamily t J
     both (not_false (is_used (bytes_at t name) names) u) (both v l),
   )
 
-  add_positional_obeys_joined : (e : InlineTree Span) (a : ArgumentsTree Span) → IsInline t Joins e → IsArguments t Joins [] a →
+  add_positional_obeys_joined : (e : InlineTree Span) (a : ArgumentsTree Span) → IsInline t Joins e →
+      IsArguments t Joins [] a →
       IsArguments t Joins [] (add_positional e a)
   add_positional_obeys_joined e (arguments ps ns) f (g, k, l) =
       (record { obeys = both f.obeys g.obeys; same = λ none. cc (f.same none, g.same none) }, k, l)

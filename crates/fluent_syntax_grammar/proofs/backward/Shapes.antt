@@ -10,7 +10,8 @@ use Rattle.fluent_syntax_tree.specs.declared.spans.Span.{Span}
 use Rattle.fluent_syntax_tree.specs.declared.edition.Edition.TheVariants.{One}
 use Rattle.fluent_syntax_grammar.specs.PatternTexts.{is_empty, is_spaces, ends_in_lf, is_lone_lf}
 use Rattle.fluent_syntax_grammar.specs.Bytes.{lf, is_space}
-use Rattle.fluent_syntax_grammar.specs.Elements.{Item, text, placeable_item, is_nonblank, stays, cut_before, cut, trimmed_end}
+use Rattle.fluent_syntax_grammar.specs.Elements.{Item, text, placeable_item, is_nonblank, stays, cut_before, cut}
+use Rattle.fluent_syntax_grammar.specs.Elements.{trimmed_end}
 use Rattle.fluent_syntax_grammar.specs.Elements.{spelled}
 use Rattle.fluent_syntax_grammar.specs.Written.{Text}
 use Rattle.fluent_syntax_grammar.specs.Rules.{expression_obeys, elements_obey}
@@ -39,7 +40,8 @@ module _ (t : List ℕ) (Joins : Type 0) (m : Bool) where
   -- An item stands where the one before it leaves off. After a run that no LF ends stands, if it is a text, the lone LF
   -- of a CRLF.
   pub data Step : ElementPosition → Item → ElementPosition → Type 0 where
-    places : {s : ElementPosition} {e : ExpressionTree Span} → IsRead t Joins e → Step s (placeable_item e) after_placeable
+    places : {s : ElementPosition} {e : ExpressionTree Span} → IsRead t Joins e →
+        Step s (placeable_item e) after_placeable
     runs : {s : ElementPosition} {from to : ℕ} (u : Text) → slice_range t from to ≡ u → list_all is_plain u ≡ true →
         is_empty u ≡ false → Begins m s u → Step s (text from to) within_line
     ends_line : {s : ElementPosition} {from to : ℕ} (u : Text) → slice_range t from to ≡ u ++ line_end true →
@@ -130,7 +132,8 @@ joined_more : (w : Text) (e : ElementTree Text) (es : PatternTree Text) →
 joined_more w (placeable e) es = refl
 joined_more w (text_element v) es = after_more w v es
 
-tree_more : (t : List ℕ) (w : Text) (x : Item) (xs : List Item) → may_precede w (joined_pattern (tree t (x ∷ xs))) ≡ true
+tree_more : (t : List ℕ) (w : Text) (x : Item) (xs : List Item) →
+    may_precede w (joined_pattern (tree t (x ∷ xs))) ≡ true
 tree_more t w (text from to) [] = refl
 tree_more t w (text from to) (y ∷ ys) = joined_more w (text_element (slice_range t from to)) (tree t (y ∷ ys))
 tree_more t w (placeable_item e) xs = refl
@@ -282,7 +285,8 @@ module _ (t : List ℕ) (Joins : Type 0) (m : Bool) where
       (tree_more t (u ++ line_end true) y ys) (items_well after_line (y ∷ ys) tt h k)
   items_well s (text from to ∷ y ∷ ys) r (more (joins e j) h) k = absurd r
   items_well s (text from to ∷ placeable_item x ∷ ys) r (more (runs u e p n b) (more (places g) h)) k =
-      run_well s u (At from to) x ys e p n b g (items_well after_placeable ys tt h (kept_after t (placeable_item x) ys k))
+      run_well s u (At from to) x ys e p n b g (items_well after_placeable ys tt h
+      (kept_after t (placeable_item x) ys k))
   items_well s (text from to ∷ text f g ∷ []) r (more (runs u e p n b) (more (joins i j) h)) k =
       absurd (blank_not (At f g) [] i refl k)
   items_well s (text from to ∷ text f g ∷ y ∷ ys) r (more (runs u e p n b) (more (joins i j) h)) k =

@@ -154,7 +154,8 @@ module _ (t : List ℕ) where
       rw (range_first t i j b.0 (omega arith) b.1)
       (both b.2 (hex_range n (i + 1) j k (omega arith) (λ m x y. e m (omega arith) y) l h))
 
-  hex_inversion : (w i j k : ℕ) (u : Unit {0}) → hex_digits t w i (Read u k) → k ≤ j → is_units 0 (slice_range t k j) ≡ true →
+  hex_inversion : (w i j k : ℕ) (u : Unit {0}) → hex_digits t w i (Read u k) → k ≤ j →
+      is_units 0 (slice_range t k j) ≡ true →
       is_units w (slice_range t i j) ≡ true
   hex_inversion w i j k u (all_there h e) l r = hex_range w i j k (sym e) (λ m x y. h.each m x y) l r
 
@@ -227,7 +228,8 @@ module _ (t : List ℕ) where
   unit_inversion i m u None e q x = elim x [ ]
   unit_inversion i m u (Some b) e q (first f x) = elim x [ ]
   unit_inversion i m u (Some b) e q (second f (first g (chosen x))) =
-      escape_inversion i m u (slice_get t (i + 1)) refl (byte_at t 92 i (byte_holds (λ c. c == 92) (slice_get t i) b e g)) x
+      escape_inversion i m u (slice_get t (i + 1)) refl
+      (byte_at t 92 i (byte_holds (λ c. c == 92) (slice_get t i) b e g)) x
   unit_inversion i m u (Some b) e q (second f (second g (passed o))) =
       let by = o.by in
       record {
@@ -238,7 +240,8 @@ module _ (t : List ℕ) where
             _ (both (other_byte b g (quote_not i b e q) f) (subst (λ k. is_units 0 (slice_range t k j) ≡ true) by r));
       }
 
-  units_inversion : (i j : ℕ) (a : Unit {0}) → string_units t i (Read a j) → (i ≤ j) × (is_units 0 (slice_range t i j) ≡ true)
+  units_inversion : (i j : ℕ) (a : Unit {0}) → string_units t i (Read a j) →
+      (i ≤ j) × (is_units 0 (slice_range t i j) ≡ true)
   units_inversion i j a (before_quote e) = (omega arith, ap (is_units 0) (range_none t i))
   units_inversion i j a (unit_and_more {j = m} e x y) =
       let u = unit_inversion i m tt (slice_get t i) refl e x in

@@ -135,7 +135,8 @@ pub record InlineReadsBack (edition : Edition) (t : List ℕ) (level : ℕ) (e :
       Reads t (inline_expression edition t) (inline_map (bytes_at t)) i e (past e gap more)
 
 -- The rest of an argument list is read back, after named arguments of these names.
-pub record ArgumentListReadsBack (edition : Edition) (t : List ℕ) (level : ℕ) (names : List Text) (ps : InlineTrees Text)
+pub record ArgumentListReadsBack (edition : Edition) (t : List ℕ) (level : ℕ) (names : List Text)
+    (ps : InlineTrees Text)
     (ns : NamedTrees Text) : Type 0 where
   -- what it begins with
   pub begins : (tail : List ℕ) → Begins (positional_bytes level true ps (named_bytes level (is_none_of ps) ns tail)) ⊎
@@ -161,7 +162,8 @@ module _ (edition : Edition) (t : List ℕ) where
       subst (λ p. ReadsMore p j (arguments ps ns) tail) (sym e) (h.back j tail m)
 
   -- the end of a list
-  pub nothing_reads_back : (level : ℕ) (names : List Text) → ArgumentListReadsBack edition t level names no_inlines no_named
+  pub nothing_reads_back : (level : ℕ) (names : List Text) →
+      ArgumentListReadsBack edition t level names no_inlines no_named
   nothing_reads_back level names = record {
     begins = λ tail. inr (refl, refl);
     back =
@@ -270,7 +272,8 @@ module _ (edition : Edition) (t : List ℕ) where
       (reads_second (differ is_start b.byte 41 b.start refl) r))
 
   pub positional_reads_back : (level : ℕ) (e : InlineTree Text) (es : InlineTrees Text) (ns : NamedTrees Text) →
-      InlineReadsBack edition t level e → ArgumentListReadsBack edition t level [] es ns → ArgumentListReadsBack edition t level [] (inlines e es) ns
+      InlineReadsBack edition t level e → ArgumentListReadsBack edition t level [] es ns →
+      ArgumentListReadsBack edition t level [] (inlines e es) ns
   positional_reads_back level e es ns h more = record {
     begins = λ tail. inl (inline_begins edition level e _ h.obeys);
     back = λ i tail l.
@@ -367,7 +370,8 @@ module _ (edition : Edition) (t : List ℕ) where
       same_item v f g = cc
 
   pub named_reads_back : (level : ℕ) (names : List Text) (name : Text) (e : InlineTree Text) (ns : NamedTrees Text) →
-      is_name name ≡ true → InlineReadsBack edition t level e → is_used name names ≡ false → is_argument_value e ≡ true →
+      is_name name ≡ true → InlineReadsBack edition t level e → is_used name names ≡ false →
+      is_argument_value e ≡ true →
       ArgumentListReadsBack edition t level (name ∷ names) no_inlines ns →
       ArgumentListReadsBack edition t level names no_inlines (nameds (named_argument name e) ns)
   named_reads_back level names name e ns is h used value more = record {
@@ -400,7 +404,8 @@ module _ (edition : Edition) (t : List ℕ) where
   -- ---- the whole list
 
   -- a list with its brackets
-  pub call_reads_back : (level : ℕ) (ps : InlineTrees Text) (ns : NamedTrees Text) → ArgumentListReadsBack edition t level [] ps ns →
+  pub call_reads_back : (level : ℕ) (ps : InlineTrees Text) (ns : NamedTrees Text) →
+      ArgumentListReadsBack edition t level [] ps ns →
       (i : ℕ) (tail : List ℕ) → SuffixAt t i (arguments_bytes level (arguments ps ns) tail) →
       Reads t (call_arguments edition t) (maybe_map (bytes_at t)) i (some_arguments (arguments ps ns)) tail
   call_reads_back level ps ns h i tail l =
@@ -418,7 +423,8 @@ module _ (edition : Edition) (t : List ℕ) where
       at_end no_inlines (nameds y ys) k x n = absurd cc
       at_end (inlines y ys) ns k x n = absurd cc
 
-      inside : (k : ℕ) → SuffixAt t k (positional_bytes level true ps (named_bytes level (is_none_of ps) ns (41 ∷ tail))) →
+      inside : (k : ℕ) →
+          SuffixAt t k (positional_bytes level true ps (named_bytes level (is_none_of ps) ns (41 ∷ tail))) →
           Passes t (blank t) k (positional_bytes level true ps (named_bytes level (is_none_of ps) ns (41 ∷ tail)))
       inside k n = elim (h.begins (41 ∷ tail)) [
         | inl b ↦ passes_blanks [] _ refl (begins_other 32 b refl) (begins_other lf b refl) (begins_other cr b refl) n

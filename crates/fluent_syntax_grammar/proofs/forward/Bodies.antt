@@ -28,7 +28,8 @@ use Rattle.fluent_syntax_grammar.specs.RoundTrip.{ReadsAs, tree_of}
 use Rattle.fluent_syntax_grammar.proofs.Facts.{left_true, right_true, same_number}
 use Rattle.fluent_syntax_grammar.proofs.Tests.{differ}
 use Rattle.fluent_syntax_grammar.proofs.Cuts.{block_forward}
-use Rattle.fluent_syntax_grammar.proofs.SuffixAt.{SuffixAt, suffix_as, suffix_whole, suffix_first, suffix_next, suffix_end}
+use Rattle.fluent_syntax_grammar.proofs.SuffixAt.{SuffixAt, suffix_as, suffix_whole, suffix_first, suffix_next}
+use Rattle.fluent_syntax_grammar.proofs.SuffixAt.{suffix_end}
 use Rattle.fluent_syntax_grammar.proofs.forward.Reading.{Reads, reads_into}
 use Rattle.fluent_syntax_grammar.proofs.forward.Lines.{Ends, stop, blank_line, no_spaces, lf_after}
 use Rattle.fluent_syntax_grammar.proofs.forward.Entries.{EntryStart, no_entry, begins, entry_stops, no_block, Tiles}
@@ -272,12 +273,14 @@ module _ (edition : Edition) (t : List ℕ) where
     pub starts : EntryStart rest
     pub tiles : (j : ℕ) → SuffixAt t j rest → Tiles edition t j es
 
-  begins_there : (es : BodyTree Text) (bs : List ℕ) → EntryStart bs → ((j : ℕ) → SuffixAt t j bs → Tiles edition t j es) →
+  begins_there : (es : BodyTree Text) (bs : List ℕ) → EntryStart bs →
+      ((j : ℕ) → SuffixAt t j bs → Tiles edition t j es) →
       BodyReadsBack es bs
   begins_there es bs s k = record { rest = bs; ends = stop (entry_stops bs s); starts = s; tiles = k }
 
   -- the entry alone, or with its comment
-  field_reads_back : (content : Option (List Text)) (e : EntryTree Text) (es : BodyTree Text) (b : ℕ) (bs rest : List ℕ) →
+  field_reads_back : (content : Option (List Text)) (e : EntryTree Text) (es : BodyTree Text) (b : ℕ)
+      (bs rest : List ℕ) →
       option_obeys (canonical_rules edition).comment content ≡ true → takes_comment e ≡ true → is_entry_byte b ≡ true →
       (b == 35) ≡ false →
       ((j : ℕ) → SuffixAt t j (b ∷ bs) → Reads t (entry_at edition t) (entry_map (bytes_at t)) j e rest) →
@@ -322,7 +325,8 @@ module _ (edition : Edition) (t : List ℕ) where
   message_body (b ∷ bs) value more content es tail f o is h a k =
       let letter = left_true (is_letter b) (list_all is_name_byte bs) is in
       let after = bs ++ (32 ∷ 61 ∷ value_bytes value (lf ∷ more_attributes more tail)) in
-      field_reads_back content (message (record { id = b ∷ bs; value = value; attributes = more; comment = None })) es b after
+      field_reads_back content (message (record { id = b ∷ bs; value = value; attributes = more; comment = None }))
+      es b after
       k.rest o refl (letter_entry b letter) (differ is_letter b 35 letter refl)
       (λ j l. letter_reads j b after
       (message (record { id = b ∷ bs; value = value; attributes = more; comment = None })) k.rest letter l
@@ -366,7 +370,8 @@ module _ (edition : Edition) (t : List ℕ) where
   hashes_begin group (x ∷ xs) es tail o k = hashes_from group (x ∷ xs) es tail 35 _ refl refl o k
   hashes_begin resource (x ∷ xs) es tail o k = hashes_from resource (x ∷ xs) es tail 35 _ refl refl o k
 
-  gap_reads_back : (gap : Bool) (es : BodyTree Text) (bs : List ℕ) → BodyReadsBack es bs → BodyReadsBack es (gap_bytes gap bs)
+  gap_reads_back : (gap : Bool) (es : BodyTree Text) (bs : List ℕ) → BodyReadsBack es bs →
+      BodyReadsBack es (gap_bytes gap bs)
   gap_reads_back true es bs k = record { rest = k.rest; ends = blank_line k.ends; starts = k.starts; tiles = k.tiles }
   gap_reads_back false es bs k = k
 

@@ -27,7 +27,8 @@ use Rattle.fluent_syntax_grammar.proofs.Tests.{neither_left, neither_right, not_
 
 -- ---- the end of a line
 
-doubled_end : (t : List ℕ) (b : Bool) (i : ℕ) (tail : List ℕ) → SuffixAt t i (doubled b tail) → is_line_place t i ≡ false
+doubled_end : (t : List ℕ) (b : Bool) (i : ℕ) (tail : List ℕ) → SuffixAt t i (doubled b tail) →
+    is_line_place t i ≡ false
 doubled_end t false i tail l = rw (suffix_first l) refl
 doubled_end t true i tail l = rw (suffix_first l, suffix_first (suffix_next l)) refl
 
@@ -56,7 +57,8 @@ last_safe false tail = refl
 
 -- a line reaches to its end
 suffix_line : (t line tail : List ℕ) (i : ℕ) → has_lf line ≡ false →
-    SuffixAt t i (line ++ doubled (is_last cr (last_of None line)) tail) → LongestRun (is_line_place t) i (i + length line)
+    SuffixAt t i (line ++ doubled (is_last cr (last_of None line)) tail) →
+    LongestRun (is_line_place t) i (i + length line)
 suffix_line t [] tail i e l = let s : i ≡ i + 0 = omega arith in
     subst (λ n. LongestRun (is_line_place t) i n) s (find_here (is_line_place t) i i
     (doubled_end t false i tail l) refl)
@@ -87,7 +89,8 @@ hash_count t group i more e l =
     let two : SuffixAt t (i + 2) more = subst (λ n. SuffixAt t n more) (two_on i) (suffix_next (suffix_next l)) in
     rw (suffix_first l, suffix_first (suffix_next l), suffix_has (λ b. b == 35) two, e) refl
 hash_count t resource i more e l =
-    let two : SuffixAt t (i + 2) (35 ∷ more) = subst (λ n. SuffixAt t n (35 ∷ more)) (two_on i) (suffix_next (suffix_next l)) in
+    let two : SuffixAt t (i + 2) (35 ∷ more) =
+    subst (λ n. SuffixAt t n (35 ∷ more)) (two_on i) (suffix_next (suffix_next l)) in
     rw (suffix_first l, suffix_first (suffix_next l), suffix_first two) refl
 
 zero_no : (n : ℕ) → 0 ≡ suc n → ⊥
@@ -148,7 +151,8 @@ module _ (t : List ℕ) where
       (λ x j f m. passes_then (doubled_eol t (is_last cr (last_of None line)) j tail m)
       (λ k n. reads_yields (one_text (bytes_at t) x line f) n)))
 
-  line_reads_back : (level : Level) (line : Text) (i : ℕ) (tail : List ℕ) → is_plain_line line ≡ true → has_lf line ≡ false →
+  line_reads_back : (level : Level) (line : Text) (i : ℕ) (tail : List ℕ) → is_plain_line line ≡ true →
+      has_lf line ≡ false →
       SuffixAt t i (hashes_of level ++ after_hashes (is_nonblank_line line) line tail) →
       Reads t (comment_line t (count level)) (map (bytes_at t)) i (line ∷ []) tail
   line_reads_back level line i tail p e l =
@@ -176,7 +180,8 @@ module _ (t : List ℕ) where
       line_reads_back level line i (comment_bytes (hashes_of level) lines tail) (left_true (is_plain_line line) _ p)
       (not_true (has_lf line) (left_true (not (has_lf line)) _ a)) l in
       let others =
-      lines_read_back level lines one.end tail (right_true (is_plain_line line) _ p) (right_true (not (has_lf line)) _ a)
+      lines_read_back level lines one.end tail (right_true (is_plain_line line) _ p)
+      (right_true (not (has_lf line)) _ a)
       e one.rest in
       record {
         value = one.value ++ others.value;
@@ -196,7 +201,8 @@ module _ (t : List ℕ) where
   same_comment level xs ys line lines e f = rw (same_level level, same_lines xs ys line lines e f) refl
 
   -- a comment, before a byte that is no hash
-  pub comment_reads_back : (level : Level) (content : List Text) (i : ℕ) (tail : List ℕ) → is_plain_comment content ≡ true →
+  pub comment_reads_back : (level : Level) (content : List Text) (i : ℕ) (tail : List ℕ) →
+      is_plain_comment content ≡ true →
       are_lines content ≡ true → holds (λ b. b == 35) (first tail) ≡ false →
       SuffixAt t i (comment_bytes (hashes_of level) content tail) →
       Reads t (comment_entry t) (entry_map (bytes_at t)) i (comment level content) tail

@@ -93,13 +93,15 @@ pub record ExpressionReadsBack (edition : Edition) (t : List ℕ) (level : ℕ) 
       Reads t (expression edition t) (expression_map (bytes_at t)) i e (125 ∷ more)
 
 module _ (edition : Edition) (t : List ℕ) where
-  passes_if : (b : Bool) (gap more : List ℕ) (i : ℕ) → Follows gap more → SuffixAt t i (if b then more else gap ++ more) →
+  passes_if : (b : Bool) (gap more : List ℕ) (i : ℕ) → Follows gap more →
+      SuffixAt t i (if b then more else gap ++ more) →
       Passes t (blank t) i more
   passes_if true gap more i f l = passes_blanks [] more refl f.no_space f.no_lf f.no_cr l
   passes_if false gap more i f l = passes_blanks gap more f.spaces f.no_space f.no_lf f.no_cr l
 
   -- the blank after an inline expression, which reading it may have passed
-  pub passes_after : (e : InlineTree Text) (gap more : List ℕ) (i : ℕ) → Follows gap more → SuffixAt t i (past e gap more) →
+  pub passes_after : (e : InlineTree Text) (gap more : List ℕ) (i : ℕ) → Follows gap more →
+      SuffixAt t i (past e gap more) →
       Passes t (blank t) i more
   passes_after e gap more i f l = passes_if (passes_blank e) gap more i f l
 
@@ -119,7 +121,8 @@ module _ (edition : Edition) (t : List ℕ) where
       (reads_second (sym (same_attribute (bytes_at t) v) ∙ ap is_term_attribute f ∙ a)
       (reads_yields (ap inline f) n)))))
 
-  pub inline_is_read_back : (level : ℕ) (e : InlineTree Text) → is_term_attribute e ≡ false → InlineReadsBack edition t level e →
+  pub inline_is_read_back : (level : ℕ) (e : InlineTree Text) → is_term_attribute e ≡ false →
+      InlineReadsBack edition t level e →
       ExpressionReadsBack edition t level (inline e)
   inline_is_read_back level e a h = record {
     begins = λ tail. inline_begins edition level e tail h.obeys;
@@ -162,7 +165,8 @@ module _ (edition : Edition) (t : List ℕ) where
   -- ---- placeables that are elements
 
   -- a placeable as an element of a pattern is read back
-  pub double_reads_back : (level : ℕ) (e : ExpressionTree Text) (i : ℕ) (tail : List ℕ) → ExpressionReadsBack edition t level e →
+  pub double_reads_back : (level : ℕ) (e : ExpressionTree Text) (i : ℕ) (tail : List ℕ) →
+      ExpressionReadsBack edition t level e →
       SuffixAt t i (element_bytes level (placeable_element (inline (inline_placeable e))) tail) →
       Reads t (placeable edition t) (expression_map (bytes_at t)) i (inline (inline_placeable e)) tail
   double_reads_back level e i tail h l =

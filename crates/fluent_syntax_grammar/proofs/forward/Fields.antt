@@ -20,7 +20,8 @@ use Rattle.fluent_syntax_grammar.specs.Rules.{option_obeys, pattern_obeys, attri
 use Rattle.fluent_syntax_grammar.specs.Readable.{has_field}
 use Rattle.fluent_syntax_grammar.specs.Canonical.{canonical_rules}
 use Rattle.fluent_syntax_grammar.proofs.Facts.{left_true, right_true, some_same}
-use Rattle.fluent_syntax_grammar.proofs.SuffixAt.{SuffixAt, suffix_next, suffix_past, suffix_no_eol_after, suffix_byte_run}
+use Rattle.fluent_syntax_grammar.proofs.SuffixAt.{SuffixAt, suffix_next, suffix_past, suffix_no_eol_after}
+use Rattle.fluent_syntax_grammar.proofs.SuffixAt.{suffix_byte_run}
 use Rattle.fluent_syntax_grammar.proofs.forward.Reading.{Reads, reads_bind, reads_yields, reads_here, passes_then}
 use Rattle.fluent_syntax_grammar.proofs.forward.Reading.{passes_over, passes_token, passes_inline_blank}
 use Rattle.fluent_syntax_grammar.proofs.forward.Words.{reads_name}
@@ -129,7 +130,8 @@ module _ (edition : Edition) (t : List ℕ) where
       }
 
   -- the value of a message, or none
-  value_reads_back : (value : Option (PatternTree Text)) (more : List (AttributeTree Text)) (i : ℕ) (tail rest : List ℕ) →
+  value_reads_back : (value : Option (PatternTree Text)) (more : List (AttributeTree Text)) (i : ℕ)
+      (tail rest : List ℕ) →
       has_field value more ≡ true → option_obeys (pattern_obeys (canonical_rules edition)) value ≡ true →
       Ends tail rest → EntryStart rest → SuffixAt t i (value_bytes value (lf ∷ more_attributes more tail)) →
       Reads t (grammar.pattern edition t) (option_map (pattern_map (bytes_at t))) i value (before more tail rest)

@@ -23,7 +23,8 @@ use Rattle.fluent_syntax_grammar.specs.Inline as rules'
 use Rattle.fluent_syntax_grammar.specs.Grammar.{inline_expression, call_arguments}
 use Rattle.fluent_syntax_grammar.proofs.Facts.{left_true, right_true, equal}
 use Rattle.fluent_syntax_grammar.proofs.Tests.{or_cases, differ}
-use Rattle.fluent_syntax_grammar.proofs.SuffixAt.{SuffixAt, first, suffix_first, suffix_next, suffix_past, suffix_blank, is_blank_byte}
+use Rattle.fluent_syntax_grammar.proofs.SuffixAt.{SuffixAt, first, suffix_first, suffix_next, suffix_past, suffix_blank}
+use Rattle.fluent_syntax_grammar.proofs.SuffixAt.{is_blank_byte}
 use Rattle.fluent_syntax_grammar.proofs.forward.Reading.{Reads, Passes, reads_bind, reads_yields, passes_then}
 use Rattle.fluent_syntax_grammar.proofs.forward.Reading.{passes_over, reads_peek, reads_first, reads_second}
 use Rattle.fluent_syntax_grammar.proofs.forward.Reading.{reads_present, reads_absent, passes_token}
@@ -115,7 +116,8 @@ module _ (edition : Edition) (t : List ℕ) where
       (λ j m. reads_bind (reads_name id (gap ++ more) e f.no_name m)
       (λ s j g n. reads_yields (ap variable_reference g) n)))
 
-  number_as : (i : ℕ) (v gap more : List ℕ) → is_number v ≡ true → Follows gap more → SuffixAt t i (v ++ (gap ++ more)) →
+  number_as : (i : ℕ) (v gap more : List ℕ) → is_number v ≡ true → Follows gap more →
+      SuffixAt t i (v ++ (gap ++ more)) →
       Reads t (number t >>= λ v. yields (number_literal v)) (inline_map (bytes_at t)) i (number_literal v) (gap ++ more)
   number_as i v gap more e f l =
       reads_bind (reads_number v (gap ++ more) e f.no_digit f.no_point l)
@@ -141,7 +143,8 @@ module _ (edition : Edition) (t : List ℕ) where
       ]
 
   pub number_reads_back : (i level : ℕ) (v gap more : List ℕ) → is_number v ≡ true → Follows gap more →
-      SuffixAt t i (inline_bytes level (number_literal v) (gap ++ more)) → ReadsInline i (number_literal v) (gap ++ more)
+      SuffixAt t i (inline_bytes level (number_literal v) (gap ++ more)) →
+      ReadsInline i (number_literal v) (gap ++ more)
   number_reads_back i level v gap more e f l = elim (number_start i v (gap ++ more) e l) [
     | inl s ↦ reads_peek digit s (number_as i v gap more e f l)
     | inr s ↦ reads_peek minus s (number_as i v gap more e f l)

@@ -13,7 +13,8 @@ use Rattle.fluent_syntax_grammar.specs.Layout.{Piece, run, placed, lf_at, counte
 use Rattle.fluent_syntax_grammar.specs.Elements.{Item, with_ending, common_indent_end, items_from, line_items}
 use Rattle.fluent_syntax_grammar.specs.Lines.{belongs}
 use Rattle.fluent_syntax_grammar.specs.Written.{Text}
-use Rattle.fluent_syntax_grammar.proofs.SuffixAt.{SuffixAt, first, suffix_first, suffix_next, suffix_past, suffix_byte_run}
+use Rattle.fluent_syntax_grammar.proofs.SuffixAt.{SuffixAt, first, suffix_first, suffix_next, suffix_past}
+use Rattle.fluent_syntax_grammar.proofs.SuffixAt.{suffix_byte_run}
 use Rattle.fluent_syntax_grammar.proofs.forward.Spells.{Spells, spells_text}
 use Rattle.fluent_syntax_grammar.proofs.forward.Lines.{is_mark_byte, line_of, reads_own, reads_no_pieces, lf_eol}
 use Rattle.fluent_syntax_grammar.proofs.forward.Lines.{belongs_eol}

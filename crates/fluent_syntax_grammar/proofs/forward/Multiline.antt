@@ -27,7 +27,8 @@ use Rattle.fluent_syntax_grammar.proofs.marks.WrittenBytes.{element_bytes, eleme
 use Rattle.fluent_syntax_grammar.proofs.forward.Runs.{without_of, is_run_byte, TextForm, alone, with_lf, text_form}
 use Rattle.fluent_syntax_grammar.proofs.forward.Runs.{run_no_lf}
 use Rattle.fluent_syntax_grammar.proofs.forward.Lines.{Ends, reads_no_pieces, is_mark_byte}
-use Rattle.fluent_syntax_grammar.proofs.forward.Pieces.{ReadsMidLine, Starts, Run, mid_end, mid_placeable, mid_run, run_end}
+use Rattle.fluent_syntax_grammar.proofs.forward.Pieces.{ReadsMidLine, Starts, Run, mid_end, mid_placeable, mid_run}
+use Rattle.fluent_syntax_grammar.proofs.forward.Pieces.{run_end}
 use Rattle.fluent_syntax_grammar.proofs.forward.Pieces.{run_more, run_line}
 use Rattle.fluent_syntax_grammar.proofs.forward.LineStarts.{start_run, start_blank, start_placeable_one}
 use Rattle.fluent_syntax_grammar.proofs.forward.LineStarts.{start_placeable_two, start_spaces_two}
@@ -417,7 +418,8 @@ module _ (edition : Edition) (t : List ℕ) (level : ℕ) (rest : List ℕ) wher
       let only = lone_is v (left_true (is_lone_lf v) (are_lone (position_after v) (elements d es)) x) in
       let kept : i + length ind ≡ i + ((i + length ind) - i) = omega arith in
       start_blank edition t None ind v more d es numbers rest i (spaces_of (4 * level))
-      (suffix_as (ap (λ v. ind ++ (v ++ more)) only) l) (subst (λ p. SuffixAt t p (v ++ more)) kept (suffix_past ind l)) k
+      (suffix_as (ap (λ v. ind ++ (v ++ more)) only) l)
+      (subst (λ p. SuffixAt t p (v ++ more)) kept (suffix_past ind l)) k
 
 -- ---- spaces alone
 

@@ -32,7 +32,8 @@ use Rattle.fluent_syntax_grammar.proofs.forward.Spells.{spelled_pattern}
 use Rattle.fluent_syntax_grammar.proofs.marks.WrittenBytes.{element_bytes, elements_bytes, line_indent}
 use Rattle.fluent_syntax_grammar.proofs.forward.Runs.{is_run_byte, ends_in_cr_before, run_all, run_place, inside}
 use Rattle.fluent_syntax_grammar.proofs.forward.Lines.{Ends, reads_ending}
-use Rattle.fluent_syntax_grammar.proofs.forward.Pieces.{ReadsMidLine, mid_end, mid_placeable, mid_run, run_end, run_more}
+use Rattle.fluent_syntax_grammar.proofs.forward.Pieces.{ReadsMidLine, mid_end, mid_placeable, mid_run, run_end}
+use Rattle.fluent_syntax_grammar.proofs.forward.Pieces.{run_more}
 use Rattle.fluent_syntax_grammar.proofs.Tests.{neither_left, neither_right, not_true, without}
 use Rattle.fluent_syntax_grammar.proofs.LineEnds.{eol_none}
 
@@ -114,7 +115,8 @@ module _ (edition : Edition) (t : List ℕ) (level : ℕ) (common : Option ℕ) 
         has_lf v ≡ false →
         SuffixAt t i (v ++ element_bytes level (placeable e) (elements_bytes level false es (lf ∷ tail))) →
         ((j : ℕ) → SuffixAt t j (element_bytes level (placeable e) (elements_bytes level false es (lf ∷ tail))) →
-        ReadsBackFrom (elements (placeable e) es) j) → ReadsBackFrom (elements (text_element v) (elements (placeable e) es)) i
+        ReadsBackFrom (elements (placeable e) es) j) →
+        ReadsBackFrom (elements (text_element v) (elements (placeable e) es)) i
     text_before [] e es i g f l k = absurd cc
     text_before (b ∷ bs) e es i g f l k =
         let x = element_brace level e (elements_bytes level false es (lf ∷ tail)) in
@@ -141,7 +143,8 @@ module _ (edition : Edition) (t : List ℕ) (level : ℕ) (common : Option ℕ) 
         let x = element_brace level e (elements_bytes level false es (lf ∷ tail)) in
         mid_placeable edition t common e es [] i x.rest (elements_bytes level false es (lf ∷ tail)) rest
         (suffix_as x.are l)
-        (h.0.back i (elements_bytes level false es (lf ∷ tail)) l) (λ j m. line_reads_back es after_placeable j h.1 g f m)
+        (h.0.back i (elements_bytes level false es (lf ∷ tail)) l)
+        (λ j m. line_reads_back es after_placeable j h.1 g f m)
     line_reads_back (elements (text_element v) no_elements) s i h g f l =
         text_ends v i (left_true (is_text v) _ g) (not_true (has_lf v) (left_true (not (has_lf v)) true f))
         (left_true (ends_plainly v)

@@ -30,14 +30,16 @@ use Rattle.fluent_syntax_grammar.specs.Readable.{indents, may_be_first, begins_w
 use Rattle.fluent_syntax_grammar.specs.Canonical.{line_indents, are_flush, hides_mark, first_position, is_flush}
 use Rattle.fluent_syntax_grammar.proofs.Facts.{left_true, right_true, right_false, equal}
 use Rattle.fluent_syntax_grammar.proofs.Tests.{both, differ}
-use Rattle.fluent_syntax_grammar.proofs.SuffixAt.{SuffixAt, first, suffix_as, suffix_past, suffix_byte_run, suffix_next, suffix_no_eol_after}
+use Rattle.fluent_syntax_grammar.proofs.SuffixAt.{SuffixAt, first, suffix_as, suffix_past, suffix_byte_run, suffix_next}
+use Rattle.fluent_syntax_grammar.proofs.SuffixAt.{suffix_no_eol_after}
 use Rattle.fluent_syntax_grammar.proofs.forward.Reading.{Reads}
 use Rattle.fluent_syntax_grammar.proofs.marks.WrittenBytes.{element_bytes, elements_bytes, line_indent, pattern_bytes}
 use Rattle.fluent_syntax_grammar.proofs.forward.Entries.{PatternReadsBack}
 use Rattle.fluent_syntax_grammar.proofs.forward.Lines.{Ends, lf_after, no_spaces}
 use Rattle.fluent_syntax_grammar.proofs.forward.Pieces.{Starts}
 use Rattle.fluent_syntax_grammar.proofs.forward.Spells.{spelled_pattern}
-use Rattle.fluent_syntax_grammar.proofs.forward.OneLine.{ElementsReadBack, OpensAt, opens_run, opens_brace, element_brace}
+use Rattle.fluent_syntax_grammar.proofs.forward.OneLine.{ElementsReadBack, OpensAt, opens_run, opens_brace}
+use Rattle.fluent_syntax_grammar.proofs.forward.OneLine.{element_brace}
 use Rattle.fluent_syntax_grammar.proofs.forward.OneLine.{plain_no_cr, opening_reads_back}
 use Rattle.fluent_syntax_grammar.proofs.forward.Multiline.{Fit, fixed, lone, lines_mid, lines_start, split}
 use Rattle.fluent_syntax_grammar.proofs.forward.Multiline.{plain_not_line, blank_of, no_spaces_end}
@@ -335,7 +337,8 @@ module _ (edition : Edition) (t : List ℕ) (level : ℕ) (tail rest : List ℕ)
       (flush_at edition e es (least (line_indents edition opening (elements e es))) f) in
       let c = choose edition shift after_line (elements e es) flush in
       let n = suffix_next l in
-      opened_reads_back edition t c.common (map (λ n. shift + n) (line_indents edition after_line (elements e es))) e es i
+      opened_reads_back edition t c.common (map (λ n. shift + n) (line_indents edition after_line (elements e es)))
+      e es i
       (elements_bytes (level + 1) true (elements e es) (lf ∷ tail)) rest c.least_is l
       (first_line edition t (level + 1) c.common tail rest ends deep e es (i + 1) g n)
       (lines_start edition t (level + 1) c.common tail rest ends deep (elements e es) h (at_line edition e es a m g)

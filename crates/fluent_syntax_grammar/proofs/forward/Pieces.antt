@@ -29,7 +29,8 @@ use Rattle.fluent_syntax_grammar.proofs.Tests.{and_false, without}
 
 -- From a place within a line on, the rest of a pattern is read: the pieces of this line and its LF, and the later
 -- lines. Under this common indent their items spell the elements, and the lines count with these numbers.
-pub record ReadsMidLine (edition : Edition) (t : List ℕ) (common : Option ℕ) (es : PatternTree Text) (numbers : List ℕ) (i : ℕ)
+pub record ReadsMidLine (edition : Edition) (t : List ℕ) (common : Option ℕ) (es : PatternTree Text) (numbers : List ℕ)
+    (i : ℕ)
     (rest : List ℕ) : Type 0 where
   pub pieces : List Piece
   pub at : ℕ
@@ -93,7 +94,8 @@ module _ (edition : Edition) (t : List ℕ) where
       }
 
   -- a placeable within a line
-  reads_placed : {i j : ℕ} {bs : List ℕ} (x : ExpressionTree Span) (ps : List Piece) (at : ℕ) → SuffixAt t i (123 ∷ bs) →
+  reads_placed : {i j : ℕ} {bs : List ℕ} (x : ExpressionTree Span) (ps : List Piece) (at : ℕ) →
+      SuffixAt t i (123 ∷ bs) →
       grammar.placeable edition t i (Read x j) → grammar.more_pieces edition t j (Read ps at) →
       grammar.more_pieces edition t i (Read (placed x ∷ ps) at)
   reads_placed {i = i} {j = j} x ps at l p q =
@@ -131,7 +133,8 @@ module _ (edition : Edition) (t : List ℕ) where
   third_false false true z e = absurd cc
   third_false false false true e = absurd cc
 
-  reads_run : {i j b : ℕ} {bs : List ℕ} (ps : List Piece) (at : ℕ) → is_run_byte b ≡ true → SuffixAt t i (b ∷ bs) → i < j →
+  reads_run : {i j b : ℕ} {bs : List ℕ} (ps : List Piece) (at : ℕ) → is_run_byte b ≡ true → SuffixAt t i (b ∷ bs) →
+      i < j →
       LongestRun (is_run_place t) i j → grammar.more_pieces edition t j (Read ps at) →
       grammar.more_pieces edition t i (Read (run i j ∷ ps) at)
   reads_run {i = i} {j = j} {b = b} ps at e l m w q =

@@ -25,8 +25,10 @@ use Rattle.fluent_syntax_grammar.proofs.forward.Reading.{Reads, reads_bind, read
 use Rattle.fluent_syntax_grammar.proofs.forward.Reading.{reads_first, passes_token}
 use Rattle.fluent_syntax_grammar.proofs.forward.Words.{reads_name}
 use Rattle.fluent_syntax_grammar.proofs.marks.WrittenBytes.{attribute_bytes, maybe_bytes}
-use Rattle.fluent_syntax_grammar.proofs.forward.Inline.{Follows, starts_with, name_start, string_reads_back, variable_reads_back}
-use Rattle.fluent_syntax_grammar.proofs.forward.Inline.{number_reads_back, message_reads_back, message_attribute_reads_back, call_none}
+use Rattle.fluent_syntax_grammar.proofs.forward.Inline.{Follows, starts_with, name_start, string_reads_back}
+use Rattle.fluent_syntax_grammar.proofs.forward.Inline.{variable_reads_back}
+use Rattle.fluent_syntax_grammar.proofs.forward.Inline.{number_reads_back, message_reads_back}
+use Rattle.fluent_syntax_grammar.proofs.forward.Inline.{message_attribute_reads_back, call_none}
 use Rattle.fluent_syntax_grammar.proofs.forward.Inline.{no_accessor, some_accessor}
 use Rattle.fluent_syntax_grammar.proofs.forward.Arguments.{InlineReadsBack, ArgumentListReadsBack, call_reads_back}
 
@@ -98,7 +100,8 @@ module _ (edition : Edition) (t : List ℕ) where
 
   pub function_is_read_back : (level : ℕ) (id : Text) (ps : InlineTrees Text) (ns : NamedTrees Text) →
       inline_obeys (canonical_rules edition) (function_reference id (arguments ps ns)) ≡ true →
-      ArgumentListReadsBack edition t level [] ps ns → InlineReadsBack edition t level (function_reference id (arguments ps ns))
+      ArgumentListReadsBack edition t level [] ps ns →
+      InlineReadsBack edition t level (function_reference id (arguments ps ns))
   function_is_read_back level id ps ns h more = record {
     obeys = h;
     back = λ i gap rest f l.
@@ -116,7 +119,8 @@ module _ (edition : Edition) (t : List ℕ) where
   no_arguments_read_back level = record { back = λ i gap more f l. call_none edition t i gap more f l }
 
   pub some_arguments_read_back : (level : ℕ) (ps : InlineTrees Text) (ns : NamedTrees Text) →
-      ArgumentListReadsBack edition t level [] ps ns → MaybeArgumentsReadBack edition t level (some_arguments (arguments ps ns))
+      ArgumentListReadsBack edition t level [] ps ns →
+      MaybeArgumentsReadBack edition t level (some_arguments (arguments ps ns))
   some_arguments_read_back level ps ns h =
       record { back = λ i gap more f l. call_reads_back edition t level ps ns h i (gap ++ more) l }
 
@@ -141,7 +145,8 @@ module _ (edition : Edition) (t : List ℕ) where
 
   term_at :
       (level : ℕ) (id : Text) (attribute : Option Text) (a : MaybeArguments Text) (i : ℕ) (gap more : List ℕ) →
-      inline_obeys (canonical_rules edition) (term_reference id attribute a) ≡ true → MaybeArgumentsReadBack edition t level a →
+      inline_obeys (canonical_rules edition) (term_reference id attribute a) ≡ true →
+      MaybeArgumentsReadBack edition t level a →
       Follows gap more →
       SuffixAt t i (45 ∷ (id ++ attribute_bytes attribute (maybe_bytes level a (gap ++ more)))) →
       Reads t (inline_expression edition t) (inline_map (bytes_at t)) i (term_reference id attribute a)
@@ -157,7 +162,8 @@ module _ (edition : Edition) (t : List ℕ) where
       (λ x p d o. reads_bind (b.back p gap more f o) (λ y q w r. reads_yields (cc) r)))))
 
   pub term_is_read_back : (level : ℕ) (id : Text) (attribute : Option Text) (a : MaybeArguments Text) →
-      inline_obeys (canonical_rules edition) (term_reference id attribute a) ≡ true → MaybeArgumentsReadBack edition t level a →
+      inline_obeys (canonical_rules edition) (term_reference id attribute a) ≡ true →
+      MaybeArgumentsReadBack edition t level a →
       InlineReadsBack edition t level (term_reference id attribute a)
   term_is_read_back level id attribute no_arguments h b =
       record { obeys = h; back = λ i gap more f l. term_at level id attribute no_arguments i gap more h b f l }

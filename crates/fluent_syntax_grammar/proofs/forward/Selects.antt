@@ -33,7 +33,8 @@ use Rattle.fluent_syntax_grammar.proofs.marks.WrittenBytes.{inline_bytes, varian
 use Rattle.fluent_syntax_grammar.proofs.forward.Inline.{Follows, passes_blanks, letter_no_digit}
 use Rattle.fluent_syntax_grammar.proofs.forward.Arguments.{Begins, InlineReadsBack, inline_begins, name_begins}
 use Rattle.fluent_syntax_grammar.proofs.forward.Arguments.{number_begins, begins_other}
-use Rattle.fluent_syntax_grammar.proofs.forward.Expressions.{ExpressionReadsBack, passes_after, same_fault, spaces_blank}
+use Rattle.fluent_syntax_grammar.proofs.forward.Expressions.{ExpressionReadsBack, passes_after, same_fault}
+use Rattle.fluent_syntax_grammar.proofs.forward.Expressions.{spaces_blank}
 use Rattle.fluent_syntax_grammar.proofs.forward.Lines.{lf_after, stop, EndsPattern, column, indented, is_mark_byte}
 use Rattle.fluent_syntax_grammar.proofs.forward.Lines.{is_column_byte}
 use Rattle.fluent_syntax_grammar.proofs.forward.Entries.{PatternReadsBack}
@@ -286,7 +287,8 @@ module _ (edition : Edition) (t : List ℕ) where
           expression_map (bytes_at t) (select v ws) ≡ select e vs
       same_select ws d = cc
 
-  pub select_is_read_back : (level : ℕ) (e : InlineTree Text) (vs : VariantTrees Text) → is_none (selector_fault e) ≡ true →
+  pub select_is_read_back : (level : ℕ) (e : InlineTree Text) (vs : VariantTrees Text) →
+      is_none (selector_fault e) ≡ true →
       InlineReadsBack edition t level e → VariantsReadBack edition t (level + 1) false vs →
       ExpressionReadsBack edition t level (select e vs)
   select_is_read_back level e vs g h k = record {

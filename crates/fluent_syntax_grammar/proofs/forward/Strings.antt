@@ -13,7 +13,8 @@ use Rattle.fluent_syntax_grammar.specs.Strings.{before_quote, unit_and_more, str
 use Rattle.fluent_syntax_grammar.specs.Spellings.{is_units, is_escape, is_string}
 use Rattle.fluent_syntax_grammar.proofs.Facts.{left_true, right_true, equal}
 use Rattle.fluent_syntax_grammar.proofs.Tests.{both, or_cases}
-use Rattle.fluent_syntax_grammar.proofs.SuffixAt.{SuffixAt, suffix_as, suffix_first, suffix_next, suffix_past, suffix_has, suffix_each}
+use Rattle.fluent_syntax_grammar.proofs.SuffixAt.{SuffixAt, suffix_as, suffix_first, suffix_next, suffix_past}
+use Rattle.fluent_syntax_grammar.proofs.SuffixAt.{suffix_has, suffix_each}
 use Rattle.fluent_syntax_grammar.proofs.forward.Reading.{Reads, Passes, reads_bind, reads_yields, passes_then}
 use Rattle.fluent_syntax_grammar.proofs.forward.Reading.{reads_here, reads_peek, reads_first, reads_second}
 use Rattle.fluent_syntax_grammar.proofs.forward.Reading.{passes_one, passes_two, passes_token, reads_spanned}

@@ -15,21 +15,27 @@ use Rattle.fluent_syntax_grammar.specs.Spellings.{is_name}
 use Rattle.fluent_syntax_grammar.specs.Inline.{is_callee_byte}
 use Rattle.fluent_syntax_grammar.specs.Arguments.{is_used}
 use Rattle.fluent_syntax_grammar.specs.Expressions.{is_term_attribute, selector_fault}
-use Rattle.fluent_syntax_grammar.specs.Rules.{inline_obeys, optional_arguments_obey, arguments_obey, inlines_obey, named_arguments_obey}
+use Rattle.fluent_syntax_grammar.specs.Rules.{inline_obeys, optional_arguments_obey, arguments_obey, inlines_obey}
+use Rattle.fluent_syntax_grammar.specs.Rules.{named_arguments_obey}
 use Rattle.fluent_syntax_grammar.specs.Rules.{named_obeys, expression_obeys, variants_obey, variant_obeys, key_obeys}
 use Rattle.fluent_syntax_grammar.specs.Rules.{option_obeys, elements_obey, pattern_obeys}
 use Rattle.fluent_syntax_grammar.specs.Readable.{are_named_well, is_argument_value, is_expression, is_pattern, defaults}
 use Rattle.fluent_syntax_grammar.specs.Canonical.{canonical_rules, is_flush}
 use Rattle.fluent_syntax_grammar.proofs.Obeys.{inline_part, select_parts}
 use Rattle.fluent_syntax_grammar.proofs.Facts.{left_true, right_true, equal}
-use Rattle.fluent_syntax_grammar.proofs.forward.Arguments.{InlineReadsBack, ArgumentListReadsBack, nothing_reads_back, positional_reads_back}
+use Rattle.fluent_syntax_grammar.proofs.forward.Arguments.{InlineReadsBack, ArgumentListReadsBack, nothing_reads_back}
+use Rattle.fluent_syntax_grammar.proofs.forward.Arguments.{positional_reads_back}
 use Rattle.fluent_syntax_grammar.proofs.forward.Arguments.{named_reads_back}
-use Rattle.fluent_syntax_grammar.proofs.forward.References.{MaybeArgumentsReadBack, string_is_read_back, number_is_read_back, variable_is_read_back}
-use Rattle.fluent_syntax_grammar.proofs.forward.References.{message_is_read_back, function_is_read_back, term_is_read_back}
+use Rattle.fluent_syntax_grammar.proofs.forward.References.{MaybeArgumentsReadBack, string_is_read_back}
+use Rattle.fluent_syntax_grammar.proofs.forward.References.{number_is_read_back, variable_is_read_back}
+use Rattle.fluent_syntax_grammar.proofs.forward.References.{message_is_read_back, function_is_read_back}
+use Rattle.fluent_syntax_grammar.proofs.forward.References.{term_is_read_back}
 use Rattle.fluent_syntax_grammar.proofs.forward.References.{no_arguments_read_back, some_arguments_read_back}
-use Rattle.fluent_syntax_grammar.proofs.forward.Expressions.{ExpressionReadsBack, inline_is_read_back, placeable_is_read_back}
+use Rattle.fluent_syntax_grammar.proofs.forward.Expressions.{ExpressionReadsBack, inline_is_read_back}
+use Rattle.fluent_syntax_grammar.proofs.forward.Expressions.{placeable_is_read_back}
 use Rattle.fluent_syntax_grammar.proofs.forward.Expressions.{placeable_reads_back, double_reads_back}
-use Rattle.fluent_syntax_grammar.proofs.forward.Selects.{VariantsReadBack, select_is_read_back, variants_end_reads_back, variant_reads_back}
+use Rattle.fluent_syntax_grammar.proofs.forward.Selects.{VariantsReadBack, select_is_read_back, variants_end_reads_back}
+use Rattle.fluent_syntax_grammar.proofs.forward.Selects.{variant_reads_back}
 use Rattle.fluent_syntax_grammar.proofs.forward.Selects.{default_reads_back, key_obeys'}
 use Rattle.fluent_syntax_grammar.proofs.forward.OneLine.{ElementReadsBack, ElementsReadBack}
 use Rattle.fluent_syntax_grammar.proofs.forward.OneLinePatterns.{one_line_reads_back}
@@ -63,7 +69,8 @@ module _ (edition : Edition) (t : List ℕ) where
   string_element level v h =
       record {
         back =
-            λ i tail l. placeable_reads_back edition t level (inline (string_literal v)) (32 ∷ []) (32 ∷ []) tail i refl refl
+            λ i tail l. placeable_reads_back edition t level (inline (string_literal v)) (32 ∷ [])
+            (32 ∷ []) tail i refl refl
             (inline_is_read_back edition t level (string_literal v) refl h) l;
       }
 
@@ -72,7 +79,8 @@ module _ (edition : Edition) (t : List ℕ) where
   number_element level v h =
       record {
         back =
-            λ i tail l. placeable_reads_back edition t level (inline (number_literal v)) (32 ∷ []) (32 ∷ []) tail i refl refl
+            λ i tail l. placeable_reads_back edition t level (inline (number_literal v)) (32 ∷ [])
+            (32 ∷ []) tail i refl refl
             (inline_is_read_back edition t level (number_literal v) refl h) l;
       }
 
@@ -82,17 +90,20 @@ module _ (edition : Edition) (t : List ℕ) where
   function_element level id a h =
       record {
         back =
-            λ i tail l. placeable_reads_back edition t level (inline (function_reference id a)) (32 ∷ []) (32 ∷ []) tail i
+            λ i tail l. placeable_reads_back edition t level (inline (function_reference id a)) (32 ∷ [])
+            (32 ∷ []) tail i
             refl
             refl (inline_is_read_back edition t level (function_reference id a) refl h) l;
       }
 
-  message_element : (level : ℕ) (id : Text) (a : Option Text) → InlineReadsBack edition t level (message_reference id a) →
+  message_element : (level : ℕ) (id : Text) (a : Option Text) →
+      InlineReadsBack edition t level (message_reference id a) →
       ElementReadsBack edition t level (inline (message_reference id a))
   message_element level id a h =
       record {
         back =
-            λ i tail l. placeable_reads_back edition t level (inline (message_reference id a)) (32 ∷ []) (32 ∷ []) tail i refl
+            λ i tail l. placeable_reads_back edition t level (inline (message_reference id a)) (32 ∷ [])
+            (32 ∷ []) tail i refl
             refl (inline_is_read_back edition t level (message_reference id a) refl h) l;
       }
 
@@ -102,7 +113,8 @@ module _ (edition : Edition) (t : List ℕ) where
   term_element level id a c e h =
       record {
         back =
-            λ i tail l. placeable_reads_back edition t level (inline (term_reference id a c)) (32 ∷ []) (32 ∷ []) tail i refl
+            λ i tail l. placeable_reads_back edition t level (inline (term_reference id a c)) (32 ∷ [])
+            (32 ∷ []) tail i refl
             refl
             (inline_is_read_back edition t level (term_reference id a c) e h) l;
       }
@@ -112,7 +124,8 @@ module _ (edition : Edition) (t : List ℕ) where
   variable_element level id h =
       record {
         back =
-            λ i tail l. placeable_reads_back edition t level (inline (variable_reference id)) (32 ∷ []) (32 ∷ []) tail i refl
+            λ i tail l. placeable_reads_back edition t level (inline (variable_reference id)) (32 ∷ [])
+            (32 ∷ []) tail i refl
             refl
             (inline_is_read_back edition t level (variable_reference id) refl h) l;
       }
@@ -152,7 +165,8 @@ module _ (edition : Edition) (t : List ℕ) where
       )
 
   mutual
-    expression_reads_back : (level : ℕ) (e : ExpressionTree Text) → expression_obeys (canonical_rules edition) e ≡ true →
+    expression_reads_back : (level : ℕ) (e : ExpressionTree Text) →
+        expression_obeys (canonical_rules edition) e ≡ true →
         ExpressionReadsBack edition t level e
     expression_reads_back level (inline e) h =
         inline_is_read_back edition t level e
@@ -161,7 +175,8 @@ module _ (edition : Edition) (t : List ℕ) where
         (inline_reads_back level e (right_true (not (is_term_attribute e) && true) _ h))
     expression_reads_back level (select e vs) h =
         select_is_read_back edition t level e vs (select_simple e vs h)
-        (inline_reads_back level e (left_true (inline_obeys (canonical_rules edition) e) _ (select_parts edition e vs h)))
+        (inline_reads_back level e (left_true (inline_obeys (canonical_rules edition) e) _
+        (select_parts edition e vs h)))
         (one_reads_back (level + 1) vs (select_one e vs h)
         (right_true (inline_obeys (canonical_rules edition) e) _ (select_parts edition e vs h)))
 
@@ -171,15 +186,18 @@ module _ (edition : Edition) (t : List ℕ) where
     inline_reads_back level (number_literal v) h = number_is_read_back edition t level v h
     inline_reads_back level (function_reference id (arguments ps ns)) h =
         function_is_read_back edition t level id ps ns h
-        (list_reads_back level (arguments ps ns) (right_true (list_all is_callee_byte id) _ (right_true (is_name id) _ h)))
+        (list_reads_back level (arguments ps ns) (right_true (list_all is_callee_byte id) _
+        (right_true (is_name id) _ h)))
     inline_reads_back level (message_reference id a) h = message_is_read_back edition t level id a h
     inline_reads_back level (term_reference id a c) h =
         term_is_read_back edition t level id a c h
         (maybe_reads_back level c (right_true (option_obeys is_name a) _ (right_true (is_name id) _ h)))
     inline_reads_back level (variable_reference id) h = variable_is_read_back edition t level id h
-    inline_reads_back level (inline_placeable e) h = placeable_is_read_back edition t level e h (expression_reads_back level e h)
+    inline_reads_back level (inline_placeable e) h =
+        placeable_is_read_back edition t level e h (expression_reads_back level e h)
 
-    maybe_reads_back : (level : ℕ) (a : MaybeArguments Text) → optional_arguments_obey (canonical_rules edition) a ≡ true →
+    maybe_reads_back : (level : ℕ) (a : MaybeArguments Text) →
+        optional_arguments_obey (canonical_rules edition) a ≡ true →
         MaybeArgumentsReadBack edition t level a
     maybe_reads_back level no_arguments h = no_arguments_read_back edition t level
     maybe_reads_back level (some_arguments (arguments ps ns)) h =
@@ -203,7 +221,8 @@ module _ (edition : Edition) (t : List ℕ) where
         (positionals_read_back level es ns (right_true (inline_obeys (canonical_rules edition) e) _ h) k)
 
     nameds_read_back : (level : ℕ) (names : List Text) (ns : NamedTrees Text) → are_named_well names ns ≡ true →
-        named_arguments_obey (canonical_rules edition) ns ≡ true → ArgumentListReadsBack edition t level names no_inlines ns
+        named_arguments_obey (canonical_rules edition) ns ≡ true →
+        ArgumentListReadsBack edition t level names no_inlines ns
     nameds_read_back level names no_named g h = nothing_reads_back edition t level names
     nameds_read_back level names (nameds (named_argument name e) ns) g h =
         let this = left_true (named_obeys (canonical_rules edition) (named_argument name e)) _ h in
@@ -242,7 +261,8 @@ module _ (edition : Edition) (t : List ℕ) where
         variant_reads_back edition t level true key value vs
         (key_is key (left_true (key_obeys (canonical_rules edition) key) _ this))
         (pattern_reads_back value (right_true (key_obeys (canonical_rules edition) key) _ this) level)
-        (none_reads_back level vs e (right_true (variant_obeys (canonical_rules edition) (variant key value false)) _ h))
+        (none_reads_back level vs e
+        (right_true (variant_obeys (canonical_rules edition) (variant key value false)) _ h))
     none_reads_back level (variants (variant key value true) vs) e h = absurd (omega arith)
 
     -- Every pattern is read back.
@@ -275,7 +295,8 @@ module _ (edition : Edition) (t : List ℕ) where
     element_reads_back (select e vs) h level =
         select_element level e vs
         (select_is_read_back edition t level e vs (select_simple e vs h)
-        (inline_reads_back level e (left_true (inline_obeys (canonical_rules edition) e) _ (select_parts edition e vs h)))
+        (inline_reads_back level e (left_true (inline_obeys (canonical_rules edition) e) _
+        (select_parts edition e vs h)))
         (one_reads_back (level + 1) vs (select_one e vs h)
         (right_true (inline_obeys (canonical_rules edition) e) _ (select_parts edition e vs h))))
     element_reads_back (inline (string_literal v)) h level =
@@ -284,7 +305,8 @@ module _ (edition : Edition) (t : List ℕ) where
         number_element level v (number_is_read_back edition t level v (inline_part edition (number_literal v) h))
     element_reads_back (inline (function_reference id (arguments ps ns))) h level =
         function_element level id (arguments ps ns)
-        (function_is_read_back edition t level id ps ns (inline_part edition (function_reference id (arguments ps ns)) h)
+        (function_is_read_back edition t level id ps ns
+        (inline_part edition (function_reference id (arguments ps ns)) h)
         (list_reads_back level (arguments ps ns)
         (right_true (list_all is_callee_byte id)
         _ (right_true (is_name id) _ (inline_part edition (function_reference id (arguments ps ns)) h)))))
@@ -298,6 +320,7 @@ module _ (edition : Edition) (t : List ℕ) where
         (right_true (option_obeys is_name a)
         _ (right_true (is_name id) _ (inline_part edition (term_reference id a c) h)))))
     element_reads_back (inline (variable_reference id)) h level =
-        variable_element level id (variable_is_read_back edition t level id (inline_part edition (variable_reference id) h))
+        variable_element level id (variable_is_read_back edition t level id
+        (inline_part edition (variable_reference id) h))
     element_reads_back (inline (inline_placeable e)) h level =
         double_element level e (expression_reads_back level e (inline_part edition (inline_placeable e) h))

@@ -21,7 +21,8 @@ use Rattle.fluent_syntax_grammar.specs.Written.{attribute_marks, more_joined, ex
 use Rattle.fluent_syntax_grammar.specs.Written.{variant_marks, inline_marks, maybe_marks, arguments_marks}
 use Rattle.fluent_syntax_grammar.specs.Written.{positional_marks, named_marks, argument_marks, elements_marks}
 use Rattle.fluent_syntax_grammar.specs.Written.{element_marks, pattern_marks}
-use Rattle.fluent_syntax_grammar.specs.Rules.{inline_obeys, optional_arguments_obey, arguments_obey, inlines_obey, named_arguments_obey}
+use Rattle.fluent_syntax_grammar.specs.Rules.{inline_obeys, optional_arguments_obey, arguments_obey, inlines_obey}
+use Rattle.fluent_syntax_grammar.specs.Rules.{named_arguments_obey}
 use Rattle.fluent_syntax_grammar.specs.Rules.{named_obeys, expression_obeys, variants_obey, variant_obeys, key_obeys}
 use Rattle.fluent_syntax_grammar.specs.Rules.{option_obeys, elements_obey, pattern_obeys}
 use Rattle.fluent_syntax_grammar.specs.Readable.{ElementPosition, opening, position_after, after_placeable}
@@ -171,7 +172,8 @@ more_marks level e es h k rest ms =
     ∙ ap (text_after None) (append_assoc (inline_marks level e) more ms) ∙ h (more ++ ms)
     ∙ ap (inline_bytes level e) (k rest ms))
 
-named_more : (level : ℕ) (n : NamedTree Text) (ns : NamedTrees Text) → NamedArgumentMarks level n → NamedMarks level ns →
+named_more : (level : ℕ) (n : NamedTree Text) (ns : NamedTrees Text) → NamedArgumentMarks level n →
+    NamedMarks level ns →
     NamedMarks level (nameds n ns)
 named_more level n ns h k ms =
     let more = more_joined level (named_marks level ns) in
@@ -201,7 +203,8 @@ parentheses level inside bytes k ms =
 nothing_marks : (level : ℕ) → ArgumentsMarks level (arguments no_inlines no_named)
 nothing_marks level ms = parentheses level [] (λ x. x) (λ ms. refl) ms
 
-named_first : (level : ℕ) (n : NamedTree Text) (ns : NamedTrees Text) → NamedArgumentMarks level n → NamedMarks level ns →
+named_first : (level : ℕ) (n : NamedTree Text) (ns : NamedTrees Text) → NamedArgumentMarks level n →
+    NamedMarks level ns →
     ArgumentsMarks level (arguments no_inlines (nameds n ns))
 named_first level n ns h k ms =
     let more = more_joined level (named_marks level ns) in
@@ -423,7 +426,8 @@ module _ (edition : Edition) where
         named_more level n ns (one_then level n (left_true (named_obeys (canonical_rules edition) n) _ h))
         (nameds_then level ns (right_true (named_obeys (canonical_rules edition) n) _ h))
 
-    one_then : (level : ℕ) (n : NamedTree Text) → named_obeys (canonical_rules edition) n ≡ true → NamedArgumentMarks level n
+    one_then : (level : ℕ) (n : NamedTree Text) → named_obeys (canonical_rules edition) n ≡ true →
+        NamedArgumentMarks level n
     one_then level (named_argument name e) h =
         one_marks level name e (left_true (is_name name) _ h) (inline_then level e (right_true (is_name name) _ h))
 

@@ -9,7 +9,8 @@ use Rattle.std.proofs.lemmas.List.{length-take-le, get_or-take, get_or_past, get
 use Rattle.std.proofs.lemmas.List.{take-take}
 use Rattle.std.proofs.Math.Seq.{map-set_same}
 use Rattle.fluent_syntax_names.specs.Graph.{Graph, Reaches, edges, target}
-use Rattle.fluent_syntax_names.specs.Search.{SearchInvariant, State_of, at, pending_at, SameOrLaterSegment, EdgeHandled, at_done, at_open, to_come}
+use Rattle.fluent_syntax_names.specs.Search.{SearchInvariant, State_of, at, pending_at, SameOrLaterSegment, EdgeHandled}
+use Rattle.fluent_syntax_names.specs.Search.{at_done, at_open, to_come}
 use Rattle.fluent_syntax_names.specs.Search.{LeadsToDone, is_new, last_of, news}
 use Rattle.fluent_syntax_names.specs.declared.graph.search.Pending.{Pending}
 use Rattle.fluent_syntax_names.specs.declared.graph.search.State.{State}
@@ -239,7 +240,8 @@ module _ (g : Graph) (states : List State) (stack starts : List ℕ) (pending : 
         (subst (λ (x : ℕ). Reaches g (at stack i) x) (sym (at_stack j j_low))
         (sound.reach i j (omega arith) (omega arith) (back_long i j i_low back)))
 
-    looked_now : (i k t : ℕ) → i < start → EdgeHandled states starts pending i k t → EdgeHandled now short_starts pending i k t
+    looked_now : (i k t : ℕ) → i < start → EdgeHandled states starts pending i k t →
+        EdgeHandled now short_starts pending i k t
     looked_now i k t h (at_done c e) = at_done c (now_done t c e)
     looked_now i k t h (at_open j e back) = elim (cases_lt j start) [
       | inl w ↦ at_open j (now_open t j e w) (same_or_later_short i j back)

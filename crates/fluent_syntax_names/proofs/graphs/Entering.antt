@@ -3,7 +3,8 @@ use Rattle.std.proofs.Common.{◌≡◌, ℕ, ◌+◌, ◌<◌, ◌≤◌, ◌�
 use Rattle.std.proofs.Common.{get_or, set, refl, sym, ap, ◌∙◌, arith, subst}
 use Rattle.std.proofs.lemmas.List.{length_push, length-set, map-set, length-map}
 use Rattle.fluent_syntax_names.specs.Graph.{Graph, Reaches, here, edges, target}
-use Rattle.fluent_syntax_names.specs.Search.{SearchInvariant, State_of, at, pending_at, SameOrLaterSegment, EdgeHandled, at_done, at_open, to_come}
+use Rattle.fluent_syntax_names.specs.Search.{SearchInvariant, State_of, at, pending_at, SameOrLaterSegment, EdgeHandled}
+use Rattle.fluent_syntax_names.specs.Search.{at_done, at_open, to_come}
 use Rattle.fluent_syntax_names.specs.Search.{LeadsToDone, is_new, news, count_new}
 use Rattle.fluent_syntax_names.specs.declared.graph.search.Pending.{Pending}
 use Rattle.fluent_syntax_names.specs.declared.graph.search.State.{State}

@@ -4,7 +4,8 @@ use Rattle.std.proofs.Common.{◌∙◌, arith, subst}
 use Rattle.std.proofs.lemmas.Bool.{cases_lt}
 use Rattle.std.proofs.lemmas.List.{length-take-le, get_or-take, length-set}
 use Rattle.fluent_syntax_names.specs.Graph.{Graph, HasEdge, Reaches, edges, target}
-use Rattle.fluent_syntax_names.specs.Search.{SearchInvariant, at, pending_at, SameOrLaterSegment, EdgeHandled, at_done, at_open, to_come}
+use Rattle.fluent_syntax_names.specs.Search.{SearchInvariant, at, pending_at, SameOrLaterSegment, EdgeHandled, at_done}
+use Rattle.fluent_syntax_names.specs.Search.{at_open, to_come}
 use Rattle.fluent_syntax_names.specs.declared.graph.search.Pending.{Pending}
 use Rattle.fluent_syntax_names.specs.declared.graph.search.State.{State}
 use Rattle.fluent_syntax_names.proofs.graphs.Lists.{never_down, written}

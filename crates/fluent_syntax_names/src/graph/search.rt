@@ -2,7 +2,8 @@
 ghost use Rattle.std.specs.Prelude.{◌≡◌, ◌<◌, ◌≤◌, ◌+◌, ◌-◌, ℕ, IfOk, OnOk, false, length, map, slice_set, MatchOption};
 ghost use Rattle.std.specs.Prelude.{get_or, Option, Some, None, vec_len, take};
 ghost use Rattle.fluent_syntax_names.specs.Graph.{IsGraph, HasEdge, edges, targets_of};
-ghost use Rattle.fluent_syntax_names.specs.Search.{HasSearchInvariant, Fresh, NoneNewer, State_of, news, last_of, at, pending_at};
+ghost use Rattle.fluent_syntax_names.specs.Search.{HasSearchInvariant, Fresh, NoneNewer, State_of, news, last_of, at};
+ghost use Rattle.fluent_syntax_names.specs.Search.{pending_at};
 ghost use Rattle.fluent_syntax_names.specs.Search.{IsBehind, IsLastPending, IsSeen, number_of};
 
 use std::alloc::{AllocError, Global};

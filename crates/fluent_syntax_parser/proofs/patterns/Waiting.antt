@@ -6,7 +6,8 @@ use Rattle.fluent_syntax_tree.specs.declared.edition.Edition.{Edition}
 use Rattle.fluent_syntax_tree.specs.declared.edition.Edition.TheVariants.{One, Two}
 use Rattle.fluent_syntax_grammar.specs.Layout.{Ending, lf_at, crlf_at, text_end, LineOf, PieceOf, placed, run}
 use Rattle.fluent_syntax_parser.specs.Elements.{blank_line_items, flushed, indent_of, kept_place, leading, pending_run}
-use Rattle.fluent_syntax_grammar.specs.Elements.{ItemOf, placeable_item, items_from, common_indent_end, line_items, text}
+use Rattle.fluent_syntax_grammar.specs.Elements.{ItemOf, placeable_item, items_from, common_indent_end, line_items}
+use Rattle.fluent_syntax_grammar.specs.Elements.{text}
 use Rattle.fluent_syntax_grammar.specs.Elements.{with_ending}
 
 module _ {E : Type 0} where

@@ -1,7 +1,8 @@
 //! The items that the lines of a pattern spell.
 ghost use Rattle.std.specs.Prelude.{◌≡◌, ◌+◌, ◌<◌, ◌^◌, ◌++◌, [], map, OnOk};
 ghost use Rattle.std.specs.List.{flat_map};
-ghost use Rattle.fluent_syntax_parser.specs.Elements.{blank_line_items, flushed, indent_of, item_shape, kept_place, leading};
+ghost use Rattle.fluent_syntax_parser.specs.Elements.{blank_line_items, flushed, indent_of, item_shape, kept_place};
+ghost use Rattle.fluent_syntax_parser.specs.Elements.{leading};
 ghost use Rattle.fluent_syntax_parser.specs.Elements.{pending_run, rest_items};
 ghost use Rattle.fluent_syntax_grammar.specs.Elements.{line_items, with_ending};
 ghost use Rattle.fluent_syntax_parser.specs.Endings.{EndsWithin};

@@ -70,7 +70,8 @@ crlf_at_end (b ∷ c ∷ d ∷ bs) none =
     rw (other, and_false (b == cr)) (crlf_at_end (c ∷ d ∷ bs) rest)
 
 by_parts : (placeable_item braces lfs crlf at_end : Bool) → (lfs ≡ false → crlf ≡ at_end)
-    → (placeable_item && ((not braces && not lfs) && not at_end)) ≡ (placeable_item && (not braces && (not crlf && not lfs)))
+    → (placeable_item && ((not braces && not lfs) && not at_end))
+    ≡ (placeable_item && (not braces && (not crlf && not lfs)))
 by_parts false braces lfs crlf at_end same = refl
 by_parts true true lfs crlf at_end same = refl
 by_parts true false true crlf at_end same = sym (and_false (not crlf))

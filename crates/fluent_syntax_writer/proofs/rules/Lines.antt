@@ -14,7 +14,8 @@ least_of_two-assoc : (a b c : Option ℕ) → least_of_two a (least_of_two b c) 
 least_of_two-assoc None b c = refl
 least_of_two-assoc (Some a) None c = refl
 least_of_two-assoc (Some a) (Some b) None = refl
-least_of_two-assoc (Some a) (Some b) (Some c) = let same : min a (min b c) ≡ min (min a b) c = omega arith in ap Some same
+least_of_two-assoc (Some a) (Some b) (Some c) = let same : min a (min b c) ≡ min (min a b) c = omega arith in
+    ap Some same
 
 least-before : (number : Option ℕ) (numbers : List ℕ)
     → least (option_to_list number ++ numbers) ≡ least_of_two number (least numbers)

@@ -4,7 +4,8 @@ ghost use Rattle.fluent_syntax_tree.specs.Tree.{nameds_of, variants_of};
 ghost use Rattle.fluent_syntax_tree.specs.View.{message_view, comment_view, expression_view, inline_view};
 ghost use Rattle.fluent_syntax_tree.specs.View.{variant_view, arguments_view, named_view};
 ghost use Rattle.fluent_syntax_writer.specs.SingleRule.{junk_keeps, message_keeps, comment_keeps, expression_keeps};
-ghost use Rattle.fluent_syntax_writer.specs.SingleRule.{select_keeps, content_keeps, named_arguments_keep, arguments_keep};
+ghost use Rattle.fluent_syntax_writer.specs.SingleRule.{select_keeps, content_keeps, named_arguments_keep};
+ghost use Rattle.fluent_syntax_writer.specs.SingleRule.{arguments_keep};
 ghost use Rattle.fluent_syntax_writer.specs.SingleRule.{callee_keeps, string_keeps, number_keeps, name_keeps};
 
 pub mod patterns;

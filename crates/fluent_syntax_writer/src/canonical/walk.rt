@@ -6,7 +6,8 @@ ghost use Rattle.fluent_syntax_tree.specs.View.{identifier_view, key_view, expre
 ghost use Rattle.fluent_syntax_tree.specs.View.{arguments_view, named_view, element_view, pattern_view, variant_view};
 ghost use Rattle.fluent_syntax_tree.specs.View.{comment_view, attribute_view, message_view, term_view, entry_view};
 ghost use Rattle.fluent_syntax_grammar.specs.Rules.{option_obeys, key_obeys, expression_obeys, inline_obeys};
-ghost use Rattle.fluent_syntax_grammar.specs.Rules.{optional_arguments_obey, arguments_obey, inlines_obey, named_arguments_obey};
+ghost use Rattle.fluent_syntax_grammar.specs.Rules.{optional_arguments_obey, arguments_obey, inlines_obey};
+ghost use Rattle.fluent_syntax_grammar.specs.Rules.{named_arguments_obey};
 ghost use Rattle.fluent_syntax_grammar.specs.Rules.{named_obeys, pattern_obeys, elements_obey, element_obeys};
 ghost use Rattle.fluent_syntax_grammar.specs.Rules.{variants_obey, variant_obeys, attribute_obeys, message_obeys};
 ghost use Rattle.fluent_syntax_grammar.specs.Rules.{term_obeys, entry_obeys, body_obeys};
@@ -250,7 +251,10 @@ fn attribute_name_obeys<X, T: ReadTexts<X>>(
 }
 
 #[cycle(obeys)]
-fn optional_arguments_obey<X, T: ReadTexts<X>>(options: RuleCheck, arguments: &Option<CallArguments<X>>) -> bool
+fn optional_arguments_obey<X, T: ReadTexts<X>>(
+    options: RuleCheck,
+    arguments: &Option<CallArguments<X>>,
+) -> bool
     ensures { result ≡ optional_arguments_obey (rules_of options.rule_set)
         (arguments_of (option_map (arguments_view T.text) arguments.now)) }
 {
@@ -285,7 +289,8 @@ fn inlines_obey<X, T: ReadTexts<X>>(options: RuleCheck, inlines: &[InlineExpress
 
 #[cycle(obeys)]
 fn named_arguments_obey<X, T: ReadTexts<X>>(options: RuleCheck, nameds: &[NamedArgument<X>]) -> bool
-    ensures { result ≡ named_arguments_obey (rules_of options.rule_set) (nameds_of (map (named_view T.text) nameds.now)) }
+    ensures { result ≡ named_arguments_obey (rules_of options.rule_set)
+        (nameds_of (map (named_view T.text) nameds.now)) }
 {
     for named in nameds {
         if !named_obeys::<X, T>(options, named) {

@@ -134,7 +134,8 @@ add_arguments-returns g t c =
     let positional = rw c.deref.ensures.value at c.in_ok-add_inlines.ensures in
     let named = rw c.deref-2.ensures.value at c.add_named_arguments.ensures in
     rw (view-CallArguments (λ x. x) c.args.arguments.now)
-    (adds_last c.add_named_arguments.result c.args.list.now.items c.add_inlines.new.list.items c.add_named_arguments.new.list.items _ _
+    (adds_last c.add_named_arguments.result c.args.list.now.items c.add_inlines.new.list.items
+    c.add_named_arguments.new.list.items _ _
     positional named)
 
 pub add_inline-returns-in-StringLiteral : goal.add_inline-returns-in-StringLiteral

@@ -6,7 +6,7 @@ ghost use Rattle.fluent_syntax_writer.specs.SingleRule.{text_keeps, follows_no_t
 ghost use Rattle.fluent_syntax_writer.specs.SingleRule.{later_is_no_space, later_is_unmarked};
 ghost use Rattle.fluent_syntax_writer.specs.Places.{position_of};
 
-use crate::canonical::elements::{ElementPosition, may_precede, indents};
+use crate::canonical::elements::{ElementPosition, indents, may_precede};
 use crate::canonical::rules::Rule;
 use crate::canonical::texts::*;
 use fluent_syntax_grammar::texts::without_last_lf;

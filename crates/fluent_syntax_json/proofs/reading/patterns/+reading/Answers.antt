@@ -822,7 +822,8 @@ arguments-returns-in_err-named_argument t c =
     finished inline_in (inline_view string_bytes) c.loop-item.positional.items c.in_ok-list.field-0.now.items
     c.deref-item-items.result.now c.loop-item.item-index c.loop-item.invariant c.loop-item-test.false
     c.deref-item-items.ensures.value in
-    let p = err_from_is_err_and c.from_residual-in_err-named_argument.result c.from_residual-in_err-named_argument.ensures.1 in
+    let p = err_from_is_err_and c.from_residual-in_err-named_argument.result
+    c.from_residual-in_err-named_argument.ensures.1 in
     handed _ _ _ _ _ _ p.1 p.2
     (λ q. rw (
       arguments-is (view c.args.v.now),

@@ -130,7 +130,8 @@ pattern-returns g t c =
 pub arguments-loop-item-2-preserved : goal.arguments-loop-item-2-preserved
 arguments-loop-item-2-preserved g t c = (
   c.loop-item-2.invariant.0,
-  map_pushed (named_view g.C.CopyTexts.made) (named_view (g.C.CopyTexts.source c.args.by.now)) _ _ c.in_ok-named_argument.field-0
+  map_pushed (named_view g.C.CopyTexts.made) (named_view (g.C.CopyTexts.source c.args.by.now))
+      _ _ c.in_ok-named_argument.field-0
       _ c.loop-item-2.item-index c.item-item-in-loop-item-2.result c.loop-item-2.invariant.1
       c.in_ok-push-2.ensures.items c.loop-item-2-test.true c.item-item-in-loop-item-2.is c.in_ok-named_argument.ensures,
 )
