@@ -31,4 +31,5 @@ difference_sentence differs.MissingReference name = codes "the reference to `" +
 difference_sentence differs.Obsolete name = codes "the reference does not define `" ++ name ++ codes "`"
 difference_sentence differs.ObsoleteValue name = codes "the reference gives `" ++ name ++ codes "` no value"
 difference_sentence differs.ObsoleteAttribute name = codes "the reference does not define `" ++ name ++ codes "`"
+difference_sentence differs.ObsoleteReference name = codes "the reference does not refer to `" ++ name ++ codes "`"
 difference_sentence differs.UnknownVariable name = codes "the reference does not use `$" ++ name ++ codes "`"

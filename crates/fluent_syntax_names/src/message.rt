@@ -59,6 +59,9 @@ impl Difference {
             Difference::Obsolete | Difference::ObsoleteAttribute => format!(in alloc;
                 "the reference does not define `{name}`"
             ),
+            Difference::ObsoleteReference => format!(in alloc;
+                "the reference does not refer to `{name}`"
+            ),
             Difference::ObsoleteValue => format!(in alloc; "the reference gives `{name}` no value"),
             Difference::UnknownVariable => format!(in alloc;
                 "the reference does not use `${name}`"

@@ -50,6 +50,9 @@ pub fn difference_message(
         Difference::ObsoleteAttribute => format!(in alloc;
             "the reference does not define the attribute `{name}` of `{entry}`"
         ),
+        Difference::ObsoleteReference => format!(in alloc;
+            "the reference's `{entry}` does not refer to `{name}`"
+        ),
         Difference::UnknownVariable => format!(in alloc; "the reference does not use `${name}`"),
     }
 }

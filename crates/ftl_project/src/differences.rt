@@ -80,6 +80,9 @@ pub(crate) fn difference_sentence(
         Difference::ObsoleteAttribute => format!(in alloc;
             "the reference does not define the attribute `{name}` of `{entry}`"
         ),
+        Difference::ObsoleteReference => format!(in alloc;
+            "the reference's `{entry}` does not refer to `{name}`"
+        ),
         Difference::UnknownVariable => format!(in alloc; "the reference does not use `${name}`"),
     }
 }

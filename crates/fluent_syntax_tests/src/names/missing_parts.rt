@@ -155,7 +155,7 @@ const DIFFERENCES: &[(Side, Part, Option<Difference>)] = table! {
     Side::Other, Part::Entry, Some(Difference::Obsolete);
     Side::Other, Part::Value, Some(Difference::ObsoleteValue);
     Side::Other, Part::Attribute, Some(Difference::ObsoleteAttribute);
-    Side::Other, Part::Reference, None;
+    Side::Other, Part::Reference, Some(Difference::ObsoleteReference);
     Side::Other, Part::Variable, Some(Difference::UnknownVariable);
 };
 
@@ -168,6 +168,7 @@ const SAID: &[(Difference, Severity, &str, &str)] = table! {
     Difference::Obsolete, Severity::Warning, "obsolete", "the reference does not define `a`";
     Difference::ObsoleteValue, Severity::Warning, "obsolete-value", "the reference gives `a` no value";
     Difference::ObsoleteAttribute, Severity::Warning, "obsolete-attribute", "the reference does not define `a`";
+    Difference::ObsoleteReference, Severity::Warning, "obsolete-reference", "the reference does not refer to `a`";
     Difference::UnknownVariable, Severity::Error, "unknown-variable", "the reference does not use `$a`";
 };
 

@@ -150,7 +150,7 @@ type Row = (
     &'static str,
 );
 
-const ROWS: [Row; 5] = [
+const ROWS: [Row; 6] = [
     (
         "each kind",
         OTHER,
@@ -166,6 +166,15 @@ const ROWS: [Row; 5] = [
         "the same",
         REFERENCE,
         "",
+        0,
+        "4 of 4 messages and terms are there\n",
+    ),
+    (
+        "references more",
+        "hello = Hallo { -brand }\n    .title = { about }\nname = { -brand }\n    .label = L\nabout = { new }\n\
+        -brand = { name }\n",
+        "de/a.ftl:2:16: obsolete-reference\nde/a.ftl:3:11: obsolete-reference\nde/a.ftl:5:11: obsolete-reference\n\
+        de/a.ftl:6:12: obsolete-reference\n",
         0,
         "4 of 4 messages and terms are there\n",
     ),
