@@ -336,3 +336,61 @@ fn tells_what_has_no_place(rt: HostRuntime) -> Result<(), Fail> {
     }
     Ok(())
 }
+
+/// The files of a pair of which one is not read, what is told of it, and the status.
+type UnreadRow = ([File; 2], &'static str, u8);
+
+const UNREAD: [UnreadRow; 5] = [
+    (
+        [("en/a.ftl", b"a = \xFF\n"), ("de/a.ftl", b"a = A\n")],
+        "ftl: en/a.ftl: is not UTF-8 from byte 4 on\n",
+        3,
+    ),
+    (
+        [("en/a.ftl", b"a = A\n"), ("de/a.ftl", b"b = \xFF\n")],
+        "ftl: de/a.ftl: is not UTF-8 from byte 4 on\n",
+        3,
+    ),
+    (
+        [("en/a.ftl", b"a = {{{ $b }}}\n"), ("de/a.ftl", b"a = A\n")],
+        "ftl: en/a.ftl: nests deeper than it may\n",
+        6,
+    ),
+    (
+        [("en/a.ftl", b"a = A\n"), ("de/a.ftl", b"a = {{{ $b }}}\n")],
+        "ftl: de/a.ftl: nests deeper than it may\n",
+        6,
+    ),
+    (
+        [("en/a.ftl", b"a = {{{ $b }}}\n"), ("de/a.ftl", b"")],
+        "ftl: en/a.ftl: nests deeper than it may\n",
+        6,
+    ),
+];
+
+#[test]
+fn names_the_file_that_is_not_read(rt: HostRuntime) -> Result<(), Fail> {
+    let alloc = rt.alloc();
+    for (files, told, status) in &UNREAD {
+        let mut bench = Bench::new(alloc, files)?;
+        bench.run(alloc, Task::Compare(Form::Lines, &[]))?;
+        assert_same(alloc, *told, &bench.tally.status(), status)?;
+        assert_same(alloc, *told, &bench.tally.files, &0)?;
+        bench.assert_told(alloc, *told, "", *told)?;
+    }
+    Ok(())
+}
+
+#[test]
+fn tells_junk_of_the_reference(rt: HostRuntime) -> Result<(), Fail> {
+    let alloc = rt.alloc();
+    let files: [File; 2] = [
+        ("en/a.ftl", b"a = A\n-brand = {\n"),
+        ("de/a.ftl", b"a = A\n-brand = B\n"),
+    ];
+    let mut bench = Bench::new(alloc, &files)?;
+    bench.run(alloc, Task::Compare(Form::Full, &[]))?;
+    let told =
+        "de/a.ftl:2:2: warning[obsolete]: `-brand` is junk in the reference (en/a.ftl:2:1)\n-brand = B\n ^\n";
+    bench.assert_told(alloc, "junk in the reference", told, "")
+}
