@@ -360,10 +360,10 @@ static void kind_names(void)
         kind_name(ftl_kind_name, kind);
     for (uint32_t kind = FTL_FINDING_DEFINED_TWICE; kind <= FTL_FINDING_VARIANT_TWICE; kind++)
         kind_name(ftl_finding_kind_name, kind);
-    for (uint32_t kind = FTL_FINDING_MISSING; kind <= FTL_FINDING_UNKNOWN_VARIABLE; kind++)
+    for (uint32_t kind = FTL_FINDING_MISSING; kind <= FTL_FINDING_OBSOLETE_REFERENCE; kind++)
         kind_name(ftl_finding_kind_name, kind);
     static const uint32_t wrong[] = {0, FTL_EXPECTED_LITERAL + 1, FTL_FINDING_MISSING - 1,
-                                     FTL_FINDING_UNKNOWN_VARIABLE + 1, 0xFFFFFFFF};
+                                     FTL_FINDING_OBSOLETE_REFERENCE + 1, 0xFFFFFFFF};
     for (size_t i = 0; i < sizeof wrong / sizeof wrong[0]; i++) {
         count = 99;
         if (ftl_kind_name(wrong[i], want, ROOM, &count) != FTL_WRONG_ARGUMENT || count != 0)

@@ -14,7 +14,7 @@ SEVERITIES = {
     "variant-twice": "warning",
     "missing": "error", "missing-value": "error",
     "missing-attribute": "error", "missing-reference": "warning", "obsolete": "warning", "obsolete-value": "warning",
-    "obsolete-attribute": "warning", "unknown-variable": "error",
+    "obsolete-attribute": "warning", "unknown-variable": "error", "obsolete-reference": "warning",
 }
 LINKS = """hello = { place } { -brand } { hello.u } { only }
 hello = Grüße
@@ -147,6 +147,9 @@ class Findings(unittest.TestCase):
         self.assertEqual(str(findings[3]), "error[missing]: `about` of line 5 of the reference is missing")
         (value,) = dovelectern.compare("a =\n    .b = B\n", "a = A\n    .b = B\n")
         self.assertEqual((value.kind, value.message), ("obsolete-value", "the reference gives `a` no value"))
+        (more,) = dovelectern.compare("a = A\n", "a = A { b.c }\n")
+        self.assertEqual((more.kind, more.message), ("obsolete-reference", "the reference's entry does not refer to `b`"))
+        self.assertEqual(told([more], "a = A\n", "a = A { b.c }\n"), [("obsolete-reference", (1, 1, 9, "b"), None)])
         self.assertEqual(dovelectern.compare(REFERENCE, REFERENCE), [])
 
     def test_columns(self) -> None:
@@ -197,9 +200,9 @@ class Findings(unittest.TestCase):
                 call()
 
     def test_kinds(self) -> None:
-        names = [_library.finding_kind_name(number) for number in [*range(1, 9), *range(101, 109)]]
+        names = [_library.finding_kind_name(number) for number in [*range(1, 9), *range(101, 110)]]
         self.assertEqual(names, list(SEVERITIES))
-        for number in (0, 9, 100, 109, 2**32 - 1):
+        for number in (0, 9, 100, 110, 2**32 - 1):
             with self.assertRaises(ValueError):
                 _library.finding_kind_name(number)
 
@@ -214,7 +217,7 @@ class Findings(unittest.TestCase):
             told(there, one, other)
             # what one lacks is obsolete in the other
             for missing, obsolete in (("missing", "obsolete"), ("missing-attribute", "obsolete-attribute"),
-                                      ("missing-value", "obsolete-value")):
+                                      ("missing-value", "obsolete-value"), ("missing-reference", "obsolete-reference")):
                 self.assertEqual([it.other.span for it in there if it.kind == missing and it.other],
                                  [it.place.span for it in back if it.kind == obsolete and it.place])
         told(dovelectern.lint(texts), *texts)

@@ -148,7 +148,8 @@ enum ftl_finding_kind {
     FTL_FINDING_OBSOLETE = 105, /* and from here on the other text has it */
     FTL_FINDING_OBSOLETE_VALUE = 106,
     FTL_FINDING_OBSOLETE_ATTRIBUTE = 107,
-    FTL_FINDING_UNKNOWN_VARIABLE = 108
+    FTL_FINDING_UNKNOWN_VARIABLE = 108,
+    FTL_FINDING_OBSOLETE_REFERENCE = 109 /* since 2.4 */
 };
 
 /* How grave a finding is: each kind has one severity. */

@@ -59,6 +59,7 @@ fn between_number(difference: Difference) -> u32
         Difference::ObsoleteValue => 106,
         Difference::ObsoleteAttribute => 107,
         Difference::UnknownVariable => 108,
+        Difference::ObsoleteReference => 109,
     }
 }
 
@@ -109,6 +110,7 @@ pub(crate) fn finding_kind_at(number: u32) -> Option<FindingKind>
         106 => Some(FindingKind::Between(Difference::ObsoleteValue)),
         107 => Some(FindingKind::Between(Difference::ObsoleteAttribute)),
         108 => Some(FindingKind::Between(Difference::UnknownVariable)),
+        109 => Some(FindingKind::Between(Difference::ObsoleteReference)),
         _ => None,
     }
 }

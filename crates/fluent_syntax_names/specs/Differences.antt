@@ -9,7 +9,7 @@ use Rattle.fluent_syntax_names.specs.declared.differences.Difference.TheVariants
 use Rattle.fluent_syntax_names.specs.declared.differences.Side.{Side}
 use Rattle.fluent_syntax_names.specs.declared.differences.Side.TheVariants.{Reference, Other}
 
--- of a part that this file has and the other one lacks: a translation may leave a variable out, and may refer to more
+-- of a part that this file has and the other one lacks: a translation may leave a variable out
 abbrev pub side_difference : Side → Part → Option Difference
 side_difference Reference part.Entry = Some differs.Missing
 side_difference Reference part.Value = Some differs.MissingValue
@@ -19,7 +19,7 @@ side_difference Reference part.Variable = None
 side_difference Other part.Entry = Some differs.Obsolete
 side_difference Other part.Value = Some differs.ObsoleteValue
 side_difference Other part.Attribute = Some differs.ObsoleteAttribute
-side_difference Other part.Reference = None
+side_difference Other part.Reference = Some differs.ObsoleteReference
 side_difference Other part.Variable = Some differs.UnknownVariable
 
 -- as a command line has it
@@ -31,6 +31,7 @@ difference_name differs.MissingReference = codes "missing-reference"
 difference_name differs.Obsolete = codes "obsolete"
 difference_name differs.ObsoleteValue = codes "obsolete-value"
 difference_name differs.ObsoleteAttribute = codes "obsolete-attribute"
+difference_name differs.ObsoleteReference = codes "obsolete-reference"
 difference_name differs.UnknownVariable = codes "unknown-variable"
 
 abbrev pub difference_severity : Difference → Severity
@@ -41,4 +42,5 @@ difference_severity differs.MissingReference = Warning
 difference_severity differs.Obsolete = Warning
 difference_severity differs.ObsoleteValue = Warning
 difference_severity differs.ObsoleteAttribute = Warning
+difference_severity differs.ObsoleteReference = Warning
 difference_severity differs.UnknownVariable = Error

@@ -3,6 +3,8 @@ use Rattle.std.specs.Prelude.{ℕ, List, ◌++◌, codes, Option, Some, None}
 use Rattle.std.specs.Fmt.{decimal}
 use Rattle.fluent_syntax_names.specs.declared.differences.Difference.{Difference}
 use Rattle.fluent_syntax_names.specs.declared.differences.Difference.TheVariants as differs
+use Rattle.fluent_syntax_names.specs.declared.differences.Side.{Side}
+use Rattle.fluent_syntax_names.specs.declared.differences.Side.TheVariants.{Reference, Other}
 use Rattle.fluent_syntax_names.specs.declared.finding.Kind.{Kind}
 use Rattle.fluent_syntax_names.specs.declared.finding.Kind.TheVariants as kind
 
@@ -22,13 +24,23 @@ abbrev pub behind_first : Option ℕ → List ℕ
 behind_first None = codes ""
 behind_first (Some line) = codes ", first on line " ++ decimal line
 
--- of the name at the place of the part that is lacked
-abbrev pub difference_sentence : Difference → List ℕ → List ℕ
-difference_sentence differs.Missing name = codes "`" ++ name ++ codes "`"
-difference_sentence differs.MissingValue name = codes "the value of `" ++ name ++ codes "`"
-difference_sentence differs.MissingAttribute name = codes "`" ++ name ++ codes "`"
-difference_sentence differs.MissingReference name = codes "the reference to `" ++ name ++ codes "`"
-difference_sentence differs.Obsolete name = codes "the reference does not define `" ++ name ++ codes "`"
-difference_sentence differs.ObsoleteValue name = codes "the reference gives `" ++ name ++ codes "` no value"
-difference_sentence differs.ObsoleteAttribute name = codes "the reference does not define `" ++ name ++ codes "`"
-difference_sentence differs.UnknownVariable name = codes "the reference does not use `$" ++ name ++ codes "`"
+-- of the name of the entry, and of that of what one of the files has in it
+abbrev pub difference_sentence : Difference → (entry name : List ℕ) → List ℕ
+difference_sentence differs.Missing entry name = codes "`" ++ entry ++ codes "` is missing"
+difference_sentence differs.MissingValue entry name = codes "the value of `" ++ entry ++ codes "` is missing"
+difference_sentence differs.MissingAttribute entry name =
+    codes "the attribute `" ++ name ++ codes "` of `" ++ entry ++ codes "` is missing"
+difference_sentence differs.MissingReference entry name =
+    codes "`" ++ entry ++ codes "` does not refer to `" ++ name ++ codes "`"
+difference_sentence differs.Obsolete entry name = codes "the reference does not define `" ++ entry ++ codes "`"
+difference_sentence differs.ObsoleteValue entry name = codes "the reference gives `" ++ entry ++ codes "` no value"
+difference_sentence differs.ObsoleteAttribute entry name =
+    codes "the reference does not define the attribute `" ++ name ++ codes "` of `" ++ entry ++ codes "`"
+difference_sentence differs.ObsoleteReference entry name =
+    codes "the reference's `" ++ entry ++ codes "` does not refer to `" ++ name ++ codes "`"
+difference_sentence differs.UnknownVariable entry name = codes "the reference does not use `$" ++ name ++ codes "`"
+
+-- of the name of an entry that this file defines and the other one has as junk, and its place in the reference's file
+abbrev pub junk_sentence : Side → (entry place : List ℕ) → List ℕ
+junk_sentence Reference entry place = codes "`" ++ entry ++ codes "` is junk here; the reference has it at " ++ place
+junk_sentence Other entry place = codes "`" ++ entry ++ codes "` is junk in the reference (" ++ place ++ codes ")"

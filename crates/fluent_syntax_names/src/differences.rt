@@ -24,12 +24,12 @@ pub enum Difference {
     Obsolete,
     ObsoleteValue,
     ObsoleteAttribute,
+    ObsoleteReference,
     UnknownVariable,
 }
 
 impl Side {
-    /// What is told of a part that this file has and the other one lacks. A translation may leave a variable out, and
-    /// may refer to more.
+    /// What is told of a part that this file has and the other one lacks. A translation may leave a variable out.
     pub fn difference(self, part: Part) -> Option<Difference>
         ensures { result ≡ side_difference self part }
     {
@@ -42,7 +42,7 @@ impl Side {
             (Side::Other, Part::Entry) => Some(Difference::Obsolete),
             (Side::Other, Part::Value) => Some(Difference::ObsoleteValue),
             (Side::Other, Part::Attribute) => Some(Difference::ObsoleteAttribute),
-            (Side::Other, Part::Reference) => None,
+            (Side::Other, Part::Reference) => Some(Difference::ObsoleteReference),
             (Side::Other, Part::Variable) => Some(Difference::UnknownVariable),
         }
     }
@@ -61,6 +61,7 @@ impl Difference {
             Difference::Obsolete => "obsolete",
             Difference::ObsoleteValue => "obsolete-value",
             Difference::ObsoleteAttribute => "obsolete-attribute",
+            Difference::ObsoleteReference => "obsolete-reference",
             Difference::UnknownVariable => "unknown-variable",
         }
     }
@@ -74,6 +75,7 @@ impl Difference {
             Difference::MissingAttribute | Difference::UnknownVariable => Severity::Error,
             Difference::MissingReference | Difference::Obsolete => Severity::Warning,
             Difference::ObsoleteValue | Difference::ObsoleteAttribute => Severity::Warning,
+            Difference::ObsoleteReference => Severity::Warning,
         }
     }
 }

@@ -1,8 +1,8 @@
 //! What is said of a finding, and of what one of two files lacks.
 ghost use Rattle.std.specs.Prelude.{◌≡◌, ◌++◌, IfOk, string_bytes};
-ghost use Rattle.fluent_syntax_names.specs.Sentences.{behind_first, difference_sentence, sentence_of};
+ghost use Rattle.fluent_syntax_names.specs.Sentences.{behind_first, difference_sentence, junk_sentence, sentence_of};
 
-use crate::differences::Difference;
+use crate::differences::{Difference, Side};
 use crate::finding::Kind;
 use std::alloc::{AllocError, Global};
 
@@ -45,24 +45,57 @@ impl Kind {
 }
 
 impl Difference {
-    /// What is said of a difference: `name` is what stands at the place of the part that is lacked. Of what the
-    /// translation lacks it is the part alone, and the place in the reference is to stand behind it.
+    /// A sentence on the difference: `entry` is the name of the message or term, and `name` that of what one of the files
+    /// has in it, or the same. That of a term has its `-`, and that of a variable is without its `$`.
     ///
     /// `AllocError` where there is no memory for it.
-    pub fn sentence(self, alloc: Global, name: &str) -> Result<String, AllocError>
-        ensures { IfOk result (λ said. string_bytes said ≡ difference_sentence self name.now) }
+    pub fn sentence(self, alloc: Global, entry: &str, name: &str) -> Result<String, AllocError>
+        ensures { IfOk result (λ said. string_bytes said ≡ difference_sentence self entry.now name.now) }
     {
         match self {
-            Difference::Missing | Difference::MissingAttribute => format!(in alloc; "`{name}`"),
-            Difference::MissingValue => format!(in alloc; "the value of `{name}`"),
-            Difference::MissingReference => format!(in alloc; "the reference to `{name}`"),
-            Difference::Obsolete | Difference::ObsoleteAttribute => format!(in alloc;
-                "the reference does not define `{name}`"
+            Difference::Missing => format!(in alloc; "`{entry}` is missing"),
+            Difference::MissingValue => format!(in alloc; "the value of `{entry}` is missing"),
+            Difference::MissingAttribute => format!(in alloc;
+                "the attribute `{name}` of `{entry}` is missing"
             ),
-            Difference::ObsoleteValue => format!(in alloc; "the reference gives `{name}` no value"),
+            Difference::MissingReference => format!(in alloc;
+                "`{entry}` does not refer to `{name}`"
+            ),
+            Difference::Obsolete => format!(in alloc; "the reference does not define `{entry}`"),
+            Difference::ObsoleteValue => format!(in alloc;
+                "the reference gives `{entry}` no value"
+            ),
+            Difference::ObsoleteAttribute => format!(in alloc;
+                "the reference does not define the attribute `{name}` of `{entry}`"
+            ),
+            Difference::ObsoleteReference => format!(in alloc;
+                "the reference's `{entry}` does not refer to `{name}`"
+            ),
             Difference::UnknownVariable => format!(in alloc;
                 "the reference does not use `${name}`"
             ),
+        }
+    }
+}
+
+impl Side {
+    /// A sentence on a message or a term that this file defines and that the other one has as junk: `place` is that in
+    /// the file of the reference language.
+    ///
+    /// `AllocError` where there is no memory for it.
+    pub fn junk_sentence(
+        self,
+        alloc: Global,
+        entry: &str,
+        place: &str,
+    ) -> Result<String, AllocError>
+        ensures { IfOk result (λ said. string_bytes said ≡ junk_sentence self entry.now place.now) }
+    {
+        match self {
+            Side::Reference => format!(in alloc;
+                "`{entry}` is junk here; the reference has it at {place}"
+            ),
+            Side::Other => format!(in alloc; "`{entry}` is junk in the reference ({place})"),
         }
     }
 }

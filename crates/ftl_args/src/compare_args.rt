@@ -20,7 +20,7 @@ pub struct Compare<'a> {
     pub paths: Vec<&'a str>,
 }
 
-static KIND_NAMES: [&str; 9] = [
+static KIND_NAMES: [&str; 10] = [
     "missing-file",
     "missing",
     "missing-value",
@@ -29,6 +29,7 @@ static KIND_NAMES: [&str; 9] = [
     "obsolete",
     "obsolete-value",
     "obsolete-attribute",
+    "obsolete-reference",
     "unknown-variable",
 ];
 

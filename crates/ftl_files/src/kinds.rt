@@ -81,6 +81,7 @@ fn difference_of_name(name: &str) -> Option<Difference>
         "obsolete" => Some(Difference::Obsolete),
         "obsolete-value" => Some(Difference::ObsoleteValue),
         "obsolete-attribute" => Some(Difference::ObsoleteAttribute),
+        "obsolete-reference" => Some(Difference::ObsoleteReference),
         "unknown-variable" => Some(Difference::UnknownVariable),
         _ => None,
     }

@@ -2,7 +2,7 @@
 
 use crate::entry_names::{EntryNames, name_with_hyphen};
 use crate::positions::Position;
-use fluent_syntax_names::{Difference, MissingPart, Part};
+use fluent_syntax_names::{Difference, MissingPart, Part, Side};
 use std::alloc::{AllocError, Global};
 
 /// The names of a part that one has and the other lacks.
@@ -31,45 +31,41 @@ pub fn names_of_part<'t>(
     }
 }
 
-/// What is said of the difference. `AllocError` where a growth was refused.
-pub fn difference_message(
-    alloc: Global,
-    difference: Difference,
-    names: PartNames<'_>,
-) -> Result<String, AllocError> {
-    let PartNames { entry, name } = names;
-    match difference {
-        Difference::Missing => format!(in alloc; "`{entry}` is missing"),
-        Difference::MissingValue => format!(in alloc; "the value of `{entry}` is missing"),
-        Difference::MissingAttribute => format!(in alloc;
-            "the attribute `{name}` of `{entry}` is missing"
-        ),
-        Difference::MissingReference => format!(in alloc; "`{entry}` does not refer to `{name}`"),
-        Difference::Obsolete => format!(in alloc; "the reference does not define `{entry}`"),
-        Difference::ObsoleteValue => format!(in alloc; "the reference gives `{entry}` no value"),
-        Difference::ObsoleteAttribute => format!(in alloc;
-            "the reference does not define the attribute `{name}` of `{entry}`"
-        ),
-        Difference::UnknownVariable => format!(in alloc; "the reference does not use `${name}`"),
-    }
-}
-
-/// The same of what the document lacks, or has as junk, with the place in the original behind: `path` is the original's
-/// as it is shown. `AllocError` where a growth was refused.
+/// What is said of what the document lacks, or has as junk: `place` is that in the original. `AllocError` where a growth
+/// was refused.
 pub fn missing_message(
     alloc: Global,
     difference: Difference,
     names: PartNames<'_>,
     is_junk: bool,
-    path: &str,
-    position: Position,
+    place: &str,
 ) -> Result<String, AllocError> {
+    let PartNames { entry, name } = names;
+    if is_junk {
+        return Side::Reference.junk_sentence(alloc, name, place);
+    }
+    let said = difference.sentence(alloc, entry, name)?;
+    format!(in alloc; "{said} ({place})")
+}
+
+/// What is said of what the original lacks, or has as junk at the place. `AllocError` where a growth was refused.
+pub fn extra_message(
+    alloc: Global,
+    difference: Difference,
+    names: PartNames<'_>,
+    junk: Option<&str>,
+) -> Result<String, AllocError> {
+    let PartNames { entry, name } = names;
+    match junk {
+        Some(place) => Side::Other.junk_sentence(alloc, name, place),
+        None => difference.sentence(alloc, entry, name),
+    }
+}
+
+/// A place of the original, as it is told: `path` is the original's as it is shown. `AllocError` where a growth was
+/// refused.
+pub fn place_text(alloc: Global, path: &str, position: Position) -> Result<String, AllocError> {
     let line = position.line.saturating_add(1);
     let column = position.character.saturating_add(1);
-    if is_junk {
-        let name = names.name;
-        return format!(in alloc; "`{name}` is junk here ({path}:{line}:{column})");
-    }
-    let said = difference_message(alloc, difference, names)?;
-    format!(in alloc; "{said} ({path}:{line}:{column})")
+    format!(in alloc; "{path}:{line}:{column}")
 }

@@ -1,7 +1,7 @@
 //! What of a document and its original one has and the other lacks.
 
 use crate::diagnostic_forms::{LintDiagnostic, LintDiagnosticKind, Related};
-use crate::difference_messages::{difference_message, missing_message, names_of_part};
+use crate::difference_messages::{extra_message, missing_message, names_of_part, place_text};
 use crate::entry_names::{EntryNames, entry_name, name_with_hyphen};
 use crate::occurrences::{bytes_of, is_name_byte};
 use crate::originals::Original;
@@ -24,7 +24,7 @@ pub fn differences_of<'u>(
     shown: &str,
 ) -> Result<Vec<LintDiagnostic<'u>>, AllocError> {
     let mut diagnostics = missing_of(alloc, document, original, shown)?;
-    diagnostics.append(&mut extra_of(alloc, document, original)?)?;
+    diagnostics.append(&mut extra_of(alloc, document, original, shown)?)?;
     Ok(diagnostics)
 }
 
@@ -45,43 +45,56 @@ fn missing_of<'u>(
             let there = their_positions.range(missing.name);
             let names = names_of_part(theirs.text, &entries.original, missing);
             let (range, is_junk) = entries.range_in_document(theirs.text, missing);
-            let message = missing_message(alloc, difference, names, is_junk, shown, there.start)?;
+            let place = place_text(alloc, shown, there.start)?;
+            let message = missing_message(alloc, difference, names, is_junk, place.as_str())?;
             diagnostics.push(LintDiagnostic {
                 range,
                 kind: LintDiagnosticKind::Difference(difference),
                 message,
-                related: Some(Related {
-                    uri: original.uri,
-                    range: there,
-                    message: "what the reference has",
-                }),
+                related: Some(related_in(original, there)),
             })?;
         }
     }
     Ok(diagnostics)
 }
 
-/// What is told of that which the original lacks.
+/// What is told of that which the original lacks, or has as junk.
 fn extra_of<'u>(
     alloc: Global,
     document: &NameIndex<'_>,
     original: &Original<'u>,
+    shown: &str,
 ) -> Result<Vec<LintDiagnostic<'u>>, AllocError> {
     let entries = EntryNames::new(alloc, document)?;
+    let refused = refused_ranges(alloc, &original.name_index)?;
     let mut positions = Positions::new(document.text);
     let mut diagnostics = Vec::new(alloc);
     for missing in missing_parts(alloc, document, &original.name_index)?.iter() {
         if let Some(difference) = Side::Other.difference(missing.part) {
             let names = names_of_part(document.text, &entries, missing);
+            let junk = junk_of(&refused, document.text, missing);
+            let place = match junk {
+                Some(range) => Some(place_text(alloc, shown, range.start)?),
+                None => None,
+            };
             diagnostics.push(LintDiagnostic {
                 range: positions.range(missing.name),
                 kind: LintDiagnosticKind::Difference(difference),
-                message: difference_message(alloc, difference, names)?,
-                related: None,
+                message: extra_message(alloc, difference, names, place.as_deref())?,
+                related: junk.map(|range| related_in(original, range)),
             })?;
         }
     }
     Ok(diagnostics)
+}
+
+/// A place in the original, beside what is told of the document.
+fn related_in<'u>(original: &Original<'u>, range: PositionRange) -> Related<'u> {
+    Related {
+        uri: original.uri,
+        range,
+        message: "what the reference has",
+    }
 }
 
 /// The entries of an original, and where a document has those of the same names.
@@ -110,11 +123,7 @@ impl<'d> MatchedEntries<'d> {
     /// Where the document has the entry in which the original has what the document lacks, and whether it is junk
     /// there; its begin, where it lacks that. `text` is that of the original.
     fn range_in_document(&self, text: &str, missing: &MissingPart) -> (PositionRange, bool) {
-        let junk = match missing.part {
-            Part::Entry => self.refused.place_of(text, missing.name),
-            _ => None,
-        };
-        match junk {
+        match junk_of(&self.refused, text, missing) {
             Some(range) => (range, true),
             None => (self.range_defined(missing.name), false),
         }
@@ -130,6 +139,18 @@ impl<'d> MatchedEntries<'d> {
             start: START,
             end: START,
         })
+    }
+}
+
+/// Where a file has the part as junk that it lacks, which the other text has; only an entry can be junk.
+fn junk_of(
+    refused: &RefusedNames<PositionRange>,
+    text: &str,
+    missing: &MissingPart,
+) -> Option<PositionRange> {
+    match missing.part {
+        Part::Entry => refused.place_of(text, missing.name),
+        _ => None,
     }
 }
 

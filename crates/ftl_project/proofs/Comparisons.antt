@@ -1,12 +1,14 @@
 -- What comes of a pair, of the texts that were read.
 use mathlib.Core.Path.{fun_ext}
 use Rattle.std.proofs.Common.{◌≡◌, ℕ, List, [], Option, None, Result, false, refl}
-use Rattle.std.proofs.Common.{string_bytes, subst, sym, true}
+use Rattle.std.proofs.Common.{inl, inr, string_bytes, subst, sym, true}
 use Rattle.std.specs.Prelude.{OnOk}
+use Rattle.fluent_syntax_names.specs.declared.differences.Side.{Side}
 use Rattle.fluent_syntax_names.specs.declared.name_index.NameIndex.{NameIndex}
 use Rattle.ftl_files.specs.Store.{AllUnchanged}
 use Rattle.ftl_project.proofs.Counting.{appends_nothing, on_ok}
 use Rattle.ftl_project.specs.Comparing.{Compares, IsFileMissing, IsPairCompared, IsComparison, IsPairFault}
+use Rattle.ftl_project.specs.Comparing.{IsSideFault}
 use Rattle.ftl_project.specs.Faults.{Failing, HasStatus, IsRead}
 use Rattle.ftl_project.specs.NameIndexes.{IsNameIndex}
 use Rattle.ftl_project.specs.Tally.{counted, failed}
@@ -55,6 +57,12 @@ module _ (CallFails : Failing) (reading : Reading) (options : CompareOptions) (a
         (more, alike, that.3),
         that.4,
       )
+
+  -- A fault of the file of a side is one of the pair.
+  pub of_side : (side : Side) (fault : Fault) → IsSideFault CallFails reading options at pair side fault →
+      IsPairFault CallFails reading options at pair fault
+  of_side side fault (inl why) = inl why.1
+  of_side side fault (inr why) = inr why.1
 
   -- A fault of the pair that was told was counted, and nothing was written of the pair.
   pub Compares-report_text : {E : Type 0} (result : Result (Unit {0}) E) (fault : Fault) (old new : Tally)

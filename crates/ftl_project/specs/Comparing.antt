@@ -141,6 +141,11 @@ module _ (CallFails : Failing) (reading : Reading) (options : CompareOptions) (a
   IsPairFault pair fault = IsFileFault (string_bytes pair.reference) fault
       ⊎ (pair.is_there ≡ true) × IsFileFault (string_bytes pair.other) fault
 
+  -- So the file of that side was not.
+  abbrev pub IsSideFault : Pair → Side → Fault → Type 0
+  IsSideFault pair side fault = ((side ≡ Reference) × IsFileFault (string_bytes pair.reference) fault)
+      ⊎ ((side ≡ Other) × (pair.is_there ≡ true) × IsFileFault (string_bytes pair.other) fault)
+
   -- how a pair is met, with how much of it is there, and what is told of it
   abbrev pub IsCompared : Pair → Processed → Option Share → (text : List ℕ) → Type 0
   IsCompared pair (answered errors has_problems) share text =

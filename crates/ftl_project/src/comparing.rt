@@ -1,12 +1,13 @@
 //! Files of a reference language are compared with those of another.
 ghost use Rattle.std.specs.Prelude.{◌≡◌, ◌≢◌, ◌⊎◌, Some, Err, IfErr, IfOk, OnOk, string_bytes, true};
+ghost use Rattle.fluent_syntax_names.specs.declared.differences.Side.TheVariants.{Other, Reference};
 ghost use Rattle.fluent_syntax_names.specs.declared.name_index.NameIndex.{NameIndex};
 ghost use Rattle.ftl_files.specs.Store.{AllUnchanged};
 ghost use Rattle.ftl_project.specs.Comparing.{Compares, ComparesEach, IsFileMissing, IsPairCompared, IsComparison};
-ghost use Rattle.ftl_project.specs.Comparing.{IsFileReport, IsPairFault};
+ghost use Rattle.ftl_project.specs.Comparing.{IsFileReport, IsSideFault};
 ghost use Rattle.ftl_project.specs.Comparing.{errors_of, missing_entries, with_share};
 ghost use Rattle.ftl.specs.Watched.{has_failed, inner_of};
-ghost use Rattle.ftl_project.specs.Faults.{IsTooDeep, IsUnparsed};
+ghost use Rattle.ftl_project.specs.Faults.{IsRead, IsTooDeep, IsUnparsed, IsUnread};
 ghost use Rattle.ftl_project.specs.NameIndexes.{IsNameIndex, IsShort};
 ghost use Rattle.ftl_project.specs.Summaries.{share_line_of};
 
@@ -19,7 +20,7 @@ use crate::name_indexes::{entry_count, name_index};
 use crate::rewriting::read_text;
 use crate::streams::{Streams, report_fault};
 use crate::tally::Tally;
-use crate::translation::Translation;
+use crate::translation::{Translation, junk_locations};
 use fluent_syntax_names::{MissingPart, NameIndex, Part, Side, missing_parts};
 use ftl::{RunFault, write_all};
 use ftl_files::{Form, Reading, ReportedKind, Store};
@@ -33,6 +34,16 @@ pub struct Pair {
     pub other: String,
     /// Whether the other file is there.
     pub is_there: bool,
+}
+
+impl Pair {
+    /// The path of the file of this side.
+    fn path(&self, side: Side) -> &str {
+        match side {
+            Side::Reference => self.reference.as_str(),
+            Side::Other => self.other.as_str(),
+        }
+    }
 }
 
 /// How differences are told.
@@ -68,6 +79,29 @@ struct PairComparison {
     report_text: String,
     errors: usize,
     share: Share,
+}
+
+/// Why a pair was not compared: the file of that side was not answered.
+#[derive(Drop)]
+struct PairFault {
+    side: Side,
+    fault: Fault,
+}
+
+impl From<AllocError> for PairFault {
+    ghost use Rattle.std.specs.Prelude.{◌≡◌};
+    ghost use Rattle.fluent_syntax_names.specs.declared.differences.Side.TheVariants.{Reference};
+    ghost use Rattle.ftl_project.specs.declared.fault.Fault.TheVariants.{Memory};
+
+    ghost from_gives = { λ _ fault. fault ≡ record { side = Reference; fault = Memory } };
+
+    /// Told of the reference, which each pair has.
+    fn from(_error: AllocError) -> Self {
+        PairFault {
+            side: Side::Reference,
+            fault: Fault::Memory,
+        }
+    }
 }
 
 /// Tells what the other files lack of the reference's, and what is obsolete there, pair by pair. No file is changed,
@@ -135,35 +169,47 @@ impl Comparing<'_> {
                 share.add(compared.share);
                 write_all(streams.out, compared.report_text.as_bytes())
             }
-            Err(fault) => report_fault(self.alloc, tally, pair.other.as_str(), &fault, streams),
+            Err(fault) => {
+                let path = pair.path(fault.side);
+                report_fault(self.alloc, tally, path, &fault.fault, streams)
+            }
         }
     }
 
-    fn compare_pair<S: Store>(&self, store: &mut S, pair: &Pair) -> Result<PairComparison, Fault>
+    fn compare_pair<S: Store>(
+        &self,
+        store: &mut S,
+        pair: &Pair,
+    ) -> Result<PairComparison, PairFault>
         ensures stand { AllUnchanged (S.bytes_at store.old) (S.bytes_at store.new) }
         ensures compared { IfOk result (λ compared. IsComparison S.fails self.now.reading self.now.options
             (S.bytes_at store.old) pair.now.is_there pair.now compared.errors compared.share
             (string_bytes compared.report_text)) }
-        ensures fault { IfErr result
-            (IsPairFault S.fails self.now.reading self.now.options (S.bytes_at store.old) pair.now) }
+        ensures fault { IfErr result (λ fault. IsSideFault S.fails self.now.reading self.now.options
+            (S.bytes_at store.old) pair.now fault.side fault.fault) }
     {
-        let reference = read_text(store, pair.reference.as_str())?;
+        let reference = side_text(store, Side::Reference, pair.reference.as_str())?;
         if !pair.is_there {
             return self.comparison_without_file(pair, reference.as_str());
         }
-        let other = read_text(store, pair.other.as_str())?;
+        let other = side_text(store, Side::Other, pair.other.as_str())?;
         self.comparison_of_texts(pair, reference.as_str(), other.as_str())
     }
 
     /// What comes of a pair whose other file is not there.
-    fn comparison_without_file(&self, pair: &Pair, reference: &str) -> Result<PairComparison, Fault>
+    fn comparison_without_file(
+        &self,
+        pair: &Pair,
+        reference: &str,
+    ) -> Result<PairComparison, PairFault>
         ensures compared { IfOk result (λ compared. (name_index : NameIndex)
             × IsNameIndex self.now.reading.edition reference.now name_index
             × IsFileMissing self.now.options pair.now name_index compared.errors compared.share
             (string_bytes compared.report_text)) }
-        ensures fault { IfErr result (IsUnparsed (IsTooDeep self.now.reading reference.now)) }
+        ensures fault { IfErr result (λ fault. (fault.side ≡ Reference)
+            × IsUnparsed (IsTooDeep self.now.reading reference.now) fault.fault) }
     {
-        let reference = name_index(self.alloc, reference, self.reading)?;
+        let reference = self.side_index(Side::Reference, reference)?;
         let wanted = entry_count(&reference);
         let is_reported = is_reported(self.options.ignored, "missing-file");
         let report_text = self.no_file(pair, is_reported)?;
@@ -208,19 +254,33 @@ impl Comparing<'_> {
         pair: &Pair,
         reference: &str,
         other: &str,
-    ) -> Result<PairComparison, Fault>
+    ) -> Result<PairComparison, PairFault>
         ensures compared { IfOk result (λ compared. (reference_name_index : NameIndex)
             × IsNameIndex self.now.reading.edition reference.now reference_name_index × (other_name_index : NameIndex)
             × IsNameIndex self.now.reading.edition other.now other_name_index
             × IsPairCompared self.now.options pair.now reference_name_index other_name_index compared.errors
             compared.share (string_bytes compared.report_text)) }
-        ensures fault { IfErr result (λ fault. IsUnparsed (IsTooDeep self.now.reading reference.now) fault
-            ⊎ IsUnparsed (IsTooDeep self.now.reading other.now) fault) }
+        ensures fault { IfErr result (λ fault.
+            ((fault.side ≡ Reference) × IsUnparsed (IsTooDeep self.now.reading reference.now) fault.fault)
+            ⊎ ((fault.side ≡ Other) × IsUnparsed (IsTooDeep self.now.reading other.now) fault.fault)) }
     {
-        let reference = name_index(self.alloc, reference, self.reading)?;
-        let other = name_index(self.alloc, other, self.reading)?;
+        let reference = self.side_index(Side::Reference, reference)?;
+        let other = self.side_index(Side::Other, other)?;
         let compared = self.comparison_of_indexes(pair, &reference, &other)?;
         Ok(compared)
+    }
+
+    /// What the text of the file of this side says of names.
+    fn side_index<'a>(&self, side: Side, text: &'a str) -> Result<NameIndex<'a>, PairFault>
+        ensures name_index { IfOk result (IsNameIndex self.now.reading.edition text.now) }
+        ensures short { IfOk result IsShort }
+        ensures fault { IfErr result (λ fault. (fault.side ≡ side)
+            × IsUnparsed (IsTooDeep self.now.reading text.now) fault.fault) }
+    {
+        match name_index(self.alloc, text, self.reading) {
+            Ok(name_index) => Ok(name_index),
+            Err(fault) => Err(PairFault { side, fault }),
+        }
     }
 
     /// What comes of a pair whose files say this.
@@ -236,10 +296,12 @@ impl Comparing<'_> {
             compared.errors compared.share (string_bytes compared.report_text)) }
     {
         let translation = Translation::new(self.alloc, other)?;
+        let refused = junk_locations(self.alloc, reference.text, &reference.mentions)?;
         let pair_reporter = PairReporter {
             alloc: self.alloc,
             pair,
             translation: &translation,
+            refused: &refused,
             form: self.options.form,
         };
         let missing = missing_parts(self.alloc, reference, other)?;
@@ -266,6 +328,19 @@ impl Comparing<'_> {
                 missing: missing_entries(&missing),
             },
         })
+    }
+}
+
+/// The text of the file of this side.
+fn side_text<S: Store>(store: &mut S, side: Side, path: &str) -> Result<String, PairFault>
+    ensures text { IfOk result (λ text. IsRead (S.bytes_at store.old path.now) (string_bytes text)) }
+    ensures fault { IfErr result (λ fault. (fault.side ≡ side)
+        × IsUnread S.fails (S.bytes_at store.old path.now) fault.fault) }
+    ensures stand { AllUnchanged (S.bytes_at store.old) (S.bytes_at store.new) }
+{
+    match read_text(store, path) {
+        Ok(text) => Ok(text),
+        Err(fault) => Err(PairFault { side, fault }),
     }
 }
 

@@ -7,21 +7,21 @@ use crate::comparing::Pair;
 use crate::diagnostics::{
     Diagnostic, OtherPlace, SourceLocation, Subject, diagnostic_text, location_of,
 };
-use crate::differences::difference_sentence;
 use crate::entry_names::{EntryNames, name_with_hyphen};
 use crate::findings::severity_name;
 use crate::translation::Translation;
 use fluent_syntax::spans::Lines;
-use fluent_syntax_names::{Difference, MissingPart, Part, Side};
+use fluent_syntax_names::{Difference, MissingPart, Part, RefusedNames, Side};
 use ftl_files::Form;
 use std::alloc::{AllocError, Global};
 
-/// A pair of which is told what each file lacks: what the other file says, and the form.
+/// A pair of which is told what each file lacks: what the other file says, what the reference has as junk, and the form.
 #[derive(Clone, Copy)]
 pub(crate) struct PairReporter<'a, 't> {
     pub(crate) alloc: Global,
     pub(crate) pair: &'a Pair,
     pub(crate) translation: &'a Translation<'t, 't>,
+    pub(crate) refused: &'a RefusedNames<SourceLocation>,
     pub(crate) form: Form,
 }
 
@@ -86,7 +86,7 @@ impl PairReporter<'_, '_> {
             return Ok(String::new(self.alloc));
         };
         let junk = self.translation.junk_of(text, missing);
-        let subject = subject_of(text, names, missing);
+        let subject = subject_of(text, names, missing, Some(self.in_reference(location)));
         let diagnostic = Diagnostic {
             path: self.pair.other.as_str(),
             text: self.translation.name_index.text,
@@ -95,13 +95,7 @@ impl PairReporter<'_, '_> {
             severity: severity_name(difference.severity()),
             message: self.missing_message(location, &subject, junk.is_some(), difference)?,
             error: None,
-            subject: Some(Subject {
-                other: Some(OtherPlace {
-                    path: self.pair.reference.as_str(),
-                    location,
-                }),
-                ..subject
-            }),
+            subject: Some(subject),
         };
         diagnostic_text(self.alloc, &diagnostic, self.form)
     }
@@ -124,14 +118,13 @@ impl PairReporter<'_, '_> {
         is_junk: bool,
         difference: Difference,
     ) -> Result<String, AllocError> {
-        let path = self.pair.reference.as_str();
-        let (line, column) = (location.line, location.column);
+        let place = self.place_text(location)?;
         let Subject { name, entry, .. } = *subject;
         if is_junk {
-            return format!(in self.alloc; "`{name}` is junk here ({path}:{line}:{column})");
+            return Side::Reference.junk_sentence(self.alloc, name, place.as_str());
         }
-        let said = difference_sentence(self.alloc, difference, entry.unwrap_or(name), name)?;
-        format!(in self.alloc; "{said} ({path}:{line}:{column})")
+        let said = difference.sentence(self.alloc, entry.unwrap_or(name), name)?;
+        format!(in self.alloc; "{said} ({place})")
     }
 
     fn extra_report<'s, 't>(
@@ -150,24 +143,72 @@ impl PairReporter<'_, '_> {
         let Some(difference) = Side::Other.difference(missing.part) else {
             return Ok(String::new(self.alloc));
         };
-        let subject = subject_of(text, names, missing);
-        let Subject { name, entry, .. } = subject;
+        let junk = self.junk_of_reference(text, missing);
+        let subject = subject_of(
+            text,
+            names,
+            missing,
+            junk.map(|location| self.in_reference(location)),
+        );
         let diagnostic = Diagnostic {
             path: self.pair.other.as_str(),
             text,
             place: Some(location),
             kind: difference.name(),
             severity: severity_name(difference.severity()),
-            message: difference_sentence(self.alloc, difference, entry.unwrap_or(name), name)?,
+            message: self.extra_message(junk, &subject, difference)?,
             error: None,
             subject: Some(subject),
         };
         diagnostic_text(self.alloc, &diagnostic, self.form)
     }
+
+    /// Where the reference has the part as junk that it lacks, which the text has.
+    fn junk_of_reference(&self, text: &str, missing: &MissingPart) -> Option<SourceLocation> {
+        match missing.part {
+            Part::Entry => self.refused.place_of(text, missing.name),
+            _ => None,
+        }
+    }
+
+    fn extra_message(
+        &self,
+        junk: Option<SourceLocation>,
+        subject: &Subject<'_>,
+        difference: Difference,
+    ) -> Result<String, AllocError> {
+        let Subject { name, entry, .. } = *subject;
+        match junk {
+            Some(location) => {
+                let place = self.place_text(location)?;
+                Side::Other.junk_sentence(self.alloc, name, place.as_str())
+            }
+            None => difference.sentence(self.alloc, entry.unwrap_or(name), name),
+        }
+    }
+
+    fn in_reference(&self, location: SourceLocation) -> OtherPlace<'_> {
+        OtherPlace {
+            path: self.pair.reference.as_str(),
+            location,
+        }
+    }
+
+    /// A place of the reference, as it is told.
+    fn place_text(&self, location: SourceLocation) -> Result<String, AllocError> {
+        let path = self.pair.reference.as_str();
+        let (line, column) = (location.line, location.column);
+        format!(in self.alloc; "{path}:{line}:{column}")
+    }
 }
 
-/// What is told of the part: its name, and that of the entry that it is in.
-fn subject_of<'s>(text: &'s str, names: &EntryNames, missing: &MissingPart) -> Subject<'s> {
+/// What is told of the part: its name, that of the entry that it is in, and the other place.
+fn subject_of<'s>(
+    text: &'s str,
+    names: &EntryNames,
+    missing: &MissingPart,
+    other: Option<OtherPlace<'s>>,
+) -> Subject<'s> {
     let name = name_with_hyphen(text, missing.name);
     let entry = match missing.part {
         Part::Entry | Part::Value => None,
@@ -176,7 +217,7 @@ fn subject_of<'s>(text: &'s str, names: &EntryNames, missing: &MissingPart) -> S
     Subject {
         name,
         entry: entry.map(|entry| name_with_hyphen(text, entry)),
-        other: None,
+        other,
     }
 }
 

@@ -3,7 +3,7 @@ ghost use Rattle.std.specs.Prelude.{◌≡◌, IfOk};
 ghost use Rattle.ftl_project.specs.Differences.{counts_as_error, is_error_severity, is_part_reported, is_reported};
 ghost use Rattle.ftl_project.specs.Differences.{reported_parts};
 
-use fluent_syntax_names::{Difference, MissingPart, Part, Severity, Side};
+use fluent_syntax_names::{MissingPart, Part, Severity, Side};
 use ftl_files::ReportedKind;
 use std::alloc::{AllocError, Global};
 
@@ -57,29 +57,5 @@ pub(crate) fn is_error_severity(severity: Severity) -> bool
     match severity {
         Severity::Error => true,
         Severity::Warning => false,
-    }
-}
-
-/// A sentence on the difference: `entry` is the name of the message or term, and `name` that of what one file has in
-/// it, or the same.
-pub(crate) fn difference_sentence(
-    alloc: Global,
-    difference: Difference,
-    entry: &str,
-    name: &str,
-) -> Result<String, AllocError> {
-    match difference {
-        Difference::Missing => format!(in alloc; "`{entry}` is missing"),
-        Difference::MissingValue => format!(in alloc; "the value of `{entry}` is missing"),
-        Difference::MissingAttribute => format!(in alloc;
-            "the attribute `{name}` of `{entry}` is missing"
-        ),
-        Difference::MissingReference => format!(in alloc; "`{entry}` does not refer to `{name}`"),
-        Difference::Obsolete => format!(in alloc; "the reference does not define `{entry}`"),
-        Difference::ObsoleteValue => format!(in alloc; "the reference gives `{entry}` no value"),
-        Difference::ObsoleteAttribute => format!(in alloc;
-            "the reference does not define the attribute `{name}` of `{entry}`"
-        ),
-        Difference::UnknownVariable => format!(in alloc; "the reference does not use `${name}`"),
     }
 }

@@ -91,7 +91,7 @@ fn note_definition<'l, 't>(
 }
 
 /// The names with which junk begins, each with the place of the first.
-fn junk_locations(
+pub(crate) fn junk_locations(
     alloc: Global,
     text: &str,
     mentions: &[Mention<Span>],

@@ -26,6 +26,7 @@ _MESSAGES = {
     "obsolete": "the reference does not define `{name}`",
     "obsolete-value": "the reference gives `{name}` no value",
     "obsolete-attribute": "the reference does not define the attribute `{name}`",
+    "obsolete-reference": "the reference's entry does not refer to `{name}`",
     "unknown-variable": "the reference does not use `${name}`",
 }
 

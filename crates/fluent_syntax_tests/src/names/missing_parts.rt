@@ -155,19 +155,22 @@ const DIFFERENCES: &[(Side, Part, Option<Difference>)] = table! {
     Side::Other, Part::Entry, Some(Difference::Obsolete);
     Side::Other, Part::Value, Some(Difference::ObsoleteValue);
     Side::Other, Part::Attribute, Some(Difference::ObsoleteAttribute);
-    Side::Other, Part::Reference, None;
+    Side::Other, Part::Reference, Some(Difference::ObsoleteReference);
     Side::Other, Part::Variable, Some(Difference::UnknownVariable);
 };
 
-/// A difference, how grave it is, its name, and what is said of it where the name is `a`.
+/// A difference, how grave it is, its name, and what is said of it, in the entry `e` with the name `a`.
 const SAID: &[(Difference, Severity, &str, &str)] = table! {
-    Difference::Missing, Severity::Error, "missing", "`a`";
-    Difference::MissingValue, Severity::Error, "missing-value", "the value of `a`";
-    Difference::MissingAttribute, Severity::Error, "missing-attribute", "`a`";
-    Difference::MissingReference, Severity::Warning, "missing-reference", "the reference to `a`";
-    Difference::Obsolete, Severity::Warning, "obsolete", "the reference does not define `a`";
-    Difference::ObsoleteValue, Severity::Warning, "obsolete-value", "the reference gives `a` no value";
-    Difference::ObsoleteAttribute, Severity::Warning, "obsolete-attribute", "the reference does not define `a`";
+    Difference::Missing, Severity::Error, "missing", "`e` is missing";
+    Difference::MissingValue, Severity::Error, "missing-value", "the value of `e` is missing";
+    Difference::MissingAttribute, Severity::Error, "missing-attribute", "the attribute `a` of `e` is missing";
+    Difference::MissingReference, Severity::Warning, "missing-reference", "`e` does not refer to `a`";
+    Difference::Obsolete, Severity::Warning, "obsolete", "the reference does not define `e`";
+    Difference::ObsoleteValue, Severity::Warning, "obsolete-value", "the reference gives `e` no value";
+    Difference::ObsoleteAttribute, Severity::Warning, "obsolete-attribute",
+        "the reference does not define the attribute `a` of `e`";
+    Difference::ObsoleteReference, Severity::Warning, "obsolete-reference",
+        "the reference's `e` does not refer to `a`";
     Difference::UnknownVariable, Severity::Error, "unknown-variable", "the reference does not use `$a`";
 };
 
@@ -180,8 +183,19 @@ fn differences(rt: HostRuntime) -> Result<(), Fail> {
     for (difference, severity, name, expected) in SAID {
         assert_same(alloc, *name, &difference.severity(), severity)?;
         assert_same_text(alloc, *name, difference.name(), *name)?;
-        let said = difference.sentence(alloc, "a")?;
+        let said = difference.sentence(alloc, "e", "a")?;
         assert_same_text(alloc, *name, said.as_str(), *expected)?;
     }
     Ok(())
+}
+
+#[test]
+fn junk(rt: HostRuntime) -> Result<(), Fail> {
+    let alloc = rt.alloc();
+    let here = Side::Reference.junk_sentence(alloc, "-e", "en/a.ftl:3:2")?;
+    let expected = "`-e` is junk here; the reference has it at en/a.ftl:3:2";
+    assert_same_text(alloc, "of the translation", here.as_str(), expected)?;
+    let there = Side::Other.junk_sentence(alloc, "-e", "en/a.ftl:3:1")?;
+    let expected = "`-e` is junk in the reference (en/a.ftl:3:1)";
+    assert_same_text(alloc, "of the reference", there.as_str(), expected)
 }

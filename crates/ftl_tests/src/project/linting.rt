@@ -150,7 +150,7 @@ type Row = (
     &'static str,
 );
 
-const ROWS: [Row; 5] = [
+const ROWS: [Row; 6] = [
     (
         "each kind",
         OTHER,
@@ -166,6 +166,15 @@ const ROWS: [Row; 5] = [
         "the same",
         REFERENCE,
         "",
+        0,
+        "4 of 4 messages and terms are there\n",
+    ),
+    (
+        "references more",
+        "hello = Hallo { -brand }\n    .title = { about }\nname = { -brand }\n    .label = L\nabout = { new }\n\
+        -brand = { name }\n",
+        "de/a.ftl:2:16: obsolete-reference\nde/a.ftl:3:11: obsolete-reference\nde/a.ftl:5:11: obsolete-reference\n\
+        de/a.ftl:6:12: obsolete-reference\n",
         0,
         "4 of 4 messages and terms are there\n",
     ),
@@ -326,4 +335,62 @@ fn tells_what_has_no_place(rt: HostRuntime) -> Result<(), Fail> {
         bench.assert_told(alloc, *told, *told, "")?;
     }
     Ok(())
+}
+
+/// The files of a pair of which one is not read, what is told of it, and the status.
+type UnreadRow = ([File; 2], &'static str, u8);
+
+const UNREAD: [UnreadRow; 5] = [
+    (
+        [("en/a.ftl", b"a = \xFF\n"), ("de/a.ftl", b"a = A\n")],
+        "ftl: en/a.ftl: is not UTF-8 from byte 4 on\n",
+        3,
+    ),
+    (
+        [("en/a.ftl", b"a = A\n"), ("de/a.ftl", b"b = \xFF\n")],
+        "ftl: de/a.ftl: is not UTF-8 from byte 4 on\n",
+        3,
+    ),
+    (
+        [("en/a.ftl", b"a = {{{ $b }}}\n"), ("de/a.ftl", b"a = A\n")],
+        "ftl: en/a.ftl: nests deeper than it may\n",
+        6,
+    ),
+    (
+        [("en/a.ftl", b"a = A\n"), ("de/a.ftl", b"a = {{{ $b }}}\n")],
+        "ftl: de/a.ftl: nests deeper than it may\n",
+        6,
+    ),
+    (
+        [("en/a.ftl", b"a = {{{ $b }}}\n"), ("de/a.ftl", b"")],
+        "ftl: en/a.ftl: nests deeper than it may\n",
+        6,
+    ),
+];
+
+#[test]
+fn names_the_file_that_is_not_read(rt: HostRuntime) -> Result<(), Fail> {
+    let alloc = rt.alloc();
+    for (files, told, status) in &UNREAD {
+        let mut bench = Bench::new(alloc, files)?;
+        bench.run(alloc, Task::Compare(Form::Lines, &[]))?;
+        assert_same(alloc, *told, &bench.tally.status(), status)?;
+        assert_same(alloc, *told, &bench.tally.files, &0)?;
+        bench.assert_told(alloc, *told, "", *told)?;
+    }
+    Ok(())
+}
+
+#[test]
+fn tells_junk_of_the_reference(rt: HostRuntime) -> Result<(), Fail> {
+    let alloc = rt.alloc();
+    let files: [File; 2] = [
+        ("en/a.ftl", b"a = A\n-brand = {\n"),
+        ("de/a.ftl", b"a = A\n-brand = B\n"),
+    ];
+    let mut bench = Bench::new(alloc, &files)?;
+    bench.run(alloc, Task::Compare(Form::Full, &[]))?;
+    let told =
+        "de/a.ftl:2:2: warning[obsolete]: `-brand` is junk in the reference (en/a.ftl:2:1)\n-brand = B\n ^\n";
+    bench.assert_told(alloc, "junk in the reference", told, "")
 }

@@ -31,7 +31,7 @@ returns-clause-compared g c =
     (string_bytes c.in_ok-reference.reference) c.as_str.ensures.value c.as_str-3.ensures.value
     c.in_ok-reference.ensures.text in
     let stands = subst (λ bytes. IsRead bytes (string_bytes c.in_ok-other.other))
-    (c.read_text.ensures.stand c.as_str-2.result.now) c.in_ok-other.ensures.text in
+    (c.side_text.ensures.stand c.as_str-2.result.now) c.in_ok-other.ensures.text in
     let other = of_text at c.as_str-2.result.now (string_bytes pair.other) more
     (string_bytes c.in_ok-other.other) c.as_str-2.ensures.value c.as_str-4.ensures.value stands in
     IfOk-weaker c.comparison_of_texts.result _ _ (λ compared that. beside g.S.Store.fails self.reading self.options

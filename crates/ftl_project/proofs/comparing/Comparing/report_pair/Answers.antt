@@ -2,7 +2,7 @@ use Rattle.std.proofs.Common.{◌==◌, ap, not, refl, string_bytes}
 use Rattle.ftl.specs.Watched.{inner_of}
 use Rattle.ftl_project.specs.Tally.{answered}
 use Rattle.std.specs.Prelude.{Some}
-use Rattle.ftl_project.proofs.Comparisons.{Compares-report_text}
+use Rattle.ftl_project.proofs.Comparisons.{Compares-report_text, of_side}
 use Rattle.ftl_project.proofs.Counting.{appends_as, on_ok_then}
 use Rattle.ftl_project.proofs.comparing.Comparing.report_pair.Goals as goal
 
@@ -28,9 +28,12 @@ returns-in-Err-clause-counted g c =
     let self = c.args.self.now in
     let at = g.S.Store.bytes_at c.args.store.now in
     let written = g.O.Write.contents in
-    Compares-report_text g.S.Store.fails self.reading self.options at c.args.pair.now c.report_fault.result
-    c.in-Err.fault c.args.tally.now
+    let pair = c.args.pair.now in
+    let fault = c.in-Err.fault in
+    Compares-report_text g.S.Store.fails self.reading self.options at pair c.report_fault.result
+    fault.fault c.args.tally.now
     c.report_fault.new.tally c.args.share.now (written (inner_of c.args.streams.now.out.now)) (written (inner_of
     c.report_fault.new.streams.out.now))
-    c.in-Err.ensures.fault c.report_fault.ensures.counted
+    (of_side g.S.Store.fails self.reading self.options at pair fault.side fault.fault c.in-Err.ensures.fault)
+    c.report_fault.ensures.counted
     (ap (λ out. written (inner_of out.now)) c.report_fault.ensures.out)
