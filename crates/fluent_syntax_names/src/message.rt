@@ -45,7 +45,8 @@ impl Kind {
 }
 
 impl Difference {
-    /// A sentence on the difference: `entry` is the name of the message or term, and `name` that of what one of the files
+    /// A sentence on the difference: `entry` is the name of the message or term, and `name` that of what one of the
+    /// files
     /// has in it, or the same. That of a term has its `-`, and that of a variable is without its `$`.
     ///
     /// `AllocError` where there is no memory for it.

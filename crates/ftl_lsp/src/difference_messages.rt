@@ -31,7 +31,8 @@ pub fn names_of_part<'t>(
     }
 }
 
-/// What is said of what the document lacks, or has as junk: `place` is that in the original. `AllocError` where a growth
+/// What is said of what the document lacks, or has as junk: `place` is that in the original. `AllocError` where a
+/// growth
 /// was refused.
 pub fn missing_message(
     alloc: Global,

@@ -15,7 +15,8 @@ use fluent_syntax_names::{Difference, MissingPart, Part, RefusedNames, Side};
 use ftl_files::Form;
 use std::alloc::{AllocError, Global};
 
-/// A pair of which is told what each file lacks: what the other file says, what the reference has as junk, and the form.
+/// A pair of which is told what each file lacks: what the other file says, what the reference has as junk, and the
+/// form.
 #[derive(Clone, Copy)]
 pub(crate) struct PairReporter<'a, 't> {
     pub(crate) alloc: Global,
