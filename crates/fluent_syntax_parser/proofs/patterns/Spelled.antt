@@ -14,8 +14,8 @@ use Rattle.fluent_syntax_tree.specs.declared.spans.Span.{Span}
 use Rattle.fluent_syntax_grammar.specs.Elements as grammar
 use Rattle.fluent_syntax_grammar.specs.Elements.{if_any, Item, ItemOf, items, text, placeable_item}
 use Rattle.fluent_syntax_grammar.specs.Elements.{cut, line_items, opening_items}
-use Rattle.fluent_syntax_grammar.specs.Layout.{Layout, LineOf, PieceOf, least, counted}
-use Rattle.fluent_syntax_parser.specs.Elements.{element_of, last_of, spelled}
+use Rattle.fluent_syntax_grammar.specs.Layout.{Layout, LineOf, PieceOf}
+use Rattle.fluent_syntax_parser.specs.Elements.{dedented_items, element_of, last_of, spelled}
 use Rattle.fluent_syntax_parser.specs.Layouts.{item_of, line_of}
 use Rattle.fluent_syntax_parser.specs.Opened.{Settled, as_item}
 use Rattle.fluent_syntax_parser.proofs.patterns.Layouts.{common_mapped, cut_mapped, items_mapped}
