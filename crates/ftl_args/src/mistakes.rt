@@ -104,6 +104,7 @@ fn push_takers(line: &mut String, alloc: Global, told: &str) -> Result<(), Alloc
     for command in command_line(alloc, "")?.get_subcommands() {
         if command
             .get_arguments()
+            .iter()
             .any(|known| is_called(known, option))
         {
             write!(line, "{before}{}", command.get_name())?;

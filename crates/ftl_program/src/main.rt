@@ -6,7 +6,6 @@ mod colors;
 mod compare;
 mod file_sets;
 mod help;
-mod input_store;
 mod lint;
 mod listed;
 mod messages;
@@ -70,11 +69,11 @@ fn answer(rt: &HostRuntime, mut work: Work<'_>) -> u8 {
     }
 }
 
-/// Answers standard input; as a file of its name where it is formatted, or a form of files is asked for.
+/// Answers standard input; as a file of its name where a form of files is asked for.
 fn answer_alone(rt: &HostRuntime, work: &Work<'_>) -> u8 {
     match (work.task, work.options.output) {
-        (Task::Check, Some(Output::Full | Output::Json | Output::Github))
-        | (Task::Format(_) | Task::FromJson, _) => run_status(rt, answer_named(rt, work)),
+        (Task::Check, Some(Output::Full | Output::Json | Output::Github)) | (Task::FromJson, _) =>
+            run_status(rt, answer_named(rt, work)),
         _ => answer_input(rt, work),
     }
 }

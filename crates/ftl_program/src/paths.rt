@@ -1,19 +1,18 @@
 //! Files and folders, answered each by its name.
 
 use crate::colors::form_over_paths;
-use crate::input_store::InputStore;
 use crate::listed::NamedFiles;
 use crate::messages::end_run;
 use crate::project::Project;
 use crate::standard_input::{all_input, tell_of_terminal};
 use ftl::{RunFault, Watched};
 use ftl_args::{Change, Task, Work};
-use ftl_files::{Disk, Store};
+use ftl_files::{Disk, Memory, Store};
 use ftl_project::{
     RewriteCounts, Streams, Tally, check_files, check_summary, convert_files, diff_files,
     format_summary, name_files, print_files, write_files, write_summary,
 };
-use std::alloc::{AllocError, Global};
+use std::alloc::AllocError;
 use std::io;
 
 /// What a run met.
@@ -83,17 +82,31 @@ pub(crate) fn answer_named(rt: &HostRuntime, work: &Work<'_>) -> Result<u8, RunF
 /// Answers standard input as a file of its name.
 fn answer_named_input(rt: &HostRuntime, work: &Work<'_>, met: &mut Met) -> Result<(), RunFault> {
     tell_of_terminal(rt);
-    let mut input = InputStore::new(all_input(rt)?);
-    let Ok(files) = list_of(rt.alloc(), work.stdin_name) else {
-        return Err(RunFault::Memory);
-    };
-    run_task(rt, &mut input, &files, work, met)
+    let input = all_input(rt)?;
+    let mut memory = Memory::new(rt.alloc());
+    let mut files = Vec::new(rt.alloc());
+    match put_named(
+        rt,
+        &mut memory,
+        &mut files,
+        work.stdin_name,
+        input.as_slice(),
+    ) {
+        Ok(()) => run_task(rt, &mut memory, files.as_slice(), work, met),
+        Err(AllocError) => Err(RunFault::Memory),
+    }
 }
 
-fn list_of(alloc: Global, name: &str) -> Result<Vec<String>, AllocError> {
-    let mut files = Vec::new(alloc);
-    files.push(String::from_str(alloc, name)?)?;
-    Ok(files)
+fn put_named<R: AllocGlobal>(
+    rt: &R,
+    memory: &mut Memory,
+    files: &mut Vec<String>,
+    name: &str,
+    bytes: &[u8],
+) -> Result<(), AllocError> {
+    memory.put(name, bytes)?;
+    files.push(String::from_str(rt.alloc(), name)?)?;
+    Ok(())
 }
 
 /// Does with the files what is asked.

@@ -2,9 +2,10 @@
 
 use crate::messages::{refuse, refuse_run};
 use fluent_syntax::parser::TooDeep;
-use ftl::{Command, Outcome, RunFault, Watched, run_within};
-use ftl_args::Work;
-use ftl_project::note_line;
+use ftl::{Command, Formatted, Outcome, RunFault, Watched, formatted_within, run_within};
+use ftl_args::{Task, Work};
+use ftl_project::{Reading, lossy_note, note_line};
+use simdutf8::basic::from_utf8;
 use std::io;
 use std::io::{ErrorKind, IsTerminal, Read};
 
@@ -19,7 +20,10 @@ pub(crate) fn answer_input(rt: &HostRuntime, work: &Work<'_>) -> u8 {
     let Some(command) = work.task.command(work.options.reading().edition) else {
         return refuse_run(rt, RunFault::Input);
     };
-    answer_reader(rt, command, work, rt.reader())
+    match work.task {
+        Task::Format(_) => format_input(rt, work),
+        _ => answer_reader(rt, command, work, rt.reader()),
+    }
 }
 
 /// Says that it waits for input, where a person has to type it.
@@ -57,6 +61,40 @@ fn answer_reader<R: Print + Eprint + AllocGlobal, I: Read + Drop>(
     }
 }
 
+/// Formats standard input, and tells where the text would not read back.
+fn format_input<R: Input + Print + Eprint + AllocGlobal>(rt: &R, work: &Work<'_>) -> u8 {
+    let input = match all_input(rt) {
+        Ok(input) => input,
+        Err(fault) => return refuse_run(rt, fault),
+    };
+    let Ok(text) = from_utf8(input.as_slice()) else {
+        return refuse_run(rt, RunFault::Input);
+    };
+    let Reading { edition, nesting } = work.options.reading();
+    match formatted_within(rt.alloc(), text, edition, nesting) {
+        Ok(Ok(formatted)) => put_formatted(rt, &formatted, text, work),
+        Ok(Err(fault)) => refuse_run(rt, fault),
+        Err(TooDeep) => refuse(rt, NESTS_DEEPER, TOO_DEEP),
+    }
+}
+
+/// Writes the normal form, and gives the exit status.
+fn put_formatted<R: Print + Eprint + AllocGlobal>(
+    rt: &R,
+    formatted: &Formatted,
+    text: &str,
+    work: &Work<'_>,
+) -> u8 {
+    if rt.write_all(formatted.text.as_bytes()).is_err() {
+        return refuse_run(rt, RunFault::Output);
+    }
+    if formatted.outcome == Outcome::Clean && !formatted.is_canonical {
+        warn(rt, text, work);
+    }
+    warn_of_errors(rt, work, formatted.outcome);
+    formatted.outcome.status()
+}
+
 /// Tells that entries with errors were left out, if some were. Of memory it says nothing: the text was written.
 fn warn_of_errors<R: Eprint + AllocGlobal>(rt: &R, work: &Work<'_>, outcome: Outcome) {
     if outcome == Outcome::SyntaxErrors {
@@ -73,5 +111,12 @@ pub(crate) fn all_input<R: Input + AllocGlobal>(rt: &R) -> Result<Vec<u8>, RunFa
         Ok(_) => Ok(input),
         Err(error) if error.kind() == ErrorKind::OutOfMemory => Err(RunFault::Memory),
         Err(_) => Err(RunFault::Input),
+    }
+}
+
+/// Tells by which entry the text would not read back, if it would not. Of memory it says nothing: the text was written.
+fn warn<R: Eprint + AllocGlobal>(rt: &R, text: &str, work: &Work<'_>) {
+    if let Ok(note) = lossy_note(rt.alloc(), work.stdin_name, text, work.options.reading()) {
+        let _ = rt.eprint(note.as_str());
     }
 }

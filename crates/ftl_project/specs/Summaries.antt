@@ -55,6 +55,12 @@ placed_note path line column note rule =
 abbrev pub lossy_entry_line_of : (path : List ℕ) → LossyEntry → (note rule : List ℕ) → List ℕ
 lossy_entry_line_of path entry note rule = placed_note (shown_text path) entry.line entry.column note rule
 
+-- of an entry by which what was written does not read back, with a text for its rule; of none nothing
+abbrev pub lossy_note_of : (path : List ℕ) → Option LossyEntry → (rule : List ℕ) → List ℕ
+lossy_note_of path None rule = []
+lossy_note_of path (Some entry) rule =
+    lossy_entry_line_of path entry (codes "what is written does not read back") rule
+
 -- what a fault says; what the system or the JSON says is not known
 abbrev pub fault_text : Fault → Option (List ℕ)
 fault_text (Read error) = None

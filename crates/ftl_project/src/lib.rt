@@ -45,7 +45,7 @@ pub use fault::Fault;
 pub use formatting::{name_files, write_files};
 pub use ftl_files::{Form, Reading};
 pub use linting::{LintOptions, lint_files};
-pub use lossy_entry::{LossyEntry, lossy_entry_in, lossy_entry_line};
+pub use lossy_entry::{LossyEntry, lossy_entry_in, lossy_entry_line, lossy_note};
 pub use printing::print_files;
 pub use replacement::{Replacement, replacement_for};
 pub use reporting::report;

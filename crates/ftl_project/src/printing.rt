@@ -11,7 +11,7 @@ ghost use Rattle.ftl_project.specs.Runs.{AnswersEach};
 
 use crate::answering::{Answer, Answering, answer_files};
 use crate::fault::Fault;
-use crate::lossy_entry::{lossy_entry_in, lossy_entry_line};
+use crate::lossy_entry::lossy_note;
 use crate::streams::{Streams, mark_note, note_line};
 use crate::tally::Tally;
 use fluent_syntax::parser::Edition;
@@ -56,8 +56,8 @@ pub fn print_files<S: Store, O: Write, E: Write>(
 struct Printed {
     text: String,
     outcome: Outcome,
-    /// Whether it is a normal form of which it is not known that it reads back.
-    is_doubtful: bool,
+    /// By which edition it is a normal form of which it is not known that it reads back.
+    doubtful: Option<Edition>,
 }
 
 /// By which command files are answered, and how deep what they say may nest.
@@ -109,7 +109,10 @@ impl Printing {
             Ok(Ok(formatted)) => Ok(Printed {
                 text: formatted.text,
                 outcome: formatted.outcome,
-                is_doubtful: !formatted.is_canonical,
+                doubtful: match formatted.is_canonical {
+                    true => None,
+                    false => Some(edition),
+                },
             }),
             Ok(Err(_)) => Err(Fault::Memory),
             Err(_) => Err(Fault::TooDeep),
@@ -126,7 +129,7 @@ impl Printing {
             Ok(Ok((text, outcome))) => Ok(Printed {
                 text,
                 outcome,
-                is_doubtful: false,
+                doubtful: None,
             }),
             Ok(Err(_)) => Err(Fault::Memory),
             Err(_) => Err(Fault::TooDeep),
@@ -141,27 +144,13 @@ impl Printing {
             note.push_str(mark.as_str())?;
             return Ok(note);
         }
-        if !printed.is_doubtful {
+        let Some(edition) = printed.doubtful else {
             return Ok(String::new(self.alloc));
-        }
-        let edition = match self.command {
-            Command::FormatTwo => Edition::Two,
-            _ => Edition::One,
         };
         let reading = Reading {
             edition,
             nesting: self.nesting,
         };
-        match lossy_entry_in(self.alloc, text, reading) {
-            Ok(Some(entry)) => lossy_entry_line(
-                self.alloc,
-                path,
-                entry,
-                "what is written does not read back",
-            ),
-            Ok(None) => Ok(String::new(self.alloc)),
-            // it was read before
-            Err(_) => Err(AllocError),
-        }
+        lossy_note(self.alloc, path, text, reading)
     }
 }
