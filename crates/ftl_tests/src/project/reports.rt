@@ -11,7 +11,7 @@ type Row = (&'static str, &'static str, &'static str, Form, &'static str);
 
 const BROKEN: &str = "a = b\nbro ken\n";
 
-const ROWS: [Row; 10] = [
+const ROWS: [Row; 12] = [
     (
         "a line",
         "a.ftl",
@@ -84,9 +84,27 @@ const ROWS: [Row; 10] = [
         "a.ftl",
         "a = { F(G(1), $x }\n",
         Form::Full,
-        "a.ftl:1:18: error[ExpectedToken]: Expected a token starting with \")\"\na = { F(G(1), $x }\n                 ^\n\
-        \x20 = an argument is followed by `,` or by the `)` that ends the call\n\
+        "a.ftl:1:18: error[ExpectedInlineExpression]: Expected an inline expression\na = { F(G(1), $x }\n                 ^\n\
+        \x20 = here comes a string, a number, a `$variable`, a message, a `-term` or a `FUNCTION()`\n\
         the parenthesis that is still open:\na = { F(G(1), $x }\n       ^\n",
+    ),
+    (
+        "a parenthesis that is open at the end, in an object",
+        "a.ftl",
+        "a = { F(1",
+        Form::Json,
+        "{\"path\":\"a.ftl\",\"line\":1,\"column\":10,\"start\":9,\"end\":10,\"junk\":{\"start\":0,\"end\":9},\
+        \"kind\":\"ExpectedToken\",\"payload\":\")\",\"message\":\"Expected a token starting with \\\")\\\"\",\
+        \"advice\":\"an argument is followed by `,` or by the `)` that ends the call\",\
+        \"opened\":{\"line\":1,\"column\":8}}\n",
+    ),
+    (
+        "an argument that is none",
+        "a.ftl",
+        "a = { F(1, ?) }\n",
+        Form::Full,
+        "a.ftl:1:12: error[ExpectedInlineExpression]: Expected an inline expression\na = { F(1, ?) }\n           ^\n\
+        \x20 = here comes a string, a number, a `$variable`, a message, a `-term` or a `FUNCTION()`\n",
     ),
     ("no error", "a.ftl", "a = b\n", Form::Full, ""),
 ];
