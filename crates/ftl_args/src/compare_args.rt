@@ -4,7 +4,7 @@ use crate::commands::{color, exclude, texts_of};
 use crate::lint_args::{form, ignore, ignored_of, nesting};
 use crate::options::Options;
 use clap::{Arg, ArgAction, ArgMatches, Command};
-use ftl_files::ReportedKind;
+use ftl_files::{DIFFERENCE_NAMES, ReportedKind};
 use std::alloc::{AllocError, Global};
 
 /// Files of a reference language, and of others to compare with it.
@@ -20,18 +20,7 @@ pub struct Compare<'a> {
     pub paths: Vec<&'a str>,
 }
 
-static KIND_NAMES: [&str; 10] = [
-    "missing-file",
-    "missing",
-    "missing-value",
-    "missing-attribute",
-    "missing-reference",
-    "obsolete",
-    "obsolete-value",
-    "obsolete-attribute",
-    "obsolete-reference",
-    "unknown-variable",
-];
+static KIND_NAMES: [&str; 10] = DIFFERENCE_NAMES;
 
 /// The word, with its options.
 pub(crate) fn compare_command<'a>(alloc: Global) -> Result<Command<'a>, AllocError> {

@@ -3,7 +3,7 @@
 use crate::commands::{color, exclude, texts_of};
 use crate::options::Options;
 use clap::{Arg, ArgAction, ArgMatches, Command, value_parser};
-use ftl_files::{ReportedKind, reported_kind_of_name};
+use ftl_files::{FINDING_NAMES, ReportedKind, reported_kind_of_name};
 use std::alloc::{AllocError, Global};
 
 /// Files to search for mistakes between names.
@@ -21,16 +21,7 @@ pub struct Lint<'a> {
     pub paths: Vec<&'a str>,
 }
 
-static KIND_NAMES: [&str; 8] = [
-    "defined-twice",
-    "attribute-twice",
-    "variant-twice",
-    "undefined-message",
-    "undefined-term",
-    "undefined-attribute",
-    "undefined-value",
-    "cyclic-reference",
-];
+static KIND_NAMES: [&str; 8] = FINDING_NAMES;
 
 static FORMS: [&str; 4] = ["full", "lines", "json", "github"];
 

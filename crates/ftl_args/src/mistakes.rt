@@ -3,8 +3,8 @@
 use crate::commands::command_line;
 use crate::requested::asked_word;
 use crate::usage::usage_of;
-use clap::Error;
 use clap::error::ErrorKind;
+use clap::{Arg, Error};
 use std::alloc::{AllocError, Global};
 use std::fmt::Write;
 
@@ -25,9 +25,13 @@ pub fn mistake(alloc: Global, words: &[String], error: &Error) -> Result<String,
     let mut lines = String::new(alloc);
     let word = asked_word(words);
     if error.kind() != ErrorKind::MissingSubcommand {
-        push_reason(&mut lines, format!(in alloc; "{error}")?.as_str())?;
-        if error.kind() == ErrorKind::InvalidSubcommand && !lines.as_str().contains(';') {
-            push_abbreviated(&mut lines, alloc, word)?;
+        let told = format!(in alloc; "{error}")?;
+        push_reason(&mut lines, told.as_str())?;
+        match error.kind() {
+            _ if lines.as_str().contains(';') => (),
+            ErrorKind::InvalidSubcommand => push_abbreviated(&mut lines, alloc, word)?,
+            ErrorKind::UnknownArgument => push_takers(&mut lines, alloc, told.as_str())?,
+            _ => (),
         }
         lines.push('\n')?;
     }
@@ -42,8 +46,7 @@ fn push_reason(line: &mut String, told: &str) -> Result<(), AllocError> {
             line.push_str("ftl: ")?;
             push_as_word(line, reason)?;
         } else if let Some(tip) = part.strip_prefix("  tip: ") {
-            line.push_str("; ")?;
-            push_as_word(line, tip)?;
+            push_tip(line, tip)?;
         } else if let Some(values) = part.strip_prefix("  [") {
             line.push_str("; ")?;
             line.push_str(values.trim_end_matches(']'))?;
@@ -52,6 +55,15 @@ fn push_reason(line: &mut String, told: &str) -> Result<(), AllocError> {
         }
     }
     Ok(())
+}
+
+/// Adds what may have been meant. That an option is a path is not: a path of that name is written as `./--write`.
+fn push_tip(line: &mut String, tip: &str) -> Result<(), AllocError> {
+    if tip.starts_with("to pass '") {
+        return Ok(());
+    }
+    line.push_str("; ")?;
+    push_as_word(line, tip)
 }
 
 /// Adds the text, where a subcommand is called a word and control characters are escaped.
@@ -81,6 +93,43 @@ fn push_abbreviated(line: &mut String, alloc: Global, short: &str) -> Result<(),
         }
     }
     Ok(())
+}
+
+/// Adds the words that take the option that is told to be unexpected, if there are some.
+fn push_takers(line: &mut String, alloc: Global, told: &str) -> Result<(), AllocError> {
+    let Some(option) = unexpected_argument(told) else {
+        return Ok(());
+    };
+    let mut before = "; words that take it: ";
+    for command in command_line(alloc, "")?.get_subcommands() {
+        if command
+            .get_arguments()
+            .iter()
+            .any(|known| is_called(known, option))
+        {
+            write!(line, "{before}{}", command.get_name())?;
+            before = ", ";
+        }
+    }
+    Ok(())
+}
+
+/// The argument that is told to be unexpected.
+fn unexpected_argument(told: &str) -> Option<&str> {
+    let reason = told.lines().next()?;
+    let argument = reason.strip_prefix("error: unexpected argument '")?;
+    argument.strip_suffix("' found")
+}
+
+/// Whether the option is called so on a command line, as `--write` or `-w`.
+fn is_called(option: &Arg<'_>, name: &str) -> bool {
+    match name.strip_prefix("--") {
+        Some(long) => option.get_long() == Some(long),
+        None => match (name.strip_prefix('-'), option.get_short()) {
+            (Some(short), Some(letter)) => short.chars().eq([letter]),
+            _ => false,
+        },
+    }
 }
 
 /// Whether it has two or more of the word's letters, in their order, and the first one first.

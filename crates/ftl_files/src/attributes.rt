@@ -12,7 +12,7 @@ use std::rt::Files;
 pub(crate) fn replaceable_metadata<R: Files>(rt: &R, path: &str) -> io::Result<Metadata> {
     let file = fs::metadata(rt, path)?;
     if !file.is_file() {
-        return Err(io::Error::new(ErrorKind::InvalidInput, "not a regular file"));
+        return Err(not_regular());
     }
     if file.nlink() > 1 {
         return Err(io::Error::new(ErrorKind::InvalidInput, "it has several hard links"));
@@ -21,6 +21,11 @@ pub(crate) fn replaceable_metadata<R: Files>(rt: &R, path: &str) -> io::Result<M
         return Err(io::Error::from(ErrorKind::PermissionDenied));
     }
     Ok(file)
+}
+
+/// Why what is no regular file is not replaced.
+pub(crate) fn not_regular() -> io::Error {
+    io::Error::new(ErrorKind::InvalidInput, "not a regular file")
 }
 
 /// Gives the new file at the path the mode and the owner of the old one.

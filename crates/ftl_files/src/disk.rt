@@ -2,7 +2,7 @@
 ghost use Rattle.std.specs.Prelude.{string_bytes};
 ghost use Rattle.ftl_files.specs.Files.{unknown};
 
-use crate::attributes::{keep_attributes, replaceable_metadata};
+use crate::attributes::{keep_attributes, not_regular, replaceable_metadata};
 use crate::excluded::Excluded;
 use crate::file_system::FileSystem;
 use crate::folders::Folders;
@@ -21,12 +21,26 @@ use std::{fs, io};
 #[derive(Drop)]
 pub struct Disk<'r, R> {
     rt: &'r R,
+    /// Whether a store reads no others than regular files.
+    is_regular: bool,
 }
 
 impl<'r, R> Disk<'r, R> {
     /// The files that this runtime reaches.
     pub fn new(rt: &'r R) -> Self {
-        Disk { rt }
+        Disk {
+            rt,
+            is_regular: false,
+        }
+    }
+
+    /// The same, of which a store reads regular files alone: these can be replaced, and the read of another one, as of a
+    /// FIFO, may never end.
+    pub fn of_regular_files(rt: &'r R) -> Self {
+        Disk {
+            rt,
+            is_regular: true,
+        }
     }
 }
 
@@ -104,6 +118,9 @@ impl<R: Files + AllocGlobal> FileSystem for Disk<'_, R> {
 
 impl<R: Files + AllocGlobal> Store for Disk<'_, R> {
     fn read(&mut self, path: &str) -> io::Result<Vec<u8>> {
+        if self.is_regular && !fs::metadata(self.rt, path)?.is_file() {
+            return Err(not_regular());
+        }
         fs::read(self.rt, path)
     }
 

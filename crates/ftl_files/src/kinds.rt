@@ -9,6 +9,32 @@ ghost use Rattle.ftl_files.specs.declared.kinds.ReportedKind.{ReportedKind};
 
 use fluent_syntax_names::{Difference, Kind};
 
+/// The names of what `lint` tells.
+pub const FINDING_NAMES: [&str; 8] = [
+    "defined-twice",
+    "attribute-twice",
+    "variant-twice",
+    "undefined-message",
+    "undefined-term",
+    "undefined-attribute",
+    "undefined-value",
+    "cyclic-reference",
+];
+
+/// The names of what `compare` tells.
+pub const DIFFERENCE_NAMES: [&str; 10] = [
+    "missing-file",
+    "missing",
+    "missing-value",
+    "missing-attribute",
+    "missing-reference",
+    "obsolete",
+    "obsolete-value",
+    "obsolete-attribute",
+    "obsolete-reference",
+    "unknown-variable",
+];
+
 /// A kind of what is told of names.
 #[derive(Clone, Copy, Debug, PartialEq, Eq)]
 pub enum ReportedKind {

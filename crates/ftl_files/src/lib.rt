@@ -26,7 +26,9 @@ pub use disk::Disk;
 pub use excluded::Excluded;
 pub use file_system::FileSystem;
 pub use folders::Folders;
-pub use kinds::{ReportedKind, kind_of_name, reported_kind_of_name};
+pub use kinds::{
+    DIFFERENCE_NAMES, FINDING_NAMES, ReportedKind, kind_of_name, reported_kind_of_name,
+};
 pub use limits::{BYTES_LIMIT, FILE_LIMIT, FILES_LIMIT, FOLDERS_LIMIT};
 pub use listing::{Listing, list};
 pub use memory::Memory;

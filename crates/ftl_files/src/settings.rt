@@ -65,7 +65,7 @@ impl Settings {
 ///
 /// `Memory`: a growth was refused. `Toml`: the text is no TOML document. `Key`: it has a key that stands for nothing.
 /// `Reference`, `Ignore`, `Exclude`, `Edition`, `Output`, `Nesting`, `Color`: the value of that key is of another kind,
-/// or is none of those that the key may have.
+/// or is none of those that the key may have. `Kind`: that of `ignore` has a text that names no kind.
 pub fn settings_of(alloc: Global, text: &str) -> Result<Settings, SettingsFault>
     ensures says { IfOk result (λ settings. (document : Members)
         × (parse_document text.now ≡ Some document) × Says document settings) }
@@ -154,7 +154,7 @@ fn ignored_of(alloc: Global, value: Option<&Value>) -> Result<Vec<ReportedKind>,
         return Err(SettingsFault::Ignore);
     };
     for name in names {
-        add_kind(&mut kinds, kind_of(name)?)?;
+        add_kind(&mut kinds, kind_of(alloc, name)?)?;
     }
     Ok(kinds)
 }
@@ -167,14 +167,18 @@ fn add_kind(kinds: &mut Vec<ReportedKind>, kind: ReportedKind) -> Result<(), All
 }
 
 /// The kind that the value names.
-fn kind_of(value: &Value) -> Result<ReportedKind, SettingsFault>
+fn kind_of(alloc: Global, value: &Value) -> Result<ReportedKind, SettingsFault>
     ensures says { IfOk result (λ kind. view value.now ≡ string (reported_name kind)) }
-    ensures refused { IfErr result (λ fault. (kind : ReportedKind) → view value.now ≢ string (reported_name kind)) }
+    ensures refused { IfErr result (λ fault. fault ≢ SettingsFault.Memory →
+        (kind : ReportedKind) → view value.now ≢ string (reported_name kind)) }
 {
     let Value::String(name) = value else {
         return Err(SettingsFault::Ignore);
     };
-    reported_kind_of_name(name.as_str()).ok_or(SettingsFault::Ignore)
+    match reported_kind_of_name(name.as_str()) {
+        Some(kind) => Ok(kind),
+        None => Err(SettingsFault::Kind(String::from_str(alloc, name.as_str())?)),
+    }
 }
 
 fn excluded_of(alloc: Global, value: Option<&Value>) -> Result<Vec<String>, SettingsFault>

@@ -1,4 +1,6 @@
 //! Why an `ftl.toml` says nothing that can be gone by.
+
+use crate::kinds::{DIFFERENCE_NAMES, FINDING_NAMES};
 use std::alloc::AllocError;
 use std::fmt;
 
@@ -13,8 +15,10 @@ pub enum SettingsFault {
     Key(String),
     /// The value of `reference` is no text.
     Reference,
-    /// The value of `ignore` is no list of names of kinds.
+    /// The value of `ignore` is no list of texts.
     Ignore,
+    /// The value of `ignore` has a text that names no kind.
+    Kind(String),
     /// The value of `exclude` is no list of texts.
     Exclude,
     /// The value of `edition` is not the number of one.
@@ -50,6 +54,12 @@ impl fmt::Display for SettingsFault {
                     "`ignore` wants a list of kinds, as `ftl help lint` and `ftl help compare` have them",
                 )
             }
+            SettingsFault::Kind(name) => {
+                write!(f, "`ignore` knows no kind `{name}`; possible values: ")?;
+                write_names(f, FINDING_NAMES.as_slice())?;
+                f.write_str(", ")?;
+                write_names(f, DIFFERENCE_NAMES.as_slice())
+            }
             SettingsFault::Exclude => {
                 f.write_str("`exclude` wants a list of names and paths in quotes")
             }
@@ -63,4 +73,15 @@ impl fmt::Display for SettingsFault {
             }
         }
     }
+}
+
+/// The names, with a comma behind each but the last.
+fn write_names<W: fmt::Write>(f: &mut fmt::Formatter<W>, names: &[&str]) -> fmt::Result {
+    for (number, name) in names.iter().enumerate() {
+        if number != 0 {
+            f.write_str(", ")?;
+        }
+        f.write_str(*name)?;
+    }
+    Ok(())
 }

@@ -2,7 +2,7 @@
 
 use crate::colors::form_over_paths;
 use crate::listed::{Named, NamedFiles, named_at};
-use crate::messages::{WRONG_ARGS, end_run, refuse_compare, refuse_run};
+use crate::messages::{WRONG_ARGS, end_run, refuse_compare, refuse_input, refuse_run};
 use crate::project::{Project, project_of};
 use ftl::{RunFault, Watched};
 use ftl_args::{Compare, Options};
@@ -16,6 +16,9 @@ use std::io;
 
 /// Compares what the paths name, one by one, with the reference; the exit status.
 pub(crate) fn compare_paths(rt: &HostRuntime, compare: &Compare<'_>) -> u8 {
+    if compare.paths.contains(&"-") {
+        return refuse_input(rt, "compare");
+    }
     let project = match project_of(rt, &compare.excluded) {
         Ok(project) => project,
         Err(status) => return status,

@@ -2,20 +2,23 @@
 
 use crate::colors::form_over_paths;
 use crate::file_sets::{FileSet, add_files, folder_of_languages};
-use crate::listed::NamedFiles;
-use crate::messages::{end_run, refuse_run};
+use crate::listed::{NamedFiles, report_listing_fault};
+use crate::messages::{end_run, refuse_input, refuse_run};
 use crate::project::{Project, project_of};
 use fluent_syntax_names::Kind;
 use ftl::{RunFault, Watched};
 use ftl_args::Lint;
 use ftl_files::{Disk, Reading, ReportedKind, absolute_path};
-use ftl_project::{LintOptions, Streams, Tally, check_summary, lint_files};
+use ftl_project::{Fault, LintOptions, Streams, Tally, check_summary, lint_files};
 use std::alloc::{AllocError, Global};
-use std::io;
+use std::{fs, io};
 
 /// Searches all files that the paths name, each language as a set of its own; the exit status. Kinds that the project
 /// ignores are not told.
 pub(crate) fn lint_paths(rt: &HostRuntime, lint: &Lint<'_>) -> u8 {
+    if lint.paths.contains(&"-") {
+        return refuse_input(rt, "lint");
+    }
     let project = match project_of(rt, &lint.excluded) {
         Ok(project) => project,
         Err(status) => return status,
@@ -37,6 +40,7 @@ fn lint_all(
     let Ok(ignored) = ignored_of(rt, lint, project) else {
         return Err(RunFault::Memory);
     };
+    report_no_reference(rt, project, tally)?;
     let sets = sets_of(rt, lint, project, tally)?;
     let lint_options = LintOptions {
         form: form_over_paths(rt, options),
@@ -46,6 +50,21 @@ fn lint_all(
         lint_set(rt, set, options.reading(), lint_options, tally)?;
     }
     Ok(())
+}
+
+/// Tells that the project's reference is not there, if it is not: then no folder is that of languages.
+fn report_no_reference(
+    rt: &HostRuntime,
+    project: &Project,
+    tally: &mut Tally,
+) -> Result<(), RunFault> {
+    let Some(reference) = &project.settings.reference else {
+        return Ok(());
+    };
+    match fs::metadata(rt, reference.as_str()) {
+        Ok(_) => Ok(()),
+        Err(error) => report_listing_fault(rt, reference.as_str(), &Fault::Read(error), tally),
+    }
 }
 
 fn lint_set(

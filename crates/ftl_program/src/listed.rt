@@ -85,7 +85,7 @@ pub(crate) fn named_at(
 }
 
 /// Tells why what has the path was not answered, and counts it.
-fn report_listing_fault(
+pub(crate) fn report_listing_fault(
     rt: &HostRuntime,
     path: &str,
     fault: &Fault,

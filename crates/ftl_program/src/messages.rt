@@ -31,6 +31,8 @@ pub(crate) fn run_status<R: Eprint>(rt: &R, ended: Result<u8, RunFault>) -> u8 {
 /// Tells what a run met, on a line, and gives the exit status.
 pub(crate) fn end_run<R: Eprint>(rt: &R, tally: &Tally, summary: Result<String, AllocError>) -> u8 {
     match summary {
+        // where no file was answered, it was told why
+        Ok(_) if tally.files == 0 && tally.fault != 0 => tally.status(),
         Ok(line) => {
             let _ = rt.eprint(line.as_str());
             tally.status()
@@ -77,8 +79,18 @@ pub(crate) fn refuse_words<R: Eprint + AllocGlobal>(rt: &R, line: &str, word: &s
 
 /// Tells that there is nothing to compare with the reference.
 pub(crate) fn refuse_compare<R: Eprint + AllocGlobal>(rt: &R) -> u8 {
-    let line = "ftl: compare wants a reference, and what to compare with it";
+    let line =
+        "ftl: compare wants a reference, and what to compare with it: `ftl compare en de`; or in a file ftl.toml \
+        the line: reference = \"en\"";
     refuse_words(rt, line, "compare")
+}
+
+/// Tells that the word, which names or compares files, reads no standard input.
+pub(crate) fn refuse_input<R: Eprint + AllocGlobal>(rt: &R, word: &str) -> u8 {
+    match format!(in rt.alloc(); "ftl: {word} takes files and folders, and not standard input") {
+        Ok(line) => refuse_words(rt, line.as_str(), word),
+        Err(AllocError) => refuse_run(rt, RunFault::Memory),
+    }
 }
 
 /// Tells that the language server is another program.

@@ -62,7 +62,11 @@ pub(crate) fn answer_paths(
             answer_named_input(rt, work, &mut met)?;
         } else {
             let files = named.files_at(rt, *path, &mut met.tally)?;
-            run_task(rt, &mut Disk::new(rt), &files, work, &mut met)?;
+            let mut disk = match work.task {
+                Task::Format(Change::Write) => Disk::of_regular_files(rt),
+                _ => Disk::new(rt),
+            };
+            run_task(rt, &mut disk, &files, work, &mut met)?;
         }
     }
     Ok(met.end(rt, work))

@@ -4,7 +4,7 @@ use crate::messages::{refuse, refuse_run};
 use fluent_syntax::parser::TooDeep;
 use ftl::{Command, Formatted, Outcome, RunFault, Watched, formatted_within, run_within};
 use ftl_args::{Task, Work};
-use ftl_project::{Reading, lossy_entry_in, lossy_entry_line, note_line};
+use ftl_project::{Reading, lossy_note, note_line};
 use simdutf8::basic::from_utf8;
 use std::io;
 use std::io::{ErrorKind, IsTerminal, Read};
@@ -116,11 +116,7 @@ pub(crate) fn all_input<R: Input + AllocGlobal>(rt: &R) -> Result<Vec<u8>, RunFa
 
 /// Tells by which entry the text would not read back, if it would not. Of memory it says nothing: the text was written.
 fn warn<R: Eprint + AllocGlobal>(rt: &R, text: &str, work: &Work<'_>) {
-    let Ok(Some(entry)) = lossy_entry_in(rt.alloc(), text, work.options.reading()) else {
-        return;
-    };
-    let note = "what is written does not read back";
-    if let Ok(line) = lossy_entry_line(rt.alloc(), work.stdin_name, entry, note) {
-        let _ = rt.eprint(line.as_str());
+    if let Ok(note) = lossy_note(rt.alloc(), work.stdin_name, text, work.options.reading()) {
+        let _ = rt.eprint(note.as_str());
     }
 }

@@ -106,6 +106,9 @@ reported_findings ignored name_indexes = filter (is_reported ignored) (all_findi
 abbrev pub is_error : Finding → Bool
 is_error finding = is_error_severity (severity_of finding.kind)
 
+abbrev pub is_warning : Finding → Bool
+is_warning finding = not (is_error finding)
+
 -- how many files have an error, of findings in the order of their files, beside the last one that was counted
 abbrev pub with_problems_after : (last : Option ℕ) → List Finding → ℕ
 with_problems_after last [] = 0
@@ -121,6 +124,7 @@ searched tally files findings = record {
   files = min (tally.files + files) (2 ^ 64 - 1);
   with_problems = min (tally.with_problems + with_problems_after None findings) (2 ^ 64 - 1);
   errors = min (tally.errors + count_by is_error findings) (2 ^ 64 - 1);
+  warnings = min (tally.warnings + count_by is_warning findings) (2 ^ 64 - 1);
   fault = tally.fault;
 }
 

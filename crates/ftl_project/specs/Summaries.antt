@@ -1,5 +1,5 @@
 -- Lines that are told.
-use Rattle.std.specs.Prelude.{ℕ, ◌-◌, ◌==◌, List, ◌++◌, Option, None, Some, codes, if◌then◌else◌}
+use Rattle.std.specs.Prelude.{ℕ, ◌-◌, ◌==◌, List, [], ◌++◌, Option, None, Some, codes, if◌then◌else◌}
 use Rattle.std.specs.Fmt.{decimal}
 use Rattle.ftl_project.specs.Excerpt.{shown_text}
 use Rattle.ftl_project.specs.declared.comparing.Share.{Share}
@@ -14,12 +14,24 @@ file_count_of files = if files == 1 then codes "1 file" else decimal files ++ co
 abbrev pub error_count_of : ℕ → List ℕ
 error_count_of errors = if errors == 1 then codes "1 error" else decimal errors ++ codes " errors"
 
--- how many errors there are, if there are some, and how many files
-abbrev pub check_summary_of : Tally → List ℕ
-check_summary_of tally =
-    if tally.errors == 0 then file_count_of tally.files ++ codes "\n"
+-- how many errors there are, if there are some, and in how many of how many files; where each was answered and none has
+-- an error that too
+abbrev pub errors_in_files : Tally → List ℕ
+errors_in_files tally =
+    if tally.errors == 0
+    then file_count_of tally.files ++ (if tally.fault == 0 then codes ", no errors" else [])
     else error_count_of tally.errors ++ codes " in " ++ decimal tally.with_problems ++ codes " of " ++
-    file_count_of tally.files ++ codes "\n"
+    file_count_of tally.files
+
+-- how many warnings there are, if there are some
+abbrev pub warnings_behind : ℕ → List ℕ
+warnings_behind warnings =
+    if warnings == 0 then []
+    else (if warnings == 1 then codes ", 1 warning" else codes ", " ++ decimal warnings ++ codes " warnings")
+
+-- the errors with the files, and the warnings
+abbrev pub check_summary_of : Tally → List ℕ
+check_summary_of tally = errors_in_files tally ++ warnings_behind tally.warnings ++ codes "\n"
 
 -- how many files are not in normal form, if there are some, and how many files
 abbrev pub format_summary_of : Tally → List ℕ
@@ -42,6 +54,12 @@ placed_note path line column note rule =
 -- the same of an entry
 abbrev pub lossy_entry_line_of : (path : List ℕ) → LossyEntry → (note rule : List ℕ) → List ℕ
 lossy_entry_line_of path entry note rule = placed_note (shown_text path) entry.line entry.column note rule
+
+-- of an entry by which what was written does not read back, with a text for its rule; of none nothing
+abbrev pub lossy_note_of : (path : List ℕ) → Option LossyEntry → (rule : List ℕ) → List ℕ
+lossy_note_of path None rule = []
+lossy_note_of path (Some entry) rule =
+    lossy_entry_line_of path entry (codes "what is written does not read back") rule
 
 -- what a fault says; what the system or the JSON says is not known
 abbrev pub fault_text : Fault → Option (List ℕ)

@@ -14,6 +14,7 @@ counted tally (answered errors has_problems) = record {
   files = min (tally.files + 1) (2 ^ 64 - 1);
   with_problems = min (tally.with_problems + (if has_problems then 1 else 0)) (2 ^ 64 - 1);
   errors = min (tally.errors + errors) (2 ^ 64 - 1);
+  warnings = tally.warnings;
   fault = tally.fault;
 }
 counted tally (failed status) = record tally { fault = max tally.fault status }

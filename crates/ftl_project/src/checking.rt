@@ -10,13 +10,13 @@ ghost use Rattle.ftl_project.specs.Runs.{AnswersEach};
 use crate::answering::{Answer, Answering, answer_files};
 use crate::fault::Fault;
 use crate::reporting::report;
-use crate::streams::{Streams, note_line};
+use crate::streams::{Streams, mark_note};
 use crate::tally::Tally;
 use crate::text_with_errors::TextWithErrors;
 use fluent_syntax::spans::Halt;
 use ftl::{RunFault, errors_within};
 use ftl_files::{Form, Reading, Store};
-use std::alloc::{AllocError, Global};
+use std::alloc::Global;
 use std::io::Write;
 
 /// Checks the files, and tells their errors in the form. No file is changed, and each is counted, with as many errors
@@ -73,16 +73,6 @@ impl Answering for Checking {
             text,
             note,
         })
-    }
-}
-
-/// What is told of a file that begins with a byte order mark.
-fn mark_note(alloc: Global, path: &str, text: &str) -> Result<String, AllocError> {
-    if text.starts_with('\u{feff}') {
-        let note = "begins with a byte order mark, so its first entry is junk";
-        note_line(alloc, path, &note)
-    } else {
-        Ok(String::new(alloc))
     }
 }
 

@@ -2,10 +2,10 @@
 ghost use Rattle.std.specs.Prelude.{◌≡◌, ◌++◌, IfOk, OnOk, string_bytes};
 ghost use Rattle.ftl_project.specs.Diagnostics.{IsName, IsDiagnostic, place_or_path, diagnostic_line, location_at};
 
+use crate::error_advice::{push_advice, push_advice_members};
 use crate::excerpt::push_excerpt;
 use crate::github::{push_data, push_property};
 use crate::json::{push_json_text, push_junk, push_payload};
-use crate::open_brace::open_brace;
 use crate::paint::{COLORED, PLAIN, Paint};
 use crate::terminal_text::push_shown_text;
 use fluent_syntax::parser::ParserError;
@@ -147,14 +147,10 @@ fn push_in_full(
     if let Some(location) = diagnostic.place {
         push_excerpt(out, diagnostic.text, location.start, caret)?;
     }
-    if let Some(place) = diagnostic
-        .error
-        .and_then(|error| open_brace(diagnostic.text, error))
-    {
-        out.push_str("the brace that is still open:\n")?;
-        push_excerpt(out, diagnostic.text, place, caret)?;
+    match diagnostic.error {
+        Some(error) => push_advice(out, diagnostic.text, error, caret),
+        None => Ok(()),
     }
-    Ok(())
 }
 
 /// An object. Its places are in bytes, counted from 0; the column too is in bytes, and counted from 1.
@@ -177,6 +173,9 @@ fn push_json(out: &mut String, diagnostic: &Diagnostic<'_>) -> Result<(), AllocE
     }
     out.push_str(",\"message\":")?;
     push_json_text(out, diagnostic.message.as_str())?;
+    if let (Some(error), Some(location)) = (diagnostic.error, diagnostic.place) {
+        push_advice_members(out, diagnostic.text, error, location)?;
+    }
     out.push_str("}\n")
 }
 

@@ -15,7 +15,7 @@ use crate::replacement::{Replacement, replacement_for};
 use crate::reporting::report;
 use crate::rewrite_counts::RewriteCounts;
 use crate::rewriting::rewrite;
-use crate::streams::{Streams, report_fault};
+use crate::streams::{Streams, mark_note, report_fault};
 use crate::tally::Tally;
 use crate::terminal_text::push_shown_text;
 use ftl::{RunFault, write_all};
@@ -159,14 +159,20 @@ pub(crate) fn is_other(replacement: &Replacement) -> bool
     !matches!(replacement, Replacement::Same)
 }
 
-/// What is told of a file that is left as it is: its errors, or by which entry its normal form would not read back.
+/// What is told of a file that is left as it is: its errors, and a byte order mark; or by which entry its normal form
+/// would not read back.
 pub(crate) fn left_note(
     alloc: Global,
     path: &str,
     replacement: &Replacement,
 ) -> Result<String, AllocError> {
     match replacement {
-        Replacement::Errors(refused) => report(alloc, path, refused, Form::Full),
+        Replacement::Errors(refused) => {
+            let mut note = report(alloc, path, refused, Form::Full)?;
+            let mark = mark_note(alloc, path, refused.text.as_str())?;
+            note.push_str(mark.as_str())?;
+            Ok(note)
+        }
         Replacement::Lossy(entry) => lossy_entry_line(alloc, path, *entry, "left as it is"),
         _ => Ok(String::new(alloc)),
     }

@@ -5,7 +5,7 @@ ghost use Rattle.ftl.specs.Watched.{has_failed, inner_of};
 ghost use Rattle.ftl_files.specs.Store.{AllUnchanged};
 ghost use Rattle.ftl_project.specs.Linting.{AddsFiles, CountsRead, HasRead, NameIndexesEach, NameIndexesSource, Reads};
 ghost use Rattle.ftl_project.specs.Linting.{ReadsOne, ReadsSource, Searches, SearchesFiles, with_problems_after};
-ghost use Rattle.ftl_project.specs.Linting.{is_error, is_reported, searched, reported_findings};
+ghost use Rattle.ftl_project.specs.Linting.{is_error, is_reported, is_warning, searched, reported_findings};
 ghost use Rattle.ftl_project.specs.NameIndexes.{IsShort};
 ghost use Rattle.ftl_project.specs.declared.findings.Source.{Source};
 
@@ -14,7 +14,7 @@ use crate::fault::Fault;
 use crate::findings::{Source, report_findings};
 use crate::name_indexes::name_index;
 use crate::rewriting::read_text;
-use crate::streams::{Streams, report_fault};
+use crate::streams::{Streams, mark_note, report_fault};
 use crate::tally::Tally;
 use fluent_syntax_names::{Finding, Kind, NameIndex, findings};
 use ftl::{RunFault, write_all};
@@ -146,8 +146,8 @@ fn lint_sources<O: Write, E: Write>(
         Ok(report_text) => write_all(streams.out, report_text.as_bytes())?,
         Err(AllocError) => return Err(RunFault::Memory),
     }
-    match kinds_summary(alloc, &found) {
-        Ok(summary) => write_all(streams.err, summary.as_bytes()),
+    match notes(alloc, sources, &found) {
+        Ok(notes) => write_all(streams.err, notes.as_bytes()),
         Err(AllocError) => Err(RunFault::Memory),
     }
 }
@@ -245,6 +245,7 @@ fn count(tally: &mut Tally, files: usize, found: &[Finding])
     tally.files = tally.files.saturating_add(files);
     tally.with_problems = tally.with_problems.saturating_add(with_problems(found));
     tally.errors = tally.errors.saturating_add(errors(found));
+    tally.warnings = tally.warnings.saturating_add(warnings(found));
 }
 
 /// How many files have an error among the findings, which are in the order of the files.
@@ -268,6 +269,18 @@ fn errors(found: &[Finding]) -> usize
     found.iter().filter(|finding| is_error(finding)).count()
 }
 
+fn warnings(found: &[Finding]) -> usize
+    ensures { result ≡ count_by is_warning found.now }
+{
+    found.iter().filter(|finding| is_warning(finding)).count()
+}
+
+fn is_warning(finding: &Finding) -> bool
+    ensures { result ≡ is_warning finding.now }
+{
+    !is_error(finding)
+}
+
 fn is_error(finding: &Finding) -> bool
     ensures { result ≡ is_error finding.now }
 {
@@ -285,9 +298,13 @@ const KINDS: [Kind; 8] = [
     Kind::CyclicReference,
 ];
 
-/// How many findings there are of each kind that has some, each on a line.
-fn kinds_summary(alloc: Global, found: &[Finding]) -> Result<String, AllocError> {
+/// Which files begin with a byte order mark; and how many findings there are of each kind that has some. All on lines.
+fn notes(alloc: Global, sources: &[Source], found: &[Finding]) -> Result<String, AllocError> {
     let mut out = String::new(alloc);
+    for source in sources {
+        let note = mark_note(alloc, source.path.as_str(), source.text.as_str())?;
+        out.push_str(note.as_str())?;
+    }
     for kind in &KINDS {
         let number = found.iter().filter(|finding| finding.kind == *kind).count();
         if number != 0 {

@@ -1,9 +1,10 @@
 //! The entry by which a text would not read back once it is formatted.
-ghost use Rattle.std.specs.Prelude.{◌≡◌, ◌+◌, ◌<◌, ◌^◌, ℕ, List, IfErr, IfOk, length, map, slice_get, string_bytes};
+ghost use Rattle.std.specs.Prelude.{◌≡◌, ◌+◌, ◌<◌, ◌^◌, ℕ, List, Option, IfErr, IfOk, length, map, slice_get, string_bytes};
 ghost use Rattle.fluent_syntax_tree.specs.View.{entry_view};
 ghost use Rattle.ftl_project.specs.Faults.{IsTooDeep, IsUnparsed};
 ghost use Rattle.ftl_project.specs.Rewriting.{FindsLossy, IsEntryAt, first_start, named_at, place_of_entry};
-ghost use Rattle.ftl_project.specs.Summaries.{lossy_entry_line_of};
+ghost use Rattle.ftl_project.specs.Summaries.{lossy_entry_line_of, lossy_note_of};
+ghost use Rattle.ftl_project.specs.declared.lossy_entry.LossyEntry.{LossyEntry};
 
 use crate::fault::Fault;
 use crate::replacement::{Replacement, replacement_for};
@@ -43,6 +44,27 @@ pub fn lossy_entry_in(
     match replacement_for(alloc, text, reading)? {
         Replacement::Lossy(entry) => Ok(Some(entry)),
         _ => Ok(None),
+    }
+}
+
+/// By which entry the normal form of the text, which was written, does not read back, on a line; nothing where it does.
+///
+/// `AllocError`: a growth was refused, or the text nests deeper than it may.
+pub fn lossy_note(
+    alloc: Global,
+    path: &str,
+    text: &str,
+    reading: Reading,
+) -> Result<String, AllocError>
+    ensures { IfOk result (λ note. (found : Option LossyEntry) × FindsLossy reading.edition text.now found
+        × (rule : List ℕ) × (string_bytes note ≡ lossy_note_of path.now found rule)) }
+{
+    match lossy_entry_in(alloc, text, reading) {
+        Ok(Some(entry)) => {
+            lossy_entry_line(alloc, path, entry, "what is written does not read back")
+        }
+        Ok(None) => Ok(String::new(alloc)),
+        Err(_) => Err(AllocError),
     }
 }
 

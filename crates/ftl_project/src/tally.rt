@@ -1,7 +1,7 @@
 //! What a run met.
 ghost use Rattle.std.specs.Prelude.{◌≡◌, IfOk, string_bytes};
-ghost use Rattle.ftl_project.specs.Summaries.{check_summary_of, error_count_of, file_count_of};
-ghost use Rattle.ftl_project.specs.Summaries.{format_summary_of};
+ghost use Rattle.ftl_project.specs.Summaries.{check_summary_of, error_count_of, errors_in_files, file_count_of};
+ghost use Rattle.ftl_project.specs.Summaries.{format_summary_of, warnings_behind};
 ghost use Rattle.ftl_project.specs.Tally.{answered, counted, failed, status_of};
 
 use std::alloc::{AllocError, Global};
@@ -13,8 +13,10 @@ pub struct Tally {
     pub files: usize,
     /// Files with syntax errors, or that are not as they are to be.
     pub with_problems: usize,
-    /// Syntax errors in all.
+    /// Errors in all.
     pub errors: usize,
+    /// Warnings in all.
+    pub warnings: usize,
     /// The greatest status of a fault, or 0.
     pub fault: u8,
 }
@@ -22,12 +24,13 @@ pub struct Tally {
 impl Tally {
     /// A run that met nothing.
     pub fn new() -> Self
-        ensures { result ≡ record { files = 0; with_problems = 0; errors = 0; fault = 0 } }
+        ensures { result ≡ record { files = 0; with_problems = 0; errors = 0; warnings = 0; fault = 0 } }
     {
         Tally {
             files: 0,
             with_problems: 0,
             errors: 0,
+            warnings: 0,
             fault: 0,
         }
     }
@@ -62,23 +65,48 @@ impl Tally {
     }
 }
 
-/// What a check met, as a line with its LF: `3 errors in 2 of 57 files`, or without errors `57 files`.
+/// What a check met, as a line with its LF: `3 errors in 2 of 57 files, 1 warning`, or where all is well
+/// `57 files, no errors`.
 ///
 /// `AllocError`: a growth was refused.
 pub fn check_summary(alloc: Global, tally: &Tally) -> Result<String, AllocError>
     ensures { IfOk result (λ line. string_bytes line ≡ check_summary_of tally.now) }
 {
+    let errors = errors_in_files(alloc, tally)?;
+    let warnings = warnings_behind(alloc, tally.warnings)?;
+    format!(in alloc; "{errors}{warnings}\n")
+}
+
+/// `3 errors in 2 of 57 files`; without errors `57 files, no errors`, or `57 files` where a file was not answered.
+fn errors_in_files(alloc: Global, tally: &Tally) -> Result<String, AllocError>
+    ensures { IfOk result (λ text. string_bytes text ≡ errors_in_files tally.now) }
+{
     let Tally {
         with_problems,
         errors,
+        fault,
         ..
     } = *tally;
     let files = file_count(alloc, tally.files)?;
-    if errors == 0 {
-        return format!(in alloc; "{files}\n");
+    if errors != 0 {
+        let found = error_count(alloc, errors)?;
+        return format!(in alloc; "{found} in {with_problems} of {files}");
     }
-    let found = error_count(alloc, errors)?;
-    format!(in alloc; "{found} in {with_problems} of {files}\n")
+    if fault != 0 {
+        return Ok(files);
+    }
+    format!(in alloc; "{files}, no errors")
+}
+
+/// `, 1 warning`, or `, 3 warnings`; nothing of none.
+fn warnings_behind(alloc: Global, warnings: usize) -> Result<String, AllocError>
+    ensures { IfOk result (λ text. string_bytes text ≡ warnings_behind warnings) }
+{
+    match warnings {
+        0 => Ok(String::new(alloc)),
+        1 => format!(in alloc; ", 1 warning"),
+        _ => format!(in alloc; ", {warnings} warnings"),
+    }
 }
 
 /// What a formatting met, as a line with its LF: `2 of 57 files not in normal form`, or where all are `57 files`.

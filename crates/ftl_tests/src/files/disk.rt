@@ -46,7 +46,7 @@ fn format(alloc: Global, state: &State) -> Result<Tally, Fail> {
     let files = listing.files.as_slice();
     match write_files(
         alloc,
-        &mut Disk::new(&rt),
+        &mut Disk::of_regular_files(&rt),
         files,
         reading,
         &mut tally,
@@ -79,6 +79,7 @@ fn formats_what_has_no_error(rt: HostRuntime) -> Result<(), Fail> {
         files: 3,
         with_problems: 1,
         errors: 1,
+        warnings: 0,
         fault: 0,
     };
     assert_same(alloc, "what was met", &met, &expected)?;

@@ -45,6 +45,12 @@ const REFERENCE: &str = "`reference` wants a path in quotes";
 const IGNORE: &str =
     "`ignore` wants a list of kinds, as `ftl help lint` and `ftl help compare` have them";
 
+const KIND: &str =
+    "`ignore` knows no kind `defined_twice`; possible values: defined-twice, attribute-twice, \
+    variant-twice, undefined-message, undefined-term, undefined-attribute, undefined-value, cyclic-reference, \
+    missing-file, missing, missing-value, missing-attribute, missing-reference, obsolete, obsolete-value, \
+    obsolete-attribute, unknown-variable";
+
 const EXCLUDE: &str = "`exclude` wants a list of names and paths in quotes";
 
 const EDITION: &str = "`edition` wants 1 or 2";
@@ -61,7 +67,7 @@ const REFUSED: [(&str, &str); 20] = [
     ("reference = [\"en\"]\n", REFERENCE),
     ("ignore = \"defined-twice\"\n", IGNORE),
     ("ignore = [\"defined-twice\", 1]\n", IGNORE),
-    ("ignore = [\"defined_twice\"]\n", IGNORE),
+    ("ignore = [\"obsolete\", \"defined_twice\"]\n", KIND),
     ("exclude = \"old\"\n", EXCLUDE),
     ("exclude = ['old', 1]\n", EXCLUDE),
     ("referenc = \"en\"\n", "no setting is called `referenc`"),

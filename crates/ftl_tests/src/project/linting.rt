@@ -119,6 +119,7 @@ fn counts_what_is_found(rt: HostRuntime) -> Result<(), Fail> {
         files: 2,
         with_problems: 1,
         errors: 7,
+        warnings: 1,
         fault: 0,
     };
     assert_same(alloc, "what was met", &bench.tally, &met)

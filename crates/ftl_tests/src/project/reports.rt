@@ -11,7 +11,7 @@ type Row = (&'static str, &'static str, &'static str, Form, &'static str);
 
 const BROKEN: &str = "a = b\nbro ken\n";
 
-const ROWS: [Row; 8] = [
+const ROWS: [Row; 12] = [
     (
         "a line",
         "a.ftl",
@@ -24,7 +24,8 @@ const ROWS: [Row; 8] = [
         "a.ftl",
         BROKEN,
         Form::Full,
-        "a.ftl:2:5: error[ExpectedToken]: Expected a token starting with \"=\"\nbro ken\n    ^\n",
+        "a.ftl:2:5: error[ExpectedToken]: Expected a token starting with \"=\"\nbro ken\n    ^\n\
+          = the name of a message, a term or an attribute is followed by `=`\n",
     ),
     (
         "a line and a caret in colours",
@@ -32,7 +33,8 @@ const ROWS: [Row; 8] = [
         BROKEN,
         Form::Colored,
         "\u{1B}[1ma.ftl:2:5\u{1B}[0m: \u{1B}[1;31merror[ExpectedToken]\u{1B}[0m: \
-        Expected a token starting with \"=\"\nbro ken\n    \u{1B}[1;31m^\u{1B}[0m\n",
+        Expected a token starting with \"=\"\nbro ken\n    \u{1B}[1;31m^\u{1B}[0m\n\
+          = the name of a message, a term or an attribute is followed by `=`\n",
     ),
     (
         "a name with a line end",
@@ -48,7 +50,8 @@ const ROWS: [Row; 8] = [
         Form::Json,
         "{\"path\":\"a\\\"\\u000a.ftl\",\"line\":2,\"column\":5,\"start\":10,\"end\":11,\
         \"junk\":{\"start\":6,\"end\":14},\
-        \"kind\":\"ExpectedToken\",\"payload\":\"=\",\"message\":\"Expected a token starting with \\\"=\\\"\"}\n",
+        \"kind\":\"ExpectedToken\",\"payload\":\"=\",\"message\":\"Expected a token starting with \\\"=\\\"\",\
+        \"advice\":\"the name of a message, a term or an attribute is followed by `=`\"}\n",
     ),
     (
         "an annotation",
@@ -63,7 +66,45 @@ const ROWS: [Row; 8] = [
         "first = { \"}\" } { $name\nsecond = Bye\n",
         Form::Full,
         "a.ftl:2:1: error[ExpectedToken]: Expected a token starting with \"}\"\nsecond = Bye\n^\n\
+        \x20 = a placeable ends with `}`, unless a `->` follows its selector\n\
         the brace that is still open:\nfirst = { \"}\" } { $name\n                ^\n",
+    ),
+    (
+        "a brace that is open, in an object",
+        "a.ftl",
+        "a = b\n\nfirst = { \"}\" } { $name\n\nsecond = Bye\n",
+        Form::Json,
+        "{\"path\":\"a.ftl\",\"line\":5,\"column\":1,\"start\":32,\"end\":33,\"junk\":{\"start\":7,\"end\":32},\
+        \"kind\":\"ExpectedToken\",\"payload\":\"}\",\"message\":\"Expected a token starting with \\\"}\\\"\",\
+        \"advice\":\"a placeable ends with `}`, unless a `->` follows its selector\",\
+        \"opened\":{\"line\":3,\"column\":17}}\n",
+    ),
+    (
+        "a parenthesis that is open",
+        "a.ftl",
+        "a = { F(G(1), $x }\n",
+        Form::Full,
+        "a.ftl:1:18: error[ExpectedInlineExpression]: Expected an inline expression\na = { F(G(1), $x }\n                 ^\n\
+        \x20 = here comes a string, a number, a `$variable`, a message, a `-term` or a `FUNCTION()`\n\
+        the parenthesis that is still open:\na = { F(G(1), $x }\n       ^\n",
+    ),
+    (
+        "a parenthesis that is open at the end, in an object",
+        "a.ftl",
+        "a = { F(1",
+        Form::Json,
+        "{\"path\":\"a.ftl\",\"line\":1,\"column\":10,\"start\":9,\"end\":10,\"junk\":{\"start\":0,\"end\":9},\
+        \"kind\":\"ExpectedToken\",\"payload\":\")\",\"message\":\"Expected a token starting with \\\")\\\"\",\
+        \"advice\":\"an argument is followed by `,` or by the `)` that ends the call\",\
+        \"opened\":{\"line\":1,\"column\":8}}\n",
+    ),
+    (
+        "an argument that is none",
+        "a.ftl",
+        "a = { F(1, ?) }\n",
+        Form::Full,
+        "a.ftl:1:12: error[ExpectedInlineExpression]: Expected an inline expression\na = { F(1, ?) }\n           ^\n\
+        \x20 = here comes a string, a number, a `$variable`, a message, a `-term` or a `FUNCTION()`\n",
     ),
     ("no error", "a.ftl", "a = b\n", Form::Full, ""),
 ];

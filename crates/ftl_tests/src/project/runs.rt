@@ -43,7 +43,8 @@ const ROWS: [Row; 7] = [
         Edition::One,
         "key=a\nbro ken\n",
         "key=a\nbro ken\n",
-        "/d/a.ftl:2:5: error[ExpectedToken]: Expected a token starting with \"=\"\nbro ken\n    ^\n",
+        "/d/a.ftl:2:5: error[ExpectedToken]: Expected a token starting with \"=\"\nbro ken\n    ^\n\
+        \x20 = the name of a message, a term or an attribute is followed by `=`\n",
         1,
     ),
     (
@@ -125,7 +126,12 @@ const CONVERTED: [File; 4] = [
     ("/d/d.json", b""),
 ];
 
-const RUNS: [Run; 3] = [
+const DOUBTFUL: [File; 2] = [
+    ("/d/a.ftl", b"key =\n{$x}\n    b\n"),
+    ("/d/b.ftl", b"\xEF\xBB\xBFa = b\n"),
+];
+
+const RUNS: [Run; 5] = [
     (
         Task::Check(Form::Lines),
         &CHECKED,
@@ -141,6 +147,22 @@ const RUNS: [Run; 3] = [
         "a = 1\nb = 2\n",
         "ftl: /d/b.ftl: has syntax errors\n",
         [2, 1, 0, 0],
+    ),
+    (
+        Task::Print(Command::Format),
+        &DOUBTFUL,
+        "key =\n    { $x }\n        b\n",
+        "/d/a.ftl:1:1: what is written does not read back: the lines of a pattern that begin with text begin with spaces, \
+        which would be read as its indent\nftl: /d/b.ftl: has syntax errors\n\
+        ftl: /d/b.ftl: begins with a byte order mark, so its first entry is junk\n",
+        [2, 1, 0, 0],
+    ),
+    (
+        Task::Print(Command::FormatTwo),
+        &[("/d/a.ftl", b"key =\n{$x}\n    b\n")],
+        "key =\n    { $x }\n        b\n",
+        "",
+        [1, 0, 0, 0],
     ),
     (
         Task::Convert,
@@ -163,6 +185,7 @@ fn runs(rt: HostRuntime) -> Result<(), Fail> {
             with_problems,
             errors,
             fault,
+            ..
         } = bench.tally;
         let counted = [answered, with_problems, errors, usize::from(fault)];
         assert_same(alloc, *out, &counted, met)?;
@@ -217,23 +240,36 @@ fn finds_what_is_lossy(rt: HostRuntime) -> Result<(), Fail> {
     Ok(())
 }
 
-/// Files, files that are not as they are to be, errors, and how a check and a formatting end with them.
-const SUMMARIES: [(usize, usize, usize, &str, &str); 3] = [
-    (1, 0, 0, "1 file\n", "1 file\n"),
+/// Files, files that are not as they are to be, errors, warnings, the status of a fault, and how a check and a formatting
+/// end with them.
+const SUMMARIES: [([usize; 4], u8, &str, &str); 7] = [
+    ([1, 0, 0, 0], 0, "1 file, no errors\n", "1 file\n"),
     (
-        2,
-        1,
-        1,
+        [2, 1, 1, 0],
+        0,
         "1 error in 1 of 2 files\n",
         "1 of 2 files not in normal form\n",
     ),
     (
-        57,
-        2,
-        3,
+        [57, 2, 3, 0],
+        6,
         "3 errors in 2 of 57 files\n",
         "2 of 57 files not in normal form\n",
     ),
+    (
+        [57, 2, 3, 1],
+        0,
+        "3 errors in 2 of 57 files, 1 warning\n",
+        "2 of 57 files not in normal form\n",
+    ),
+    (
+        [39, 0, 0, 12],
+        0,
+        "39 files, no errors, 12 warnings\n",
+        "39 files\n",
+    ),
+    ([38, 0, 0, 0], 3, "38 files\n", "38 files\n"),
+    ([38, 0, 0, 1], 3, "38 files, 1 warning\n", "38 files\n"),
 ];
 
 fn assert_summaries(
@@ -250,12 +286,14 @@ fn assert_summaries(
 
 #[test]
 fn summaries(rt: HostRuntime) -> Result<(), Fail> {
-    for (files, with_problems, errors, checked, formatted) in &SUMMARIES {
+    for (counts, fault, checked, formatted) in &SUMMARIES {
+        let [files, with_problems, errors, warnings] = *counts;
         let tally = Tally {
-            files: *files,
-            with_problems: *with_problems,
-            errors: *errors,
-            fault: 0,
+            files,
+            with_problems,
+            errors,
+            warnings,
+            fault: *fault,
         };
         assert_summaries(rt.alloc(), &tally, *checked, *formatted)?;
     }

@@ -28,8 +28,8 @@ returns-in_err-kind_of-clause-refused c =
     let array : view c.in-Some.value.now ≡ array (items_of values) =
     ap view c.in-Array.is ∙ view-Array c.in-Array.names
     ∙ ap (λ vs. array (items_of (map view vs))) (sym c.deref-name-items.ensures.value) in
-    rw (p.1, c.in-Some.is, array)
-    (λ other kinds is. not_listed named values before value after kinds at c.in_err-kind_of.ensures.refused is)
+    rw (p.1, p.2, c.in-Some.is, array)
+    (λ other kinds is. not_listed named values before value after kinds at (c.in_err-kind_of.ensures.refused other) is)
 
 pub returns-in_err-add_kind-clause-refused : goal.returns-in_err-add_kind-clause-refused
 returns-in_err-add_kind-clause-refused c =
