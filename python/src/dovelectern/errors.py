@@ -54,7 +54,7 @@ class Finding:
     """A mistake between names: of one text, of several, or of a text beside its reference."""
 
     kind: str
-    """Which mistake it is: one of 16 names, as `undefined-term`."""
+    """Which mistake it is: one of 17 names, as `undefined-term`."""
     severity: str
     """`error`, which users see, or `warning`, which may be meant so."""
     message: str
