@@ -223,9 +223,10 @@ uint32_t ftl_finding_kind_name(uint32_t kind, uint8_t *out, size_t out_len, size
 uint32_t ftl_kind_name(uint32_t kind, uint8_t *out, size_t out_len, size_t *needed);
 
 /* Edits, since 2.4: each writes the text with one message or term changed and all else as it is, byte for byte:
-   `*needed` bytes of UTF-8. `name` is that of the first message of that name, or, with its '-', of a term; comments stay
-   with their message or term. FTL_CLEAN and FTL_SYNTAX_ERRORS tell of the text, and so of the new one, which has as many
-   errors. `nesting` bounds the text, and what is new. `edition` is an ftl_edition. Each returns an ftl_status. */
+   `*needed` bytes of UTF-8. `name` is that of the first message of that name, or, with its '-', of a term; comments
+   stay with their message or term. FTL_CLEAN and FTL_SYNTAX_ERRORS tell of the text, and so of the new one, which has
+   as many errors. `nesting` bounds the text, and what is new. `edition` is an ftl_edition. Each returns an
+   ftl_status. */
 
 /* With the value, as it stands behind a '=', in place of that of the message or the term. */
 uint32_t ftl_set_value(uint32_t edition, size_t nesting, const uint8_t *text, size_t text_len,

@@ -74,7 +74,8 @@ module _ (edition : Edition) (t : List ℕ) (read : TextTree) (is : IsTextTree e
   -- the only entry of a text without errors is what it reads as
   pub entry_reads : (answer : Option (Bor (Entry (Bor (List ℕ))))) (entries : List (Entry (Bor (List ℕ)))) →
       entries ≡ read.tree.body.items → read.outcome ≡ Clean →
-      IfSome answer (λ entry. map (entry_view (λ text. text.now)) entries ≡ entry_view (λ text. text.now) entry.now ∷ []) →
+      IfSome answer (λ entry. map (entry_view (λ text. text.now)) entries
+      ≡ entry_view (λ text. text.now) entry.now ∷ []) →
       IfSome answer (λ entry. ReadsAs edition t (entry_view (λ text. text.now) entry.now ∷ []))
   entry_reads (Some entry) entries same clean found =
       reads_clean _ clean (ap (map (entry_view (λ text. text.now))) (sym same) ∙ found)
@@ -142,7 +143,8 @@ module _ (action : Action) (edition : Edition) (p : Text) (part : TextTree)
         Answers source.edition source.text.now n change answer → SetsValue change v →
         (change : Change) × Spells edition action p change × Answers edition t n change answer
     value_spelled e v reads change answers sets =
-        let own = reads edition (part_source SetValue p) (subst (λ a. IsTextTree edition (part_source a p) part) e is) in
+        let spelled = subst (λ a. IsTextTree edition (part_source a p) part) e is in
+        let own = reads edition (part_source SetValue p) spelled in
         (change, subst (λ a. Spells edition a p change) (sym e) (v, own, sets), answered change answers)
 
     pub replace_spelled : action ≡ Replace → (entry : EntryTree Text) → ((edition : Edition) (t : List ℕ) →
@@ -213,8 +215,8 @@ pub gives_edit : (number nesting : ℕ) (t name : List ℕ) (action : Action) (p
 gives_edit number nesting t name action part answer before after count status edited not_edited argument input deep
     deeper shallow tree leaves refused told = record {
       gives =
-          gives_edited number (IsEdited number t name action part) _ _ _ answer before after count status edited argument
-          input deep deeper shallow
+          gives_edited number (IsEdited number t name action part) _ _ _ answer before after count status edited
+          argument input deep deeper shallow
           (λ none nests. either_absurd (λ d. none d.0 d.1) (λ d. none d.0 d.1) nests) tree leaves refused;
       not_edited = λ why is. not_edited_of (IsNotEdited number t name action part) answer why (told why is) not_edited;
     }

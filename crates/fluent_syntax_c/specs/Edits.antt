@@ -75,8 +75,8 @@ part_source Remove part = part
 abbrev pub value_message : PatternTree Text → EntryTree Text
 value_message v = message (record { id = 97 ∷ []; value = Some v; attributes = []; comment = None })
 
--- The change is that of the value of a message or a term into the pattern: what `fluent_syntax_edits` writes of it is the
--- value of a message.
+-- The change is that of the value of a message or a term into the pattern: what `fluent_syntax_edits` writes of it is
+-- the value of a message.
 abbrev pub SetsValue : Change → PatternTree Text → Type 0
 SetsValue (sets target w) v = (w ≡ v) × (scratch_message target w ≡ value_message w)
 SetsValue (replaces e) v = ⊥

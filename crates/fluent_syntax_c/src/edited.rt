@@ -142,7 +142,8 @@ pub(crate) fn edited(
 ) -> Option<Result<String, EditFault>>
     ensures some { (edition : ByEdition) (t p : List ℕ) → IsTextTree edition t source.now →
         IsTextTree edition (part_source action p) part.now →
-        IfSome result (λ made. (change : Change) × Spells edition action p change × Answers edition t index change made) }
+        IfSome result (λ made. (change : Change) × Spells edition action p change
+        × Answers edition t index change made) }
     ensures none { (edition : ByEdition) (p : List ℕ) → IsTextTree edition (part_source action p) part.now →
         IfNone result ((change : Change) → Spells edition action p change → ⊥) }
 {

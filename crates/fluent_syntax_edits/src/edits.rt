@@ -137,8 +137,7 @@ pub fn insert<'s, S: Slice<'s>>(
 }
 
 /// The source without the entry of that number, counted from 0 as in the tree, the comment that is attached to it and
-/// the
-/// blank lines behind it.
+/// the blank lines behind it.
 pub fn remove(
     alloc: Global,
     source: &str,

@@ -65,8 +65,7 @@ fn attaches_on(comment: EntryPlace, place: EntryPlace) -> bool
 }
 
 /// Adds the place read before, unless it is that of a comment that is attached to what stands at the next one. What is
-/// the
-/// last place now.
+/// the last place now.
 fn add_place(
     entry_places: &mut Vec<EntryPlace>,
     last: Option<EntryPlace>,

@@ -59,7 +59,8 @@ module _ (t : List ℕ) (p : ℕ) where
   token_at b = holds_bind {mid = λ found i. found ≡ false → i ≡ p} (holds_peek (λ found. holds_branch_on
       (λ e. holds_bind {mid = Anything} (holds_skip (λ i j q w. tt)) (λ u. holds_yields (λ i q no. true_false no)))
       (λ e. holds_yields (λ i q no. q.0))))
-      (λ found. holds_branch_on (λ e. holds_yields (λ i q. tt)) (λ e. holds_fails (λ i q. record { at = q e; plain = tt })))
+      (λ found. holds_branch_on (λ e. holds_yields (λ i q. tt))
+      (λ e. holds_fails (λ i q. record { at = q e; plain = tt })))
 
   text_at : (eol : Bool) → Holds (λ i. i ≡ p) (comment_text t eol) Anything (IsAt p)
   text_at true = holds_bind {mid = Anything} (holds_here (λ i q. tt)) (λ i. never_spanned t (IsAt p) i)

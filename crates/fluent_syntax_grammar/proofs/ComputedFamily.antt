@@ -138,7 +138,8 @@ module _ (t : List ℕ) (n : ℕ) (R : Family) (h : ComputedFamily R) where
 
   abbrev pub computed_argument_at : (names : List (List ℕ)) (b : Option ℕ) → Computed (next_argument_at t R names b)
   computed_argument_at names None = computed_fails
-  computed_argument_at names (Some b) = computed_branch_on (computed_bind (computed_token t n 41) (λ u. computed_yields))
+  computed_argument_at names (Some b) =
+      computed_branch_on (computed_bind (computed_token t n 41) (λ u. computed_yields))
       (computed_bind computed_inline
       (λ e. computed_bind (computed_peek (λ colon. computed_yields))
       (λ colon. computed_argument_rest names e (argument_name e) colon)))

@@ -15,8 +15,8 @@ use Rattle.fluent_syntax_grammar.specs.Strings.{string_unit, string_units, befor
 use Rattle.fluent_syntax_grammar.specs.Strings.{string_literal}
 use Rattle.fluent_syntax_grammar.proofs.Computed.{Computed, ComputedWord, choose, computed_bind, computed_yields}
 use Rattle.fluent_syntax_grammar.proofs.Computed.{computed_here, computed_fails, computed_skip, computed_peek}
-use Rattle.fluent_syntax_grammar.proofs.Computed.{computed_branch_on, computed_steps, computed_reaches, computed_stretch}
-use Rattle.fluent_syntax_grammar.proofs.Computed.{find, found_stretch}
+use Rattle.fluent_syntax_grammar.proofs.Computed.{computed_branch_on, computed_steps, computed_reaches}
+use Rattle.fluent_syntax_grammar.proofs.Computed.{computed_stretch, find, found_stretch}
 use Rattle.fluent_syntax_grammar.proofs.Facts.{equal, here_or_on}
 
 abbrev pub computed_spanned : {start : ℕ} → Computed (spanned start)
@@ -36,7 +36,8 @@ module _ (t : List ℕ) (n : ℕ) where
   abbrev pub computed_optional : (b : ℕ) → Computed (optional t b)
   computed_optional b =
       computed_peek
-      (λ found. computed_branch_on (computed_bind (computed_skip computed_steps) (λ u. computed_yields)) computed_yields)
+      (λ found. computed_branch_on (computed_bind (computed_skip computed_steps) (λ u. computed_yields))
+      computed_yields)
 
   abbrev pub computed_token : (b : ℕ) → Computed (token t b)
   computed_token b = computed_bind (computed_optional b) (λ found. computed_branch_on computed_yields computed_fails)

@@ -174,20 +174,21 @@ module _ (t : List ℕ) (n : ℕ) where
       subst (λ o. comment_lines t level i o) same
       (no_comment_line e ((computed_line level).sound i (Refused k from to) g))
   lines_next level f i o (Some (Read content j)) e g more h =
-      lines_add level i j content o (find_comment_lines level f j) e ((computed_line level).sound i (Read content j) g) (more j)
-      h
+      lines_add level i j content o (find_comment_lines level f j) e ((computed_line level).sound i (Read content j) g)
+      (more j) h
 
   lines_at : (level f i : ℕ) (o : Outcome (List Span)) (b : Bool) → (hashes t i == level) ≡ b →
       ((j : ℕ) (p : Outcome (List Span)) → find_comment_lines level f j ≡ Some p → comment_lines t level j p) →
-      choose b (λ u. lines_step i ((computed_line level).run i) (find_comment_lines level f)) (λ u. Some (Read [] i)) ≡ Some o →
+      choose b (λ u. lines_step i ((computed_line level).run i) (find_comment_lines level f)) (λ u. Some (Read [] i))
+      ≡ Some o →
       comment_lines t level i o
   lines_at level f i o true e more h =
       lines_next level f i o ((computed_line level).run i) (equal (hashes t i) level e) refl more h
   lines_at level f i o false e more h = let same : Read [] i ≡ o = cc in
       subst (λ o. comment_lines t level i o) same (other_level (unequal (hashes t i) level e))
 
-  pub find_comment_lines_sound : (level fuel i : ℕ) (o : Outcome (List Span)) → find_comment_lines level fuel i ≡ Some o →
-      comment_lines t level i o
+  pub find_comment_lines_sound : (level fuel i : ℕ) (o : Outcome (List Span)) →
+      find_comment_lines level fuel i ≡ Some o → comment_lines t level i o
   find_comment_lines_sound level zero i o h = cc
   find_comment_lines_sound level (suc f) i o h =
       lines_at level f i o (hashes t i == level) refl (λ j p x. find_comment_lines_sound level f j p x) h

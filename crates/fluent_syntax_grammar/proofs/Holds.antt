@@ -148,7 +148,8 @@ module _ {A : Type 0} (pre : ℕ → Type 0) (test : Bool) (yes no : Construct A
   branch_on_read i j a p (first e x) = (h e).on_read i j a p x
   branch_on_read i j a p (second e x) = (g e).on_read i j a p x
 
-  branch_on_refused : (i from to : ℕ) (k : Kind) → pre i → branch_on test yes no i (Refused k from to) → refused k from to
+  branch_on_refused : (i from to : ℕ) (k : Kind) → pre i → branch_on test yes no i (Refused k from to) →
+      refused k from to
   branch_on_refused i from to k p (first e x) = (h e).on_refused i from to k p x
   branch_on_refused i from to k p (second e x) = (g e).on_refused i from to k p x
 

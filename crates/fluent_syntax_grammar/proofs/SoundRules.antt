@@ -141,7 +141,8 @@ module _ (t : List ℕ) (P : ℕ → Type 0) (cuts : IsCuts t P) where
 module _ (t : List ℕ) (P : ℕ → Type 0) (cuts : IsCuts t P) (R : Family) (h : IsSoundFamily t P R) where
   pub sound_call : {s : ℕ} → Sound t P s (call_arguments t R) (maybe_every (IsSpan P))
   sound_call {s = s} =
-      sound_bind (sound_blank t P cuts) (λ u v. sound_bind (sound_optional t P cuts 40 refl) (λ bracket u. sound_branch_on
+      sound_bind (sound_blank t P cuts)
+      (λ u v. sound_bind (sound_optional t P cuts 40 refl) (λ bracket u. sound_branch_on
       (λ e. sound_bind (sound_bind (sound_blank t P cuts) (λ u v. h.argument_list s)) (λ a g. sound_yields g))
       (λ e. sound_yields tt)))
 

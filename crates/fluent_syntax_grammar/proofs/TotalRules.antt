@@ -29,7 +29,8 @@ use Rattle.fluent_syntax_grammar.proofs.SoundLines.{ending_holds}
 use Rattle.fluent_syntax_grammar.proofs.Boundaries.{text_cuts}
 use Rattle.fluent_syntax_grammar.proofs.Total.{From, AnyFault, Total, Both, Strict, total_bind, total_weaker}
 use Rattle.fluent_syntax_grammar.proofs.Total.{total_yields, total_here, total_fails, total_skip, total_peek}
-use Rattle.fluent_syntax_grammar.proofs.Total.{total_branch_on, both_bind, both_yields, both_here, both_fails, both_peek}
+use Rattle.fluent_syntax_grammar.proofs.Total.{total_branch_on, both_bind, both_yields, both_here, both_fails}
+use Rattle.fluent_syntax_grammar.proofs.Total.{both_peek}
 use Rattle.fluent_syntax_grammar.proofs.Total.{both_branch_on, both_strict, strict_first, strict_fails, strict_peek}
 use Rattle.fluent_syntax_grammar.proofs.Total.{strict_branch_on, Going, more_on, more_earlier, going_strict, both_many}
 use Rattle.fluent_syntax_grammar.proofs.TotalWords.{both_blank, both_inline_blank, both_optional, run_word}

@@ -138,7 +138,8 @@ module _ (t : List ℕ) where
   pub strict_token : {s : ℕ} (b : ℕ) → Strict t s (token t b)
   strict_token {s = s} b = record {
     total =
-        total_bind (total_optional b) (optional_on s b) (λ found. total_branch_on (λ e. total_yields) (λ e. total_fails));
+        total_bind (total_optional b) (optional_on s b)
+        (λ found. total_branch_on (λ e. total_yields) (λ e. total_fails));
     on =
         holds_bind (optional_on s b)
         (λ found. holds_branch_on (λ e. holds_yields (λ i p. p.past e)) (λ e. holds_fails (λ i p. tt)));

@@ -18,7 +18,8 @@ use Rattle.fluent_syntax_grammar.specs.Layout.{Line}
 use Rattle.fluent_syntax_grammar.specs.Patterns.{layout_at, layout, pattern}
 use Rattle.fluent_syntax_grammar.specs.Variants.{next_variant, more_variants}
 use Rattle.fluent_syntax_grammar.proofs.Included.{IsIncluded, included_same, included_bind, included_peek}
-use Rattle.fluent_syntax_grammar.proofs.Included.{included_branch_on, included_many, included_next_line, IsIncludedFamily}
+use Rattle.fluent_syntax_grammar.proofs.Included.{included_branch_on, included_many, included_next_line}
+use Rattle.fluent_syntax_grammar.proofs.Included.{IsIncludedFamily}
 use Rattle.fluent_syntax_tree.specs.declared.edition.Edition.{Edition}
 use Rattle.fluent_syntax_tree.specs.declared.spans.Span.{Span}
 
@@ -69,8 +70,8 @@ branch_on_found : {A : Type 0} (b : Bool) (c d : Construct A) (cs ds : ℕ → C
 branch_on_found b c d cs ds u v i o (first e x) = let m = u.found i o x in (m.0, first e m.1)
 branch_on_found b c d cs ds u v i o (second e x) = let m = v.found i o x in (m.0, second e m.1)
 
-pub union_branch_on : {A : Type 0} {b : Bool} {c d : Construct A} {cs ds : ℕ → Construct A} → IsUnion c cs → IsUnion d ds →
-    IsUnion (branch_on b c d) (λ n. branch_on b (cs n) (ds n))
+pub union_branch_on : {A : Type 0} {b : Bool} {c d : Construct A} {cs ds : ℕ → Construct A} → IsUnion c cs →
+    IsUnion d ds → IsUnion (branch_on b c d) (λ n. branch_on b (cs n) (ds n))
 union_branch_on {b = b} {c = c} {d = d} {cs = cs} {ds = ds} u v = record {
   grows = λ m n l. included_branch_on (u.grows m n l) (v.grows m n l);
   found = branch_on_found b c d cs ds u v;

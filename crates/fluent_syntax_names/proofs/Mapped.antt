@@ -9,7 +9,8 @@ use Rattle.fluent_syntax_tree.specs.Tree.{NamedTrees, no_named, nameds, ElementT
 use Rattle.fluent_syntax_tree.specs.Tree.{PatternTree, no_elements, elements, VariantTree, variant, VariantTrees}
 use Rattle.fluent_syntax_tree.specs.Tree.{no_variants, variants, expression_map, inline_map, arguments_map}
 use Rattle.fluent_syntax_tree.specs.Tree.{maybe_map, option_texts, inlines_map, named_map, nameds_map, element_map}
-use Rattle.fluent_syntax_tree.specs.Tree.{pattern_map, variant_map, variants_map, KeyTree, name_key, number_key, key_map}
+use Rattle.fluent_syntax_tree.specs.Tree.{pattern_map, variant_map, variants_map, KeyTree, name_key, number_key}
+use Rattle.fluent_syntax_tree.specs.Tree.{key_map}
 use Rattle.fluent_syntax_tree.specs.Entry.{AttributeTree, EntryTree, message, term, comment, junk, attribute_map}
 use Rattle.fluent_syntax_tree.specs.Entry.{entry_map}
 use Rattle.std.specs.Prelude.{is_some, option_map}

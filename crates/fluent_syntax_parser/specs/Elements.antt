@@ -13,7 +13,8 @@ use Rattle.fluent_syntax_tree.specs.declared.edition.Edition.TheVariants.{One, T
 use Rattle.fluent_syntax_tree.specs.declared.spans.Span.{Span}
 use Rattle.fluent_syntax_grammar.specs.Elements.{ItemOf, text, filled, cut, is_nonblank, line_items, trimmed_end}
 use Rattle.fluent_syntax_grammar.specs.Elements.{with_ending}
-use Rattle.fluent_syntax_grammar.specs.Layout.{PieceOf, run, placed, Ending, lf_at, crlf_at, text_end, least, counted}
+use Rattle.fluent_syntax_grammar.specs.Layout.{LineOf, PieceOf, run, placed, Ending, lf_at, crlf_at, text_end}
+use Rattle.fluent_syntax_grammar.specs.Layout.{least, counted}
 use Rattle.fluent_syntax_parser.specs.Boxed.{boxed_expression_view}
 use Rattle.fluent_syntax_parser.specs.Lines.{ending_view, line_view}
 use Rattle.fluent_syntax_parser.specs.declared.pattern.line.OpeningEnd.{OpeningEnd}
@@ -103,6 +104,10 @@ module _ {E : Type 0} where
   abbrev pub run_of : Span → List (PieceOf E)
   run_of s = if nat_lt s.start s.end then run s.start s.end ∷ [] else []
 
+  -- the items of the lines, without the indent that they have in common
+  abbrev pub dedented_items : Edition → List (LineOf E) → List (ItemOf E)
+  dedented_items edition lines = flat_map (line_items edition (least (flat_map (counted edition) lines))) lines
+
   -- the items of the run and of the line's ending
   abbrev pub rest_items : OpeningEnd → List (ItemOf E)
   rest_items rest = with_ending (run_of rest.run) (ending_view rest.ending)
@@ -123,7 +128,6 @@ EndsAt t to text_end = Unit {0}
 abbrev pub AddsRest : {S X : Type 0} → (Span → X) → (S → X) → Edition → List ℕ → OpeningEnd → (lines : List (Line S)) →
     (old new : List (PatternElement S)) → Type 0
 AddsRest f v edition t rest lines old new =
-    let seen = map (line_view v) lines in
     map (element_view v) new
     ≡ map (element_view v) old
-    ++ spelled f t (cut t (rest_items rest ++ flat_map (line_items edition (least (flat_map (counted edition) seen))) seen))
+    ++ spelled f t (cut t (rest_items rest ++ dedented_items edition (map (line_view v) lines)))

@@ -20,8 +20,8 @@ module _ {S X : Type 0} (v : S → X) where
   abbrev pub EndsInline : List (PatternElement S) → Type 0
   EndsInline elements = (old : List (PatternElement S)) × (tree : InlineTree X) × AddsPlaced old elements (inline tree)
 
-  -- What a reader answers that began at i, and adds the placeable of what it read. Where it fails, nothing is said of the
-  -- list.
+  -- What a reader answers that began at i, and adds the placeable of what it read. Where it fails, nothing is said of
+  -- the list.
   abbrev pub Pushes : {A : Type 0} → List ℕ → (A → ExpressionTree X) → Construct A →
       (old new : List (PatternElement S)) → ℕ → Result ℕ ReadFault → Type 0
   Pushes {A = A} t f c old new i (Ok j) = (a : A) × c i (Read a j) × AddsPlaced old new (f a)

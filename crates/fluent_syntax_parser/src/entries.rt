@@ -55,8 +55,7 @@ impl<'s> Entries<'s> {
 
     /// Where the entry or the junk that was read last stands, in bytes: from its first byte, which is that of the
     /// comment that is attached to it, to its end. Blank lines directly behind a message or a term are in it, those
-    /// behind a
-    /// comment are not. Junk ends where the next line begins like an entry.
+    /// behind a comment are not. Junk ends where the next line begins like an entry.
     ///
     /// Before anything was read it is empty, at 0.
     pub fn span(&self) -> Span

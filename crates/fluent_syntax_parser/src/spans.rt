@@ -145,7 +145,7 @@ pub fn parse_spans(alloc: Global, source: &str) -> Result<Resource<Span>, ParseF
     ensures places { ErrorsInText source.now result }
     ensures blank { BlankBlock source.now 0 (length source.now) → IsOk result }
 {
-    parse_spans_edition(alloc, source, Edition::One)
+    parse_at_any_depth(alloc, source, Edition::One, Comments::Kept)
 }
 
 /// Reads a text as `parse_spans` does, by the given edition of the grammar.
@@ -174,7 +174,7 @@ pub fn parse_runtime_spans(alloc: Global, source: &str) -> Result<Resource<Span>
     ensures places { ErrorsInText source.now result }
     ensures blank { BlankBlock source.now 0 (length source.now) → IsOk result }
 {
-    parse_runtime_spans_edition(alloc, source, Edition::One)
+    parse_at_any_depth(alloc, source, Edition::One, Comments::Dropped)
 }
 
 /// Reads a text as `parse_runtime_spans` does, by the given edition of the grammar.

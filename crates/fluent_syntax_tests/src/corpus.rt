@@ -123,5 +123,6 @@ pub const TEXTS: [&str; 107] = [
 /// Escapes that stand for a character, and those that stand for none.
 pub const ESCAPED: &[&str] = table! {
     ""; "Foo"; "Foo \\u5bd2 Bar"; "Foo \\U01F68A Bar"; "\\U01F60A\\\\\\\""; "Foo \\\" Bar"; "ab\\u00e9"; "abc\\u00e9";
-    "\\u+041"; "\\"; "\\u00"; "\\ud83d"; "\\{"; "a\\éb"; "\\u00é1"; "\\u000é1"; "\\U110000"; "\\udfffz"; "\\U01F68"; "\\u+00é";
+    "\\u+041"; "\\"; "\\u00"; "\\ud83d"; "\\{"; "a\\éb"; "\\u00é1"; "\\u000é1"; "\\U110000"; "\\udfffz"; "\\U01F68";
+    "\\u+00é";
 };

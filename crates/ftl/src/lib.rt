@@ -1,6 +1,7 @@
 //! The engine of `ftl`: checks, formats and converts a text that a reader gives.
 #![tactic(auto)]
 
+mod advice;
 mod answers;
 mod command;
 mod errors;
@@ -13,6 +14,7 @@ mod runs;
 mod watched;
 mod writers;
 
+pub use advice::advice;
 pub use answers::{Formatted, answer, answer_within, formatted_within};
 pub use command::{Command, usage};
 pub use errors::errors_within;

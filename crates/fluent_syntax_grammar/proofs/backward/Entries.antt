@@ -188,7 +188,8 @@ module _ (t : List ℕ) (bare : HasNoBareCr t) (Joins : Type 0) (crs : (i : ℕ)
       Ensures (message_with t start id o rest) (IsNotJunk t Joins)
   ensures_message_with start id None [] n g k = record { on_read = λ i j a x. elim x [ ] }
   ensures_message_with start id None (a ∷ rest) n g k =
-      ensures_yields (record { name = n; field = refl; value = value_of t Joins None g; attributes = k; comment = refl })
+      ensures_yields
+      (record { name = n; field = refl; value = value_of t Joins None g; attributes = k; comment = refl })
   ensures_message_with start id (Some p) rest n g k =
       ensures_yields
       (record { name = n; field = refl; value = value_of t Joins (Some p) g; attributes = k; comment = refl })

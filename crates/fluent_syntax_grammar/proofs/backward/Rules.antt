@@ -87,7 +87,8 @@ branch_on_read Good test c d g h i j a (second e x) = (h e).on_read i j a x
 
 pub ensures_branch_on : {A : Type 0} {Good : A → Type 0} {test : Bool} {c d : Construct A} →
     (test ≡ true → Ensures c Good) → (test ≡ false → Ensures d Good) → Ensures (branch_on test c d) Good
-ensures_branch_on {Good = Good} {test = test} {c = c} {d = d} g h = record { on_read = branch_on_read Good test c d g h }
+ensures_branch_on {Good = Good} {test = test} {c = c} {d = d} g h =
+    record { on_read = branch_on_read Good test c d g h }
 
 module _ {A S B : Type 0} (next : S → Construct (More A S)) (add : A → B → B) (none : B) (Good : S → B → Type 0) where
   -- what is asked of an item: added to what is good behind it, it is good
@@ -297,7 +298,8 @@ module _ (t : List ℕ) (Joins : Type 0) (R : Family) (h : IsFineFamily t Joins 
     where
       r : Ensures (inline_of t R dollar) (IsInline t Joins)
       r = ensures_then
-          (λ u. ensures_bind (ensures_name t Joins) (λ id n. ensures_yields (record { obeys = n; same = λ none. refl })))
+          (λ u. ensures_bind (ensures_name t Joins)
+          (λ id n. ensures_yields (record { obeys = n; same = λ none. refl })))
   inline_read letter i j e s x = r.on_read i j e x
     where
       r : Ensures (inline_of t R letter) (IsValue t Joins)

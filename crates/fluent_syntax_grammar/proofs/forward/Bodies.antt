@@ -108,7 +108,8 @@ body_alone s (comment level c) (y ∷ tiles) h = cc
 body_alone s (junk x) (y ∷ tiles) h = cc
 
 -- a comment directly before it is attached to it
-pub body_attaches_comment : (i j k : ℕ) (c : List Span) (e : EntryTree Span) (tiles : List Tile) → takes_comment e ≡ true →
+pub body_attaches_comment : (i j k : ℕ) (c : List Span) (e : EntryTree Span) (tiles : List Tile) →
+    takes_comment e ≡ true →
     body (entry (record { start = i; end = j }) (comment regular c) ∷ entry (record { start = j; end = k }) e ∷ tiles)
     ≡ with_comment c e ∷ body tiles
 body_attaches_comment i j k c e tiles h = rw (same_number j, attached_with c e h) refl

@@ -84,7 +84,8 @@ module _ {S X : Type 0} (t : List ℕ) (R : Family) (f : Span → X) (v : S → 
           Settled ((pieces ++ (if b then run place to ∷ [] else [])) ++ placed e ∷ [])
       placed_settled e true s =
           subst Settled (sym (append_assoc pieces (run place to ∷ []) (placed e ∷ []))) (run_behind place to e s)
-      placed_settled e false s = subst (λ ps. Settled (ps ++ placed e ∷ [])) (sym (append-nil pieces)) (placed_behind e s)
+      placed_settled e false s =
+          subst (λ ps. Settled (ps ++ placed e ∷ [])) (sym (append-nil pieces)) (placed_behind e s)
 
       pub opening_placed : Settled pieces → (xs ys : List (PatternElement S)) (x : PatternElement S)
           (zs : List (PatternElement S)) → map (element_view v) xs ≡ map (piece_element f) pieces →
@@ -183,7 +184,8 @@ ends_at t to e next read = by (after_eol t to) refl
 -- ---- with f of each text in its place
 
 module _ {X : Type 0} (f : Span → X) where
-  pub as_elements : (ps : List Piece) → map (piece_element f) ps ≡ map (element_of f) (map as_item (map (piece_of f) ps))
+  pub as_elements : (ps : List Piece) →
+      map (piece_element f) ps ≡ map (element_of f) (map as_item (map (piece_of f) ps))
   as_elements [] = refl
   as_elements (p ∷ ps) = ap (λ es. piece_element f p ∷ es) (as_elements ps)
 
@@ -191,7 +193,8 @@ module _ {X : Type 0} (f : Span → X) where
   opening_settled s = settled_mapped (expression_map f) s
 
   pub opening_ending : {ps : List Piece} → Settled ps → (s : Span) (end : Ending) →
-      with_ending (map (piece_of f) (ps ++ run_of s)) end ≡ map as_item (map (piece_of f) ps) ++ with_ending (run_of s) end
+      with_ending (map (piece_of f) (ps ++ run_of s)) end
+      ≡ map as_item (map (piece_of f) ps) ++ with_ending (run_of s) end
   opening_ending {ps = ps} settled s end =
       ap (λ qs. with_ending qs end)
       (map-append (piece_of f) ps (run_of s) ∙ ap (λ qs. map (piece_of f) ps ++ qs) (run_mapped (expression_map f) s))

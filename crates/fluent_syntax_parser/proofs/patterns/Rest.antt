@@ -4,7 +4,7 @@ use Rattle.std.proofs.Common.{arith}
 use Rattle.std.specs.Prelude.{if◌then◌else◌, nat_lt, slice_range}
 use Rattle.std.proofs.lemmas.List.{append-nil}
 use Rattle.std.proofs.lemmas.Bool.Decides.{nat_tests}
-use Rattle.fluent_syntax_tree.specs.Tree.{ExpressionTree, text_element}
+use Rattle.fluent_syntax_tree.specs.Tree.{ElementTree, ExpressionTree, text_element}
 use Rattle.fluent_syntax_tree.specs.declared.spans.Span.{Span}
 use Rattle.fluent_syntax_grammar.specs.Elements.{ItemOf, cut, is_nonblank, text, trimmed_end, with_ending}
 use Rattle.fluent_syntax_grammar.specs.Layout.{Ending, crlf_at, lf_at, run, text_end}
@@ -22,7 +22,8 @@ module _ {E F : Type 0} (h : E → F) where
   pub run_mapped : (s : Span) → map (piece_map h) (run_of s) ≡ run_of s
   run_mapped s = one_run (nat_lt s.start s.end) s.start s.end
 
-  pub rest_mapped : (s : Span) (end : Ending) → map (item_map h) (with_ending (run_of s) end) ≡ with_ending (run_of s) end
+  pub rest_mapped : (s : Span) (end : Ending) →
+      map (item_map h) (with_ending (run_of s) end) ≡ with_ending (run_of s) end
   rest_mapped s end =
       sym (ending_mapped h (run_of s) end) ∙ ap (λ ps. with_ending ps end) (run_mapped s)
 
@@ -31,7 +32,8 @@ pub nothing_left : {E : Type 0} (place : ℕ) →
     with_ending {E = E} (run_of (record { start = place; end = place })) text_end ≡ []
 nothing_left {E = E} place = by (nat_lt place place) refl
   where
-    by : (b : Bool) → nat_lt place place ≡ b → with_ending {E = E} (if b then run place place ∷ [] else []) text_end ≡ []
+    by : (b : Bool) → nat_lt place place ≡ b →
+        with_ending {E = E} (if b then run place place ∷ [] else []) text_end ≡ []
     by true e = absurd (grind (arith, nat_tests))
     by false e = refl
 
@@ -56,21 +58,20 @@ module _ {E : Type 0} (t : List ℕ) (start to : ℕ) where
       let same : start ≡ to = grind (arith, nat_tests) in rw (nothing t same) refl
 
 module _ {X : Type 0} (f : Span → X) (t : List ℕ) where
+  abbrev pub trimmed_text : Span → Ending → ElementTree X
+  trimmed_text s end = text_element (f (record { start = s.start; end = trimmed_end t s.start (rest_end s.end end) }))
+
   -- the text that the rest of a line is, where nothing follows
   pub one_spelled : (s : Span) (end : Ending) → s.start ≤ s.end → EndsAt t s.end end → (b : Bool) →
       is_nonblank (slice_range t s.start (rest_end s.end end)) ≡ b →
       spelled f t (cut t {E = ExpressionTree X} (with_ending (run_of s) end ++ []))
-      ≡ (if b then text_element (f (record { start = s.start; end = trimmed_end t s.start (rest_end s.end end) })) ∷ []
-      else [])
+      ≡ (if b then trimmed_text s end ∷ [] else [])
   one_spelled s end in_order there b stays =
       ap (λ xs. spelled f t (cut t xs)) (append-nil (with_ending (run_of s) end))
       ∙ ap (spelled f t) (alone t s.start s.end (nat_lt s.start s.end) refl in_order end there)
       ∙ by b stays
     where
       by : (b : Bool) → is_nonblank (slice_range t s.start (rest_end s.end end)) ≡ b →
-          spelled f t
-          (if is_nonblank (slice_range t s.start (rest_end s.end end)) then text s.start (rest_end s.end end) ∷ [] else [])
-          ≡ (if b then text_element (f (record { start = s.start; end = trimmed_end t s.start (rest_end s.end end) })) ∷ []
-          else [])
+          spelled f t (one_text t s.start s.end (rest_end s.end end)) ≡ (if b then trimmed_text s end ∷ [] else [])
       by true e = rw e refl
       by false e = rw e refl

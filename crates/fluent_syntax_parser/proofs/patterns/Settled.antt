@@ -39,11 +39,13 @@ settled_mapped h (by_run s) = by_run (settled_mapped h s)
 
 -- they are elements, before those of what follows them
 module _ {X : Type 0} (f : Span → X) (t : List ℕ) where
-  pub settled_spelled : {ps : List (PieceOf (ExpressionTree X))} → Settled ps → (ys : List (ItemOf (ExpressionTree X))) →
+  pub settled_spelled : {ps : List (PieceOf (ExpressionTree X))} → Settled ps →
+      (ys : List (ItemOf (ExpressionTree X))) →
       spelled f t (cut t (map as_item ps ++ ys)) ≡ map (element_of f) (map as_item ps) ++ spelled f t (cut t ys)
   settled_spelled none ys = refl
   settled_spelled (by_placeable {e = e} {ps = ps} s) ys =
-      ap (spelled f t) (cut_filled t e (cut t (map as_item ps ++ ys))) ∙ ap (λ xs. placeable e ∷ xs) (settled_spelled s ys)
+      ap (spelled f t) (cut_filled t e (cut t (map as_item ps ++ ys)))
+      ∙ ap (λ xs. placeable e ∷ xs) (settled_spelled s ys)
   settled_spelled (by_run {from = from} {to = to} {e = e} {ps = ps} s) ys =
       let behind = cut t (map as_item ps ++ ys) in
       ap (λ xs. spelled f t (cut_before t (text from to) xs)) (cut_filled t e behind)

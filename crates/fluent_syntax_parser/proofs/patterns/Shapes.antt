@@ -5,8 +5,9 @@ use Rattle.std.specs.List.{flat_map}
 use Rattle.std.proofs.lemmas.List.{map-append}
 use Rattle.fluent_syntax_tree.specs.declared.edition.Edition.{Edition}
 use Rattle.fluent_syntax_parser.specs.Boxed.{boxed_expression_view}
-use Rattle.fluent_syntax_parser.specs.Elements.{item_shape, item_view, rest_items}
+use Rattle.fluent_syntax_parser.specs.Elements.{dedented_items, item_shape, item_view, rest_items}
 use Rattle.fluent_syntax_grammar.specs.Elements.{line_items}
+use Rattle.fluent_syntax_grammar.specs.Layout.{counted, least}
 use Rattle.fluent_syntax_parser.specs.Layouts.{piece_map, line_map, item_map}
 use Rattle.fluent_syntax_parser.specs.Lines.{ending_view, line_shape, line_view, piece_shape, piece_view}
 use Rattle.fluent_syntax_parser.proofs.patterns.Layouts.{lines_mapped}
@@ -64,3 +65,17 @@ module _ {S X : Type 0} (v : S → X) where
       ∙ ap (map (item_map h)) same
       ∙ map-append (item_map h) (map item_shape opening) (flat_map (line_items edition common) (map line_shape lines))
       ∙ rw (items_seen opening, lines_seen lines, lines_mapped h edition common (map line_shape lines)) refl
+
+  -- the items of both, where the indent is that which the other lines have in common
+  pub tail_viewed : (edition : Edition) (rest : OpeningEnd) (lines : List (rows.Line S))
+      (opening all : List (parts.Piece S)) {slice : List (rows.Line S)} {common : Option ℕ} →
+      slice ≡ lines → common ≡ least (flat_map (counted edition) (map (line_view v) slice)) →
+      map item_shape opening ≡ rest_items rest →
+      map item_shape all ≡ map item_shape opening ++ flat_map (line_items edition common) (map line_shape lines) →
+      map (item_view v) all ≡ rest_items rest ++ dedented_items edition (map (line_view v) lines)
+  tail_viewed edition rest lines opening all {common = common} same indent opened added =
+      let seen = map (line_view v) lines in
+      items_viewed edition common opening all lines added
+      ∙ ap (λ xs. xs ++ flat_map (line_items edition common) seen) (rest_viewed rest opening opened)
+      ∙ ap (λ common. rest_items rest ++ flat_map (line_items edition common) seen)
+      (indent ∙ ap (λ ls. least (flat_map (counted edition) (map (line_view v) ls))) same)

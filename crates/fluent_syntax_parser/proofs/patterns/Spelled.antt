@@ -1,5 +1,6 @@
 -- The elements that are made of a layout.
-use Rattle.std.proofs.Common.{◌≡◌, ℕ, List, [], ◌∷◌, ◌++◌, append_assoc, map, Some, None, option_map, refl, sym, ap, ◌∙◌}
+use Rattle.std.proofs.Common.{◌≡◌, ℕ, List, [], ◌∷◌, ◌++◌, append_assoc, map, Some, None, option_map, refl}
+use Rattle.std.proofs.Common.{sym, ap, ◌∙◌}
 use Rattle.std.specs.List.{flat_map}
 use Rattle.std.proofs.lemmas.List.{append-nil}
 use Rattle.fluent_syntax_tree.specs.Tree.{ElementTree, ExpressionTree, expression_map, text_element, placeable}
@@ -40,7 +41,8 @@ module _ {X : Type 0} (f : Span → X) where
   module _ {S : Type 0} (v : S → X) (es : List (ElementTree Span)) where
     pub none_spelled : (xs : List (PatternElement S)) → map (element_view v) xs ≡ map (element_map f) es → xs ≡ [] →
         None ≡ option_map (pattern_map f) (if_any es)
-    none_spelled xs made none = sym (any_of es ∙ ap if_any (sym made) ∙ ap (λ ys. if_any (map (element_view v) ys)) none)
+    none_spelled xs made none =
+        sym (any_of es ∙ ap if_any (sym made) ∙ ap (λ ys. if_any (map (element_view v) ys)) none)
 
     pub some_spelled : (p : Pattern S) → map (element_view v) p.elements.items ≡ map (element_map f) es →
         (p.elements.items ≡ [] → ⊥) → Some (pattern_view v p) ≡ option_map (pattern_map f) (if_any es)
@@ -82,19 +84,19 @@ module _ {X : Type 0} (f : Span → X) (t : List ℕ) where
 
   -- the elements of a layout: those of its opening line up to the last placeable there, and those of the rest
   pub layout_spelled : (edition : Edition) (y : Layout) {ps : List (PieceOf (ExpressionTree X))} → Settled ps →
-      (rest : List (ItemOf (ExpressionTree X))) → opening_items (option_map (line_of f) y.opening) ≡ map as_item ps ++ rest →
+      (rest : List (ItemOf (ExpressionTree X))) →
+      opening_items (option_map (line_of f) y.opening) ≡ map as_item ps ++ rest →
       (seen : List (LineOf (ExpressionTree X))) → seen ≡ map (line_of f) y.lines →
-      map (element_of f) (map as_item ps)
-      ++ spelled f t (cut t (rest ++ flat_map (line_items edition (least (flat_map (counted edition) seen))) seen))
+      map (element_of f) (map as_item ps) ++ spelled f t (cut t (rest ++ dedented_items edition seen))
       ≡ map (element_map f) (grammar.spelled t (cut t (items edition y)))
   layout_spelled edition y {ps = ps} settled rest opening seen lines =
-      let behind = flat_map (line_items edition (least (flat_map (counted edition) seen))) seen in
+      let behind = dedented_items edition seen in
       let first = opening_items (option_map (line_of f) y.opening) in
       sym (settled_spelled f t settled (rest ++ behind))
       ∙ ap (λ xs. spelled f t (cut t xs))
       (sym (append_assoc (map as_item ps) rest behind)
       ∙ ap (λ xs. xs ++ behind) (sym opening)
-      ∙ ap (λ ls. first ++ flat_map (line_items edition (least (flat_map (counted edition) ls))) ls) lines
+      ∙ ap (λ ls. first ++ dedented_items edition ls) lines
       ∙ ap (λ common. first ++ flat_map (line_items edition common) (map (line_of f) y.lines))
       (common_mapped (expression_map f) edition y)
       ∙ items_mapped (expression_map f) edition y)

@@ -58,8 +58,7 @@ impl<'s> Source<'s> {
     }
 
     /// Where the next entry stands from a place on, if it is a message to which no comment is attached and whose
-    /// patterns are
-    /// each one text on its line. `None` where another stands next, or none.
+    /// patterns are each one text on its line. `None` where another stands next, or none.
     pub(crate) fn next_text_message(
         &self,
         edition: Edition,

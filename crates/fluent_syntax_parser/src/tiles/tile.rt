@@ -85,8 +85,7 @@ fn take_comment<S: Drop>(body: &mut Vec<Entry<S>>) -> Option<Comment<S>>
 }
 
 /// Attaches the comment before the last entry to that, and says whether it can be attached there. Where it can't, the
-/// entry is
-/// dropped.
+/// entry is dropped.
 fn attach_to_last<S: Drop>(body: &mut Vec<Entry<S>>) -> Result<bool, AllocError>
     ensures { (before : List (Entry S)) (c : Comment S) (e : Entry S) →
         body.old.items ≡ before ++ entries.Comment c ∷ [] ++ e ∷ [] →
@@ -168,8 +167,7 @@ impl<'s, 't, M: MakeTexts> Reader<'s, 't, M> {
     }
 
     /// Attaches the comment that was added last, and ends at a place, to the entry there, if it is attached to one;
-    /// says where
-    /// that ends.
+    /// says where that ends.
     #[inline(never)]
     pub(crate) fn attach_comment(
         &self,

@@ -1,6 +1,7 @@
 use Rattle.std.proofs.Common.{◌≡◌, ◌∙◌, ap, false, sym, true}
 use Rattle.fluent_syntax_grammar.specs.Grammar.{within}
-use Rattle.fluent_syntax_parser.proofs.expressions.ArgumentNames.{is_name, argument_name_is_identifier, no_argument_name, same_name}
+use Rattle.fluent_syntax_parser.proofs.expressions.ArgumentNames.{is_name, argument_name_is_identifier}
+use Rattle.fluent_syntax_parser.proofs.expressions.ArgumentNames.{no_argument_name, same_name}
 use Rattle.fluent_syntax_parser.proofs.expressions.InlineForms.{name_of_reference, no_name_of_attribute, no_name}
 use Rattle.fluent_syntax_parser.proofs.reader.Reader.argument_name.Goals as goal
 

@@ -33,8 +33,6 @@ use Rattle.fluent_syntax_parser.proofs.patterns.Pieces.{bare_brace, end_pieces, 
 use Rattle.fluent_syntax_parser.proofs.patterns.Pieces.{own_line_fails, further, placed_fails, placed_piece, run_piece}
 use Rattle.fluent_syntax_parser.proofs.patterns.Pieces.{run_there}
 use Rattle.fluent_syntax_parser.proofs.reader.Reader.+readers.Goals as goal
-use Rattle.fluent_syntax_parser.proofs.reader.Reader.+readers.Goals.{add_opening-in_default-byte_at-via-in-Some+in_default}
-use Rattle.fluent_syntax_parser.proofs.reader.Reader.+readers.Goals.{add_opening-in_default-byte_at-via-in_default}
 
 -- what is added to a list that is known
 added_as : {A : Type 0} {new old seen all : List A} (rest : List A) → new ≡ old ++ rest → old ≡ seen →
@@ -140,10 +138,10 @@ add_opening-returns-in_default-byte_at-clause-opens g m c =
     let apart : (slice_get t c.run_end-to.result ≡ Some left_brace → ⊥)
     × (slice_get t c.run_end-to.result ≡ Some right_brace → ⊥) =
     elim c.in_default-byte_at.branch [
-      | add_opening-in_default-byte_at-via-in-Some+in_default w ↦
+      | goal.add_opening-in_default-byte_at-via-in-Some+in_default w ↦
           let test = w.in_default-byte_at.field-0-test in
           let is = sym w.in_default-byte_at.ensures in (other_byte _ _ is test.0.1, other_byte _ _ is test.1)
-      | add_opening-in_default-byte_at-via-in_default w ↦
+      | goal.add_opening-in_default-byte_at-via-in_default w ↦
           let none = sym c.byte_at.ensures ∙ w.in_default-byte_at.is in (no_byte_there none, no_byte_there none)
     ] in
     let there = opening_read t R f g.M.MakeTexts.made _ (functional_next_piece t R functional) _ _ run _
@@ -153,7 +151,8 @@ add_opening-returns-in_default-byte_at-clause-opens g m c =
           Some (record {
             start = c.args.ptr;
             spaces = 0;
-            pieces = old.gathered.pieces ++ run_of (record { start = c.loop-elements.place; end = c.run_end-to.result });
+            pieces = old.gathered.pieces
+                ++ run_of (record { start = c.loop-elements.place; end = c.run_end-to.result });
             ending = ending_view c.get_ending-ending.result.0;
           });
       pieces = map (piece_of f) old.gathered.pieces;
@@ -261,7 +260,8 @@ gather_pieces-returns-then-byte-eq125-clause-parses g m c =
     (sym c.in-Some.ensures) (sym c.if-is_eol_at.ensures)
     c.if-byte-eq125.true)))
 
-pub gather_pieces-returns-in_err-place-in-Some-clause-parses : goal.gather_pieces-returns-in_err-place-in-Some-clause-parses
+pub gather_pieces-returns-in_err-place-in-Some-clause-parses :
+    goal.gather_pieces-returns-in_err-place-in-Some-clause-parses
 gather_pieces-returns-in_err-place-in-Some-clause-parses g m c =
     let p = err_from_is_err_and c.from_residual.result c.from_residual.ensures.1 in
     rw (p.1, p.2)
@@ -271,7 +271,8 @@ gather_pieces-returns-in_err-place-in-Some-clause-parses g m c =
     (sym c.in-Some.ensures) (sym c.if-is_eol_at.ensures)
     c.if-byte-eq123.true (fails_first c.in_err-place-in-Some.ensures.parses)))
 
-pub gather_pieces-loop-elements-preserved-in-Continue-branch-2 : goal.gather_pieces-loop-elements-preserved-in-Continue-branch-2
+pub gather_pieces-loop-elements-preserved-in-Continue-branch-2 :
+    goal.gather_pieces-loop-elements-preserved-in-Continue-branch-2
 gather_pieces-loop-elements-preserved-in-Continue-branch-2 g m c =
     let t = c.args.self.now.source.bytes.now in
     let read = c.in_ok-place-in-Some.ensures in

@@ -59,7 +59,8 @@ end_select-returns-clause-parses g m c = λ old e added.
       _,
       select_read c.args.self.now.edition t _ e _ (same_fault _ _ e there)
           (goes_on c.in_ok-start.ensures.parses read),
-      placed_as v _ _ _ (c.in_ok-add_variants.ensures old _ added) (ap (select (inline_map (g.M.MakeTexts.source c.args.self.now.texts.now) e)) same),
+      placed_as v _ _ _ (c.in_ok-add_variants.ensures old _ added)
+          (ap (select (inline_map (g.M.MakeTexts.source c.args.self.now.texts.now) e)) same),
     ))
 
 pub gather_variants-returns-then-star-clause-parses : goal.gather_variants-returns-then-star-clause-parses
