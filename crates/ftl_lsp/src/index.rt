@@ -37,8 +37,7 @@ enum Names<'d> {
 /// Which documents and files are wanted.
 #[derive(Clone, Copy)]
 pub enum Scope<'p> {
-    /// All.
-    Workspace,
+    All,
     /// Those of a set.
     Set(FileSet<'p>),
 }
@@ -47,7 +46,7 @@ impl Scope<'_> {
     /// Whether the file at the path is one of them.
     fn has(self, workspace: &Workspace, path: &str) -> bool {
         match self {
-            Scope::Workspace => true,
+            Scope::All => true,
             Scope::Set(set) => workspace.set_of(path) == set,
         }
     }
@@ -91,7 +90,7 @@ pub fn indexed_document_at<'d>(
     }
     for (at, file) in workspace.files().iter() {
         if at.as_str() == path {
-            return Ok(Some(indexed_file(at, file)));
+            return Ok(Some(indexed_file(at.as_str(), file)));
         }
     }
     Ok(None)

@@ -95,7 +95,7 @@ pub fn name_indexes_of<'d>(
             name_indexes.push(open.document.name_index(alloc)?)?;
         }
     }
-    for (_, file) in workspace.closed_files_of(alloc, set, documents)?.iter() {
+    for file in workspace.closed_files_of(alloc, set, documents)? {
         name_indexes.push(file.name_index(alloc)?)?;
     }
     Ok(Some(name_indexes))

@@ -43,9 +43,10 @@ impl Server {
         if let Some(Method::Rename) = method {
             return self.rename(message);
         }
-        Ok(self
-            .requested_value(method, message)?
-            .ok_or(ErrorCode::InvalidParams))
+        Ok(
+            self.requested_value(method, message)?
+                .ok_or(ErrorCode::InvalidParams),
+        )
     }
 
     /// What a request of the method, which is no renaming, asks for. None where its parameters name no open document,
@@ -153,8 +154,8 @@ impl Server {
             .unwrap_or("");
         let mut list = Vec::new(self.alloc);
         let documents = self.documents.by_name();
-        let scope = Scope::Workspace;
-        for document in indexed_documents(self.alloc, documents, &self.workspace, scope)?.iter() {
+        let all = indexed_documents(self.alloc, documents, &self.workspace, Scope::All)?;
+        for document in &all {
             let mut positions = Positions::new(document.text);
             for occurrence in document.occurrences() {
                 let shown = bytes_of(document.text, occurrence.span());

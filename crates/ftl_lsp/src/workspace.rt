@@ -140,26 +140,25 @@ impl Workspace {
         FileSet::OfNoLanguage
     }
 
-    /// The closed files of the set, by their paths: those that are not among the open documents. `AllocError` where a
-    /// growth was refused.
+    /// The files of the set that are not among the open documents. `AllocError` where a growth was refused.
     pub fn closed_files_of(
         &self,
         alloc: Global,
         set: FileSet<'_>,
         documents: &BTreeMap<String, OpenDocument>,
-    ) -> Result<Vec<(&str, &ClosedFile)>, AllocError> {
+    ) -> Result<Vec<&ClosedFile>, AllocError> {
         let mut files = Vec::new(alloc);
         for (path, file) in self.files.iter() {
             let path = path.as_str();
             if self.set_by_language(path) == set && !is_open(documents, path) {
-                files.push((path, file))?;
+                files.push(file)?;
             }
         }
         Ok(files)
     }
 
-    /// The kinds that are not told of a file at the path: those that a folder leaves out below which it
-    /// stands. `AllocError` where a growth was refused.
+    /// The kinds that are not told of a file at the path: those that a folder leaves out below which it stands.
+    /// `AllocError` where a growth was refused.
     pub fn ignored_at(&self, alloc: Global, path: &str) -> Result<Vec<ReportedKind>, AllocError> {
         let mut ignored = Vec::new(alloc);
         for folder in &self.folders {
@@ -222,7 +221,7 @@ impl Workspace {
             return Ok(());
         }
         let mut names = DefinedNames::new(alloc);
-        for (_, file) in self.closed_files_of(alloc, set, documents)?.iter() {
+        for file in self.closed_files_of(alloc, set, documents)? {
             names.add(alloc, file.text.as_str(), &file.mentions)?;
         }
         drop(

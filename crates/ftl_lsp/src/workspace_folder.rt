@@ -3,7 +3,8 @@
 use crate::originals::Reference;
 use crate::settings::{ProjectSettings, nearest_settings};
 use ftl_files::{
-    Excluded, Folders, ReportedKind, absolute_path, folder_of_languages, is_below, language_of,
+    Excluded, Folders, ReportedKind, Settings, absolute_path, folder_of_languages, is_below,
+    language_of,
 };
 use std::alloc::{AllocError, Global};
 
@@ -89,15 +90,21 @@ impl WorkspaceFolder {
         let Some(ProjectSettings { folder, settings }) = project else {
             return Ok(());
         };
+        let Settings {
+            reference,
+            ignored,
+            excluded,
+            ..
+        } = settings;
         let folder = folder.as_str();
-        self.excluded = excluded_in(alloc, folder, &settings.excluded)?;
-        if let Some(name) = &settings.reference {
-            self.languages = folder_of_languages(alloc, folder, name.as_str())?;
+        self.excluded = excluded_in(alloc, folder, &excluded)?;
+        if let Some(name) = reference {
             let path = absolute_path(alloc, folder, name.as_str())?;
-            self.reference =
-                Reference::in_folder(alloc, "", path.as_str().trim_start_matches('/'))?;
+            let path = path.as_str();
+            self.languages = folder_of_languages(alloc, "", path)?;
+            self.reference = Reference::in_folder(alloc, "", path.trim_start_matches('/'))?;
         }
-        self.ignored = settings.ignored;
+        self.ignored = ignored;
         Ok(())
     }
 }
