@@ -37,6 +37,6 @@ pub fn language_of<'p>(languages: &str, path: &'p str) -> Option<&'p str>
     let Some((_, rest)) = below.split_once('/') else {
         return None;
     };
-    let behind = rest.len().saturating_add(1);
-    path.get(..path.len().saturating_sub(behind))
+    let end = path.len().saturating_sub(rest.len());
+    path.get(..end.saturating_sub(1))
 }
