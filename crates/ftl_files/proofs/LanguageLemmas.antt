@@ -1,6 +1,6 @@
 -- Paths that lead through the folder of a language.
-use Rattle.std.proofs.Common.{◌≡◌, ◌≢◌, ◌∙◌, ◌<◌, ◌+◌, ◌-◌, ℕ, List, ◌++◌, ◌∷◌, Bor, Option, Some, None, append_assoc, ap, arith}
-use Rattle.std.proofs.Common.{codes, get_or, length, length-append, take}
+use Rattle.std.proofs.Common.{◌≡◌, ◌≢◌, ◌∙◌, ◌<◌, ◌+◌, ◌-◌, ℕ, List, ◌++◌, ◌∷◌, Bor, Option, Some, None}
+use Rattle.std.proofs.Common.{append_assoc, ap, arith, codes, get_or, length, length-append, take}
 use Rattle.std.proofs.Math.Seq.{take-append_seam}
 use Rattle.std.specs.Prelude.{◌≤◌, IfSome, IsCharBoundary, MatchOption, slice_range}
 use Rattle.ftl_files.specs.Languages.{IsLanguage}
@@ -33,7 +33,9 @@ pub is_language : (languages name rest below path : List ℕ) (r : Option (Bor (
 is_language languages name rest below path None n place parts direct size gets = tt
 is_language languages name rest below path (Some x) n place parts direct size gets =
     let whole = whole_path languages name rest below path place parts in
-    let front = gets.0 ∙ front_of (languages ++ codes "/" ++ name) rest path n whole size in
+    let all : n - 0 ≡ n = omega arith in
+    let begin : x.now ≡ take n path = gets.0 ∙ ap (λ m. take m path) all in
+    let front = begin ∙ front_of (languages ++ codes "/" ++ name) rest path n whole size in
     record {
       name = name;
       rest = rest;
