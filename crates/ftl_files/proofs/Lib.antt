@@ -1,4 +1,5 @@
 pub mod Changed
+pub mod LanguageLemmas
 pub mod ListedNames
 pub mod OriginalLemmas
 pub mod ReadingLemmas

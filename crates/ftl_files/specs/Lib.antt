@@ -1,5 +1,6 @@
 pub mod Files
 pub mod Kinds
+pub mod Languages
 pub mod Memory
 pub mod Nearness
 pub mod Options

@@ -8,6 +8,7 @@ mod excluded;
 mod file_system;
 mod folders;
 mod kinds;
+mod languages;
 mod limits;
 mod listing;
 mod memory;
@@ -29,6 +30,7 @@ pub use folders::Folders;
 pub use kinds::{
     DIFFERENCE_NAMES, FINDING_NAMES, ReportedKind, kind_of_name, reported_kind_of_name,
 };
+pub use languages::{folder_of_languages, language_of};
 pub use limits::{BYTES_LIMIT, FILE_LIMIT, FILES_LIMIT, FOLDERS_LIMIT};
 pub use listing::{Listing, list};
 pub use memory::Memory;

@@ -41,7 +41,7 @@ impl LintDiagnosticKind {
     }
 
     /// The same, as settings name it.
-    pub(crate) fn reported(self) -> ReportedKind {
+    pub(crate) fn reported_kind(self) -> ReportedKind {
         match self {
             LintDiagnosticKind::Finding(kind) => ReportedKind::Finding(kind),
             LintDiagnosticKind::Difference(difference) => ReportedKind::Difference(difference),

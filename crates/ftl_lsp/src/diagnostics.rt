@@ -2,9 +2,10 @@
 ghost use Rattle.std.specs.Prelude.{◌≡◌, ◌≤◌, [], ◌∷◌, length, map, All, IfOk};
 ghost use Rattle.ftl_lsp.specs.Diagnostics.{deep_diagnostic, diagnostic_of, shown};
 
-use crate::escapes::escaped;
+use crate::escapes::with_escapes;
 use crate::positions::{Position, Positions};
-use fluent_syntax::parser::ParserError;
+use fluent_syntax::parser::{ErrorKind, ParserError};
+use ftl::advice;
 use std::alloc::{AllocError, Global};
 
 /// An error of a text: where it is, its kind, and what is said of it.
@@ -68,12 +69,20 @@ fn diagnose(
     let from = error.pos.start;
     let start = positions.position(from);
     let end = positions.position(error.pos.end.min(size).max(from));
-    let text = format!(in alloc; "{}", error.kind)?;
-    let message = escaped(alloc, text.as_str())?;
+    let message = message_of(alloc, &error.kind)?;
     Ok(Diagnostic {
         start,
         end,
         code: error.kind.name(),
         message,
     })
+}
+
+/// What is said of an error: its own text, and on a second line what to do.
+fn message_of(alloc: Global, kind: &ErrorKind) -> Result<String, AllocError> {
+    let text = format!(in alloc; "{kind}")?;
+    let mut message = with_escapes(alloc, text.as_str())?;
+    message.push('\n')?;
+    message.push_str(advice(kind))?;
+    Ok(message)
 }

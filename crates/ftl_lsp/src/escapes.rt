@@ -4,7 +4,7 @@ use std::alloc::{AllocError, Global};
 use std::fmt::Write;
 
 /// The text, with an escape for each control character: `\n` for a line end. `AllocError` where a growth was refused.
-pub(crate) fn escaped(alloc: Global, text: &str) -> Result<String, AllocError> {
+pub(crate) fn with_escapes(alloc: Global, text: &str) -> Result<String, AllocError> {
     let mut out = String::new(alloc);
     for c in text.chars() {
         match c {

@@ -3,7 +3,7 @@ ghost use Rattle.std.specs.Prelude.{◌≡◌, ◌≤◌, ℕ, length};
 ghost use Rattle.ftl_lsp.specs.Frames.{IsFraming};
 
 use crate::breaks::header_end;
-use crate::fields::content_length;
+use crate::header_fields::content_length;
 use crate::limits::{BODY_LIMIT, HEADER_LIMIT};
 
 /// Why no frame can be read.

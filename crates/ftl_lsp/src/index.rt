@@ -2,8 +2,10 @@
 
 use crate::closed_files::ClosedFile;
 use crate::documents::Document;
+use crate::file_sets::FileSet;
 use crate::occurrences::{Name, Occurrence, is_named, name_of, occurrences_of};
 use crate::open_documents::OpenDocument;
+use crate::workspace::Workspace;
 use fluent_syntax::spans::Span;
 use std::alloc::{AllocError, Global};
 use std::collections::BTreeMap;
@@ -32,24 +34,66 @@ enum Names<'d> {
     ClosedFile(&'d [Occurrence]),
 }
 
-/// All open documents with their names, in the order of their URIs, and then all files of the workspace that are not
+/// Which documents and files are wanted.
+#[derive(Clone, Copy)]
+pub enum Scope<'p> {
+    All,
+    /// Those of a set.
+    Set(FileSet<'p>),
+}
+
+impl Scope<'_> {
+    /// Whether the file at the path is one of them.
+    fn has(self, workspace: &Workspace, path: &str) -> bool {
+        match self {
+            Scope::All => true,
+            Scope::Set(set) => workspace.set_of(path) == set,
+        }
+    }
+}
+
+/// The open documents with their names, in the order of their URIs, and then the files of the workspace that are not
 /// open, in the order of their paths. `AllocError` where a growth was refused.
 pub fn indexed_documents<'d>(
     alloc: Global,
     documents: &'d BTreeMap<String, OpenDocument>,
-    files: &'d BTreeMap<String, ClosedFile>,
+    workspace: &'d Workspace,
+    scope: Scope<'_>,
 ) -> Result<Vec<IndexedDocument<'d>>, AllocError> {
     let mut found: Vec<IndexedDocument<'d>> = Vec::new(alloc);
     for (uri, open) in documents.iter() {
-        found.push(indexed_document(alloc, uri, open)?)?;
+        if scope.has(workspace, open.path_or(uri.as_str())) {
+            found.push(indexed_document(alloc, uri, open)?)?;
+        }
     }
-    for (path, file) in files.iter() {
+    for (path, file) in workspace.files().iter() {
         let path = path.as_str();
-        if !found.iter().any(|document| document.path == path) {
+        let is_open = found.iter().any(|document| document.path == path);
+        if !is_open && scope.has(workspace, path) {
             found.push(indexed_file(path, file))?;
         }
     }
     Ok(found)
+}
+
+/// The document or file at the path, if there is one. `AllocError` where a growth was refused.
+pub fn indexed_document_at<'d>(
+    alloc: Global,
+    documents: &'d BTreeMap<String, OpenDocument>,
+    workspace: &'d Workspace,
+    path: &str,
+) -> Result<Option<IndexedDocument<'d>>, AllocError> {
+    for (uri, open) in documents.iter() {
+        if open.path.as_deref() == Some(path) {
+            return Ok(Some(indexed_document(alloc, uri, open)?));
+        }
+    }
+    for (at, file) in workspace.files().iter() {
+        if at.as_str() == path {
+            return Ok(Some(indexed_file(at.as_str(), file)));
+        }
+    }
+    Ok(None)
 }
 
 /// What is known of the document that is open under the URI.

@@ -66,7 +66,7 @@ impl Server {
         self.documents
             .open(self.alloc, uri, version_of(message), text)?;
         drop(self.defined.remove(uri));
-        self.workspace.forget_defined_names();
+        self.workspace.forget_defined_names(self.alloc);
         self.publish(uri)
     }
 
@@ -124,7 +124,7 @@ impl Server {
         }
         self.documents.close(uri);
         drop(self.defined.remove(uri));
-        self.workspace.forget_defined_names();
+        self.workspace.forget_defined_names(self.alloc);
         let none = Vec::new(self.alloc);
         Ok(Some(diagnostics_notification(self.alloc, uri, none)?))
     }

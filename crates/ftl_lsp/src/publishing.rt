@@ -9,13 +9,15 @@ ghost use Rattle.ftl_lsp.specs.DiagnosticForms.{IsLintDiagnostic};
 use crate::diagnostic_forms::{LintDiagnostic, error_list, lint_diagnostic_list};
 use crate::differences::differences_of;
 use crate::documents::Document;
+use crate::file_sets::FileSet;
 use crate::limits::FINDINGS_LIMIT;
 use crate::lint_diagnostics::finding_diagnostics;
-use crate::open_documents::OpenDocument;
+use crate::open_documents::{Documents, OpenDocument};
 use crate::originals::original_at;
 use crate::others::{look_up_others, name_indexes_of, others_of};
 use crate::replies::diagnostics_notification;
 use crate::server::Server;
+use crate::workspace::Workspace;
 use fluent_syntax_names::{Finding, NameIndex, findings, findings_with_externals, local_findings};
 use ftl_files::ReportedKind;
 use serde_json::Value;
@@ -43,10 +45,11 @@ impl Server {
     fn look_up_names(&mut self, uri: &str) -> Result<(), AllocError>
         ensures same { OnOk result (session_of self.new ≡ session_of self.old) }
     {
-        if self.has_complete_workspace(uri) {
+        if let Some(set) = searched_set(&self.documents, &self.workspace, uri) {
             look_up_others(
                 self.alloc,
                 uri,
+                set,
                 self.documents.by_name(),
                 &mut self.defined,
                 &mut self.workspace,
@@ -66,7 +69,7 @@ impl Server {
         let name_index = open.document.name_index(self.alloc)?;
         let ignored = self.ignored_of(open)?;
         let mut differences = self.differences(open, &name_index)?;
-        differences.retain(|told| !ignored.contains(&told.kind.reported()));
+        differences.retain(|told| !ignored.contains(&told.kind.reported_kind()));
         let findings = self.reported_findings(uri, name_index, &ignored)?;
         let diagnostics = finding_diagnostics(self.alloc, uri, open.document.text(), &findings)?;
         let mut list = lint_diagnostic_list(self.alloc, &diagnostics, self.related)?;
@@ -100,20 +103,6 @@ impl Server {
         differences_of(self.alloc, name_index, &original, shown)
     }
 
-    /// Whether the document's findings are sought, and all files are known that may define what it refers to.
-    fn has_complete_workspace(&self, uri: &str) -> bool {
-        match self.documents.get(uri) {
-            Some(
-                OpenDocument {
-                    path: Some(path),
-                    document,
-                    ..
-                },
-            ) => is_linted(document) && self.workspace.is_complete_for(path.as_str()),
-            _ => false,
-        }
-    }
-
     /// The kinds that are not told of a document.
     fn ignored_of(&self, open: &OpenDocument) -> Result<Vec<ReportedKind>, AllocError> {
         match &open.path {
@@ -136,20 +125,36 @@ impl Server {
             .collect(self.alloc)
     }
 
-    /// What is found in a document: by itself; where all others are known, among them, or beside them where they are
-    /// long.
+    /// What is found in a document: by itself; where all others of its set are known, among them, or beside them where
+    /// they are long.
     fn findings(&self, uri: &str, name_index: NameIndex<'_>) -> Result<Vec<Finding>, AllocError> {
         let (alloc, workspace) = (self.alloc, &self.workspace);
         let documents = self.documents.by_name();
-        if self.has_complete_workspace(uri) {
-            if let Some(others) = name_indexes_of(alloc, uri, documents, workspace)? {
+        if let Some(set) = searched_set(&self.documents, workspace, uri) {
+            if let Some(others) = name_indexes_of(alloc, uri, set, documents, workspace)? {
                 return workspace_findings(alloc, name_index, others);
             }
-            if let Some(others) = others_of(alloc, uri, documents, &self.defined, workspace)? {
+            if let Some(others) = others_of(alloc, uri, set, documents, &self.defined, workspace)? {
                 return findings_with_externals(alloc, from_ref(&name_index), &others);
             }
         }
         local_findings(alloc, &name_index)
+    }
+}
+
+/// The set in which is looked for what a document refers to. None where its findings are not sought, or not all files
+/// are known that may define that.
+fn searched_set<'d>(
+    documents: &'d Documents,
+    workspace: &Workspace,
+    uri: &str,
+) -> Option<FileSet<'d>> {
+    let OpenDocument { path, document, .. } = documents.get(uri)?;
+    match path {
+        Some(path) if is_linted(document) && workspace.is_complete_for(path.as_str()) => {
+            Some(workspace.set_of(path.as_str()))
+        }
+        _ => None,
     }
 }
 

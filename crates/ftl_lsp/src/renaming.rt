@@ -1,4 +1,4 @@
-//! Another name for what a name stands for, in all open documents and closed files.
+//! Another name for what a name stands for, in the documents and files of a set.
 
 use crate::index::{IndexedDocument, OccurrenceFilter};
 use crate::occurrences::{Name, NameKind, is_name_byte};
@@ -47,7 +47,7 @@ fn renamed_name<'n>(name: Name<'n>, new_name: &'n str) -> Name<'n> {
     }
 }
 
-/// The name at the place, and the identifier that it is to have.
+/// The name at the place, and the identifier that it is to have, which may be its own.
 fn names_of<'c>(
     context: &'c RequestContext<'_>,
     new_name: &'c str,
@@ -59,16 +59,16 @@ fn names_of<'c>(
         .documents
         .iter()
         .any(|document| document.defines(renamed));
-    if is_taken {
+    if is_taken && renamed != name {
         Err(RenameFault::Taken)
     } else {
         Ok((name, identifier))
     }
 }
 
-/// The edits by which the name at the place has the new name in all open documents and closed files; or why it can't
-/// have it. `AllocError` where a growth was refused.
-pub fn renaming(
+/// The edits by which the name at the place has the new name in the documents and files of the set, none where it is
+/// its own; or why it can't have it. `AllocError` where a growth was refused.
+pub fn rename_edits(
     alloc: Global,
     context: &RequestContext<'_>,
     new_name: &str,
@@ -77,15 +77,29 @@ pub fn renaming(
         Ok(names) => names,
         Err(fault) => return Ok(Err(fault)),
     };
+    let changes = if renamed_name(name, identifier) == name {
+        Value::Array(Vec::new(alloc))
+    } else {
+        document_changes(alloc, &context.documents, name, identifier)?
+    };
+    Ok(Ok(json!(in alloc; {"documentChanges": changes})?))
+}
+
+/// The edits of each document and file in which the name stands.
+fn document_changes(
+    alloc: Global,
+    documents: &[IndexedDocument<'_>],
+    name: Name<'_>,
+    identifier: &str,
+) -> Result<Value, AllocError> {
     let mut changes = Vec::new(alloc);
-    for document in &context.documents {
+    for document in documents {
         let edits = edits_in(alloc, document, name, identifier)?;
         if !edits.is_empty() {
             changes.push(edits_of_document(alloc, document.uri, document.version, edits)?)?;
         }
     }
-    let changes = Value::Array(changes);
-    Ok(Ok(json!(in alloc; {"documentChanges": changes})?))
+    Ok(Value::Array(changes))
 }
 
 /// The edits by which the name has another text in a document or file.

@@ -12,8 +12,8 @@ use serde_json::Value;
 use std::alloc::AllocError;
 
 impl Server {
-    /// Notes of which documents is to be published again behind a notification of the method: of all that are open in
-    /// the workspace, but for the one that it names, where others may be found in them now.
+    /// Notes which documents are stale behind a notification of the method, since other findings may be in them now:
+    /// all that are open in the workspace, but for the one that it names.
     pub(crate) fn mark_stale(
         &mut self,
         method: Option<Method>,

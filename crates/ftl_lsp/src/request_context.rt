@@ -4,19 +4,22 @@ use crate::index::{IndexedDocument, OccurrenceFilter};
 use crate::occurrences::Name;
 use crate::positions::Positions;
 use crate::replies::{highlight_form, location_form};
+use crate::workspace::Workspace;
 use ftl_files::shared_folders;
-use serde_json::{Value, json};
+use serde_json::Value;
 use std::alloc::{AllocError, Global};
 
-/// The open documents and the closed files, which of them is named, and a byte of it.
+/// The open documents and the closed files of a set, which of them is named, and a byte of it.
 #[derive(Drop)]
 pub struct RequestContext<'d> {
+    /// Those of the set that the document is of that is named.
     pub documents: Vec<IndexedDocument<'d>>,
     /// The document that is named.
     pub uri: &'d str,
     pub byte: usize,
-    /// The path of the document's original, if it is to have one.
-    pub original: Option<String>,
+    /// The document's original, if it has one.
+    pub original: Option<IndexedDocument<'d>>,
+    pub workspace: &'d Workspace,
 }
 
 impl RequestContext<'_> {
@@ -32,7 +35,7 @@ impl RequestContext<'_> {
         self.here()?.name_at(self.byte)
     }
 
-    /// Where the name at the place stands in the open documents and the closed files; null where there is no name.
+    /// Where the name at the place stands in the documents and files of the set; null where there is no name.
     /// `AllocError` where a growth was refused.
     pub fn locations(&self, alloc: Global, filter: OccurrenceFilter) -> Result<Value, AllocError> {
         let Some(name) = self.name() else {
@@ -68,7 +71,7 @@ impl RequestContext<'_> {
 
     /// The numbers of the documents and files that define the name and have the most folders in common with the
     /// document that is named, of all that define it.
-    fn nearest(&self, alloc: Global, name: Name<'_>) -> Result<Vec<usize>, AllocError> {
+    pub fn nearest(&self, alloc: Global, name: Name<'_>) -> Result<Vec<usize>, AllocError> {
         let from = match self.here() {
             Some(here) => here.path,
             None => "",
@@ -106,35 +109,6 @@ impl RequestContext<'_> {
         }
         Ok(Value::Array(list))
     }
-
-    /// The entries that define the name at the place, of the documents and files that are nearest and of the original,
-    /// as they stand there, with their comments; null where none does.
-    pub fn hover(&self, alloc: Global) -> Result<Value, AllocError> {
-        let Some(name) = self.name() else {
-            return Ok(Value::Null);
-        };
-        let mut numbers = self.nearest(alloc, name)?;
-        for (number, document) in self.documents.iter().enumerate() {
-            if self.is_original(document) && !numbers.contains(&number) {
-                numbers.push(number)?;
-            }
-        }
-        let mut shown = String::new(alloc);
-        for number in numbers.iter() {
-            if let Some(document) = self.documents.get(*number) {
-                add_entries(alloc, &mut shown, document, name)?;
-            }
-        }
-        if shown.is_empty() {
-            return Ok(Value::Null);
-        }
-        json!(in alloc; {"contents": {"kind": "plaintext", "value": (shown.as_str())}})
-    }
-
-    /// Whether the document that is named is to be a translation of this one.
-    fn is_original(&self, document: &IndexedDocument<'_>) -> bool {
-        self.original.as_deref() == Some(document.path)
-    }
 }
 
 /// Adds the places of the name in a document or file.
@@ -148,22 +122,6 @@ fn add_locations(
     let mut positions = Positions::new(document.text);
     for span in document.ranges_of(alloc, name, filter)?.iter() {
         list.push(location_form(alloc, document.uri, &mut positions, *span)?)?;
-    }
-    Ok(())
-}
-
-/// Adds the entries of a document or file that define the name, a line between each two.
-fn add_entries(
-    alloc: Global,
-    shown: &mut String,
-    document: &IndexedDocument<'_>,
-    name: Name<'_>,
-) -> Result<(), AllocError> {
-    for entry in document.definitions_of(alloc, name)?.iter() {
-        if !shown.is_empty() {
-            shown.push_str("\n")?;
-        }
-        shown.push_str(entry.as_str())?;
     }
     Ok(())
 }

@@ -6,11 +6,13 @@ ghost use Rattle.ftl_lsp.specs.OpenDocuments.{texts};
 ghost use Rattle.ftl_lsp.specs.Sessions.{RefusesFor};
 
 use crate::completion::completion;
+use crate::hover::hover;
+use crate::index::{IndexedDocument, Scope, indexed_document_at, indexed_documents};
 use crate::methods::Method;
 use crate::offsets::byte_of;
 use crate::params::{new_name, occurrence_filter, position_param, uri_of};
 use crate::phases::ErrorCode;
-use crate::renaming::renaming;
+use crate::renaming::rename_edits;
 use crate::request_context::RequestContext;
 use crate::server::Server;
 use serde_json::Value;
@@ -34,13 +36,25 @@ impl Server {
         let Some(position) = position_param(message) else {
             return Ok(None);
         };
+        let (documents, workspace) = (self.documents.by_name(), &self.workspace);
         let path = open.path_or(uri);
+        let scope = Scope::Set(workspace.set_of(path));
         Ok(Some(RequestContext {
-            documents: self.workspace_documents()?,
+            documents: indexed_documents(self.alloc, documents, workspace, scope)?,
             uri,
             byte: byte_of(open.document.text(), position),
-            original: self.workspace.original_of(self.alloc, path)?,
+            original: self.indexed_original(path)?,
+            workspace,
         }))
+    }
+
+    /// The original of the file at the path, if there is one.
+    fn indexed_original(&self, path: &str) -> Result<Option<IndexedDocument<'_>>, AllocError> {
+        let (documents, workspace) = (self.documents.by_name(), &self.workspace);
+        match workspace.original_of(self.alloc, path)? {
+            Some(there) => indexed_document_at(self.alloc, documents, workspace, there.as_str()),
+            None => Ok(None),
+        }
     }
 
     /// Where the name at the place is defined.
@@ -54,7 +68,7 @@ impl Server {
         }
     }
 
-    /// Where the name at the place stands in the open documents and the closed files.
+    /// Where the name at the place stands in the documents and files of the set.
     pub(crate) fn references(&self, message: &Value) -> Result<Option<Value>, AllocError>
         ensures { IfOk result
             (λ found. is_some found ≡ names_position (texts self.now.documents) (view message.now)) }
@@ -82,7 +96,7 @@ impl Server {
             (λ found. is_some found ≡ names_position (texts self.now.documents) (view message.now)) }
     {
         match self.context_of(message)? {
-            Some(context) => Ok(Some(context.hover(self.alloc)?)),
+            Some(context) => Ok(Some(hover(self.alloc, &context)?)),
             None => Ok(None),
         }
     }
@@ -99,7 +113,7 @@ impl Server {
     }
 
     /// The edits by which the name at the place has the new name of the request, or why it can't have it.
-    pub(crate) fn renaming(&self, message: &Value) -> Result<Result<Value, ErrorCode>, AllocError>
+    pub(crate) fn rename(&self, message: &Value) -> Result<Result<Value, ErrorCode>, AllocError>
         ensures found { let fitting = renames_position (texts self.now.documents) (view message.now) in
             IfOk result (λ found. IfOk found (λ edits. fitting ≡ true)) }
         ensures refused { let fitting = renames_position (texts self.now.documents) (view message.now) in
@@ -111,7 +125,7 @@ impl Server {
         let Some(name) = new_name(message) else {
             return Ok(Err(ErrorCode::InvalidParams));
         };
-        match renaming(self.alloc, &context, name)? {
+        match rename_edits(self.alloc, &context, name)? {
             Ok(edits) => Ok(Ok(edits)),
             Err(fault) => Ok(Err(ErrorCode::Rename(fault))),
         }

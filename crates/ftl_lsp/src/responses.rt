@@ -7,7 +7,7 @@ ghost use Rattle.ftl_lsp.specs.Params.{uri_in};
 ghost use Rattle.ftl_lsp.specs.Sessions.{HasResponse, RefusesFor, fits, session_of};
 
 use crate::formatting::{formatted_text, formatting_edit};
-use crate::index::{IndexedDocument, indexed_documents};
+use crate::index::{Scope, indexed_documents};
 use crate::methods::Method;
 use crate::notices::Notice;
 use crate::occurrences::bytes_of;
@@ -41,14 +41,17 @@ impl Server {
             IfOk result (λ response. IfErr response (RefusesFor method fitting)) }
     {
         if let Some(Method::Rename) = method {
-            return self.renaming(message);
+            return self.rename(message);
         }
-        Ok(self.found(method, message)?.ok_or(ErrorCode::InvalidParams))
+        Ok(
+            self.requested_value(method, message)?
+                .ok_or(ErrorCode::InvalidParams),
+        )
     }
 
     /// What a request of the method, which is no renaming, asks for. None where its parameters name no open document,
     /// or not what the method wants beside it.
-    fn found(
+    fn requested_value(
         &mut self,
         method: Option<Method>,
         message: &Value,
@@ -143,11 +146,6 @@ impl Server {
         Ok(Some(formatting_edit(self.alloc, text, formatted.as_str())?))
     }
 
-    /// The open documents and the closed files.
-    pub(crate) fn workspace_documents(&self) -> Result<Vec<IndexedDocument<'_>>, AllocError> {
-        indexed_documents(self.alloc, self.documents.by_name(), self.workspace.files())
-    }
-
     /// What the open documents and the closed files define whose name has the text that is asked for in it.
     fn workspace_symbols(&self, message: &Value) -> Result<Value, AllocError> {
         let query = message
@@ -155,7 +153,9 @@ impl Server {
             .and_then(Value::as_str)
             .unwrap_or("");
         let mut list = Vec::new(self.alloc);
-        for document in self.workspace_documents()?.iter() {
+        let documents = self.documents.by_name();
+        let all = indexed_documents(self.alloc, documents, &self.workspace, Scope::All)?;
+        for document in &all {
             let mut positions = Positions::new(document.text);
             for occurrence in document.occurrences() {
                 let shown = bytes_of(document.text, occurrence.span());

@@ -55,8 +55,8 @@ pub fn serve<R: Read, W: Write, F: Folders>(
     Ending::Memory
 }
 
-/// Shows a notice, if there is one; or publishes the diagnostics of a document again, if there is one of which that is
-/// to be done and no message waits; and takes the next message else. The endings are those of `answer_next`.
+/// Shows a notice, if there is one. Else publishes the diagnostics of a document again, if one is stale and no message
+/// waits. Else takes the next message. The endings are those of `answer_next`.
 fn go_on<R: Read, W: Write, F: Folders>(
     alloc: Global,
     server: &mut Server,

@@ -1,13 +1,46 @@
-//! What the folders of the workspace say of themselves.
+//! What the projects of the workspace's folders say of themselves.
 
 use ftl_files::{FILE_LIMIT, Folders, Settings, SettingsFault, settings_of};
 use std::alloc::{AllocError, Global};
 
-/// What the `ftl.toml` at the top of a folder says: None where there is no such file. The error is a sentence that says
-/// why it can't be gone by.
+/// What a project says.
+#[derive(Drop)]
+pub struct ProjectSettings {
+    /// The folder of its `ftl.toml`, in which the paths there begin.
+    pub folder: String,
+    pub settings: Settings,
+}
+
+/// What the `ftl.toml` of the folder says, or that of the nearest one above that has such a file: None where there is
+/// none. The error is a sentence that says why it can't be gone by.
 ///
 /// `AllocError` where a growth was refused.
-pub fn settings_in<F: Folders>(
+pub fn nearest_settings<F: Folders>(
+    alloc: Global,
+    files: &F,
+    folder: &str,
+) -> Result<Result<Option<ProjectSettings>, String>, AllocError> {
+    let mut nearest = folder;
+    // as many folders as there are above, and this one
+    for _ in folder.split('/') {
+        match settings_in(alloc, files, nearest)? {
+            Ok(Some(settings)) => {
+                let folder = String::from_str(alloc, nearest)?;
+                return Ok(Ok(Some(ProjectSettings { folder, settings })));
+            }
+            Ok(None) => {}
+            Err(fault) => return Ok(Err(fault)),
+        }
+        match nearest.rsplit_once('/') {
+            Some((above, _)) => nearest = above,
+            None => return Ok(Ok(None)),
+        }
+    }
+    Ok(Ok(None))
+}
+
+/// What the `ftl.toml` at the top of a folder says: likewise.
+fn settings_in<F: Folders>(
     alloc: Global,
     files: &F,
     folder: &str,

@@ -2,111 +2,27 @@
 ghost use Rattle.std.specs.Prelude.{◌≡◌};
 
 use crate::closed_files::ClosedFile;
+use crate::file_sets::FileSet;
 use crate::notices::Notice;
 use crate::open_documents::OpenDocument;
-use crate::originals::Reference;
-use crate::settings::settings_in;
+use crate::workspace_folder::WorkspaceFolder;
 use fluent_syntax_names::{DefinedNames, Severity};
-use ftl_files::{
-    Excluded, Folders, ReportedKind, Settings, SourceFile, SourceFiles, is_below, path_of_uri,
-    read_files,
-};
+use ftl_files::{Folders, ReportedKind, SourceFile, SourceFiles, path_of_uri, read_files};
 use serde_json::Value;
 use std::alloc::{AllocError, Global};
 use std::collections::BTreeMap;
 
-/// A folder that an editor works in.
-#[derive(Drop)]
-struct Folder {
-    /// Its path, which doesn't end in a `/`.
-    path: String,
-    /// The kinds that are not told of its files.
-    ignored: Vec<ReportedKind>,
-    /// What is passed over below it.
-    excluded: Excluded,
-    /// Where the reference language has its files, if that is said.
-    reference: Option<Reference>,
-    /// Why what it says of itself can't be gone by, if it can't.
-    fault: Option<String>,
-}
-
-impl Folder {
-    /// One that says nothing of itself.
-    fn new(alloc: Global, path: &str) -> Result<Folder, AllocError> {
-        Ok(Folder {
-            path: String::from_str(alloc, path)?,
-            ignored: Vec::new(alloc),
-            excluded: Excluded::new(alloc),
-            reference: None,
-            fault: None,
-        })
-    }
-
-    /// Whether files are looked for where the path stands.
-    fn covers(&self, path: &str) -> bool {
-        is_below(self.path.as_str(), path) && !self.excluded.hides(self.path.as_str(), path)
-    }
-
-    /// Reads anew what it says of itself. The sentence says why that can't be gone by, where it didn't say so before.
-    ///
-    /// `AllocError` where a growth was refused.
-    fn read_settings<F: Folders>(
-        &mut self,
-        alloc: Global,
-        files: &F,
-    ) -> Result<Option<String>, AllocError> {
-        let (settings, fault) = match settings_in(alloc, files, self.path.as_str())? {
-            Ok(settings) => (settings, None),
-            Err(fault) => (None, Some(fault)),
-        };
-        self.take_settings(alloc, settings)?;
-        let told = match &fault {
-            Some(sentence) if self.fault != fault => Some(sentence.clone()?),
-            _ => None,
-        };
-        self.fault = fault;
-        Ok(told)
-    }
-
-    /// Notes what it says of itself.
-    fn take_settings(
-        &mut self,
-        alloc: Global,
-        settings: Option<Settings>,
-    ) -> Result<(), AllocError> {
-        self.reference = None;
-        self.ignored = Vec::new(alloc);
-        self.excluded = Excluded::new(alloc);
-        let Some(
-            Settings {
-                reference,
-                ignored,
-                excluded,
-                ..
-            },
-        ) = settings
-        else {
-            return Ok(());
-        };
-        self.excluded = excluded_in(alloc, self.path.as_str(), &excluded)?;
-        if let Some(name) = reference {
-            self.reference = Reference::in_folder(alloc, self.path.as_str(), name.as_str())?;
-        }
-        self.ignored = ignored;
-        Ok(())
-    }
-}
-
 /// The folders that an editor works in, and the files below them.
 #[derive(Drop)]
 pub struct Workspace {
-    folders: Vec<Folder>,
+    folders: Vec<WorkspaceFolder>,
     /// The files, by their paths.
     files: BTreeMap<String, ClosedFile>,
     /// Whether these are all files below the folders.
     is_whole: bool,
-    /// The names that those of them define that are not open. None where they were not looked up since that changed.
-    defined: Option<DefinedNames>,
+    /// The names that those of them define that are not open, by the keys of their sets, as far as they were looked up
+    /// since that changed.
+    defined: BTreeMap<String, DefinedNames>,
     /// Whether the editor can be asked to watch files.
     can_watch: bool,
 }
@@ -118,7 +34,7 @@ impl Workspace {
             folders: Vec::new(alloc),
             files: BTreeMap::new(alloc),
             is_whole: false,
-            defined: None,
+            defined: BTreeMap::new(alloc),
             can_watch: false,
         }
     }
@@ -128,14 +44,15 @@ impl Workspace {
         let mut folders = Vec::new(alloc);
         for uri in folder_uris(alloc, message)?.iter() {
             if let Some(path) = path_of_uri(alloc, *uri)? {
-                folders.push(Folder::new(alloc, path.as_str().trim_end_matches('/'))?)?;
+                let path = path.as_str().trim_end_matches('/');
+                folders.push(WorkspaceFolder::new(alloc, path)?)?;
             }
         }
         Ok(Workspace {
             folders,
             files: BTreeMap::new(alloc),
             is_whole: false,
-            defined: None,
+            defined: BTreeMap::new(alloc),
             can_watch: can_watch(message),
         })
     }
@@ -165,11 +82,8 @@ impl Workspace {
         let mut notices = Vec::new(alloc);
         let mut all = true;
         for folder in self.folders.iter_mut() {
-            if let Some(text) = folder.read_settings(alloc, files)? {
-                notices.push(Notice {
-                    severity: Severity::Error,
-                    text,
-                })?;
+            if let Some(text) = folder.reload_project_settings(alloc, files)? {
+                add_notice(&mut notices, text)?;
             }
             let SourceFiles {
                 files: sources,
@@ -187,7 +101,7 @@ impl Workspace {
         }
         self.files = found;
         self.is_whole = all;
-        self.defined = None;
+        self.defined = BTreeMap::new(alloc);
         Ok(notices)
     }
 
@@ -202,12 +116,53 @@ impl Workspace {
         self.folders.iter().any(|folder| folder.covers(path))
     }
 
-    /// The kinds that are not told of a file at the path: those that a folder leaves out below which it
-    /// stands. `AllocError` where a growth was refused.
+    /// Whether the path stands below one of the folders, and is passed over there.
+    fn is_passed_over(&self, path: &str) -> bool {
+        self.folders.iter().any(|folder| folder.has(path)) && !self.covers(path)
+    }
+
+    /// The set that a file at the path is of.
+    pub fn set_of<'p>(&self, path: &'p str) -> FileSet<'p> {
+        if self.is_passed_over(path) {
+            FileSet::Alone(path)
+        } else {
+            self.set_by_language(path)
+        }
+    }
+
+    /// The same of a file that is not passed over.
+    fn set_by_language<'p>(&self, path: &'p str) -> FileSet<'p> {
+        for folder in &self.folders {
+            if let Some(language) = folder.language_of(path) {
+                return FileSet::Language(language);
+            }
+        }
+        FileSet::OfNoLanguage
+    }
+
+    /// The files of the set that are not among the open documents. `AllocError` where a growth was refused.
+    pub fn closed_files_of(
+        &self,
+        alloc: Global,
+        set: FileSet<'_>,
+        documents: &BTreeMap<String, OpenDocument>,
+    ) -> Result<Vec<&ClosedFile>, AllocError> {
+        let mut files = Vec::new(alloc);
+        for (path, file) in self.files.iter() {
+            let path = path.as_str();
+            if self.set_by_language(path) == set && !is_open(documents, path) {
+                files.push(file)?;
+            }
+        }
+        Ok(files)
+    }
+
+    /// The kinds that are not told of a file at the path: those that a folder leaves out below which it stands.
+    /// `AllocError` where a growth was refused.
     pub fn ignored_at(&self, alloc: Global, path: &str) -> Result<Vec<ReportedKind>, AllocError> {
         let mut ignored = Vec::new(alloc);
         for folder in &self.folders {
-            if is_below(folder.path.as_str(), path) {
+            if folder.has(path) {
                 ignored.extend_from_slice(&folder.ignored)?;
             }
         }
@@ -215,8 +170,11 @@ impl Workspace {
     }
 
     /// The path of the file of the reference language that the one at the path is to be a translation of. None where
-    /// it is to be none of any. `AllocError` where a growth was refused.
+    /// it is to be none of any, or is passed over. `AllocError` where a growth was refused.
     pub fn original_of(&self, alloc: Global, path: &str) -> Result<Option<String>, AllocError> {
+        if self.is_passed_over(path) {
+            return Ok(None);
+        }
         for folder in &self.folders {
             if let Some(reference) = &folder.reference {
                 let original = reference.original_of(alloc, path)?;
@@ -231,7 +189,7 @@ impl Workspace {
     /// The path as it is shown: without the folder below which it stands.
     pub fn display_path<'p>(&self, path: &'p str) -> &'p str {
         for folder in &self.folders {
-            if is_below(folder.path.as_str(), path) {
+            if folder.has(path) {
                 if let Some(below) = path.strip_prefix(folder.path.as_str()) {
                     return below.trim_start_matches('/');
                 }
@@ -240,48 +198,53 @@ impl Workspace {
         path
     }
 
-    /// The names that the closed files define. None where they were not looked up.
-    pub fn defined_names(&self) -> Option<&DefinedNames> {
-        self.defined.as_ref()
+    /// The names that the closed files of the set define. None where they were not looked up.
+    pub fn defined_names(&self, set: FileSet<'_>) -> Option<&DefinedNames> {
+        self.defined.get(set.key())
     }
 
     /// Forgets the names that the closed files define, since others are closed now.
-    pub fn forget_defined_names(&mut self) {
-        self.defined = None;
+    pub fn forget_defined_names(&mut self, alloc: Global) {
+        self.defined = BTreeMap::new(alloc);
     }
 
-    /// Looks up the names that the files define that are not among the open documents, if that was not done.
+    /// Looks up the names that the closed files of the set define, if that was not done.
     ///
     /// `AllocError` where a growth was refused.
     pub fn look_up_defined_names(
         &mut self,
         alloc: Global,
+        set: FileSet<'_>,
         documents: &BTreeMap<String, OpenDocument>,
     ) -> Result<(), AllocError> {
-        if self.defined.is_none() {
-            let mut names = DefinedNames::new(alloc);
-            for (path, file) in self.files.iter() {
-                if !is_open(documents, path.as_str()) {
-                    names.add(alloc, file.text.as_str(), &file.mentions)?;
-                }
-            }
-            self.defined = Some(names);
+        if self.defined.contains_key(set.key()) {
+            return Ok(());
         }
+        let mut names = DefinedNames::new(alloc);
+        for file in self.closed_files_of(alloc, set, documents)? {
+            names.add(alloc, file.text.as_str(), &file.mentions)?;
+        }
+        drop(
+            self.defined
+                .insert(String::from_str(alloc, set.key())?, names)?,
+        );
         Ok(())
     }
 }
 
-/// What the folder says is passed over.
-fn excluded_in(alloc: Global, folder: &str, texts: &[String]) -> Result<Excluded, AllocError> {
-    let mut excluded = Excluded::new(alloc);
-    for text in texts {
-        excluded.add(alloc, folder, text.as_str())?;
+/// Adds what is wrong with settings, if it isn't there: several folders may have the same.
+fn add_notice(notices: &mut Vec<Notice>, text: String) -> Result<(), AllocError> {
+    if !notices.iter().any(|notice| notice.text == text) {
+        notices.push(Notice {
+            severity: Severity::Error,
+            text,
+        })?;
     }
-    Ok(excluded)
+    Ok(())
 }
 
 /// Whether one of the documents is that of the path.
-pub fn is_open(documents: &BTreeMap<String, OpenDocument>, path: &str) -> bool {
+fn is_open(documents: &BTreeMap<String, OpenDocument>, path: &str) -> bool {
     documents
         .values()
         .any(|open| open.path.as_deref() == Some(path))

@@ -1,7 +1,7 @@
 //! Which files are searched as one set: those of one language.
 
 use crate::project::Project;
-use ftl_files::absolute_path;
+use ftl_files::{absolute_path, folder_of_languages, language_of};
 use std::alloc::{AllocError, Global};
 
 /// Files that are searched as one set.
@@ -24,7 +24,7 @@ pub(crate) fn add_files(
     for file in files {
         let path = absolute_path(alloc, project.current.as_str(), file.as_str())?;
         let language = match languages {
-            Some(folder) => language_of(folder, path.as_str()),
+            Some(folder) => language_of(folder, path.as_str()).unwrap_or(""),
             None => "",
         };
         add_file(alloc, sets, language, file)?;
@@ -51,33 +51,13 @@ fn add_file(
     Ok(())
 }
 
-/// The part of the path that is a folder directly below the folder; empty where it is in none.
-fn language_of<'p>(folder: &str, path: &'p str) -> &'p str {
-    let Some(below) = path.strip_prefix(folder) else {
-        return "";
-    };
-    let Some(below) = below.strip_prefix('/') else {
-        return "";
-    };
-    match below.find('/') {
-        Some(end) => &path[..path.len() - below.len() + end],
-        None => "",
-    }
-}
-
 /// The folder of the project's languages: that in which the folder of its reference is. `None` where it names none, or
 /// a file.
-pub(crate) fn folder_of_languages(
-    alloc: Global,
-    project: &Project,
-) -> Result<Option<String>, AllocError> {
+pub(crate) fn languages_of(alloc: Global, project: &Project) -> Result<Option<String>, AllocError> {
     match &project.settings.reference {
-        Some(path) if !path.ends_with(".ftl") => {
-            let mut folder = absolute_path(alloc, project.current.as_str(), path.as_str())?;
-            let end = folder.rfind('/').unwrap_or(0);
-            folder.truncate(end);
-            Ok(Some(folder))
+        Some(reference) => {
+            folder_of_languages(alloc, project.current.as_str(), reference.as_str())
         }
-        _ => Ok(None),
+        None => Ok(None),
     }
 }

@@ -1,7 +1,7 @@
 //! Files and folders, searched for mistakes between names.
 
 use crate::colors::form_over_paths;
-use crate::file_sets::{FileSet, add_files, folder_of_languages};
+use crate::file_sets::{FileSet, add_files, languages_of};
 use crate::listed::{NamedFiles, report_listing_fault};
 use crate::messages::{end_run, refuse_input, refuse_run};
 use crate::project::{Project, project_of};
@@ -137,6 +137,6 @@ fn languages_at(
     if lint.each {
         Ok(Some(absolute_path(alloc, project.current.as_str(), path)?))
     } else {
-        folder_of_languages(alloc, project)
+        languages_of(alloc, project)
     }
 }

@@ -328,12 +328,16 @@ fn whole_files(alloc: Global) -> Result<Memory, Fail> {
 const BESIDE: (&str, &str) = ("file:///w/open.ftl", "open = Open\\n-brand = Brand");
 
 /// What is told last in a session over the files.
-fn last_diagnostics(alloc: Global, files: &Memory, bodies: &[&str]) -> Result<String, Fail> {
+pub(crate) fn last_diagnostics(
+    alloc: Global,
+    files: &Memory,
+    bodies: &[&str],
+) -> Result<String, Fail> {
     diagnostics_of(alloc, files, "", bodies)
 }
 
 /// What is told last of the document in a session over the files.
-fn diagnostics_of(
+pub(crate) fn diagnostics_of(
     alloc: Global,
     files: &Memory,
     uri: &str,
@@ -349,7 +353,7 @@ fn diagnostics_of(
 }
 
 /// That these findings are told, and no other ones.
-fn assert_told(
+pub(crate) fn assert_told(
     alloc: Global,
     shows: &str,
     told: &str,

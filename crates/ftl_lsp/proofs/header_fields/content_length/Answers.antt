@@ -1,13 +1,13 @@
 use Rattle.std.proofs.Common.{arith, sym, ◌∙◌}
 use Rattle.std.proofs.lemmas.Bool.{false≢true}
 use Rattle.ftl_lsp.proofs.FrameLemmas.{length_in_line, length_behind, no_length}
-use Rattle.ftl_lsp.proofs.fields.content_length.Goals as goal
+use Rattle.ftl_lsp.proofs.header_fields.content_length.Goals as goal
 
 pub returns-then-is_length_field : goal.returns-then-is_length_field
 returns-then-is_length_field c =
     c.loop-rest.invariant _
     (length_in_line _ _ _ _ c.line_end-end.ensures c.split_at.ensures.front
-    (c.is_length_field.ensures.0 c.if-is_length_field.true) c.number.ensures)
+    (c.is_length_field.ensures.0 c.if-is_length_field.true) c.length_field_value.ensures)
 
 pub returns-then-rest-end-lt2 : goal.returns-then-rest-end-lt2
 returns-then-rest-end-lt2 c =

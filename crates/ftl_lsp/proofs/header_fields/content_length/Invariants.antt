@@ -1,6 +1,6 @@
 use Rattle.std.proofs.Common.{ℕ, Option, length}
 use Rattle.ftl_lsp.specs.Fields.{HasLength}
-use Rattle.ftl_lsp.proofs.fields.content_length.Given as goal
+use Rattle.ftl_lsp.proofs.header_fields.content_length.Given as goal
 
 abbrev pub invariant-loop-rest : goal.invariant-loop-rest
 invariant-loop-rest l = (n : Option ℕ) → HasLength l.rest n → HasLength l.header n

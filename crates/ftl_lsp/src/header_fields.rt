@@ -18,7 +18,7 @@ pub fn content_length(header: &[u8]) -> Option<usize>
         let end = line_end(rest);
         let (line, _) = rest.split_at(end);
         if is_length_field(line) {
-            return number(line);
+            return length_field_value(line);
         }
         if rest.len() - end < 2 {
             return None;
@@ -35,7 +35,7 @@ fn is_length_field(line: &[u8]) -> bool
 }
 
 /// The number of that field: digits, with spaces and tabs around them.
-fn number(line: &[u8]) -> Option<usize>
+fn length_field_value(line: &[u8]) -> Option<usize>
     requires { 15 ≤ length line.now }
     ensures { result ≡ number_of (drop 15 line.now) }
 {

@@ -1,0 +1,42 @@
+//! Which language a file is of, where each language has a folder beside that of the reference.
+ghost use Rattle.std.specs.Prelude.{IfSome};
+ghost use Rattle.ftl_files.specs.Languages.{IsLanguage};
+
+use crate::paths::absolute_path;
+use std::alloc::{AllocError, Global};
+
+/// The folder in which each language has its own, by the reference of a project: in the folder `/app` that of
+/// `locales/en` is `/app/locales`. None where the reference is a file.
+///
+/// `AllocError` where a growth was refused.
+pub fn folder_of_languages(
+    alloc: Global,
+    folder: &str,
+    reference: &str,
+) -> Result<Option<String>, AllocError> {
+    if reference.ends_with(".ftl") {
+        return Ok(None);
+    }
+    let mut languages = absolute_path(alloc, folder, reference)?;
+    let end = languages.rfind('/').unwrap_or(0);
+    languages.truncate(end);
+    Ok(Some(languages))
+}
+
+/// The folder of the language that the file at the path is of, where each has its own in `languages`: in
+/// `/app/locales` that of `/app/locales/de/menu.ftl` is `/app/locales/de`. None where it is in no folder there.
+pub fn language_of<'p>(languages: &str, path: &'p str) -> Option<&'p str>
+    ensures { IfSome result (λ language. IsLanguage languages.now path.now language.now) }
+{
+    let Some(temporary) = path.strip_prefix(languages) else {
+        return None;
+    };
+    let Some(below) = temporary.strip_prefix('/') else {
+        return None;
+    };
+    let Some((_, rest)) = below.split_once('/') else {
+        return None;
+    };
+    let end = path.len().saturating_sub(rest.len());
+    path.get(..end.saturating_sub(1))
+}

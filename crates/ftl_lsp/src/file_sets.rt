@@ -1,0 +1,22 @@
+//! Which files are searched as one set.
+
+/// The files among which the names are looked for that a file refers to.
+#[derive(Clone, Copy, PartialEq, Eq)]
+pub enum FileSet<'p> {
+    /// Those of a language, by its folder.
+    Language(&'p str),
+    /// All that are in no folder of a language.
+    OfNoLanguage,
+    /// The file at this path alone, since it is passed over where its folder is listed.
+    Alone(&'p str),
+}
+
+impl<'p> FileSet<'p> {
+    /// A text that no other set has.
+    pub fn key(self) -> &'p str {
+        match self {
+            FileSet::Language(path) | FileSet::Alone(path) => path,
+            FileSet::OfNoLanguage => "",
+        }
+    }
+}
