@@ -105,7 +105,7 @@ fn push_takers(line: &mut String, alloc: Global, told: &str) -> Result<(), Alloc
         if command
             .get_arguments()
             .iter()
-            .any(|known| is_called(known, option))
+            .any(|known| has_option_name(known, option))
         {
             write!(line, "{before}{}", command.get_name())?;
             before = ", ";
@@ -122,7 +122,7 @@ fn unexpected_argument(told: &str) -> Option<&str> {
 }
 
 /// Whether the option is called so on a command line, as `--write` or `-w`.
-fn is_called(option: &Arg<'_>, name: &str) -> bool {
+fn has_option_name(option: &Arg<'_>, name: &str) -> bool {
     match name.strip_prefix("--") {
         Some(long) => option.get_long() == Some(long),
         None => match (name.strip_prefix('-'), option.get_short()) {

@@ -7,7 +7,7 @@ use fluent_syntax_tree::edition::Edition;
 use ftl_files::{Color, Form, Output, Reading, Settings};
 
 /// A nesting that a stack of 8 MB bears with room to spare.
-const NESTING: usize = 2000;
+const DEFAULT_NESTING: usize = 2000;
 
 /// What the options of a word say; `None` where they leave it open.
 #[derive(Clone, Copy, Debug)]
@@ -41,7 +41,7 @@ impl Options {
     {
         Reading {
             edition: self.edition.unwrap_or(Edition::One),
-            nesting: self.nesting.unwrap_or(NESTING),
+            nesting: self.nesting.unwrap_or(DEFAULT_NESTING),
         }
     }
 

@@ -9,7 +9,7 @@ use std::io::{self, ErrorKind};
 use std::path::Path;
 
 /// How many names are tried for the file beside: one stays behind where a run is killed before the rename.
-const NAMES: u8 = 100;
+const NAME_ATTEMPTS: u8 = 100;
 
 /// Puts the text in the place of the bytes of the file at a path.
 ///
@@ -61,7 +61,7 @@ fn create_temporary<F: FileSystem>(
         Some(folder) => folder.as_str(),
         None => "",
     };
-    for number in 0..NAMES {
+    for number in 0..NAME_ATTEMPTS {
         let temporary = format!(in alloc; "{folder}/.ftl-new-{number}")?;
         match system.create(temporary.as_str(), path) {
             Ok(file) => return Ok((temporary, file)),

@@ -1,8 +1,8 @@
 //! Files and folders, compared with those of a reference language.
 
 use crate::colors::form_over_paths;
-use crate::listed::{Named, NamedFiles, named_at};
-use crate::messages::{WRONG_ARGS, end_run, refuse_compare, refuse_input, refuse_run};
+use crate::listed::{Named, NamedFiles, listing_at};
+use crate::messages::{WRONG_ARGS, end_run, refuse_input, refuse_run, report_nothing_to_compare};
 use crate::project::{Project, project_of};
 use ftl::{RunFault, Watched};
 use ftl_args::{Compare, Options};
@@ -24,7 +24,7 @@ pub(crate) fn compare_paths(rt: &HostRuntime, compare: &Compare<'_>) -> u8 {
         Err(status) => return status,
     };
     let Some((reference, others)) = sides(&project.settings, &compare.paths) else {
-        return refuse_compare(rt);
+        return report_nothing_to_compare(rt);
     };
     let Ok(ignored) = ignored_of(rt, compare, &project) else {
         return refuse_run(rt, RunFault::Memory);
@@ -84,7 +84,7 @@ impl Comparison<'_> {
         others: &[&str],
         tally: &mut Tally,
     ) -> Result<(), RunFault> {
-        let own = named_at(self.rt, self.project, reference, tally)?;
+        let own = listing_at(self.rt, self.project, reference, tally)?;
         if own.has_failed {
             return Ok(());
         }
@@ -106,7 +106,7 @@ impl Comparison<'_> {
         tally: &mut Tally,
     ) -> Result<(), RunFault> {
         let rt = self.rt;
-        let named = named_at(rt, self.project, other, tally)?;
+        let named = listing_at(rt, self.project, other, tally)?;
         if named.has_failed {
             return Ok(());
         }

@@ -31,7 +31,7 @@ impl<'p> NamedFiles<'p> {
         tally: &mut Tally,
     ) -> Result<Vec<String>, RunFault> {
         let mut files = Vec::new(rt.alloc());
-        for file in named_at(rt, self.project, path, tally)?.files {
+        for file in listing_at(rt, self.project, path, tally)?.files {
             if self.is_new(rt, file.as_str())? && files.push(file).is_err() {
                 return Err(RunFault::Memory);
             }
@@ -63,7 +63,7 @@ pub(crate) struct Named {
 }
 
 /// What the path names. What can't be listed is told.
-pub(crate) fn named_at(
+pub(crate) fn listing_at(
     rt: &HostRuntime,
     project: &Project,
     path: &str,

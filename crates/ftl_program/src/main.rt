@@ -17,7 +17,9 @@ use crate::args::all_args;
 use crate::compare::compare_paths;
 use crate::help::page_of;
 use crate::lint::lint_paths;
-use crate::messages::{print_page, refuse_args, refuse_serving, refuse_writing, run_status};
+use crate::messages::{
+    print_page, refuse_args, refuse_serving, report_unwritable_input, run_status,
+};
 use crate::paths::{answer_named, answer_paths};
 use crate::project::{no_project, project_of};
 use crate::standard_input::answer_input;
@@ -51,8 +53,10 @@ fn answer(rt: &HostRuntime, mut work: Work<'_>) -> u8 {
     let on_input = work.paths.is_empty();
     match work.task {
         Task::Format(Change::Write | Change::Name | Change::Show) if on_input =>
-            return refuse_writing(rt),
-        Task::Format(Change::Write) if work.paths.contains(&"-") => return refuse_writing(rt),
+            return report_unwritable_input(rt),
+        Task::Format(Change::Write) if work.paths.contains(&"-") => return report_unwritable_input(
+            rt,
+        ),
         _ if on_input => return answer_alone(rt, &work),
         _ => (),
     }

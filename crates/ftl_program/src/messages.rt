@@ -78,7 +78,7 @@ pub(crate) fn refuse_words<R: Eprint + AllocGlobal>(rt: &R, line: &str, word: &s
 }
 
 /// Tells that there is nothing to compare with the reference.
-pub(crate) fn refuse_compare<R: Eprint + AllocGlobal>(rt: &R) -> u8 {
+pub(crate) fn report_nothing_to_compare<R: Eprint + AllocGlobal>(rt: &R) -> u8 {
     let line =
         "ftl: compare wants a reference, and what to compare with it: `ftl compare en de`; or in a file ftl.toml \
         the line: reference = \"en\"";
@@ -101,7 +101,7 @@ pub(crate) fn refuse_serving<R: Eprint + AllocGlobal>(rt: &R) -> u8 {
 }
 
 /// Tells that standard input is no file to be written or named.
-pub(crate) fn refuse_writing<R: Eprint + AllocGlobal>(rt: &R) -> u8 {
+pub(crate) fn report_unwritable_input<R: Eprint + AllocGlobal>(rt: &R) -> u8 {
     refuse_words(
         rt,
         "ftl: --write, --check and --diff are for files and folders",

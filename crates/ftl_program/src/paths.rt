@@ -4,7 +4,7 @@ use crate::colors::form_over_paths;
 use crate::listed::NamedFiles;
 use crate::messages::end_run;
 use crate::project::Project;
-use crate::standard_input::{all_input, tell_of_terminal};
+use crate::standard_input::{all_input, print_terminal_hint};
 use ftl::{RunFault, Watched};
 use ftl_args::{Change, Task, Work};
 use ftl_files::{Disk, Memory, Store};
@@ -81,7 +81,7 @@ pub(crate) fn answer_named(rt: &HostRuntime, work: &Work<'_>) -> Result<u8, RunF
 
 /// Answers standard input as a file of its name.
 fn answer_named_input(rt: &HostRuntime, work: &Work<'_>, met: &mut Met) -> Result<(), RunFault> {
-    tell_of_terminal(rt);
+    print_terminal_hint(rt);
     let input = all_input(rt)?;
     let mut memory = Memory::new(rt.alloc());
     let mut files = Vec::new(rt.alloc());

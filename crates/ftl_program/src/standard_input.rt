@@ -16,7 +16,7 @@ const NESTS_DEEPER: &str = "ftl: nests deeper than --nesting allows";
 
 /// Answers standard input on standard output, and gives the exit status.
 pub(crate) fn answer_input(rt: &HostRuntime, work: &Work<'_>) -> u8 {
-    tell_of_terminal(rt);
+    print_terminal_hint(rt);
     let Some(command) = work.task.command(work.options.reading().edition) else {
         return refuse_run(rt, RunFault::Input);
     };
@@ -27,7 +27,7 @@ pub(crate) fn answer_input(rt: &HostRuntime, work: &Work<'_>) -> u8 {
 }
 
 /// Says that it waits for input, where a person has to type it.
-pub(crate) fn tell_of_terminal(rt: &HostRuntime) {
+pub(crate) fn print_terminal_hint(rt: &HostRuntime) {
     if rt.reader().is_terminal() {
         let _ = rt.eprintln("ftl: reading standard input; end it with Ctrl-D");
     }
@@ -89,7 +89,7 @@ fn put_formatted<R: Print + Eprint + AllocGlobal>(
         return refuse_run(rt, RunFault::Output);
     }
     if formatted.outcome == Outcome::Clean && !formatted.is_canonical {
-        warn(rt, text, work);
+        warn_of_lossy_entry(rt, text, work);
     }
     warn_of_errors(rt, work, formatted.outcome);
     formatted.outcome.status()
@@ -115,7 +115,7 @@ pub(crate) fn all_input<R: Input + AllocGlobal>(rt: &R) -> Result<Vec<u8>, RunFa
 }
 
 /// Tells by which entry the text would not read back, if it would not. Of memory it says nothing: the text was written.
-fn warn<R: Eprint + AllocGlobal>(rt: &R, text: &str, work: &Work<'_>) {
+fn warn_of_lossy_entry<R: Eprint + AllocGlobal>(rt: &R, text: &str, work: &Work<'_>) {
     if let Ok(note) = lossy_note(rt.alloc(), work.stdin_name, text, work.options.reading()) {
         let _ = rt.eprint(note.as_str());
     }

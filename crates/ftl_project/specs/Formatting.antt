@@ -22,16 +22,16 @@ errors_in (Errors refused) = length refused.errors.items
 errors_in _ = 0
 
 -- whether the text is left as it is, though it is not in its normal form
-abbrev pub is_left : Replacement → Bool
-is_left (Errors refused) = true
-is_left (Lossy entry) = true
-is_left _ = false
+abbrev pub is_left_unchanged : Replacement → Bool
+is_left_unchanged (Errors refused) = true
+is_left_unchanged (Lossy entry) = true
+is_left_unchanged _ = false
 
 -- ---- in place
 
 -- how a file is met of which this became
 abbrev pub IsProcessed : Result Replacement Fault → Processed → Type 0
-IsProcessed (Ok replacement) processed = processed ≡ answered (errors_in replacement) (is_left replacement)
+IsProcessed (Ok replacement) processed = processed ≡ answered (errors_in replacement) (is_left_unchanged replacement)
 IsProcessed (Err fault) processed = (status : ℕ) × HasStatus fault status × (processed ≡ failed status)
 
 module _ (CallFails : Failing) (reading : Reading) where
@@ -61,9 +61,9 @@ AllNormal edition files old new = All (λ file. IsNormal edition (old (string_by
 -- ---- by name
 
 -- whether a text with this replacement is not in its normal form
-abbrev pub is_other : Replacement → Bool
-is_other Same = false
-is_other _ = true
+abbrev pub is_not_normal : Replacement → Bool
+is_not_normal Same = false
+is_not_normal _ = true
 
 -- its path, on a line, where another text is to stand
 abbrev pub name_of : (path : List ℕ) → Replacement → List ℕ
@@ -74,10 +74,10 @@ name_of path _ = []
 abbrev pub IsShown : Reading → Answers
 IsShown reading path text errors has_problems shown = (replacement : Replacement)
     × IsReplacement reading.edition text replacement × (errors ≡ errors_in replacement)
-    × (has_problems ≡ is_other replacement)
+    × (has_problems ≡ is_not_normal replacement)
 
 -- of a text that is named where it would change
 abbrev pub IsNamed : Reading → Answers
 IsNamed reading path text errors has_problems named = (replacement : Replacement)
     × IsReplacement reading.edition text replacement × (errors ≡ errors_in replacement)
-    × (has_problems ≡ is_other replacement) × (named ≡ name_of path replacement)
+    × (has_problems ≡ is_not_normal replacement) × (named ≡ name_of path replacement)

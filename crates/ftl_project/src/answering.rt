@@ -31,7 +31,7 @@ pub(crate) struct Answer {
 }
 
 /// What a run says of the text of each file.
-pub(crate) trait Answering {
+pub(crate) trait FileTask {
     /// With so many errors, with problems or not, and with this text.
     ghost answers: { Self → List ℕ → List ℕ → ℕ → Bool → List ℕ → Type 0 };
 
@@ -47,7 +47,7 @@ pub(crate) trait Answering {
 
 /// Reads each of the files, writes what is said of it, and counts it. One of which nothing is said is told, and the
 /// others are answered. No file is changed.
-pub(crate) fn answer_files<A: Answering, S: Store, O: Write, E: Write>(
+pub(crate) fn answer_files<A: FileTask, S: Store, O: Write, E: Write>(
     alloc: Global,
     answering: &A,
     store: &mut S,
@@ -69,7 +69,7 @@ pub(crate) fn answer_files<A: Answering, S: Store, O: Write, E: Write>(
     Ok(())
 }
 
-fn answer_file<A: Answering, S: Store, O: Write, E: Write>(
+fn answer_file<A: FileTask, S: Store, O: Write, E: Write>(
     alloc: Global,
     answering: &A,
     store: &mut S,
@@ -91,7 +91,7 @@ fn answer_file<A: Answering, S: Store, O: Write, E: Write>(
     }
 }
 
-fn read_and_answer<A: Answering, S: Store>(
+fn read_and_answer<A: FileTask, S: Store>(
     answering: &A,
     store: &mut S,
     path: &str,

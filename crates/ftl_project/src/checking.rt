@@ -7,10 +7,10 @@ ghost use Rattle.ftl_project.specs.Answered.{IsChecked};
 ghost use Rattle.ftl_project.specs.Faults.{IsTooDeep, IsUnparsed};
 ghost use Rattle.ftl_project.specs.Runs.{AnswersEach};
 
-use crate::answering::{Answer, Answering, answer_files};
+use crate::answering::{Answer, FileTask, answer_files};
 use crate::fault::Fault;
 use crate::reporting::report;
-use crate::streams::{Streams, mark_note};
+use crate::streams::{Streams, byte_order_mark_note};
 use crate::tally::Tally;
 use crate::text_with_errors::TextWithErrors;
 use fluent_syntax::spans::Halt;
@@ -41,7 +41,7 @@ pub fn check_files<S: Store, O: Write, E: Write>(
     ensures output { result ≡ Err RunFault.Output → (has_failed streams.new.out.now ≡ true)
         ⊎ (has_failed streams.new.err.now ≡ true) }
 {
-    let checking = Checking {
+    let checking = CheckTask {
         alloc,
         reading,
         form,
@@ -51,13 +51,13 @@ pub fn check_files<S: Store, O: Write, E: Write>(
 
 /// How files are checked, and how their errors are told.
 #[derive(Clone, Copy)]
-struct Checking {
+struct CheckTask {
     alloc: Global,
     reading: Reading,
     form: Form,
 }
 
-impl Answering for Checking {
+impl FileTask for CheckTask {
     ghost answers = { λ checking. IsChecked checking.reading checking.form };
 
     ghost refuses = { λ checking text. IsUnparsed (IsTooDeep checking.reading text) };
@@ -66,7 +66,7 @@ impl Answering for Checking {
         let refused = errors_of(self.alloc, text, self.reading)?;
         let errors = refused.errors.len();
         let text = report(self.alloc, path, &refused, self.form)?;
-        let note = mark_note(self.alloc, path, refused.text.as_str())?;
+        let note = byte_order_mark_note(self.alloc, path, refused.text.as_str())?;
         Ok(Answer {
             errors,
             has_problems: errors != 0,

@@ -6,7 +6,7 @@ ghost use Rattle.ftl_project.specs.Answered.{IsConverted};
 ghost use Rattle.ftl_project.specs.Faults.{IsMisspelled};
 ghost use Rattle.ftl_project.specs.Runs.{AnswersEach};
 
-use crate::answering::{Answer, Answering, answer_files};
+use crate::answering::{Answer, FileTask, answer_files};
 use crate::fault::Fault;
 use crate::streams::{Streams, note_line};
 use crate::tally::Tally;
@@ -39,15 +39,15 @@ pub fn convert_files<S: Store, O: Write, E: Write>(
     ensures output { result ≡ Err RunFault.Output → (has_failed streams.new.out.now ≡ true)
         ⊎ (has_failed streams.new.err.now ≡ true) }
 {
-    answer_files(alloc, &Converting { alloc }, store, files, tally, streams)
+    answer_files(alloc, &ConvertTask { alloc }, store, files, tally, streams)
 }
 
 #[derive(Clone, Copy)]
-struct Converting {
+struct ConvertTask {
     alloc: Global,
 }
 
-impl Answering for Converting {
+impl FileTask for ConvertTask {
     ghost answers = { λ _. IsConverted };
 
     ghost refuses = { λ _. IsMisspelled };

@@ -6,9 +6,9 @@ ghost use Rattle.ftl_project.specs.Faults.{IsTooDeep, IsUnparsed};
 ghost use Rattle.ftl_project.specs.Formatting.{IsShown};
 ghost use Rattle.ftl_project.specs.Runs.{AnswersEach};
 
-use crate::answering::{Answer, Answering, answer_files};
+use crate::answering::{Answer, FileTask, answer_files};
 use crate::fault::Fault;
-use crate::formatting::{errors_in, is_other, left_note};
+use crate::formatting::{errors_in, is_not_normal, unchanged_note};
 use crate::line_diff::line_diff;
 use crate::replacement::{Replacement, replacement_for};
 use crate::streams::Streams;
@@ -39,7 +39,7 @@ pub fn diff_files<S: Store, O: Write, E: Write>(
 {
     answer_files(
         alloc,
-        &Diffing { alloc, reading },
+        &DiffTask { alloc, reading },
         store,
         files,
         tally,
@@ -49,12 +49,12 @@ pub fn diff_files<S: Store, O: Write, E: Write>(
 
 /// How files are read of which it is shown what would change.
 #[derive(Clone, Copy)]
-struct Diffing {
+struct DiffTask {
     alloc: Global,
     reading: Reading,
 }
 
-impl Answering for Diffing {
+impl FileTask for DiffTask {
     ghost answers = { λ diffing. IsShown diffing.reading };
 
     ghost refuses = { λ diffing text. IsUnparsed (IsTooDeep diffing.reading text) };
@@ -64,9 +64,9 @@ impl Answering for Diffing {
         let replacement = replacement_for(self.alloc, text, self.reading)?;
         Ok(Answer {
             errors: errors_in(&replacement),
-            has_problems: is_other(&replacement),
+            has_problems: is_not_normal(&replacement),
             text: shown_difference(self.alloc, path, old.as_str(), &replacement)?,
-            note: left_note(self.alloc, path, &replacement)?,
+            note: unchanged_note(self.alloc, path, &replacement)?,
         })
     }
 }

@@ -32,8 +32,8 @@ fn push_cut_line(out: &mut String, text: &str, cut: usize, caret: &str) -> Resul
     ensures { OnOk result (string_bytes out.new ≡ string_bytes out.old ++ excerpt caret.now text.now cut) }
 {
     let front = front(text, cut);
-    push_front(out, front)?;
-    push_back(out, back(text, cut))?;
+    push_before_place(out, front)?;
+    push_from_place(out, back(text, cut))?;
     out.push('\n')?;
     push_below_front(out, front)?;
     out.push_str(caret)?;
@@ -41,7 +41,7 @@ fn push_cut_line(out: &mut String, text: &str, cut: usize, caret: &str) -> Resul
 }
 
 /// Adds what is shown before the place.
-fn push_front(out: &mut String, front: &str) -> Result<(), AllocError>
+fn push_before_place(out: &mut String, front: &str) -> Result<(), AllocError>
     ensures { OnOk result (string_bytes out.new ≡ string_bytes out.old ++ shown_front front.now) }
 {
     let start = window_start(front);
@@ -52,7 +52,7 @@ fn push_front(out: &mut String, front: &str) -> Result<(), AllocError>
 }
 
 /// Adds what is shown from the place on.
-fn push_back(out: &mut String, back: &str) -> Result<(), AllocError>
+fn push_from_place(out: &mut String, back: &str) -> Result<(), AllocError>
     ensures { OnOk result (string_bytes out.new ≡ string_bytes out.old ++ shown_back back.now) }
 {
     push_shown(out, back, 0)?;

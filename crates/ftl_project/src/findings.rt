@@ -40,7 +40,7 @@ pub(crate) fn report_findings(
     let mut starts = LineStarts::of(alloc, text_of(name_indexes, 0))?;
     for finding in findings {
         lines = lines_in(name_indexes, file, lines, finding.file);
-        starts = starts_in(alloc, name_indexes, file, starts, finding.file)?;
+        starts = line_starts_in(alloc, name_indexes, file, starts, finding.file)?;
         file = finding.file;
         let file_reporter = FileReporter {
             alloc,
@@ -96,7 +96,7 @@ fn lines_in<'t>(
 }
 
 /// Where the lines begin of the file of the number; those of the last one where it is the same.
-fn starts_in(
+fn line_starts_in(
     alloc: Global,
     name_indexes: &[NameIndex<'_>],
     last: usize,

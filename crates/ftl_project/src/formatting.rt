@@ -3,19 +3,20 @@ ghost use Rattle.std.specs.Prelude.{◌≡◌, ◌≢◌, ◌⊎◌, ◌++◌, c
 ghost use Rattle.ftl.specs.Watched.{has_failed, inner_of};
 ghost use Rattle.ftl_files.specs.Store.{AllUnchanged};
 ghost use Rattle.ftl_project.specs.Faults.{IsTooDeep, IsUnparsed};
-ghost use Rattle.ftl_project.specs.Formatting.{AllNormal, Formats, FormatsEach, IsNamed, errors_in, is_left, is_other};
+ghost use Rattle.ftl_project.specs.Formatting.{AllNormal, Formats, FormatsEach, IsNamed, errors_in, is_left_unchanged};
+ghost use Rattle.ftl_project.specs.Formatting.{is_not_normal};
 ghost use Rattle.ftl_project.specs.Formatting.{name_of};
 ghost use Rattle.ftl_project.specs.Rewriting.{AllReach};
 ghost use Rattle.ftl_project.specs.Runs.{AnswersEach};
 
-use crate::answering::{Answer, Answering, answer_files};
+use crate::answering::{Answer, FileTask, answer_files};
 use crate::fault::Fault;
 use crate::lossy_entry::lossy_entry_line;
 use crate::replacement::{Replacement, replacement_for};
 use crate::reporting::report;
 use crate::rewrite_counts::RewriteCounts;
 use crate::rewriting::rewrite;
-use crate::streams::{Streams, mark_note, report_fault};
+use crate::streams::{Streams, byte_order_mark_note, report_fault};
 use crate::tally::Tally;
 use crate::terminal_text::push_shown_text;
 use ftl::{RunFault, write_all};
@@ -75,9 +76,9 @@ fn write_file<S: Store, O: Write, E: Write>(
         Ok(replacement) => replacement,
         Err(fault) => return report_fault(alloc, tally, path, &fault, streams),
     };
-    tally.count(errors_in(&replacement), is_left(&replacement));
+    tally.count(errors_in(&replacement), is_left_unchanged(&replacement));
     counts.count(&replacement);
-    match left_note(alloc, path, &replacement) {
+    match unchanged_note(alloc, path, &replacement) {
         Ok(note) => write_all(streams.err, note.as_bytes()),
         Err(AllocError) => Err(RunFault::Memory),
     }
@@ -104,7 +105,7 @@ pub fn name_files<S: Store, O: Write, E: Write>(
 {
     answer_files(
         alloc,
-        &Naming { alloc, reading },
+        &NamesTask { alloc, reading },
         store,
         files,
         tally,
@@ -114,12 +115,12 @@ pub fn name_files<S: Store, O: Write, E: Write>(
 
 /// How files are read that are named where they would change.
 #[derive(Clone, Copy)]
-struct Naming {
+struct NamesTask {
     alloc: Global,
     reading: Reading,
 }
 
-impl Answering for Naming {
+impl FileTask for NamesTask {
     ghost answers = { λ naming. IsNamed naming.reading };
 
     ghost refuses = { λ naming text. IsUnparsed (IsTooDeep naming.reading text) };
@@ -128,9 +129,9 @@ impl Answering for Naming {
         let replacement = replacement_for(self.alloc, text, self.reading)?;
         Ok(Answer {
             errors: errors_in(&replacement),
-            has_problems: is_other(&replacement),
+            has_problems: is_not_normal(&replacement),
             text: name_of(self.alloc, path, &replacement)?,
-            note: left_note(self.alloc, path, &replacement)?,
+            note: unchanged_note(self.alloc, path, &replacement)?,
         })
     }
 }
@@ -146,22 +147,22 @@ pub(crate) fn errors_in(replacement: &Replacement) -> usize
 }
 
 /// Whether the text is left as it is, though it is not in its normal form.
-fn is_left(replacement: &Replacement) -> bool
-    ensures { result ≡ is_left replacement.now }
+fn is_left_unchanged(replacement: &Replacement) -> bool
+    ensures { result ≡ is_left_unchanged replacement.now }
 {
     matches!(replacement, Replacement::Errors(_) | Replacement::Lossy(_))
 }
 
 /// Whether the text is not in its normal form.
-pub(crate) fn is_other(replacement: &Replacement) -> bool
-    ensures { result ≡ is_other replacement.now }
+pub(crate) fn is_not_normal(replacement: &Replacement) -> bool
+    ensures { result ≡ is_not_normal replacement.now }
 {
     !matches!(replacement, Replacement::Same)
 }
 
 /// What is told of a file that is left as it is: its errors, and a byte order mark; or by which entry its normal form
 /// would not read back.
-pub(crate) fn left_note(
+pub(crate) fn unchanged_note(
     alloc: Global,
     path: &str,
     replacement: &Replacement,
@@ -169,7 +170,7 @@ pub(crate) fn left_note(
     match replacement {
         Replacement::Errors(refused) => {
             let mut note = report(alloc, path, refused, Form::Full)?;
-            let mark = mark_note(alloc, path, refused.text.as_str())?;
+            let mark = byte_order_mark_note(alloc, path, refused.text.as_str())?;
             note.push_str(mark.as_str())?;
             Ok(note)
         }

@@ -5,10 +5,10 @@ use std::alloc::{AllocError, Global};
 use std::fmt::Write;
 
 /// How many lines that are the same are shown around those that differ.
-const AROUND: usize = 3;
+const CONTEXT_LINES: usize = 3;
 
 /// How many lines further on, in both texts together, one is looked for that both have.
-const AHEAD: usize = 64;
+const LOOKAHEAD_LINES: usize = 64;
 
 /// A line of the texts, without its line end.
 #[derive(Clone, Copy)]
@@ -101,7 +101,7 @@ fn lines_of<'t>(
 
 /// How many lines of each come before the next one that both have, or before their ends.
 fn next_common(old: &[&str], new: &[&str]) -> (usize, usize) {
-    for both in 0..AHEAD {
+    for both in 0..LOOKAHEAD_LINES {
         for gone in 0..both.saturating_add(1) {
             let come = both.saturating_sub(gone);
             if let (Some(line), Some(other)) = (old.get(gone), new.get(come)) {
@@ -123,7 +123,7 @@ fn push_hunks(out: &mut String, lines: &[Line<'_>]) -> Result<(), AllocError> {
         let Some(first) = rest.iter().position(|line| !line.is_kept()) else {
             break;
         };
-        let (passed, from) = rest.split_at(first.saturating_sub(AROUND).min(rest.len()));
+        let (passed, from) = rest.split_at(first.saturating_sub(CONTEXT_LINES).min(rest.len()));
         let (hunk, behind) = from.split_at(hunk_length(from).min(from.len()));
         before = before.behind(passed);
         push_hunk(out, before, hunk)?;
@@ -139,11 +139,11 @@ fn hunk_length(lines: &[Line<'_>]) -> usize {
     for (index, line) in lines.iter().enumerate() {
         if !line.is_kept() {
             length = index.saturating_add(1);
-        } else if length != 0 && index.saturating_sub(length) >= AROUND.saturating_mul(2) {
+        } else if length != 0 && index.saturating_sub(length) >= CONTEXT_LINES.saturating_mul(2) {
             break;
         }
     }
-    length.saturating_add(AROUND)
+    length.saturating_add(CONTEXT_LINES)
 }
 
 fn push_hunk(out: &mut String, before: LineNumbers, hunk: &[Line<'_>]) -> Result<(), AllocError> {

@@ -14,7 +14,7 @@ use crate::fault::Fault;
 use crate::findings::{Source, report_findings};
 use crate::name_indexes::name_index;
 use crate::rewriting::read_text;
-use crate::streams::{Streams, mark_note, report_fault};
+use crate::streams::{Streams, byte_order_mark_note, report_fault};
 use crate::tally::Tally;
 use fluent_syntax_names::{Finding, Kind, NameIndex, findings};
 use ftl::{RunFault, write_all};
@@ -302,7 +302,7 @@ const KINDS: [Kind; 8] = [
 fn notes(alloc: Global, sources: &[Source], found: &[Finding]) -> Result<String, AllocError> {
     let mut out = String::new(alloc);
     for source in sources {
-        let note = mark_note(alloc, source.path.as_str(), source.text.as_str())?;
+        let note = byte_order_mark_note(alloc, source.path.as_str(), source.text.as_str())?;
         out.push_str(note.as_str())?;
     }
     for kind in &KINDS {

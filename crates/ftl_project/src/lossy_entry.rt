@@ -1,5 +1,6 @@
 //! The entry by which a text would not read back once it is formatted.
-ghost use Rattle.std.specs.Prelude.{◌≡◌, ◌+◌, ◌<◌, ◌^◌, ℕ, List, Option, IfErr, IfOk, length, map, slice_get, string_bytes};
+ghost use Rattle.std.specs.Prelude.{◌≡◌, ◌+◌, ◌<◌, ◌^◌, ℕ, List, Option, IfErr, IfOk, length, map, slice_get};
+ghost use Rattle.std.specs.Prelude.{string_bytes};
 ghost use Rattle.fluent_syntax_tree.specs.View.{entry_view};
 ghost use Rattle.ftl_project.specs.Faults.{IsTooDeep, IsUnparsed};
 ghost use Rattle.ftl_project.specs.Rewriting.{FindsLossy, IsEntryAt, first_start, named_at, place_of_entry};

@@ -9,10 +9,10 @@ ghost use Rattle.ftl_project.specs.Faults.{IsUnparsed};
 ghost use Rattle.ftl_project.specs.Lossless.{format_of};
 ghost use Rattle.ftl_project.specs.Runs.{AnswersEach};
 
-use crate::answering::{Answer, Answering, answer_files};
+use crate::answering::{Answer, FileTask, answer_files};
 use crate::fault::Fault;
 use crate::lossy_entry::lossy_note;
-use crate::streams::{Streams, mark_note, note_line};
+use crate::streams::{Streams, byte_order_mark_note, note_line};
 use crate::tally::Tally;
 use fluent_syntax::parser::Edition;
 use ftl::{Command, Outcome, RunFault, answer_within, formatted_within};
@@ -43,7 +43,7 @@ pub fn print_files<S: Store, O: Write, E: Write>(
     ensures output { result ≡ Err RunFault.Output → (has_failed streams.new.out.now ≡ true)
         ⊎ (has_failed streams.new.err.now ≡ true) }
 {
-    let printing = Printing {
+    let printing = PrintTask {
         alloc,
         command,
         nesting,
@@ -62,13 +62,13 @@ struct Printed {
 
 /// By which command files are answered, and how deep what they say may nest.
 #[derive(Clone, Copy)]
-struct Printing {
+struct PrintTask {
     alloc: Global,
     command: Command,
     nesting: usize,
 }
 
-impl Answering for Printing {
+impl FileTask for PrintTask {
     ghost answers = { λ printing. IsPrinted printing.command };
 
     ghost refuses = { λ printing text. IsUnparsed (ReadsDeeper printing.command text printing.nesting) };
@@ -85,7 +85,7 @@ impl Answering for Printing {
     }
 }
 
-impl Printing {
+impl PrintTask {
     /// The command's text.
     fn printed(&self, text: &str) -> Result<Printed, Fault>
         ensures printed { IfOk result (λ printed. IsAnswer self.now.command text.now (string_bytes printed.text)
@@ -140,7 +140,7 @@ impl Printing {
     fn note(&self, path: &str, text: &str, printed: &Printed) -> Result<String, AllocError> {
         if printed.outcome == Outcome::SyntaxErrors {
             let mut note = note_line(self.alloc, path, &"has syntax errors")?;
-            let mark = mark_note(self.alloc, path, text)?;
+            let mark = byte_order_mark_note(self.alloc, path, text)?;
             note.push_str(mark.as_str())?;
             return Ok(note);
         }

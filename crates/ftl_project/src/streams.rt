@@ -56,7 +56,11 @@ pub fn note_line<D: Display>(alloc: Global, path: &str, note: &D) -> Result<Stri
 }
 
 /// What is told of a file whose text begins with a byte order mark; else nothing.
-pub(crate) fn mark_note(alloc: Global, path: &str, text: &str) -> Result<String, AllocError> {
+pub(crate) fn byte_order_mark_note(
+    alloc: Global,
+    path: &str,
+    text: &str,
+) -> Result<String, AllocError> {
     if text.starts_with('\u{feff}') {
         let note = "begins with a byte order mark, so its first entry is junk";
         note_line(alloc, path, &note)

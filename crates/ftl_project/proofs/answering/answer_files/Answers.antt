@@ -12,7 +12,7 @@ loop-file-preserved g c =
     record {
       stand = λ path. c.answer_file.ensures.stand path ∙ c.loop-file.invariant.stand path;
       each = WritesSo-more
-          (ProcessesFile g.S.Store.fails (g.A.Answering.answers answering) (g.A.Answering.refuses answering))
+          (ProcessesFile g.S.Store.fails (g.A.FileTask.answers answering) (g.A.FileTask.refuses answering))
           (at c.args.store.now) c.args.files.now (at c.loop-file.store) c.loop-file.file-index c.file-item.result
           c.as_str.result.now c.args.tally.now c.loop-file.tally c.answer_file.new.tally
           (written (inner_of c.args.streams.now.out.now)) (written (inner_of c.loop-file.streams.out.now))
@@ -26,7 +26,7 @@ returns-clause-each g c =
     let at = g.S.Store.bytes_at in
     let written = g.O.Write.contents in
     let answering = c.args.answering.now in
-    WritesSo-all (ProcessesFile g.S.Store.fails (g.A.Answering.answers answering) (g.A.Answering.refuses answering))
+    WritesSo-all (ProcessesFile g.S.Store.fails (g.A.FileTask.answers answering) (g.A.FileTask.refuses answering))
     (at c.args.store.now) c.args.files.now c.loop-file.file-index c.args.tally.now c.loop-file.tally
     (written (inner_of c.args.streams.now.out.now)) (written (inner_of c.loop-file.streams.out.now)) (omega arith)
     c.loop-file.invariant.each

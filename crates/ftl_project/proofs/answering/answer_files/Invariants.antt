@@ -10,7 +10,7 @@ invariant-loop-file g l =
     let written = g.O.Write.contents in
     record {
       stand : AllUnchanged (at l.fn.store) (at l.store);
-      each : WritesSo (ProcessesFile g.S.Store.fails (g.A.Answering.answers l.answering) (g.A.Answering.refuses
+      each : WritesSo (ProcessesFile g.S.Store.fails (g.A.FileTask.answers l.answering) (g.A.FileTask.refuses
           l.answering))
           (at l.fn.store) l.files l.file-index l.fn.tally l.tally (written (inner_of l.fn.streams.out.now))
           (written (inner_of l.streams.out.now));

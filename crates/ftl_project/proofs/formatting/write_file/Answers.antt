@@ -18,8 +18,8 @@ returns-in-Err-clause-counted g c =
     (report_text.0, report_text.1, refl) in
     on_ok c.report_fault.result (c.rewrite.result, c.rewrite.ensures, failed report_text.0, processed, report_text.2)
 
-pub returns-in-Ok-left_note-clause-reaches : goal.returns-in-Ok-left_note-clause-reaches
-returns-in-Ok-left_note-clause-reaches g c =
+pub returns-in-Ok-unchanged_note-clause-reaches : goal.returns-in-Ok-unchanged_note-clause-reaches
+returns-in-Ok-unchanged_note-clause-reaches g c =
     let at = g.S.Store.bytes_at in
     AllReach-rewrites g.S.Store.fails c.args.reading c.args.path.now (at c.args.store.now) (at c.rewrite.new.store)
     c.rewrite.result c.rewrite.ensures

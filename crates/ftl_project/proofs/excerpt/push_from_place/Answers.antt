@@ -4,7 +4,7 @@ use Rattle.std.proofs.lemmas.Bool.{lt-ltb}
 use Rattle.std.proofs.lemmas.Iterator.{YieldsList-from_chars}
 use Rattle.std.proofs.lemmas.Iterator.Consumers.{count_from_yields_List}
 use Rattle.ftl_project.specs.Excerpt.{window}
-use Rattle.ftl_project.proofs.excerpt.push_back.Goals as goal
+use Rattle.ftl_project.proofs.excerpt.push_from_place.Goals as goal
 
 pub returns-in_ok-push : goal.returns-in_ok-push
 returns-in_ok-push c =
