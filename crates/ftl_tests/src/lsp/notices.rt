@@ -41,7 +41,8 @@ fn assert_shown(
 const SETTINGS: [(&[u8], &str); 3] = [
     (
         b"ignore = 1\n",
-        "\"message\":\"/w/ftl.toml: `ignore` wants a list of kinds, as `ftl help lint` and `ftl help compare` have them\",\"type\":1",
+        "\"message\":\"/w/ftl.toml: `ignore` wants a list of kinds, as `ftl help lint` and `ftl help compare` have \
+        them\",\"type\":1",
     ),
     (
         b"referenc = \"en\"\n",

@@ -84,7 +84,8 @@ const ROWS: [Row; 12] = [
         "a.ftl",
         "a = { F(G(1), $x }\n",
         Form::Full,
-        "a.ftl:1:18: error[ExpectedInlineExpression]: Expected an inline expression\na = { F(G(1), $x }\n                 ^\n\
+        "a.ftl:1:18: error[ExpectedInlineExpression]: Expected an inline expression\na = { F(G(1), $x }\n\
+        \x20                ^\n\
         \x20 = here comes a string, a number, a `$variable`, a message, a `-term` or a `FUNCTION()`\n\
         the parenthesis that is still open:\na = { F(G(1), $x }\n       ^\n",
     ),

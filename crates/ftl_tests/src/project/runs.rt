@@ -152,8 +152,8 @@ const RUNS: [Run; 5] = [
         Task::Print(Command::Format),
         &DOUBTFUL,
         "key =\n    { $x }\n        b\n",
-        "/d/a.ftl:1:1: what is written does not read back: the lines of a pattern that begin with text begin with spaces, \
-        which would be read as its indent\nftl: /d/b.ftl: has syntax errors\n\
+        "/d/a.ftl:1:1: what is written does not read back: the lines of a pattern that begin with text begin with \
+        spaces, which would be read as its indent\nftl: /d/b.ftl: has syntax errors\n\
         ftl: /d/b.ftl: begins with a byte order mark, so its first entry is junk\n",
         [2, 1, 0, 0],
     ),
