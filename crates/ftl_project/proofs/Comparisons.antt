@@ -62,7 +62,7 @@ module _ (CallFails : Failing) (reading : Reading) (options : CompareOptions) (a
   pub of_side : (side : Side) (fault : Fault) → IsSideFault CallFails reading options at pair side fault →
       IsPairFault CallFails reading options at pair fault
   of_side side fault (inl why) = inl why.1
-  of_side side fault (inr why) = inr why.1
+  of_side side fault (inr why) = inr (why.1, why.2)
 
   -- A fault of the pair that was told was counted, and nothing was written of the pair.
   pub Compares-report_text : {E : Type 0} (result : Result (Unit {0}) E) (fault : Fault) (old new : Tally)
