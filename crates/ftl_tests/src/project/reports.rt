@@ -25,7 +25,7 @@ const ROWS: [Row; 12] = [
         BROKEN,
         Form::Full,
         "a.ftl:2:5: error[ExpectedToken]: Expected a token starting with \"=\"\nbro ken\n    ^\n\
-          = the name of a message, a term or an attribute is followed by `=`\n",
+        \x20 = the name of a message, a term or an attribute is followed by `=`\n",
     ),
     (
         "a line and a caret in colours",
@@ -34,7 +34,7 @@ const ROWS: [Row; 12] = [
         Form::Colored,
         "\u{1B}[1ma.ftl:2:5\u{1B}[0m: \u{1B}[1;31merror[ExpectedToken]\u{1B}[0m: \
         Expected a token starting with \"=\"\nbro ken\n    \u{1B}[1;31m^\u{1B}[0m\n\
-          = the name of a message, a term or an attribute is followed by `=`\n",
+        \x20 = the name of a message, a term or an attribute is followed by `=`\n",
     ),
     (
         "a name with a line end",
