@@ -100,15 +100,20 @@ fn push_takers(line: &mut String, alloc: Global, told: &str) -> Result<(), Alloc
     let Some(option) = unexpected_argument(told) else {
         return Ok(());
     };
-    let mut before = "; words that take it: ";
+    let mut is_first = true;
     for command in command_line(alloc, "")?.get_subcommands() {
         if command
             .get_arguments()
             .iter()
             .any(|known| has_option_name(known, option))
         {
-            write!(line, "{before}{}", command.get_name())?;
-            before = ", ";
+            line.push_str(if is_first {
+                "; words that take it: "
+            } else {
+                ", "
+            })?;
+            line.push_str(command.get_name())?;
+            is_first = false;
         }
     }
     Ok(())
