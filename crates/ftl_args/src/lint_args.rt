@@ -31,9 +31,11 @@ pub(crate) fn lint_command<'a>(alloc: Global) -> Result<Command<'a>, AllocError>
         .about("Tells names that are given twice, and references to what no file defines")
         .after_help(
             "Examples:
-  ftl lint .                                every .ftl file below this folder, the project's languages by themselves
+  ftl lint .                                every .ftl file below this folder
   ftl lint --each locales                   the same, each folder in locales as a set of its own
-  ftl lint --ignore undefined-message menu.ftl",
+  ftl lint --ignore undefined-message menu.ftl
+
+Where ftl.toml has the line reference = \"locales/en\", each folder in locales is a set of its own also without --each.",
         )
         .arg(form(alloc))?
         .arg(color(alloc))?

@@ -23,7 +23,7 @@ const HELP: &str = "\
     \n\
     Never write onto the file that is read: `ftl format menu.ftl > menu.ftl` empties it. That is what --write is for.\n\
     \n\
-    The status is 0 where there is no syntax error, 1 where there are some or a file is not as it is to be, 2 for\n\
+    The status is 0 where there is no error, 1 where there are some or a file is not as it is to be, 2 for\n\
     wrong words, 3 for input that can't be read or is not UTF-8, 4 where memory runs out, 5 where the output can't be\n\
     written, 6 for a text that nests too deep. On 2 to 6 a line on standard error says which.\n";
 

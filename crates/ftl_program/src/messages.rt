@@ -104,7 +104,7 @@ pub(crate) fn refuse_serving<R: Eprint + AllocGlobal>(rt: &R) -> u8 {
 pub(crate) fn report_unwritable_input<R: Eprint + AllocGlobal>(rt: &R) -> u8 {
     refuse_words(
         rt,
-        "ftl: --write, --check and --diff are for files and folders",
+        "ftl: --check, --diff and --write want a path, which is - for standard input, but not with --write",
         "format",
     )
 }
