@@ -24,12 +24,17 @@ pub(crate) fn add_files(
     for file in files {
         let path = absolute_path(alloc, project.current.as_str(), file.as_str())?;
         let language = match languages {
-            Some(folder) => language_of(folder, path.as_str()).unwrap_or(""),
+            Some(folder) => language_or_empty(folder, path.as_str()),
             None => "",
         };
         add_file(alloc, sets, language, file)?;
     }
     Ok(())
+}
+
+/// The folder of the language that the file at the path is of; empty where it is of none.
+fn language_or_empty<'p>(languages: &str, path: &'p str) -> &'p str {
+    language_of(languages, path).unwrap_or("")
 }
 
 fn add_file(
