@@ -49,7 +49,7 @@ const KIND: &str =
     "`ignore` knows no kind `defined_twice`; possible values: defined-twice, attribute-twice, \
     variant-twice, undefined-message, undefined-term, undefined-attribute, undefined-value, cyclic-reference, \
     missing-file, missing, missing-value, missing-attribute, missing-reference, obsolete, obsolete-value, \
-    obsolete-attribute, unknown-variable";
+    obsolete-attribute, obsolete-reference, unknown-variable";
 
 const EXCLUDE: &str = "`exclude` wants a list of names and paths in quotes";
 
