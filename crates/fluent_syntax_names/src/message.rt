@@ -46,8 +46,7 @@ impl Kind {
 
 impl Difference {
     /// A sentence on the difference: `entry` is the name of the message or term, and `name` that of what one of the
-    /// files
-    /// has in it, or the same. That of a term has its `-`, and that of a variable is without its `$`.
+    /// files has in it, or the same. That of a term has its `-`, and that of a variable is without its `$`.
     ///
     /// `AllocError` where there is no memory for it.
     pub fn sentence(self, alloc: Global, entry: &str, name: &str) -> Result<String, AllocError>

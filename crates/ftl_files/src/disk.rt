@@ -35,8 +35,7 @@ impl<'r, R> Disk<'r, R> {
     }
 
     /// The same, of which a store reads regular files alone: these can be replaced, and the read of another one, as of
-    /// a
-    /// FIFO, may never end.
+    /// a FIFO, may never end.
     pub fn of_regular_files(rt: &'r R) -> Self {
         Disk {
             rt,

@@ -32,8 +32,7 @@ pub fn names_of_part<'t>(
 }
 
 /// What is said of what the document lacks, or has as junk: `place` is that in the original. `AllocError` where a
-/// growth
-/// was refused.
+/// growth was refused.
 pub fn missing_message(
     alloc: Global,
     difference: Difference,

@@ -241,8 +241,7 @@ fn finds_what_is_lossy(rt: HostRuntime) -> Result<(), Fail> {
 }
 
 /// Files, files that are not as they are to be, errors, warnings, the status of a fault, and how a check and a
-/// formatting
-/// end with them.
+/// formatting end with them.
 const SUMMARIES: [([usize; 4], u8, &str, &str); 7] = [
     ([1, 0, 0, 0], 0, "1 file, no errors\n", "1 file\n"),
     (
