@@ -1,19 +1,13 @@
 -- Where a part nests too deeply, so does the whole.
-use Rattle.std.proofs.Common.{◌≡◌, ℕ, zero, suc, List, [], Bool, true, false}
-use Rattle.std.proofs.Common.{refl, subst}
+use Rattle.std.proofs.Common.{◌≡◌, ℕ, zero, List, Bool, true, false}
+use Rattle.std.proofs.Common.{subst}
 use Rattle.fluent_syntax_grammar.specs.Construct.{Outcome, Construct, Read, Refused, ◌>>=◌, stops, goes_on, peek}
 use Rattle.fluent_syntax_grammar.specs.Construct.{chosen, branch_on, first, second, More, item, many, list_ends}
 use Rattle.fluent_syntax_grammar.specs.Construct.{list_stops}
-use Rattle.fluent_syntax_grammar.specs.Construct.{item_and_more, stops_later, passed}
+use Rattle.fluent_syntax_grammar.specs.Construct.{item_and_more, stops_later}
 use Rattle.fluent_syntax_tree.specs.declared.edition.Edition.{Edition}
-use Rattle.fluent_syntax_grammar.specs.Arguments.{call_arguments, more_arguments}
-use Rattle.fluent_syntax_grammar.specs.Bytes.{left_brace, left_parenthesis}
-use Rattle.fluent_syntax_grammar.specs.Family.{Family}
 use Rattle.fluent_syntax_grammar.specs.Grammar.{within}
-use Rattle.fluent_syntax_grammar.specs.Expressions.{expression, placeable}
-use Rattle.fluent_syntax_grammar.specs.Places.{Blank}
-use Rattle.fluent_syntax_grammar.specs.Tokens.{optional, token}
-use Rattle.fluent_syntax_grammar.proofs.FunctionalWords.{functional_blank, functional_optional, functional_token}
+use Rattle.fluent_syntax_grammar.specs.Expressions.{expression}
 use Rattle.fluent_syntax_grammar.specs.UniqueReading.{IsFunctional}
 use Rattle.fluent_syntax_grammar.specs.Nesting.{TooDeep}
 
@@ -87,30 +81,3 @@ module _ (edition : Edition) (t : List ℕ) where
   pub no_list_inside : (i : ℕ) → TooDeep (within edition t zero).argument_list i
   unfolding within
   no_list_inside i o x = x
-
-  -- inside one more that is open
-  pub one_inside : (n i : ℕ) → TooDeep (expression edition t (within edition t n)) i →
-      TooDeep (within edition t (suc n)).expression i
-  unfolding within
-  one_inside n i d = d
-
-  pub one_list_inside : (n i : ℕ) → TooDeep (more_arguments t (within edition t n) []) i →
-      TooDeep (within edition t (suc n)).argument_list i
-  unfolding within
-  one_list_inside n i d = d
-
-module _ (t : List ℕ) (R : Family) where
-  -- a placeable, whose expression nests too deeply
-  pub deeper_placeable : {i j k : ℕ} → token t left_brace i (Read tt j) → Blank t j k → TooDeep R.expression k →
-      TooDeep (placeable t R) i
-  deeper_placeable {j = j} {k = k} x w d =
-      deeper_next (functional_token t left_brace) tt j x
-      (deeper_next (functional_blank t) tt k (passed w) (deeper_first d))
-
-  -- arguments, whose list nests too deeply
-  pub deeper_call : {i j k m : ℕ} → Blank t i j → optional t left_parenthesis j (Read true k) → Blank t k m →
-      TooDeep R.argument_list m → TooDeep (call_arguments t R) i
-  deeper_call {j = j} {k = k} {m = m} v x w d =
-      deeper_next (functional_blank t) tt j (passed v)
-      (deeper_next (functional_optional t left_parenthesis) true k x
-      (deeper_yes refl (deeper_first (deeper_next (functional_blank t) tt m (passed w) d))))

@@ -16,7 +16,7 @@ use Rattle.fluent_syntax_grammar.proofs.SoundTiling.{entry_refused, tile_good}
 use Rattle.fluent_syntax_grammar.proofs.Boundaries.{text_cuts}
 use Rattle.fluent_syntax_grammar.proofs.WholeLines.{IsLine, line_to, line_in_text, hashes_onward}
 use Rattle.fluent_syntax_grammar.proofs.CommentFaults.{some_hash}
-use Rattle.fluent_syntax_grammar.proofs.ComputedTiling.{end_start, end_text, end_on}
+use Rattle.fluent_syntax_grammar.proofs.Stretches.{junk_ends_at_entry, junk_ends_with_text, junk_goes_on}
 use Rattle.fluent_syntax_grammar.proofs.TotalWords.{longest_run_word, block_word}
 use Rattle.fluent_syntax_grammar.proofs.TotalFamily.{pattern_everywhere}
 use Rattle.fluent_syntax_grammar.proofs.Facts.{lt_or_same}
@@ -28,10 +28,10 @@ module _ (t : List ℕ) where
 
   end_at : (k : ℕ) → k ≤ length t → (b : Bool) → starts_entry t k ≡ b → (k < length t → (j : ℕ) × JunkEnd t (k + 1) j) →
       (j : ℕ) × JunkEnd t k j
-  end_at k l true e more = (k, end_start t 0 k k e refl)
+  end_at k l true e more = (k, junk_ends_at_entry t k e)
   end_at k l false e more =
       elim (lt_or_same k (length t) l)
-      [ inl m ↦ (let x = more m in (x.0, end_on t 0 k x.0 e x.1)) | inr same ↦ (k, end_text t 0 k k same refl) ]
+      [ inl m ↦ (let x = more m in (x.0, junk_goes_on t k x.0 e x.1)) | inr same ↦ (k, junk_ends_with_text t k same) ]
 
   end_exists : (m k : ℕ) → length t ≤ k + m → k ≤ length t → (j : ℕ) × JunkEnd t k j
   end_exists zero k a l = end_at k l (starts_entry t k) refl (λ b. absurd (omega arith))

@@ -7,7 +7,7 @@ use Rattle.std.proofs.Math.Seq.{take-append_seam}
 use Rattle.fluent_syntax_grammar.specs.Bytes.{lf, cr, space, is_space}
 use Rattle.fluent_syntax_grammar.specs.Places.{holds, LongestRun, has, has_eol, after_eol, ByteRun, is_blank_place}
 use Rattle.fluent_syntax_grammar.proofs.Facts.{left_true, right_true, here_or_on}
-use Rattle.fluent_syntax_grammar.proofs.Computed.{find_here, find_on}
+use Rattle.fluent_syntax_grammar.proofs.Stretches.{run_ends_here, run_goes_on}
 
 -- From the place on, these bytes are left of the text.
 pub record SuffixAt (t : List ℕ) (i : ℕ) (bs : List ℕ) : Type 0 where
@@ -101,11 +101,11 @@ suffix_no_blank h d e f = rw (suffix_first h, d, e, f) refl
 pub suffix_byte_run : {t : List ℕ} (set : ℕ → Bool) (xs ys : List ℕ) {i : ℕ} → list_all set xs ≡ true →
     holds set (first ys) ≡ false → SuffixAt t i (xs ++ ys) → ByteRun t set i (i + length xs)
 suffix_byte_run {t = t} set [] ys {i = i} a e h = let s : i ≡ i + 0 = omega arith in
-    subst (λ n. ByteRun t set i n) s (find_here (has t set) i i (suffix_has set h ∙ e) refl)
+    subst (λ n. ByteRun t set i n) s (run_ends_here (has t set) i (suffix_has set h ∙ e))
 suffix_byte_run {t = t} set (x ∷ xs) ys {i = i} a e h =
     let s : (i + 1) + length xs ≡ i + suc (length xs) = omega arith in
     subst (λ n. ByteRun t set i n) s
-    (find_on (has t set) i _ (suffix_has set h ∙ left_true (set x) (list_all set xs) a)
+    (run_goes_on (has t set) i _ (suffix_has set h ∙ left_true (set x) (list_all set xs) a)
     (suffix_byte_run set xs ys {i = i + 1} (right_true (set x) (list_all set xs) a) e (suffix_next h)))
 
 -- Each of these bytes is in the set.
@@ -139,9 +139,9 @@ pub suffix_blank : {t : List ℕ} (xs ys : List ℕ) {i : ℕ} → list_all is_b
     holds (λ b. b == cr) (first ys) ≡ false →
     SuffixAt t i (xs ++ ys) → LongestRun (is_blank_place t) i (i + length xs)
 suffix_blank {t = t} [] ys {i = i} a d e f h = let s : i ≡ i + 0 = omega arith in
-    subst (λ n. LongestRun (is_blank_place t) i n) s (find_here (is_blank_place t) i i (suffix_no_blank h d e f) refl)
+    subst (λ n. LongestRun (is_blank_place t) i n) s (run_ends_here (is_blank_place t) i (suffix_no_blank h d e f))
 suffix_blank {t = t} (x ∷ xs) ys {i = i} a d e f h =
     let s : (i + 1) + length xs ≡ i + suc (length xs) = omega arith in
     subst (λ n. LongestRun (is_blank_place t) i n) s
-    (find_on (is_blank_place t) i _ (suffix_blank_place (left_true (is_blank_byte x) (list_all is_blank_byte xs) a) h)
+    (run_goes_on (is_blank_place t) i _ (suffix_blank_place (left_true (is_blank_byte x) (list_all is_blank_byte xs) a) h)
     (suffix_blank xs ys {i = i + 1} (right_true (is_blank_byte x) (list_all is_blank_byte xs) a) d e f (suffix_next h)))

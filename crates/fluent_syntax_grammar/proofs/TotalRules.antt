@@ -263,19 +263,19 @@ module _ (t : List ℕ) (R : Family) (low : ℕ) (h : (s : ℕ) → low ≤ s �
     abbrev AtByte : ℕ → ℕ → Type 0
     AtByte b i = From t s i × (slice_get t i ≡ Some b) × (has_eol t i ≡ false)
 
-    abbrev AlignedRest : ℕ → Construct (More Piece (Unit {0}))
-    AlignedRest b =
+    abbrev Rest : ℕ → Construct (More Piece (Unit {0}))
+    Rest b =
         branch_on (b == 125) (fails UnbalancedClosingBrace)
         (branch_on (b == 123) (placeable t R >>= λ e. yields (item (placed e) tt))
         (text_run t >>= λ p. yields (item p tt)))
 
-    rest_total : (b : ℕ) → Total (AtByte b) (AlignedRest b)
+    rest_total : (b : ℕ) → Total (AtByte b) (Rest b)
     rest_total b = total_branch_on (λ x. total_fails) (λ x. total_branch_on
         (λ y. total_weaker (λ i p. p.0) placed_piece.total)
         (λ y. total_weaker (λ i p. (p.0, run_place t i b p.1 p.2 y x))
         (total_bind run_total run_read_on (λ p. total_yields))))
 
-    rest_on : (b : ℕ) → HoareTriple (AtByte b) (AlignedRest b) (λ p. From t (s + 1)) AnyFault
+    rest_on : (b : ℕ) → HoareTriple (AtByte b) (Rest b) (λ p. From t (s + 1)) AnyFault
     rest_on b = holds_branch_on (λ x. holds_fails (λ i p. tt)) (λ x. holds_branch_on
         (λ y. holds_weaker (λ i p. p.0) (λ a j z. z) (λ k from to z. z) placed_piece.on)
         (λ y. holds_weaker (λ i p. (p.0, run_place t i b p.1 p.2 y x)) (λ a j z. z) (λ k from to z. z)

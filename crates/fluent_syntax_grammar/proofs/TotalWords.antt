@@ -22,8 +22,7 @@ use Rattle.fluent_syntax_grammar.proofs.Sound.{Sound}
 use Rattle.fluent_syntax_grammar.proofs.SoundStrings.{InText, unit_holds, sound_units}
 use Rattle.fluent_syntax_grammar.proofs.SoundEntries.{identifier_advances}
 use Rattle.fluent_syntax_grammar.proofs.Boundaries.{text_cuts}
-use Rattle.fluent_syntax_grammar.proofs.Computed.{find_here, find_on}
-use Rattle.fluent_syntax_grammar.proofs.ComputedRules.{computed_hex, hex_run, hex_end}
+use Rattle.fluent_syntax_grammar.proofs.Stretches.{run_ends_here, run_goes_on, hex_digits_exist}
 use Rattle.fluent_syntax_grammar.proofs.Total.{From, AnyFault, Total, TotalOnward, TotalConsuming, IsTotalRelation}
 use Rattle.fluent_syntax_grammar.proofs.Total.{total_bind, total_yields}
 use Rattle.fluent_syntax_grammar.proofs.Total.{total_fails, total_skip, total_peek, total_branch_on, onward_bind}
@@ -48,8 +47,8 @@ hex_forward i w j m u p (all_there h e) = let f = h.forward in omega arith
 module _ (t : List ℕ) where
   longest_run_at : (test : ℕ → Bool) → ((k : ℕ) → test k ≡ true → k < length t) → (m i : ℕ) → length t ≤ i + m →
       (b : Bool) → test i ≡ b → (test i ≡ true → (j : ℕ) × LongestRun test (i + 1) j) → (j : ℕ) × LongestRun test i j
-  longest_run_at test inside m i l false e more = (i, find_here test i i e refl)
-  longest_run_at test inside m i l true e more = let x = more e in (x.0, find_on test i x.0 e x.1)
+  longest_run_at test inside m i l false e more = (i, run_ends_here test i e)
+  longest_run_at test inside m i l true e more = let x = more e in (x.0, run_goes_on test i x.0 e x.1)
 
   longest_run_exists : (test : ℕ → Bool) → ((k : ℕ) → test k ≡ true → k < length t) → (m i : ℕ) → length t ≤ i + m →
       (j : ℕ) × LongestRun test i j
@@ -218,13 +217,7 @@ module _ (t : List ℕ) where
 
   total_hex : {pre : ℕ → Type 0} (w : ℕ) → Total pre (hex_digits t w)
   total_hex w =
-      record {
-        has =
-            λ i p. (
-              hex_run t 0 w i (hex_end t 0 w i) (hex_end t 0 w i == i + w),
-              (computed_hex t 0 {w = w}).sound i (hex_run t 0 w i (hex_end t 0 w i) (hex_end t 0 w i == i + w)) refl,
-            );
-      }
+      record { has = λ i p. hex_digits_exist t w i }
 
   abbrev Always : {A : Type 0} → A → ℕ → Type 0
   Always a j = Unit {0}

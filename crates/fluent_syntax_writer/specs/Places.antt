@@ -49,7 +49,7 @@ element_indents edition (placeable e) = placeable_indents edition
 abbrev pub indents_at : Edition → grammar.ElementPosition → ElementTree Text → List ℕ
 indents_at edition s e = if is_line_start s then element_indents edition e else []
 
--- the least_of_two of two numbers, or the one that is there
+-- the lesser of two numbers, or the one that is there
 abbrev pub least_of_two : Option ℕ → Option ℕ → Option ℕ
 least_of_two None n = n
 least_of_two (Some m) None = Some m

@@ -27,7 +27,7 @@ impl<T> Watched<T> {
     }
 
     /// Whether a call failed: a read or a write answered None.
-    pub fn has_failed(&self) -> bool
+    pub fn failed(&self) -> bool
         ensures { result ≡ has_failed self.now }
     {
         let Watched { inner: _, failed } = self;

@@ -28,10 +28,10 @@ pub fn folder_of_languages(
 pub fn language_of<'p>(languages: &str, path: &'p str) -> Option<&'p str>
     ensures { IfSome result (λ language. IsLanguage languages.now path.now language.now) }
 {
-    let Some(temporary) = path.strip_prefix(languages) else {
+    let Some(remainder) = path.strip_prefix(languages) else {
         return None;
     };
-    let Some(below) = temporary.strip_prefix('/') else {
+    let Some(below) = remainder.strip_prefix('/') else {
         return None;
     };
     let Some((_, rest)) = below.split_once('/') else {

@@ -18,10 +18,10 @@ pub fn original_of(
     ensures { IfOk result (λ found. IfSome found (λ original.
         IsOriginal above.now own.now path.now (string_bytes original))) }
 {
-    let Some(temporary) = path.strip_prefix(above) else {
+    let Some(remainder) = path.strip_prefix(above) else {
         return Ok(None);
     };
-    let Some(below) = temporary.strip_prefix('/') else {
+    let Some(below) = remainder.strip_prefix('/') else {
         return Ok(None);
     };
     let Some((language, rest)) = below.split_once('/') else {

@@ -89,7 +89,7 @@ IsFileReport form pair true report_text =
 -- The other file is not there: that is the one error, if it is told, and all of the reference is missing.
 pub record IsFileMissing (options : CompareOptions) (pair : Pair) (reference : NameIndex) (errors : ℕ) (share : Share)
     (text : List ℕ) : Type 0 where
-  pub report_text : IsFileReport options.form pair (is_reported options.ignored.now (codes "missing-file")) text
+  pub report_is : IsFileReport options.form pair (is_reported options.ignored.now (codes "missing-file")) text
   pub errors_are : errors ≡ (if is_reported options.ignored.now (codes "missing-file") then 1 else 0)
   pub share_is : share ≡ record { wanted = entry_count reference; missing = entry_count reference }
 

@@ -61,7 +61,7 @@ pub record IsLossy (edition : Edition) (bytes : Text) (entry : LossyEntry) : Typ
   pub lossy : is_lossless edition tree ≡ false
   pub broken : Uncanonical
   pub first : IsFirstBroken edition (reread_tree edition tree) broken
-  pub report_text : IsEntryAt edition bytes broken entry
+  pub entry_is : IsEntryAt edition bytes broken entry
 
 -- ---- what is to stand in the place of a text
 

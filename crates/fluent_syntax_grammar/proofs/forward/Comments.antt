@@ -17,7 +17,7 @@ use Rattle.fluent_syntax_grammar.specs.Written.{Text, has_lf, last_of, is_last, 
 use Rattle.fluent_syntax_grammar.specs.Readable.{are_lines}
 use Rattle.fluent_syntax_grammar.specs.Canonical.{is_plain_line, is_plain_comment}
 use Rattle.fluent_syntax_grammar.proofs.Facts.{left_true, right_true, two_on}
-use Rattle.fluent_syntax_grammar.proofs.Computed.{find_here, find_on}
+use Rattle.fluent_syntax_grammar.proofs.Stretches.{run_ends_here, run_goes_on}
 use Rattle.fluent_syntax_grammar.proofs.SuffixAt.{SuffixAt, first, suffix_first, suffix_next, suffix_past, suffix_has}
 use Rattle.fluent_syntax_grammar.proofs.forward.Reading.{Reads, Passes, reads_bind, reads_yields, reads_peek}
 use Rattle.fluent_syntax_grammar.proofs.forward.Reading.{reads_here, passes_then, passes_over, passes_token}
@@ -60,18 +60,18 @@ suffix_line : (t line tail : List ℕ) (i : ℕ) → has_lf line ≡ false →
     SuffixAt t i (line ++ doubled (is_last cr (last_of None line)) tail) →
     LongestRun (is_line_place t) i (i + length line)
 suffix_line t [] tail i e l = let s : i ≡ i + 0 = omega arith in
-    subst (λ n. LongestRun (is_line_place t) i n) s (find_here (is_line_place t) i i
-    (doubled_end t false i tail l) refl)
+    subst (λ n. LongestRun (is_line_place t) i n) s (run_ends_here (is_line_place t) i
+    (doubled_end t false i tail l))
 suffix_line t (x ∷ []) tail i e l =
     let n = suffix_next l in
-    find_on (is_line_place t) i (i + 1)
+    run_goes_on (is_line_place t) i (i + 1)
     (line_place t i x (doubled (x == cr) tail) (neither_left (x == lf) false e) (last_safe (x == cr) tail) l)
-    (find_here (is_line_place t) (i + 1) (i + 1) (doubled_end t (x == cr) (i + 1) tail n) refl)
+    (run_ends_here (is_line_place t) (i + 1) (doubled_end t (x == cr) (i + 1) tail n))
 suffix_line t (x ∷ y ∷ xs) tail i e l =
     let s : (i + 1) + length (y ∷ xs) ≡ i + length (x ∷ y ∷ xs) = omega arith in
     let more = neither_right (x == lf) (has_lf (y ∷ xs)) e in
     subst (λ n. LongestRun (is_line_place t) i n) s
-    (find_on (is_line_place t) i
+    (run_goes_on (is_line_place t) i
     _ (line_place t i x _ (neither_left (x == lf) (has_lf (y ∷ xs)) e)
     (and_no (x == cr) (y == lf) (neither_left (y == lf) (has_lf xs) more)) l)
     (suffix_line t (y ∷ xs) tail (i + 1) more (suffix_next l)))

@@ -12,7 +12,7 @@ use Rattle.fluent_syntax_grammar.specs.Written.{last_of, is_last, has_lf}
 use Rattle.fluent_syntax_grammar.specs.Readable.{is_text}
 use Rattle.fluent_syntax_grammar.proofs.Facts.{left_true, right_true, equal}
 use Rattle.fluent_syntax_grammar.proofs.Tests.{both, and_right}
-use Rattle.fluent_syntax_grammar.proofs.Computed.{find_here, find_on}
+use Rattle.fluent_syntax_grammar.proofs.Stretches.{run_ends_here, run_goes_on}
 use Rattle.fluent_syntax_grammar.proofs.SuffixAt.{SuffixAt, first, suffix_first, suffix_next}
 use Rattle.fluent_syntax_grammar.proofs.forward.Spells.{last_from}
 use Rattle.fluent_syntax_grammar.proofs.Tests.{neither_left, neither_right, not_true}
@@ -55,12 +55,12 @@ run_ends t i bs e l = rw (suffix_first l, e) refl
 pub suffix_run : (t xs ys : List ℕ) (i : ℕ) → list_all is_run_byte xs ≡ true → ends_in_cr_before xs ys ≡ false →
     holds is_run_byte (first ys) ≡ false → SuffixAt t i (xs ++ ys) → LongestRun (is_run_place t) i (i + length xs)
 suffix_run t [] ys i a f e l = let s : i ≡ i + 0 = omega arith in
-    subst (λ n. LongestRun (is_run_place t) i n) s (find_here (is_run_place t) i i (run_ends t i ys e l) refl)
+    subst (λ n. LongestRun (is_run_place t) i n) s (run_ends_here (is_run_place t) i (run_ends t i ys e l))
 suffix_run t (x ∷ xs) ys i a f e l =
     let s : (i + 1) + length xs ≡ i + suc (length xs) = omega arith in
     let more = right_true (is_run_byte x) (list_all is_run_byte xs) a in
     subst (λ n. LongestRun (is_run_place t) i n) s
-    (find_on (is_run_place t) i
+    (run_goes_on (is_run_place t) i
     _ (run_place t i x (xs ++ ys) (left_true (is_run_byte x) (list_all is_run_byte xs) a) (inside x xs ys more f)
     l) (suffix_run t xs ys (i + 1) more (rest_safe x xs ys f) e (suffix_next l)))
 

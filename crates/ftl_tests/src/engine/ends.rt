@@ -223,7 +223,7 @@ fn is_no_text(alloc: Global, bytes: &[u8]) -> bool {
     let mut reader = Watched::new(Drip::whole(bytes));
     let mut writer = Watched::new(Narrow::wide(alloc));
     let ended = run(alloc, Command::Format, &mut reader, &mut writer);
-    let has_failed = reader.has_failed() || writer.has_failed();
+    let has_failed = reader.failed() || writer.failed();
     ended == Err(RunFault::Input) && !has_failed && writer.into_inner().taken.is_empty()
 }
 
