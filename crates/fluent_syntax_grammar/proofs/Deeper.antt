@@ -7,7 +7,6 @@ use Rattle.fluent_syntax_grammar.specs.Construct.{list_stops}
 use Rattle.fluent_syntax_grammar.specs.Construct.{item_and_more, stops_later}
 use Rattle.fluent_syntax_tree.specs.declared.edition.Edition.{Edition}
 use Rattle.fluent_syntax_grammar.specs.Grammar.{within}
-use Rattle.fluent_syntax_grammar.specs.Expressions.{expression}
 use Rattle.fluent_syntax_grammar.specs.UniqueReading.{IsFunctional}
 use Rattle.fluent_syntax_grammar.specs.Nesting.{TooDeep}
 
