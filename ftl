@@ -1,9 +1,11 @@
 #!/usr/bin/env bash
-# Runs ftl: ./ftl WORD [PATH..], where ./ftl help has the words. ./ftl install FOLDER puts the program into the folder.
+# Runs ftl: ./ftl WORD [PATH..], where ./ftl help has the words. ./ftl prove proves and builds the program, and
+# ./ftl install FOLDER puts it into the folder.
 #
 # The language server is a program of its own, ftl-lsp: ./ftl lsp runs it, ./ftl install FOLDER lsp installs it.
 #
-# The first use of a program proves and builds it, and says on standard error how far it is; later uses start at once.
+# Until ./ftl prove was run, the first use of a word compiles the program without its proof, and later uses run that. To
+# prove, and to run or install what is proved, takes as long as the proof once; it says on standard error how far it is.
 # What runs was built from the sources as they are: an older program is never run.
 set -euo pipefail
 unset CDPATH
@@ -15,9 +17,9 @@ words="check|format|runtime|json|from-json|lint|compare|lsp|help|check-two|forma
 usage="usage: ftl $words"
 install_usage="usage: ./ftl install FOLDER [lsp]"
 room="" job=""
-# the program's name, its crate, and where it is put once it is built
+# the program's name, its crate, where it is put once it is built, and whether it is proved before
 name=ftl crate=ftl_program
-made=""
+made="" is_proved=yes
 
 say() { printf 'ftl: %s\n' "$*" >&2; }
 
@@ -56,8 +58,33 @@ leave() {
 
 interrupt() {
     trap - INT TERM HUP
+    [ -n "$is_proved" ] || { say "interrupted: the next use compiles the program"; exit 130; }
+    leave
+    forecast 2>/dev/null || true
     say "interrupted: what was proved is kept, and the next use goes on from there"
     exit 130
+}
+
+# Notes in how many minutes the program would be proved.
+forecast() { "$top/scripts/prove" --forecast "$crate" >"$top/crates/$crate/out/unproved/minutes"; }
+
+# Compiles the program without its proof, in a copy, and notes how long the proof will take.
+compile() {
+    room="$(mktemp -d)"
+    "$top/scripts/stage" "$room" "$crate"
+    set -m
+    "$top/scripts/unproved" "$room" "$crate" "$made/$name.made" </dev/null >"$made/seconds.new" 2>"$room.log" 9>&- &
+    job=$!
+    set +m
+    wait "$job" || { job=""; cat "$room.log" >&2; fail "the program was not compiled"; }
+    job=""
+    rm -f "$made/built-from" "$made/listing"
+    mv "$made/seconds.new" "$made/seconds"
+    forecast
+    mv "$made/$name.made" "$made/$name"
+    sum_of_sources "$room" >"$made/built-from"
+    leave
+    room=""
 }
 
 # Says how far it is, as the lines of scripts/prove come.
@@ -92,8 +119,13 @@ renew() {
         trap leave EXIT
         trap interrupt INT TERM HUP
         until listed="$(listing)"; is_same; do
-            say "building the program $name, which is kept: later uses start at once"
-            build
+            if [ -n "$is_proved" ]; then
+                say "proving the program $name, which is kept: later uses start at once"
+                build
+            else
+                say "compiling the program $name without its proof, in some minutes; it is kept: later uses start at once"
+                compile
+            fi
         done
         trap - EXIT INT TERM HUP
         exec 9>&-
@@ -116,13 +148,23 @@ explain_install() {
     exit 2
 }
 
-install_to=""
-if [ "${1-}" = install ]; then
+# Says which program runs.
+say_version() {
+    head -n 1 "$page"
+    made="$top/crates/$crate/out"
+    if is_current 2>/dev/null; then echo "proved on this machine"; else echo "not proved on this machine; ./ftl prove proves it"; fi
+}
+
+install_to="" prove_only=""
+if [ "${1-}" = prove ]; then
+    [ "$#" = 1 ] || { echo "usage: ./ftl prove" >&2; exit 2; }
+    prove_only=yes
+elif [ "${1-}" = install ]; then
     [[ "$#" = 2 || ( "$#" = 3 && "$3" = lsp ) ]] && [[ "$2" != -* && -n "$2" ]] || explain_install "${2-}"
     install_to="$2"
     shift 2
 elif [ "$#" = 1 ] && [[ "|help|--help|-h|--version|" == *"|$1|"* ]]; then
-    if [ "$1" = --version ]; then head -n 1 "$page"; else cat "$page"; fi
+    if [ "$1" = --version ]; then say_version; else cat "$page"; fi
     exit
 elif [ "${1-}" = help ]; then
     [ "$2" != help ] && is_word "$2" || refuse "$2"
@@ -135,7 +177,14 @@ if [ "${1-}" = lsp ]; then
     shift
 fi
 made="$top/crates/$crate/out"
+if [ -z "$install_to$prove_only" ] && [ "$name" = ftl ] && [ ! -x "$made/$name" ]; then
+    made="$made/unproved" is_proved=""
+fi
 is_current || renew
+if [ -n "$prove_only" ]; then
+    say "the program is proved"
+    exit
+fi
 if [ -n "$install_to" ]; then
     mkdir -p "$install_to"
     cp "$made/$name" "$install_to/.$name-new-$$"
@@ -143,8 +192,15 @@ if [ -n "$install_to" ]; then
     [ "$name" = ftl-lsp ] || say "installed; the language server for editors is installed by: ./ftl install $install_to lsp"
     exit
 fi
-# with eight times the stack, five times the nesting
-if ulimit -S -s 65536 2>/dev/null && [[ "$name" = ftl && "|from-json|help|" != *"|$1|"* && " $* " != *" --nesting"* ]]; then
-    set -- "$1" --nesting 10000 "${@:2}"
+# With eight times the stack, five times the nesting. What is compiled without its proof takes more stack for a level.
+nesting=""
+if ulimit -S -s 65536 2>/dev/null; then
+    [ -z "$is_proved" ] || nesting=10000
+else
+    [ -n "$is_proved" ] || nesting=1000
+fi
+[ -n "$is_proved" ] || say "not proved on this machine; ./ftl prove proves it, in about $(cat "$made/minutes") minutes"
+if [[ -n "$nesting" && "$name" = ftl && "|from-json|help|" != *"|$1|"* && " $* " != *" --nesting"* ]]; then
+    set -- "$1" --nesting "$nesting" "${@:2}"
 fi
 exec "$made/$name" "$@"
