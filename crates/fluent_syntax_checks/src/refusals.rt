@@ -16,10 +16,11 @@ mod turns;
 mod writing;
 
 use crate::refusals::tally::Tally;
+use std::fs::Files;
 use std::io;
 
 /// Prints what was seen of each call, and gives what was seen in all.
-pub(crate) fn calls<R: Print + AllocGlobal>(rt: &R) -> io::Result<Tally> {
+pub(crate) fn calls<R: Files + Print + AllocGlobal>(rt: &R) -> io::Result<Tally> {
     let total = parsing::calls(rt)?
         .and(trees::calls(rt)?)
         .and(writing::calls(rt)?)
