@@ -2,14 +2,17 @@
 //!
 //!     fluent_syntax_checks texts
 //!     fluent_syntax_checks tables
+//!     fluent_syntax_checks edits
 //!     fluent_syntax_checks trees < FILE
 //!     fluent_syntax_checks refusals
 //!     fluent_syntax_checks time CALL ROUNDS < FILE
 //!
-//! `texts` replays texts with known answers, `tables` rows with known answers, and `trees` writes trees and reads them
-//! back; `refusals` refuses each request for memory of each call in turn, and `time` times a call.
+//! `texts` replays texts with known answers, `tables` rows with known answers; `edits` makes edits of many texts, and
+//! `trees` writes trees and reads them back; `refusals` refuses each request for memory of each call in turn, and
+//! `time` times a call.
 #![tactic(auto)]
 
+mod edits;
 mod refusals;
 mod tables;
 mod texts;
@@ -42,6 +45,10 @@ fn main(rt: HostRuntime) -> anyhow::Result<ExitCode> {
             let different = tables::replay(&rt)?;
             Ok(ExitCode::from(u8::from(different > 0)))
         }
+        ("edits", None, None, None) => {
+            let is_refused = edits::many(&rt)?;
+            Ok(ExitCode::from(u8::from(is_refused)))
+        }
         ("trees", None, None, None) => {
             let is_broken = trees::read_back(&rt)?;
             Ok(ExitCode::from(u8::from(is_broken)))
@@ -63,7 +70,7 @@ fn main(rt: HostRuntime) -> anyhow::Result<ExitCode> {
 
 fn refuse<R: Eprint>(rt: &R) -> anyhow::Result<ExitCode> {
     rt.eprintln(
-        "usage: fluent_syntax_checks texts | tables | trees < FILE | refusals | time CALL ROUNDS < FILE",
+        "usage: fluent_syntax_checks texts | tables | edits | trees < FILE | refusals | time CALL ROUNDS < FILE",
     )?;
     Ok(ExitCode::from(WRONG_ARGUMENTS))
 }

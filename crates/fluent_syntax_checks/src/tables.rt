@@ -3,7 +3,7 @@
 //! A table is a file `NAME.tsv`. A row is a line of fields as in `texts.tsv`: first what it shows, then what is asked,
 //! and last the answer.
 
-mod edits;
+pub(crate) mod edits;
 mod errors;
 mod nesting;
 mod places;
@@ -14,6 +14,7 @@ mod values;
 use crate::texts::escapes::unescaped_field;
 use std::alloc::{AllocError, Global};
 use std::fs::{self, Files};
+use std::io;
 
 const NAMES: [&str; 10] = [
     "edits",
@@ -55,8 +56,33 @@ fn replay_table<R: Files + Print + AllocGlobal>(rt: &R, name: &str) -> anyhow::R
     Ok(different)
 }
 
+/// The field of that number of each row of a file.
+pub(crate) fn column<R: Files + AllocGlobal>(
+    rt: &R,
+    file: &str,
+    number: usize,
+) -> io::Result<Vec<String>> {
+    let table = fs::read_to_string(rt, file)?;
+    let mut column = Vec::new(rt.alloc());
+    for line in table.lines() {
+        if let Some(field) = line.split('\t').skip(number).next() {
+            column.push(unescaped_field(rt.alloc(), field)?)?;
+        }
+    }
+    Ok(column)
+}
+
+/// The texts, lent.
+pub(crate) fn lent(alloc: Global, texts: &[String]) -> Result<Vec<&str>, AllocError> {
+    let mut lent = Vec::new(alloc);
+    for text in texts {
+        lent.push(text.as_str())?;
+    }
+    Ok(lent)
+}
+
 /// The fields of a line.
-pub(crate) fn fields_of(alloc: Global, line: &str) -> Result<Vec<String>, AllocError> {
+fn fields_of(alloc: Global, line: &str) -> Result<Vec<String>, AllocError> {
     let mut fields = Vec::new(alloc);
     for field in line.split('\t') {
         fields.push(unescaped_field(alloc, field)?)?;

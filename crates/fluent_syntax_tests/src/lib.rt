@@ -1,6 +1,6 @@
 //! Tests of the libraries of trees, in a module for each crate: what only a caller in Rattle can ask, and each public
 //! call once. Tables of texts with answers are data of `fluent_syntax_checks`. Also what other crates' tests compare
-//! with, and read.
+//! with.
 #![tactic(auto)]
 
 /// A table with a row on a line, which `rt fmt` leaves as it is.
@@ -9,7 +9,6 @@ macro_rules! table {
 }
 
 pub mod alike;
-pub mod corpus;
 #[cfg(test)]
 mod edits;
 #[cfg(test)]

@@ -24,13 +24,13 @@ pub(crate) fn answer(alloc: Global, fields: &[String]) -> anyhow::Result<String>
 }
 
 /// The tree that a text is read as, with its errors left out.
-fn tree_of(alloc: Global, text: &str) -> Result<Resource<&str>, AllocError> {
+pub(crate) fn tree_of(alloc: Global, text: &str) -> Result<Resource<&str>, AllocError> {
     let (tree, _errors) = recovered(alloc, parse(alloc, text))?;
     Ok(tree)
 }
 
 /// The edit by the call's name; none where there is no such call, and where there is nothing new for it.
-fn made(
+pub(crate) fn made(
     alloc: Global,
     text: &str,
     call: &str,

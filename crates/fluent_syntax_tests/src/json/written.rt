@@ -1,9 +1,8 @@
 //! JSON text that is written without a value: whole, entry by entry, and to sinks that refuse a piece of it.
 
 use crate::alike::{assert_holds, assert_same_text};
-use crate::corpus::TEXTS;
 use crate::made::{Made, Text, lent_tree, owned_tree};
-use crate::writer::sinks::{Small, assert_each_piece_refused};
+use crate::writer::sinks::{Small, TEXTS, assert_each_piece_refused};
 use fluent_syntax::ast::{Entry, Resource};
 use fluent_syntax::parser::Slice;
 use fluent_syntax::unicode::{SinkError, TextSink};
