@@ -1,8 +1,8 @@
 #!/usr/bin/env python3
 """Makes trees at random, as JSON, one a line, the same at each run: tests/random_trees.py [TREES]
 
-They are mostly canonical, and now and then break a rule of canonical trees. `fluent_syntax_checks trees` writes them and
-reads them back; tests/programs gives it these.
+They are mostly canonical, and now and then break a rule of canonical trees. `fluent_syntax_checks trees` writes them
+and reads them back; tests/programs gives it these.
 """
 import json
 import random

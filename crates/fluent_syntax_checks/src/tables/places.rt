@@ -31,8 +31,8 @@ fn edition_of(word: &str) -> Edition {
     }
 }
 
-/// The ranges of the text's entries, each with the place of its error; one that nests more than twice ends them. Reading
-/// them and passing over them has to give the same.
+/// The ranges of the text's entries, each with the place of its error; one that nests more than twice ends them.
+/// Reading them and passing over them has to give the same.
 pub(crate) fn entries(alloc: Global, fields: &[String]) -> anyhow::Result<String> {
     let [_, text, comments, _] = fields else {
         return no_row(alloc);
@@ -158,11 +158,11 @@ pub(crate) fn ranges(alloc: Global, fields: &[String]) -> anyhow::Result<String>
     let (Ok(nesting), Ok(place)) = (nesting.parse::<usize>(), place.parse::<usize>()) else {
         return no_row(alloc);
     };
+    let (text, edition) = (text.as_str(), edition_of(edition.as_str()));
     if place > text.len() {
         return no_row(alloc);
     }
-    let edition = edition_of(edition.as_str());
-    match entry_ranges(alloc, text.as_str(), edition, nesting, place) {
+    match entry_ranges(alloc, text, edition, nesting, place) {
         Ok(Some(ranges)) => Ok(ranges_shown(alloc, &ranges)?),
         Ok(None) => Ok(String::from_str(alloc, "none")?),
         Err(_) => Ok(String::from_str(alloc, "deep")?),
