@@ -1,16 +1,23 @@
 //! Checks the library from outside, as a program:
 //!
 //!     fluent_syntax_checks texts
+//!     fluent_syntax_checks tables
+//!     fluent_syntax_checks edits
+//!     fluent_syntax_checks trees < FILE
 //!     fluent_syntax_checks refusals
 //!     fluent_syntax_checks time CALL ROUNDS < FILE
 //!
-//! `texts` replays texts with known answers, `refusals` refuses each request for memory of each call in turn, and
+//! `texts` replays texts with known answers, `tables` rows with known answers; `edits` makes edits of many texts, and
+//! `trees` writes trees and reads them back; `refusals` refuses each request for memory of each call in turn, and
 //! `time` times a call.
 #![tactic(auto)]
 
+mod edits;
 mod refusals;
+mod tables;
 mod texts;
 mod timing;
+mod trees;
 
 use std::env;
 use std::io::ErrorKind;
@@ -34,6 +41,18 @@ fn main(rt: HostRuntime) -> anyhow::Result<ExitCode> {
             texts::replay(&rt)?;
             Ok(ExitCode::from(0))
         }
+        ("tables", None, None, None) => {
+            let different = tables::replay(&rt)?;
+            Ok(ExitCode::from(u8::from(different > 0)))
+        }
+        ("edits", None, None, None) => {
+            let is_refused = edits::many(&rt)?;
+            Ok(ExitCode::from(u8::from(is_refused)))
+        }
+        ("trees", None, None, None) => {
+            let is_broken = trees::read_back(&rt)?;
+            Ok(ExitCode::from(u8::from(is_broken)))
+        }
         ("refusals", None, None, None) => {
             let seen = refusals::calls(&rt)?;
             Ok(ExitCode::from(u8::from(seen.wrong > 0)))
@@ -50,6 +69,8 @@ fn main(rt: HostRuntime) -> anyhow::Result<ExitCode> {
 }
 
 fn refuse<R: Eprint>(rt: &R) -> anyhow::Result<ExitCode> {
-    rt.eprintln("usage: fluent_syntax_checks texts | refusals | time CALL ROUNDS < FILE")?;
+    rt.eprintln(
+        "usage: fluent_syntax_checks texts | tables | edits | trees < FILE | refusals | time CALL ROUNDS < FILE",
+    )?;
     Ok(ExitCode::from(WRONG_ARGUMENTS))
 }

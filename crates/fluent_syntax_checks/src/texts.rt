@@ -5,8 +5,8 @@
 //! `format`, `runtime`, `check-two`, `format-two` and `json` the exit status, a colon and the output.
 //! The outputs of `json` are compared as values, since an object's keys may come in any order.
 
-mod escapes;
-mod round_trips;
+pub(crate) mod escapes;
+pub(crate) mod round_trips;
 
 use crate::texts::escapes::{text_of, unescaped_field};
 use crate::texts::round_trips::RoundTrips;

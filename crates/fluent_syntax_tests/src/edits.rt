@@ -1,5 +1,4 @@
-//! Tests of edits: a table of edits with the texts that they give, and edits of many texts.
+//! Edits of texts.
+
 mod calls;
-mod many;
 mod numbers;
-mod table;

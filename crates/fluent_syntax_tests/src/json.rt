@@ -1,7 +1,4 @@
 //! JSON of trees.
 
-#[cfg(test)]
 mod forms;
-pub mod values;
-#[cfg(test)]
-mod written;
+pub(crate) mod written;

@@ -1,4 +1,6 @@
-//! Tests of the libraries of trees, in a module for each crate; and what other crates' tests compare with, and read.
+//! Tests of the libraries of trees, in a module for each crate: what only a caller in Rattle can ask, and each public
+//! call once. Tables of texts with answers are data of `fluent_syntax_checks`. Also what other crates' tests compare
+//! with.
 #![tactic(auto)]
 
 /// A table with a row on a line, which `rt fmt` leaves as it is.
@@ -7,10 +9,10 @@ macro_rules! table {
 }
 
 pub mod alike;
-pub mod corpus;
 #[cfg(test)]
 mod edits;
-pub mod json;
+#[cfg(test)]
+mod json;
 #[cfg(test)]
 mod made;
 #[cfg(test)]
@@ -21,7 +23,5 @@ mod parser;
 mod surface;
 #[cfg(test)]
 mod tree;
-#[cfg(test)]
-mod tree_text;
 #[cfg(test)]
 mod writer;

@@ -9,22 +9,18 @@ pub type Text = &'static str;
 
 pub type Made<T> = Result<T, AllocError>;
 
-pub fn id(name: Text) -> Identifier<Text> {
+fn id(name: Text) -> Identifier<Text> {
     Identifier { name }
 }
 
-pub fn variable(name: Text) -> InlineExpression<Text> {
+fn variable(name: Text) -> InlineExpression<Text> {
     InlineExpression::VariableReference { id: id(name) }
 }
 
-pub fn number(value: Text) -> InlineExpression<Text> {
-    InlineExpression::NumberLiteral { value }
-}
-
-pub fn reference(name: Text, attribute: Option<Identifier<Text>>) -> InlineExpression<Text> {
+fn reference(name: Text) -> InlineExpression<Text> {
     InlineExpression::MessageReference {
         id: id(name),
-        attribute,
+        attribute: None,
     }
 }
 
@@ -33,7 +29,7 @@ fn element(text: Text) -> PatternElement<Text> {
     let inline = if let Some(name) = text.strip_prefix('$') {
         variable(name)
     } else if let Some(name) = text.strip_prefix('@') {
-        reference(name, None)
+        reference(name)
     } else {
         return PatternElement::TextElement { value: text };
     };
@@ -50,67 +46,20 @@ pub fn pattern(alloc: Global, texts: &[Text]) -> Made<Pattern<Text>> {
     Ok(Pattern { elements })
 }
 
-pub fn message(alloc: Global, name: Text, value: Option<Pattern<Text>>) -> Message<Text> {
-    Message {
-        id: id(name),
-        value,
-        attributes: Vec::new(alloc),
-        comment: None,
-    }
-}
-
 /// A message that has just a value of these elements.
 pub fn message_with_value(alloc: Global, name: Text, texts: &[Text]) -> Made<Entry<Text>> {
-    let value = pattern(alloc, texts)?;
-    Ok(Entry::Message(message(alloc, name, Some(value))))
-}
-
-/// The list of the one attribute.
-fn just(alloc: Global, attribute: Attribute<Text>) -> Made<Vec<Attribute<Text>>> {
-    let mut attributes = Vec::new(alloc);
-    attributes.push(attribute)?;
-    Ok(attributes)
-}
-
-/// A message `k` that has just an attribute of that name, whose value has these elements.
-pub fn message_with_attribute(alloc: Global, name: Text, texts: &[Text]) -> Made<Entry<Text>> {
-    let value = pattern(alloc, texts)?;
-    let attribute = Attribute {
-        id: id(name),
-        value,
-    };
     Ok(Entry::Message(Message {
-        id: id("k"),
-        value: None,
-        attributes: just(alloc, attribute)?,
+        id: id(name),
+        value: Some(pattern(alloc, texts)?),
+        attributes: Vec::new(alloc),
         comment: None,
     }))
-}
-
-/// A pattern that is a placeable of the expression.
-pub fn placeable(alloc: Global, expression: Expression<Text>) -> Made<Pattern<Text>> {
-    let mut elements = Vec::new(alloc);
-    elements.push(PatternElement::Placeable { expression })?;
-    Ok(Pattern { elements })
-}
-
-/// A message `key` that is a placeable of the expression.
-pub fn message_with_placeable(alloc: Global, expression: Expression<Text>) -> Made<Entry<Text>> {
-    let value = placeable(alloc, expression)?;
-    Ok(Entry::Message(message(alloc, "key", Some(value))))
 }
 
 pub fn comment(alloc: Global, lines: &[Text]) -> Made<Comment<Text>> {
     Ok(Comment {
         content: Vec::from_slice(alloc, lines)?,
     })
-}
-
-/// The tree of one entry.
-pub fn one(alloc: Global, entry: Entry<Text>) -> Made<Resource<Text>> {
-    let mut body = Vec::new(alloc);
-    body.push(entry)?;
-    Ok(Resource { body })
 }
 
 /// The tree of a text, whether it has errors or not.

@@ -1,6 +1,5 @@
-//! What files say of names, what is found in them, and the graph that cycles are sought in.
+//! What files say of names, and what is found in them.
 
-mod components;
 mod entries;
 mod findings;
 mod junk_names;

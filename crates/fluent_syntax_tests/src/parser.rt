@@ -1,7 +1,6 @@
-//! Texts whose trees and errors are known.
+//! The calls of the parser.
 
-mod entries;
-mod errors;
-mod nesting;
 mod one_by_one;
+mod reading;
 mod spans;
+mod within;

@@ -1,7 +1,6 @@
-//! Trees whose written texts are known, and what can be written.
+//! What trees are written as, and what can be written.
 
 mod canonical;
-mod expressions;
 pub(crate) mod sinks;
 mod unescaped;
 mod written;

@@ -5,31 +5,20 @@ use crate::refusals::tally::Tally;
 use crate::refusals::trees::{borrowed_tree, owned_tree};
 use crate::refusals::turns::{nothing, over, refuse_each_request};
 use fluent_syntax_json::{from_value, to_value, write_to};
-use fluent_syntax_tests::corpus::TEXTS;
-use fluent_syntax_tests::json::values::{REFUSED, SPELLED};
 use serde_json::Value;
 use std::alloc::{AllocError, Global};
 use std::io;
 
-pub(crate) fn calls<R: Print + AllocGlobal>(rt: &R) -> io::Result<Tally> {
-    let formed = over(rt, "to_value", TEXTS.as_slice(), write_form)?;
-    let forms = over(rt, "from_value of forms", TEXTS.as_slice(), read_form)?;
-    let values = values(rt.alloc())?;
-    let values = over(rt, "from_value", &values, read_value)?;
-    let texts = over(rt, "write_to", TEXTS.as_slice(), write_text)?;
+pub(crate) fn calls<R: Print + AllocGlobal>(
+    rt: &R,
+    texts: &[&str],
+    values: &[&str],
+) -> io::Result<Tally> {
+    let formed = over(rt, "to_value", texts, write_form)?;
+    let forms = over(rt, "from_value of forms", texts, read_form)?;
+    let values = over(rt, "from_value", values, read_value)?;
+    let texts = over(rt, "write_to", texts, write_text)?;
     Ok(formed.and(forms).and(values).and(texts))
-}
-
-/// Values that spell a tree, and those that spell none.
-fn values(alloc: Global) -> Result<Vec<&'static str>, AllocError> {
-    let mut values = Vec::new(alloc);
-    for (_, value, _) in SPELLED {
-        values.push(*value)?;
-    }
-    for (_, value) in REFUSED {
-        values.push(*value)?;
-    }
-    Ok(values)
 }
 
 /// The value of a text's tree.
@@ -56,7 +45,7 @@ fn read_form(alloc: Global, text: &str) -> Result<Tally, AllocError> {
     read_tree(alloc, &to_value(alloc, &owned_tree(alloc, text)?)?)
 }
 
-/// The tree of a value that is given as JSON.
+/// The tree of a value that is given as JSON, if it spells one.
 fn read_value(alloc: Global, json: &str) -> Result<Tally, AllocError> {
     match Value::from_str(alloc, json) {
         Ok(value) => read_tree(alloc, &value),

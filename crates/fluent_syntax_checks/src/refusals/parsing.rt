@@ -4,15 +4,13 @@ use crate::refusals::tally::Tally;
 use crate::refusals::turns::{nothing, over, refuse_each_request};
 use fluent_syntax::parser::{ParseFault, parse, parse_runtime};
 use fluent_syntax::spans::{parse_runtime_spans, parse_spans, resolve};
-use fluent_syntax_tests::corpus::TEXTS;
 use std::alloc::{AllocError, Global};
 use std::io;
 
 /// Texts of blank lines alone, which take no memory.
 const BLANK: [&str; 3] = ["", "\n", "\n  \n"];
 
-pub(crate) fn calls<R: Print + AllocGlobal>(rt: &R) -> io::Result<Tally> {
-    let texts = TEXTS.as_slice();
+pub(crate) fn calls<R: Print + AllocGlobal>(rt: &R, texts: &[&str]) -> io::Result<Tally> {
     let blank = over(rt, "parse of blank texts", BLANK.as_slice(), read_blank)?;
     let lent = over(rt, "parse of lent texts", texts, read_tree)?;
     let owned = over(rt, "parse of owned texts", texts, read_owned)?;

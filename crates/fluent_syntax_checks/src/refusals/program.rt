@@ -3,7 +3,6 @@
 use crate::refusals::answers::Answer;
 use crate::refusals::tally::Tally;
 use crate::refusals::turns::{nothing, over, refuse_each_request};
-use fluent_syntax_tests::corpus::TEXTS;
 use ftl::{Command, Outcome, RunFault, Watched, answer, run};
 use std::alloc::{AllocError, Global};
 use std::io::{self, Write};
@@ -18,10 +17,9 @@ const COMMANDS: [(&str, Command); 6] = [
     ("format-two", Command::FormatTwo),
 ];
 
-pub(crate) fn calls<R: Print + AllocGlobal>(rt: &R) -> io::Result<Tally> {
+pub(crate) fn calls<R: Print + AllocGlobal>(rt: &R, texts: &[&str]) -> io::Result<Tally> {
     let mut total = Tally::NONE;
     for (word, command) in COMMANDS {
-        let texts = TEXTS.as_slice();
         let tally = over(
             rt,
             word,

@@ -4,12 +4,10 @@ use crate::refusals::tally::Tally;
 use crate::refusals::turns::{nothing, over, refuse_each_request};
 use fluent_syntax::ast::Resource;
 use fluent_syntax::parser::{ParserError, parse, recovered};
-use fluent_syntax_tests::corpus::TEXTS;
 use std::alloc::{AllocError, Global};
 use std::io;
 
-pub(crate) fn calls<R: Print + AllocGlobal>(rt: &R) -> io::Result<Tally> {
-    let texts = TEXTS.as_slice();
+pub(crate) fn calls<R: Print + AllocGlobal>(rt: &R, texts: &[&str]) -> io::Result<Tally> {
     let lent = over(rt, "try_clone of trees of lent texts", texts, copy_borrowed)?;
     let owned = over(rt, "try_clone of trees of owned texts", texts, copy_owned)?;
     let errors = over(rt, "try_clone of errors", texts, copies_of_errors)?;

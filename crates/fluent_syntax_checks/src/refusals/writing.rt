@@ -7,14 +7,16 @@ use crate::refusals::turns::{nothing, over, refuse_each_request};
 use fluent_syntax::laws::{joined, reparse};
 use fluent_syntax::serializer::{Options, serialize, serialize_to, serialize_with_options};
 use fluent_syntax::unicode::{unescape_unicode, unescape_unicode_to_string};
-use fluent_syntax_tests::corpus::{ESCAPED, TEXTS};
 use std::alloc::{AllocError, Global};
 use std::io;
 
-pub(crate) fn calls<R: Print + AllocGlobal>(rt: &R) -> io::Result<Tally> {
-    let texts = TEXTS.as_slice();
+pub(crate) fn calls<R: Print + AllocGlobal>(
+    rt: &R,
+    texts: &[&str],
+    escaped: &[&str],
+) -> io::Result<Tally> {
     let trees = over(rt, "serializing", texts, write_text)?;
-    let escaped = over(rt, "unescaping", ESCAPED, unescape)?;
+    let escaped = over(rt, "unescaping", escaped, unescape)?;
     let corpus = over(rt, "unescaping the corpus", texts, unescape)?;
     let again = over(rt, "reparse", texts, read_again)?;
     let whole = over(rt, "joined", texts, joined_once)?;

@@ -1,63 +1,54 @@
-//! Edits as a table has them.
+//! Each edit once, and what no text has.
 
-use fluent_syntax::ast::{Entry, Pattern, Resource};
-use fluent_syntax::parser::{Edition, parse, recovered};
+use crate::alike::{assert_same, assert_same_text};
+use crate::made::{comment, message_with_value, pattern};
+use fluent_syntax::ast::Entry;
+use fluent_syntax::laws::Rule;
+use fluent_syntax::parser::Edition;
 use fluent_syntax_edits::{EditFault, insert, remove, replace, set_attribute, set_value};
 use std::alloc::Global;
 use std::test::Fail;
 
-/// What is asked of entry `.0`. What is new is the first entry of a text; of a message that has the new value, it.
-#[derive(Clone, Copy)]
-pub(crate) enum Edit {
-    Replace(usize, &'static str),
-    Insert(usize, &'static str),
-    Remove(usize),
-    Value(usize, &'static str),
-    Attribute(usize, usize, &'static str),
-}
+const TEXT: &str = "a = b\n# c\nd = e\n    .f = g\nh@\n";
 
-/// The tree that a text is read as, with its errors left out.
-pub(crate) fn tree_of(alloc: Global, text: &str) -> Result<Resource<&str>, Fail> {
-    if text.len() == usize::MAX {
-        return Err(Fail::from("too long"));
-    }
-    let (tree, _errors) = recovered(alloc, parse(alloc, text))?;
-    Ok(tree)
-}
-
-fn value_of<'t>(entry: &'t Entry<&'static str>) -> Result<&'t Pattern<&'static str>, Fail> {
-    match entry {
-        Entry::Message(message) => Ok(message.value.as_ref().ok_or("no value")?),
-        _ => Err(Fail::from("no message")),
-    }
-}
-
-/// The text with the edit made.
-pub(crate) fn made(
+fn assert_made(
     alloc: Global,
-    text: &str,
-    edit: Edit,
-) -> Result<Result<String, EditFault>, Fail> {
-    let edition = Edition::One;
-    let new = match edit {
-        Edit::Remove(index) => return Ok(remove(alloc, text, edition, index)),
-        Edit::Replace(_, new)
-        | Edit::Insert(_, new)
-        | Edit::Value(_, new)
-        | Edit::Attribute(_, _, new) => tree_of(alloc, new)?,
-    };
-    let entry = new.body.first().ok_or("no entry")?;
-    match edit {
-        Edit::Replace(index, _) => Ok(replace(alloc, text, edition, index, entry)),
-        Edit::Insert(index, _) => Ok(insert(alloc, text, edition, index, entry)),
-        Edit::Remove(index) => Ok(remove(alloc, text, edition, index)),
-        Edit::Value(index, _) => {
-            let value = value_of(entry)?;
-            Ok(set_value(alloc, text, edition, index, value))
-        }
-        Edit::Attribute(index, number, _) => {
-            let value = value_of(entry)?;
-            Ok(set_attribute(alloc, text, edition, index, number, value))
-        }
+    shows: &str,
+    made: Result<String, EditFault>,
+    expected: &str,
+) -> Result<(), Fail> {
+    match made {
+        Ok(made) => assert_same_text(alloc, shows, made.as_str(), expected),
+        Err(fault) => Err(format!(in alloc; "{shows}: {fault:?}")?.into()),
     }
+}
+
+#[test]
+fn edits(rt: HostRuntime) -> Result<(), Fail> {
+    let (alloc, edition) = (rt.alloc(), Edition::One);
+    let entry = message_with_value(alloc, "x", &["y"])?;
+    let value = pattern(alloc, &["y"])?;
+    let made = replace(alloc, TEXT, edition, 1, &entry);
+    assert_made(alloc, "replace", made, "a = b\nx = y\nh@\n")?;
+    let made = insert(alloc, TEXT, edition, 1, &entry);
+    let expected = "a = b\nx = y\n# c\nd = e\n    .f = g\nh@\n";
+    assert_made(alloc, "insert", made, expected)?;
+    let made = remove(alloc, TEXT, edition, 1);
+    assert_made(alloc, "remove", made, "a = b\nh@\n")?;
+    let made = set_value(alloc, TEXT, edition, 1, &value);
+    let expected = "a = b\n# c\nd = y\n    .f = g\nh@\n";
+    assert_made(alloc, "set_value", made, expected)?;
+    let made = set_attribute(alloc, TEXT, edition, 1, 0, &value);
+    let expected = "a = b\n# c\nd = e\n    .f = y\nh@\n";
+    assert_made(alloc, "set_attribute", made, expected)
+}
+
+/// No text has such a line of a comment.
+#[test]
+fn line_feed_in_a_comment(rt: HostRuntime) -> Result<(), Fail> {
+    let alloc = rt.alloc();
+    let comment = Entry::Comment(comment(alloc, &["a\nb"])?);
+    let fault = insert(alloc, "c = d\n", Edition::One, 0, &comment).err();
+    let expected = Some(EditFault::NotCanonical(Rule::LfInComment));
+    assert_same(alloc, "a line feed in a comment", &fault, &expected)
 }

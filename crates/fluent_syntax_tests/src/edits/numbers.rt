@@ -1,7 +1,7 @@
 //! Entries by their names.
 
 use crate::alike::assert_holds;
-use crate::edits::calls::tree_of;
+use crate::made::lent_tree;
 use fluent_syntax_edits::{EntryName, number_of};
 use std::test::Fail;
 
@@ -20,7 +20,7 @@ const ROWS: [(EntryName, Option<usize>); 6] = [
 #[test]
 fn numbers(rt: HostRuntime) -> Result<(), Fail> {
     let alloc = rt.alloc();
-    let tree = tree_of(alloc, TEXT)?;
+    let tree = lent_tree(alloc, TEXT)?;
     for (name, number) in ROWS {
         let shown = format!(in alloc; "{name:?}")?;
         assert_holds(alloc, shown.as_str(), number_of(&tree, name) == number)?;

@@ -1,7 +1,6 @@
-//! Values, the trees that they spell, and the JSON forms of trees.
+//! JSON values of trees, and trees of JSON values.
 
-use crate::alike::{assert_holds, assert_same};
-use crate::json::values::{FORMS, REFUSED, SPELLED};
+use crate::alike::assert_holds;
 use crate::made::owned_tree;
 use fluent_syntax::ast::Resource;
 use fluent_syntax_json::{ValueFault, form_reads, from_value, to_value};
@@ -24,15 +23,20 @@ fn is_read_back(alloc: Global, tree: &Resource<String>) -> Result<bool, Fail> {
     }
 }
 
+/// A text, and the JSON form of its tree.
+const TEXT: &str = "# a\n\nk = b{ $x }\n";
+
+const FORM: &str =
+    r#"{"body":[{"type":"Comment","content":["a"]},{"type":"Message","id":{"name":"k"},
+    "value":{"elements":[{"type":"TextElement","value":"b"},{"type":"Placeable",
+    "expression":{"type":"VariableReference","id":{"name":"x"}}}]},"attributes":[],"comment":null}]}"#;
+
 #[test]
 fn forms_there_and_back(rt: HostRuntime) -> Result<(), Fail> {
     let alloc = rt.alloc();
-    for (shows, text, form) in FORMS {
-        let tree = owned_tree(alloc, *text)?;
-        let is_so = has_form(alloc, &tree, *form)? && is_read_back(alloc, &tree)?;
-        assert_holds(alloc, *shows, is_so)?;
-    }
-    Ok(())
+    let tree = owned_tree(alloc, TEXT)?;
+    let is_so = has_form(alloc, &tree, FORM)? && is_read_back(alloc, &tree)?;
+    assert_holds(alloc, "a comment and a message", is_so)
 }
 
 /// What the text of a value spells.
@@ -41,25 +45,21 @@ fn read(alloc: Global, text: &str) -> Result<Result<Resource<String>, ValueFault
     Ok(from_value(alloc, &value))
 }
 
-fn assert_spelled(alloc: Global, shows: &str, value: &str, form: &str) -> Result<(), Fail> {
-    let Ok(tree) = read(alloc, value)? else {
-        return assert_holds(alloc, shows, false);
-    };
-    form_reads(&tree);
-    assert_holds(alloc, shows, has_form(alloc, &tree, form)?)
-}
-
 #[test]
 fn values_that_are_no_forms(rt: HostRuntime) -> Result<(), Fail> {
     let alloc = rt.alloc();
-    for (shows, value, form) in SPELLED {
-        assert_spelled(alloc, *shows, *value, *form)?;
-    }
-    for (shows, value) in REFUSED {
-        let is_refused = read(alloc, *value)? == Err(ValueFault::Shape);
-        assert_same(alloc, *shows, &is_refused, &true)?;
-    }
-    Ok(())
+    let Ok(tree) = read(
+        alloc,
+        r#"{"body":[{"type":"Comment","content":"a"}],"x":1}"#,
+    )?
+    else {
+        return assert_holds(alloc, "no tree", false);
+    };
+    form_reads(&tree);
+    let form = r#"{"body":[{"type":"Comment","content":["a"]}]}"#;
+    assert_holds(alloc, "an unknown key", has_form(alloc, &tree, form)?)?;
+    let is_refused = read(alloc, "{}")? == Err(ValueFault::Shape);
+    assert_holds(alloc, "an object without the key", is_refused)
 }
 
 /// A message of so many placeables in one another.

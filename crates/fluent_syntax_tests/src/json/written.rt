@@ -1,20 +1,17 @@
 //! JSON text that is written without a value: whole, entry by entry, and to sinks that refuse a piece of it.
 
 use crate::alike::{assert_holds, assert_same_text};
-use crate::corpus::TEXTS;
-use crate::json::values::FORMS;
 use crate::made::{Made, Text, lent_tree, owned_tree};
-use crate::writer::sinks::{Small, assert_each_piece_refused};
+use crate::writer::sinks::{Small, TEXTS, assert_each_piece_refused};
 use fluent_syntax::ast::{Entry, Resource};
 use fluent_syntax::parser::Slice;
 use fluent_syntax::unicode::{SinkError, TextSink};
-use fluent_syntax_json::{BodyWriter, to_value, write_to};
-use serde_json::Value;
+use fluent_syntax_json::{BodyWriter, write_to};
 use std::alloc::{AllocError, Global};
 use std::test::Fail;
 
 /// The JSON text of a tree.
-fn json_text<'s, S: Slice<'s>>(alloc: Global, tree: &Resource<S>) -> Made<String> {
+pub(crate) fn json_text<'s, S: Slice<'s>>(alloc: Global, tree: &Resource<S>) -> Made<String> {
     let mut text = String::new(alloc);
     match write_to(&mut text, tree) {
         Ok(()) => Ok(text),
@@ -49,62 +46,13 @@ fn assert_written<'s, S: Slice<'s>>(
     assert_same_text(alloc, shows, text.as_str(), expected)
 }
 
-/// The text of a form has the keys of an object in order, as `serde_json` writes it.
+/// The keys of an object are in order.
 #[test]
 fn texts_of_forms(rt: HostRuntime) -> Result<(), Fail> {
     let alloc = rt.alloc();
-    for (shows, text, form) in FORMS {
-        let expected = Value::from_str(alloc, *form)?.to_string(alloc)?;
-        assert_written(alloc, *shows, &lent_tree(alloc, *text)?, expected.as_str())?;
-        assert_written(alloc, *shows, &owned_tree(alloc, *text)?, expected.as_str())?;
-    }
-    Ok(())
-}
-
-/// A text, and what stands for it in JSON.
-const QUOTED: &[(&str, &str)] = table! {
-    "", "\"\"";
-    "a b", "\"a b\"";
-    "\"", "\"\\\"\"";
-    "\\u0041\\\\", "\"\\\\u0041\\\\\\\\\"";
-    "\n\r\t\u{8}\u{c}", "\"\\n\\r\\t\\b\\f\"";
-    "\u{0}a\u{1f}\u{b}", "\"\\u0000a\\u001f\\u000b\"";
-    "/\u{7f}\u{80}\u{2028}", "\"/\u{7f}\u{80}\u{2028}\"";
-    "é\"é", "\"é\\\"é\"";
-    "\u{10ffff}\n\u{fffd}", "\"\u{10ffff}\\n\u{fffd}\"";
-};
-
-/// A tree that has nothing but the text.
-fn junk<S: Drop>(alloc: Global, content: S) -> Made<Resource<S>> {
-    let mut body = Vec::new(alloc);
-    body.push(Entry::Junk { content })?;
-    Ok(Resource { body })
-}
-
-#[test]
-fn quoted_texts(rt: HostRuntime) -> Result<(), Fail> {
-    let alloc = rt.alloc();
-    for (text, quoted) in QUOTED {
-        let expected = format!(in alloc;
-            "{{\"body\":[{{\"content\":{quoted},\"type\":\"Junk\"}}]}}"
-        )?;
-        assert_written(alloc, *text, &junk(alloc, *text)?, expected.as_str())?;
-    }
-    Ok(())
-}
-
-/// Each character of ASCII is written as `serde_json` writes it.
-#[test]
-fn characters_as_serde_json_writes_them(rt: HostRuntime) -> Result<(), Fail> {
-    let alloc = rt.alloc();
-    let mut all = String::new(alloc);
-    for byte in 0..128u8 {
-        all.push(char::from(byte))?;
-    }
-    let tree = junk(alloc, all)?;
-    let expected = to_value(alloc, &tree)?.to_string(alloc)?;
-    let is_so = json_text(alloc, &tree)?.as_str() == expected.as_str();
-    assert_holds(alloc, "characters", is_so)
+    let form = r#"{"body":[{"content":["a"],"type":"Comment"},{"content":"\"\n","type":"Junk"}]}"#;
+    assert_written(alloc, "lent", &lent_tree(alloc, "# a\n\"\n")?, form)?;
+    assert_written(alloc, "owned", &owned_tree(alloc, "# a\n\"\n")?, form)
 }
 
 fn assert_tree_refused(alloc: Global, text: Text) -> Result<(), Fail> {

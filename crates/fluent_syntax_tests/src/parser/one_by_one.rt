@@ -1,46 +1,28 @@
 //! Entries that are read one by one, or passed over, and tiles: where they stand, and their errors.
 
 use crate::alike::assert_same_text;
-use fluent_syntax::ast::Entry;
 use fluent_syntax::parser::{Edition, ParserError};
 use fluent_syntax::spans::{Comments, Entries, Halt, Options, Span, Tiles};
 use std::alloc::{AllocError, Global};
 use std::fmt::Write;
 use std::test::Fail;
 
-/// What it shows, the text, and the ranges of its entries with comments and without, each with the place of its error.
-const ROWS: &[(&str, &str, &str, &str)] = table! {
-    "nothing", "", "", "";
-    "blank lines", "\n  \n", "", "";
-    "a message and a term", "a = b\n-c = d", "0..6 6..12 ", "0..6 6..12 ";
-    "blank lines before an entry are not in it, those behind it are",
-        "\n\na = {$b}\n\n \nc = d\n", "2..14 14..20 ", "2..14 14..20 ";
-    "attributes", "a =\n    .b = c\n    .d = e\nf = g\n", "0..26 26..32 ", "0..26 26..32 ";
-    "a comment that hangs", "# a\n# b\nc = {$d}\n", "0..17 ", "8..17 ";
-    "a comment that hangs on a text", "\n# a\nb = c\n", "1..11 ", "5..11 ";
-    "comments by themselves", "# a\n\n## b\nc = d\n", "0..4 5..10 10..16 ", "10..16 ";
-    "a comment over junk", "# a\nb c\n\nd = e\n", "0..4 4..9@6 9..15 ", "4..9@6 9..15 ";
-    "a wide character", "# é\na = é\nb\n", "0..12 12..14@13 ", "5..12 12..14@13 ";
-    "a field that is missing", "a = b\nc =\nd = e", "0..6 6..10@6 10..15 ", "0..6 6..10@6 10..15 ";
-    "a broken attribute", "a = b\n    .c\nd = e\n", "0..6 6..13@6 13..19 ", "0..6 6..13@6 13..19 ";
-    "a brace behind a text", "a = b }\nc = d\n", "0..8@6 8..14 ", "0..8@6 8..14 ";
-    "a select without default", "a = {$b ->\n   [one] c\n}\nb = c\n", "0..24@22 24..30 ", "0..24@22 24..30 ";
-    "too deep", "a = b\nc = {{{d}}}\ne = f\n", "0..6 deep", "0..6 deep";
-};
+/// A comment, a message and junk, and an entry that nests thrice; the ranges of its entries, each with the place of its
+/// error, with comments and without.
+const TEXT: &str = "# a\nb = c\nd e\n\nf = {{{g}}}\nh = i\n";
 
-fn show(
-    out: &mut String,
-    span: Span,
-    letter: &str,
-    error: &Option<ParserError>,
-) -> Result<(), AllocError> {
+const KEPT: &str = "0..10 10..15@12 deep";
+
+const DROPPED: &str = "4..10 10..15@12 deep";
+
+fn show(out: &mut String, span: Span, error: &Option<ParserError>) -> Result<(), AllocError> {
     let Span { start, end } = span;
     match error {
         Some(error) => {
             let place = error.pos.start;
-            write!(out, "{start}..{end}{letter}@{place} ")
+            write!(out, "{start}..{end}@{place} ")
         }
-        None => write!(out, "{start}..{end}{letter} "),
+        None => write!(out, "{start}..{end} "),
     }
 }
 
@@ -68,7 +50,7 @@ fn show_next(
 ) -> Result<bool, AllocError> {
     match next_of(alloc, entries, pass) {
         Ok(Some(error)) => {
-            show(out, entries.span(), "", &error)?;
+            show(out, entries.span(), &error)?;
             Ok(true)
         }
         Ok(None) => Ok(false),
@@ -97,26 +79,15 @@ fn shown(alloc: Global, text: &str, comments: Comments, pass: bool) -> Result<St
     Ok(out)
 }
 
-fn assert_shown(
-    alloc: Global,
-    shows: &str,
-    text: &str,
-    comments: Comments,
-    expected: &str,
-) -> Result<(), Fail> {
-    let read = shown(alloc, text, comments, false)?;
-    assert_same_text(alloc, shows, read.as_str(), expected)?;
-    let passed_over = shown(alloc, text, comments, true)?;
-    assert_same_text(alloc, shows, passed_over.as_str(), expected)
-}
-
 #[test]
 fn entries(rt: HostRuntime) -> Result<(), Fail> {
-    for (shows, text, kept, dropped) in ROWS {
-        assert_shown(rt.alloc(), *shows, *text, Comments::Kept, *kept)?;
-        assert_shown(rt.alloc(), *shows, *text, Comments::Dropped, *dropped)?;
-    }
-    Ok(())
+    let alloc = rt.alloc();
+    let read = shown(alloc, TEXT, Comments::Kept, false)?;
+    assert_same_text(alloc, "read", read.as_str(), KEPT)?;
+    let passed_over = shown(alloc, TEXT, Comments::Kept, true)?;
+    assert_same_text(alloc, "passed over", passed_over.as_str(), KEPT)?;
+    let read = shown(alloc, TEXT, Comments::Dropped, false)?;
+    assert_same_text(alloc, "without comments", read.as_str(), DROPPED)
 }
 
 #[test]
@@ -127,36 +98,8 @@ fn before_anything_is_read(rt: HostRuntime) -> Result<(), Fail> {
         nesting: 2,
     };
     let mut out = String::new(rt.alloc());
-    show(
-        &mut out,
-        Entries::new("\na = b\n", options).span(),
-        "",
-        &None,
-    )?;
+    show(&mut out, Entries::new("\na = b\n", options).span(), &None)?;
     assert_same_text(rt.alloc(), "an empty range", out.as_str(), "0..0 ")
-}
-
-/// What it shows, the text, and for each tile its range, a letter, and the place of its error.
-const TILES: &[(&str, &str, &str)] = table! {
-    "nothing", "", "";
-    "blank lines", " \n\r\n", "";
-    "blank lines before a message", "\n\na = b", "2..7m ";
-    "blank lines behind a message are in it", "a = b\n\nc = d\n", "0..7m 7..13m ";
-    "a comment stands by itself", "# a\n-b = c\n", "0..4c 4..11t ";
-    "blank lines behind a comment are not in it", "## a\n\n### b\n", "0..5g 6..12r ";
-    "junk, and an entry behind it", "bro ken\na = b\n", "0..8j@4 8..14m ";
-    "junk in the middle", "a = b\nc =\n\nd = e", "0..6m 6..11j@6 11..16m ";
-};
-
-fn letter(entry: &Entry<Span>) -> &'static str {
-    match entry {
-        Entry::Message(_) => "m",
-        Entry::Term(_) => "t",
-        Entry::Comment(_) => "c",
-        Entry::GroupComment(_) => "g",
-        Entry::ResourceComment(_) => "r",
-        Entry::Junk { .. } => "j",
-    }
 }
 
 fn tiles_shown(alloc: Global, text: &str) -> Result<String, Fail> {
@@ -164,7 +107,7 @@ fn tiles_shown(alloc: Global, text: &str) -> Result<String, Fail> {
     let mut out = String::new(alloc);
     for _ in 0..=text.len() {
         match tiles.next_tile(alloc) {
-            Ok(Some(found)) => show(&mut out, found.span, letter(&found.entry), &found.error)?,
+            Ok(Some(found)) => show(&mut out, found.span, &found.error)?,
             Ok(None) => return Ok(out),
             Err(_) => return Err("a tile was not read".into()),
         }
@@ -174,9 +117,8 @@ fn tiles_shown(alloc: Global, text: &str) -> Result<String, Fail> {
 
 #[test]
 fn tiles(rt: HostRuntime) -> Result<(), Fail> {
-    for (shows, text, expected) in TILES {
-        let got = tiles_shown(rt.alloc(), *text)?;
-        assert_same_text(rt.alloc(), *shows, got.as_str(), *expected)?;
-    }
-    Ok(())
+    let alloc = rt.alloc();
+    let text = "\n# a\n-b = c\nd\ne = f";
+    let expected = "1..5 5..12 12..14@13 14..19 ";
+    assert_same_text(alloc, "tiles", tiles_shown(alloc, text)?.as_str(), expected)
 }

@@ -1,8 +1,8 @@
 //! Trees compared, and one tree read in each way.
 
-use crate::alike::{assert_holds, assert_same_text};
+use crate::alike::{assert_holds, assert_same, assert_same_text};
+use crate::json::written::json_text;
 use crate::made::owned_tree_without_errors;
-use crate::tree_text::{assert_tree_text, tree_text_of};
 use fluent_syntax::ast::*;
 use fluent_syntax::laws::{same_answers, same_texts};
 use fluent_syntax::parser::{Edition, is_flat, parse, recovered};
@@ -42,14 +42,11 @@ fn assert_one_answer(alloc: Global, text: &'static str) -> Result<(), Fail> {
     let lent = parse(alloc, text);
     let owned = parse(alloc, String::from_str(alloc, text)?);
     same_answers(text, Edition::One, &lent, &owned);
-    let lent_tree_text = tree_text_of(alloc, &lent)?;
-    let owned_tree_text = tree_text_of(alloc, &owned)?;
-    assert_same_text(
-        alloc,
-        text,
-        owned_tree_text.as_str(),
-        lent_tree_text.as_str(),
-    )
+    let (lent, lent_errors) = recovered(alloc, lent)?;
+    let (owned, owned_errors) = recovered(alloc, owned)?;
+    assert_holds(alloc, text, lent_errors == owned_errors)?;
+    let (lent, owned) = (json_text(alloc, &lent)?, json_text(alloc, &owned)?);
+    assert_same_text(alloc, text, owned.as_str(), lent.as_str())
 }
 
 #[test]
@@ -104,15 +101,9 @@ fn one_tree_by_each_way(rt: HostRuntime) -> Result<(), Fail> {
     let alloc = rt.alloc();
     for text in [TEXT, JUNK] {
         let (tree, _) = recovered(alloc, parse(alloc, text))?;
-        let tree_text = tree_text_of(alloc, &Ok(tree))?;
-        assert_tree_text(alloc, text, &Ok(put_back(alloc, text)?), &tree_text)?;
-        assert_tree_text(
-            alloc,
-            text,
-            &Ok(put_back_one_by_one(alloc, text)?),
-            &tree_text,
-        )?;
-        assert_tree_text(alloc, text, &Ok(gathered(alloc, text)?), &tree_text)?;
+        assert_same(alloc, text, &put_back(alloc, text)?, &tree)?;
+        assert_same(alloc, text, &put_back_one_by_one(alloc, text)?, &tree)?;
+        assert_same(alloc, text, &gathered(alloc, text)?, &tree)?;
     }
     Ok(())
 }
