@@ -1,6 +1,4 @@
-//! Tests of runs over files: what is shown of an error, what becomes of a file, and what a run tells.
+//! Tests of runs over files: what each writes and counts, and what is shown of a place.
 mod bench;
 mod excerpts;
-mod linting;
-mod reports;
 mod runs;

@@ -10,26 +10,12 @@ use std::test::Fail;
 /// The command, what it shows, the input, the text, and how it ends.
 type Row = (Command, &'static str, &'static str, &'static str, Outcome);
 
-const ROWS: [Row; 12] = [
+const ROWS: [Row; 3] = [
     (
         Command::Check,
         "errors by line and column",
         "\nkey1 = Value 1\n\ng@Rb@ge = #2y ds\n\nkey2 = Value 2\n\n",
         "4:2 18..19 17..35 ExpectedToken\n",
-        Outcome::SyntaxErrors,
-    ),
-    (
-        Command::Check,
-        "nothing is wrong",
-        "\n\nhello-world = Hello World!\n\n",
-        "",
-        Outcome::Clean,
-    ),
-    (
-        Command::Check,
-        "two errors of one line each",
-        "key = { \"a\nb\" }",
-        "1:11 10..11 0..11 UnterminatedStringLiteral\n2:2 12..13 11..15 ExpectedToken\n",
         Outcome::SyntaxErrors,
     ),
     (
@@ -40,60 +26,11 @@ const ROWS: [Row; 12] = [
         Outcome::Clean,
     ),
     (
-        Command::Runtime,
-        "a malformed comment is no error",
-        "#x\n  foo\nkey = a",
-        "key = a\n",
-        Outcome::SyntaxErrors,
-    ),
-    (
-        Command::Format,
-        "blank lines are dropped",
-        "\n\nhello-world = Hello World!\n\n",
-        "hello-world = Hello World!\n",
-        Outcome::Clean,
-    ),
-    (
-        Command::Format,
-        "junk is left out",
-        "\nkey1 = Value 1\n\ng@Rb@ge = #2y ds\n\nkey2 = Value 2\n\n",
-        "key1 = Value 1\nkey2 = Value 2\n",
-        Outcome::SyntaxErrors,
-    ),
-    (
-        Command::Format,
-        "a mark that opens a block stays in the opening line",
-        "key = [a\n  b\n",
-        "key = [a\n    b\n",
-        Outcome::Clean,
-    ),
-    (
-        Command::FormatTwo,
-        "a placeable counts for the common indent",
-        "key =\n  {x} a\n    b\n",
-        "key =\n    { x } a\n      b\n",
-        Outcome::Clean,
-    ),
-    (
-        Command::FormatTwo,
-        "what edition two wrote reads as the same tree",
-        "key =\n    { x } a\n      b\n",
-        "key =\n    { x } a\n      b\n",
-        Outcome::Clean,
-    ),
-    (
         Command::FormatTwo,
         "a placeable at column 0",
         "key =\n{x}\n    b\n",
         "key =\n    { x }\n        b\n",
         Outcome::Clean,
-    ),
-    (
-        Command::CheckTwo,
-        "a lone star is no default variant",
-        "key = { $x ->\n * }",
-        "2:3 16..17 0..18 MissingDefaultVariant\n",
-        Outcome::SyntaxErrors,
     ),
 ];
 
@@ -119,13 +56,7 @@ const NESTED: &str = "key = { F($x) }\n";
 
 type OfNested = (Command, &'static str);
 
-const OF_NESTED: [OfNested; 5] = [
-    (Command::Check, ""),
-    (Command::CheckTwo, ""),
-    (Command::Format, NESTED),
-    (Command::FormatTwo, NESTED),
-    (Command::Runtime, NESTED),
-];
+const OF_NESTED: [OfNested; 2] = [(Command::Check, ""), (Command::Format, NESTED)];
 
 fn assert_answered_within_2(alloc: Global, row: &OfNested) -> Result<(), Fail> {
     let (command, expected) = row;

