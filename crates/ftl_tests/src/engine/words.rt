@@ -18,5 +18,10 @@ fn statuses_and_lines(rt: HostRuntime) -> Result<(), Fail> {
     assert_same(alloc, "clean", &Outcome::Clean.status(), &0)?;
     assert_same(alloc, "errors", &Outcome::SyntaxErrors.status(), &1)?;
     assert_same(alloc, "output", &RunFault::Output.status(), &5)?;
-    assert_same_text(alloc, "its line", RunFault::Output.line(), "ftl: output failed")
+    assert_same_text(
+        alloc,
+        "its line",
+        RunFault::Output.line(),
+        "ftl: output failed",
+    )
 }

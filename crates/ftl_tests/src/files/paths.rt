@@ -27,11 +27,7 @@ fn absolute_paths(rt: HostRuntime) -> Result<(), Fail> {
 }
 
 /// Paths in turn, and whether each is new.
-const SEEN: [(&str, bool); 3] = [
-    ("a.ftl", true),
-    ("/app/a.ftl", false),
-    ("de/a.ftl", true),
-];
+const SEEN: [(&str, bool); 3] = [("a.ftl", true), ("/app/a.ftl", false), ("de/a.ftl", true)];
 
 #[test]
 fn paths_named_twice(rt: HostRuntime) -> Result<(), Fail> {

@@ -7,7 +7,8 @@ use ftl_files::{Color, Output, ReportedKind, settings_of};
 use std::alloc::Global;
 use std::test::Fail;
 
-const EACH: &str = "reference = \"l10n/en-US\"\nignore = ['obsolete', \"missing-file\"]\nexclude = ['locales/old']\n\
+const EACH: &str =
+    "reference = \"l10n/en-US\"\nignore = ['obsolete', \"missing-file\"]\nexclude = ['locales/old']\n\
     edition = 2\noutput = 'lines'\nnesting = 4294967295\ncolor = 'never'\n";
 
 const KINDS: [ReportedKind; 2] = [
@@ -23,7 +24,11 @@ fn settings(rt: HostRuntime) -> Result<(), Fail> {
     };
     let reference = settings.reference.as_deref();
     assert_same(alloc, "reference", &reference, &Some("l10n/en-US"))?;
-    assert_holds(alloc, "ignore", settings.ignored.as_slice() == KINDS.as_slice())?;
+    assert_holds(
+        alloc,
+        "ignore",
+        settings.ignored.as_slice() == KINDS.as_slice(),
+    )?;
     assert_same(alloc, "exclude", &settings.excluded.len(), &1)?;
     assert_holds(alloc, "edition", settings.edition == Some(Edition::Two))?;
     assert_holds(alloc, "output", settings.output == Some(Output::Lines))?;

@@ -29,5 +29,10 @@ fn paths_of_uris(rt: HostRuntime) -> Result<(), Fail> {
 #[test]
 fn uris_of_paths(rt: HostRuntime) -> Result<(), Fail> {
     let found = uri_of_path(rt.alloc(), "/a b/é.ftl")?;
-    assert_same_text(rt.alloc(), "a path", found.as_str(), "file:///a%20b/%C3%A9.ftl")
+    assert_same_text(
+        rt.alloc(),
+        "a path",
+        found.as_str(),
+        "file:///a%20b/%C3%A9.ftl",
+    )
 }

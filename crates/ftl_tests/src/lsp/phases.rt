@@ -76,7 +76,12 @@ fn endings_and_refusals(rt: HostRuntime) -> Result<(), Fail> {
     let left = Phase::Left.ending();
     assert_holds(alloc, "exit alone", left == Some(Ending::Left))?;
     assert_same(alloc, "input", &Ending::Input.status(), &3)?;
-    assert_same_text(alloc, "input", Ending::Input.line(), "ftl lsp: input failed")?;
+    assert_same_text(
+        alloc,
+        "input",
+        Ending::Input.line(),
+        "ftl lsp: input failed",
+    )?;
     let taken = ErrorCode::Rename(RenameFault::Taken);
     assert_same(alloc, "a name that is taken", &taken.number(), &-32602)
 }

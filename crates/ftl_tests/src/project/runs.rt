@@ -52,7 +52,10 @@ const RUNS: [Run; 7] = [
     ),
     (
         Task::Convert,
-        &[("/d/a.json", TREE), ("/d/c.json", b"{\"body\":[{\"type\":\"None\"}]}")],
+        &[
+            ("/d/a.json", TREE),
+            ("/d/c.json", b"{\"body\":[{\"type\":\"None\"}]}"),
+        ],
         TREE,
         "# c\n",
         "ftl: /d/c.json: is JSON that spells no tree\n",
