@@ -1,4 +1,3 @@
-//! Tests of runs over files: what each writes and counts, and what is shown of a place.
-mod bench;
+//! Tests of runs over files: an output that fails, how a run is summed up, and excerpts of a place where no error is.
 mod excerpts;
 mod runs;

@@ -26,17 +26,14 @@ fn absolute_paths(rt: HostRuntime) -> Result<(), Fail> {
     Ok(())
 }
 
-/// Paths in turn, and whether each is new.
-const SEEN: [(&str, bool); 3] = [("a.ftl", true), ("/app/a.ftl", false), ("de/a.ftl", true)];
-
 #[test]
 fn paths_named_twice(rt: HostRuntime) -> Result<(), Fail> {
-    let mut seen = SeenPaths::new(rt.alloc());
-    for (path, is_new) in SEEN {
-        let noted = seen.add(rt.alloc(), "/app", path)?;
-        assert_same(rt.alloc(), path, &noted, &is_new)?;
-    }
-    Ok(())
+    let alloc = rt.alloc();
+    let mut seen = SeenPaths::new(alloc);
+    assert_holds(alloc, "the first", seen.add(alloc, "/app", "a.ftl")?)?;
+    let is_new = seen.add(alloc, "/app", "/app/de/../a.ftl")?;
+    assert_holds(alloc, "the same", !is_new)?;
+    assert_holds(alloc, "another", seen.add(alloc, "/app", "de/a.ftl")?)
 }
 
 /// What is excluded in `/app`, a file, and whether it is passed over where `/app` is listed.
@@ -62,34 +59,10 @@ fn paths_passed_over(rt: HostRuntime) -> Result<(), Fail> {
     Ok(())
 }
 
-/// A folder, a path, and whether it is below.
-const BELOW: [(&str, &str, bool); 3] = [
-    ("/a", "/a/b/c", true),
-    ("", "/a", true),
-    ("/a", "/ab", false),
-];
-
-/// Two paths, and how many folders they share.
-const SHARED: [(&str, &str, usize); 3] = [
-    ("/l/de/a", "/l/en/a", 2),
-    ("/l/de", "/l/den/a", 2),
-    ("/a", "b", 0),
-];
-
 #[test]
 fn folders_of_paths(rt: HostRuntime) -> Result<(), Fail> {
-    for row in &BELOW {
-        let (folder, path, below) = row;
-        assert_same(rt.alloc(), *path, &is_below(*folder, *path), below)?;
-    }
-    for row in &SHARED {
-        let (first, second, shared) = row;
-        assert_same(
-            rt.alloc(),
-            *second,
-            &shared_folders(*first, *second),
-            shared,
-        )?;
-    }
-    Ok(())
+    let alloc = rt.alloc();
+    assert_holds(alloc, "below", is_below("/a", "/a/b/c"))?;
+    assert_holds(alloc, "not below", !is_below("/a", "/ab"))?;
+    assert_same(alloc, "shared", &shared_folders("/l/de", "/l/den/a"), &2)
 }

@@ -1,125 +1,60 @@
-//! What each run over files writes and counts, what becomes of the files, and how a run is summed up.
+//! A check whose output fails, and how a run is summed up.
 
-use crate::project::bench::{Bench, File, Task};
-use fluent_syntax_tests::alike::{assert_same, assert_same_text};
-use ftl::Command;
-use ftl_project::{Tally, check_summary, format_summary};
+use crate::engine::ends::Narrow;
+use fluent_syntax::parser::Edition;
+use fluent_syntax_tests::alike::{assert_holds, assert_same_text};
+use ftl::{RunFault, Watched};
+use ftl_files::Memory;
+use ftl_project::{Form, Reading, Streams, Tally, check_files, check_summary, format_summary};
 use std::alloc::Global;
 use std::test::Fail;
 
-/// What is done, the files, what the first of them is then, what is written, how the notes begin, and what is counted.
-type Run = (
-    Task,
-    &'static [File],
-    &'static [u8],
-    &'static str,
-    &'static str,
-    [usize; 4],
-);
-
-const BROKEN: &[u8] = b"a = b\nbro ken\n";
-
-const LOOSE: &[u8] = b"key=a\n";
-
-const CHECKED: [File; 5] = [
-    ("/d/a.ftl", BROKEN),
-    ("/d/b.ftl", b"\xEF\xBB\xBFa = b\nc = d\n"),
-    ("/d/c.ftl", b"a = \xFF\n"),
-    ("/d/d.ftl", b"a = {{{ $x }}}\n"),
-    ("/d/e.ftl", b""),
-];
-
-const TREE: &[u8] = b"{\"body\":[{\"type\":\"Comment\",\"content\":\"c\"}]}";
-
-const RUNS: [Run; 7] = [
-    (
-        Task::Check,
-        &CHECKED,
-        BROKEN,
-        "/d/a.ftl:2:5: ExpectedToken\n/d/b.ftl:1:1: ExpectedCharRange\n",
-        "ftl: /d/b.ftl: begins with a byte order mark, so its first entry is junk\n\
-        ftl: /d/c.ftl: is not UTF-8 from byte 4 on\nftl: /d/d.ftl: nests deeper than it may\n\
-        ftl: /d/e.ftl: can't be read: ",
-        [2, 2, 2, 6],
-    ),
-    (
-        Task::Print(Command::Format),
-        &[("/d/a.ftl", b"a=1\n"), ("/d/b.ftl", b"b=2\nbro ken\n")],
-        b"a=1\n",
-        "a = 1\nb = 2\n",
-        "ftl: /d/b.ftl: has syntax errors\n",
-        [2, 1, 0, 0],
-    ),
-    (
-        Task::Convert,
-        &[
-            ("/d/a.json", TREE),
-            ("/d/c.json", b"{\"body\":[{\"type\":\"None\"}]}"),
-        ],
-        TREE,
-        "# c\n",
-        "ftl: /d/c.json: is JSON that spells no tree\n",
-        [1, 0, 0, 3],
-    ),
-    (
-        Task::Name,
-        &[("/d/a.ftl", LOOSE)],
-        LOOSE,
-        "/d/a.ftl\n",
-        "",
-        [1, 1, 0, 0],
-    ),
-    (
-        Task::Write,
-        &[("/d/a.ftl", LOOSE)],
-        b"key = a\n",
-        "",
-        "",
-        [1, 0, 0, 0],
-    ),
-    (
-        Task::Lint,
-        &[("/d/a.ftl", b"a = { -b }\n")],
-        b"a = { -b }\n",
-        "/d/a.ftl:1:8: undefined-term\n",
-        "1 undefined-term\n",
-        [1, 1, 1, 0],
-    ),
-    (
-        Task::Compare,
-        &[("en/a.ftl", b"a = A\n"), ("de/a.ftl", b"b = B\n")],
-        b"a = A\n",
-        "de/a.ftl: missing: `a` is missing (en/a.ftl:1:1)\nde/a.ftl:1:1: obsolete\n",
-        "",
-        [1, 1, 1, 0],
-    ),
-];
-
-fn assert_run(alloc: Global, row: &Run) -> Result<(), Fail> {
-    let (task, files, first, out, err, met) = row;
-    let mut bench = Bench::new(alloc, *files)?;
-    bench.run(alloc, *task)?;
-    let Tally {
-        files: answered,
-        with_problems,
-        errors,
-        fault,
-        ..
-    } = bench.tally;
-    let counted = [answered, with_problems, errors, usize::from(fault)];
-    assert_same(alloc, *out, &counted, met)?;
-    if let Some((path, _)) = files.first() {
-        assert_same(alloc, *path, &bench.memory.bytes_at(*path), &Some(*first))?;
-    }
-    bench.assert_told(alloc, *out, *out, *err)
+/// How a check of a file with an error ends, and what it has written.
+fn checked(
+    alloc: Global,
+    path: &str,
+    out: Narrow,
+    err: Narrow,
+) -> Result<(Result<(), RunFault>, Vec<u8>), Fail> {
+    let mut memory = Memory::new(alloc);
+    memory.put("/d/a.ftl", b"a = b\nbro ken\n")?;
+    let mut files = Vec::new(alloc);
+    files.push(String::from_str(alloc, path)?)?;
+    let reading = Reading {
+        edition: Edition::One,
+        nesting: 2,
+    };
+    let mut out = Watched::new(out);
+    let mut streams = Streams {
+        out: &mut out,
+        err: &mut Watched::new(err),
+    };
+    let ended = check_files(
+        alloc,
+        &mut memory,
+        files.as_slice(),
+        reading,
+        Form::Lines,
+        &mut Tally::new(),
+        &mut streams,
+    );
+    Ok((ended, out.into_inner().into_taken()))
 }
 
 #[test]
-fn runs(rt: HostRuntime) -> Result<(), Fail> {
-    for row in &RUNS {
-        assert_run(rt.alloc(), row)?;
-    }
-    Ok(())
+fn a_check_whose_output_fails(rt: HostRuntime) -> Result<(), Fail> {
+    let alloc = rt.alloc();
+    let (wide, closed) = (Narrow::wide(alloc), Narrow::closed(alloc));
+    let (ended, told) = checked(alloc, "/d/a.ftl", wide, closed)?;
+    assert_holds(alloc, "an end", ended == Ok(()))?;
+    let told = str::from_utf8(told.as_slice())?;
+    assert_same_text(alloc, "an error", told, "/d/a.ftl:2:5: ExpectedToken\n")?;
+    let (closed, wide) = (Narrow::closed(alloc), Narrow::wide(alloc));
+    let (ended, _) = checked(alloc, "/d/a.ftl", closed, wide)?;
+    assert_holds(alloc, "the report", ended == Err(RunFault::Output))?;
+    let (wide, closed) = (Narrow::wide(alloc), Narrow::closed(alloc));
+    let (ended, _) = checked(alloc, "/d/none.ftl", wide, closed)?;
+    assert_holds(alloc, "a note", ended == Err(RunFault::Output))
 }
 
 #[test]
