@@ -1,7 +1,6 @@
-//! Open documents and closed files: what is found in them, their tokens and names, and how they are formatted.
+//! Open documents and closed files: their tokens and names, and texts that nest too deep.
 
-use fluent_syntax_names::local_findings;
-use fluent_syntax_tests::alike::{assert_holds, assert_same, assert_same_text};
+use fluent_syntax_tests::alike::{assert_holds, assert_same_text};
 use ftl_lsp::{
     ClosedFile, Document, NameKind, Occurrence, encoded_tokens, formatted_text, semantic_tokens_of,
     tokens_of,
@@ -11,23 +10,6 @@ use std::test::Fail;
 
 fn document_of(alloc: Global, text: &str) -> Result<Document, Fail> {
     Ok(Document::new(alloc, String::from_str(alloc, text)?)?)
-}
-
-#[test]
-fn errors_and_findings(rt: HostRuntime) -> Result<(), Fail> {
-    let alloc = rt.alloc();
-    let document = document_of(alloc, "bro ken\na = A\na = B\n")?;
-    let is_told = match document.diagnostics() {
-        [one] => one.code == "ExpectedToken" && (one.start.line, one.start.character) == (0, 4),
-        _ => false,
-    };
-    assert_holds(alloc, "the error", is_told)?;
-    let findings = local_findings(alloc, &document.name_index(alloc)?)?;
-    let names = match findings.as_slice() {
-        [one] => one.kind.name(),
-        _ => "",
-    };
-    assert_same_text(alloc, "what is found", names, "defined-twice")
 }
 
 const TEXT: &str = "# 😀\n#\n-c = { \"\" }\n";

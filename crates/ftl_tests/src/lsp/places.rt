@@ -40,16 +40,6 @@ fn places_and_their_bytes(rt: HostRuntime) -> Result<(), Fail> {
 }
 
 #[test]
-fn places_in_any_order(rt: HostRuntime) -> Result<(), Fail> {
-    let mut positions = Positions::new("a\r\n\rb");
-    for (byte, line, character) in [(5, 2, 1), (2, 0, 2), (3, 1, 0), (1, 0, 1), (100, 2, 1)] {
-        let found = positions.position_or_end(byte);
-        assert_holds(rt.alloc(), "a place", found == place(line, character))?;
-    }
-    Ok(())
-}
-
-#[test]
 fn changes_of_a_text(rt: HostRuntime) -> Result<(), Fail> {
     let alloc = rt.alloc();
     let between = Change::Between {
