@@ -1,8 +1,8 @@
 """Reads files of transcripts: tests/files.txt and tests/sessions.txt
 
 A line is a step, `WORD: REST`, and the lines below it that begin with `|` are its text. `case: TITLE` begins a case. In
-a text `\\xHH` is that byte, and a `\\` at a line's end leaves out the LF; every other `\\` is one. So it is in the rest of
-a step, whose words are parted by single spaces. A line that begins with `#` says something, and so does a blank one.
+a text `\\xHH` is that byte, and a `\\` at a line's end leaves out the LF; every other `\\` is one. The rest of a step is
+words between spaces, with the same bytes. A line that begins with `#` is a comment.
 """
 import pathlib
 import re
@@ -40,7 +40,7 @@ def steps_of(lines):
 def cases_of(name):
     """The title and the steps of each case of a file of this folder."""
     cases = []
-    for step in steps_of((FOLDER / name).read_text().splitlines()):
+    for step in steps_of((FOLDER / name).read_text(encoding="utf-8").split("\n")):
         if step.word == "case":
             cases.append((" ".join(step.rest), []))
         else:
