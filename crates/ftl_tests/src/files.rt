@@ -1,6 +1,9 @@
-//! Tests of files: on the disk and in memory, as calls of the system fail, and what an `ftl.toml` says.
+//! Tests of files: on the disk and in memory, as calls of the system fail; paths, languages, and what an `ftl.toml` says.
 mod disk;
+mod languages;
 mod memory;
 mod paths;
+mod reading;
 mod settings;
 mod shelf;
+mod uris;

@@ -1,6 +1,5 @@
-//! Tests of the language server: documents, sessions and workspaces.
+//! Tests of the language server: places, documents, frames and phases, and sessions whose writer fails.
 mod documents;
-mod languages;
-mod notices;
+mod phases;
+mod places;
 mod sessions;
-mod workspace;

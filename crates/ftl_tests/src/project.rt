@@ -1,6 +1,3 @@
-//! Tests of runs over files: what is shown of an error, what becomes of a file, and what a run tells.
-mod bench;
+//! Tests of runs over files: an output that fails, how a run is summed up, and excerpts of a place where no error is.
 mod excerpts;
-mod linting;
-mod reports;
 mod runs;

