@@ -1,4 +1,4 @@
-//! Tests of files: on the disk and in memory, as calls of the system fail; paths, languages, and what an `ftl.toml` says.
+//! Tests of files: on the disk and in memory, as calls fail; paths, languages, and what an `ftl.toml` says.
 mod disk;
 mod languages;
 mod memory;

@@ -44,16 +44,16 @@ fn checked(
 #[test]
 fn a_check_whose_output_fails(rt: HostRuntime) -> Result<(), Fail> {
     let alloc = rt.alloc();
-    let (wide, closed) = (Narrow::wide(alloc), Narrow::closed(alloc));
-    let (ended, told) = checked(alloc, "/d/a.ftl", wide, closed)?;
+    let wide = Narrow::wide(alloc);
+    let (ended, told) = checked(alloc, "/d/a.ftl", wide, Narrow::closed(alloc))?;
     assert_holds(alloc, "an end", ended == Ok(()))?;
     let told = str::from_utf8(told.as_slice())?;
     assert_same_text(alloc, "an error", told, "/d/a.ftl:2:5: ExpectedToken\n")?;
-    let (closed, wide) = (Narrow::closed(alloc), Narrow::wide(alloc));
-    let (ended, _) = checked(alloc, "/d/a.ftl", closed, wide)?;
+    let closed = Narrow::closed(alloc);
+    let (ended, _) = checked(alloc, "/d/a.ftl", closed, Narrow::wide(alloc))?;
     assert_holds(alloc, "the report", ended == Err(RunFault::Output))?;
-    let (wide, closed) = (Narrow::wide(alloc), Narrow::closed(alloc));
-    let (ended, _) = checked(alloc, "/d/none.ftl", wide, closed)?;
+    let wide = Narrow::wide(alloc);
+    let (ended, _) = checked(alloc, "/d/none.ftl", wide, Narrow::closed(alloc))?;
     assert_holds(alloc, "a note", ended == Err(RunFault::Output))
 }
 
