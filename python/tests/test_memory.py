@@ -20,18 +20,26 @@ def calls_over(text: str, tree: ast.Resource) -> "list[Callable[[], Any]]":
             lambda: dovelectern.insert(OTHER + text, "a = b", before="key"), lambda: dovelectern.is_canonical(tree)]
 
 
+def answer_of(call: "Callable[[], Any]") -> Any:
+    """What the call returns, or why it refuses the tree; a request for memory that was refused is no answer."""
+    try:
+        return call()
+    except dovelectern.ReadsOtherwise as error:
+        return str(error)
+
+
 @unittest.skipUnless(hasattr(LIBRARY, "refuse_request"), "the library refuses no request")
 class Memory(unittest.TestCase):
     def test_refused(self) -> None:
         refused = 0
         for text, _ in all_texts()[::128]:
             for call in calls_over(text, dovelectern.parse(text)):
-                wanted = call()
+                wanted = answer_of(call)
                 for number in range(10_000):
                     LIBRARY.refuse_request(number)
                     try:
                         # a request may be one that the library does without
-                        self.assertEqual(call(), wanted)
+                        self.assertEqual(answer_of(call), wanted)
                     except MemoryError:
                         refused += 1
                     left = LIBRARY.refuse_request(-1)
