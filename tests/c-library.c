@@ -11,8 +11,9 @@
 #include <string.h>
 #include <sys/mman.h>
 
-enum { ROOM = 1 << 22, PAGE = 4096, MARK = 0xA5, CALLS = 23, ERRORS = 6, NAMES = 8, VALUES = 10, MESSAGES = 12 };
-enum { FINDINGS = 14, COMPARISON = 16, SET_VALUE = 18, REPLACE = 19, INSERT = 20, REMOVE = 21, FROM_JSON = 22 };
+enum { ROOM = 1 << 22, PAGE = 4096, MARK = 0xA5, CALLS = 27, ERRORS = 6, CAUSES = 8, NAMES = 10, VALUES = 12 };
+enum { MESSAGES = 14, CAUSE_MESSAGES = 16, FINDINGS = 18, COMPARISON = 20, SET_VALUE = 22, REPLACE = 23, INSERT = 24 };
+enum { REMOVE = 25, FROM_JSON = 26 };
 
 /* ---- memory */
 
@@ -78,9 +79,9 @@ static void fault(int call, const char *what, size_t text_len, size_t number)
         printf("call %d over %zu bytes, %zu: %s\n", call, text_len, number, what);
 }
 
-/* ---- the calls: the six commands over texts; the errors, names, values and messages by either edition; the findings
-   in the text and another one, and its comparison with that, likewise; the edits of the text; and from JSON, made over
-   the JSON of the text */
+/* ---- the calls: the six commands over texts; the errors, their causes, names, values, messages and messages of causes
+   by either edition; the findings in the text and another one, and its comparison with that, likewise; the edits of the
+   text; and from JSON, made over the JSON of the text */
 
 _Static_assert(sizeof(struct ftl_text) == 2 * sizeof(size_t), "a text is a pointer and a length");
 _Static_assert(sizeof(struct ftl_value) == 2 * sizeof(size_t), "a value is two places");
@@ -96,7 +97,8 @@ static size_t size_of(int call)
 {
     if (call < ERRORS || call >= SET_VALUE || (call >= MESSAGES && call < FINDINGS))
         return 1;
-    return call < NAMES      ? sizeof(struct ftl_error)
+    return call < CAUSES     ? sizeof(struct ftl_error)
+           : call < NAMES    ? sizeof(struct ftl_cause)
            : call < VALUES   ? sizeof(struct ftl_name)
            : call < MESSAGES ? sizeof(struct ftl_value)
                              : sizeof(struct ftl_finding);
@@ -126,14 +128,18 @@ static uint32_t made(int call, size_t nesting, const uint8_t *text, size_t text_
     calls++;
     if (call < ERRORS)
         return ftl_answer((uint32_t)call, nesting, text, text_len, array, room, count);
-    if (call < NAMES)
+    if (call < CAUSES)
         return ftl_errors(edition, nesting, text, text_len, array, room, count);
+    if (call < NAMES)
+        return ftl_causes(edition, nesting, text, text_len, array, room, count);
     if (call < VALUES)
         return ftl_names(edition, nesting, text, text_len, array, room, count);
     if (call < MESSAGES)
         return ftl_values(edition, nesting, text, text_len, array, room, count);
-    if (call < FINDINGS)
+    if (call < CAUSE_MESSAGES)
         return ftl_error_messages(edition, nesting, text, text_len, array, room, count);
+    if (call < FINDINGS)
+        return ftl_cause_messages(edition, nesting, text, text_len, array, room, count);
     if (call < COMPARISON)
         return ftl_findings(edition, nesting, texts, 3, array, room, count);
     if (call < SET_VALUE)
@@ -217,6 +223,37 @@ static void values_beside_names(uint32_t edition, const uint8_t *text, size_t te
     free(values);
 }
 
+/* Causes by the edition: a row and a line for each error. Without a cause the row is 0 and the line empty; with one
+   there is a place in the text, and a message. */
+static void causes_beside_errors(uint32_t edition, const uint8_t *text, size_t text_len)
+{
+    size_t count, causes_count, bytes;
+    if (ftl_errors(edition, FTL_NESTING, text, text_len, NULL, 0, &count) > FTL_TOO_SMALL)
+        return;
+    struct ftl_cause *causes = calloc(count + 1, sizeof *causes);
+    if (causes == NULL)
+        exit(2);
+    if (ftl_causes(edition, FTL_NESTING, text, text_len, causes, count, &causes_count) > FTL_SYNTAX_ERRORS ||
+        causes_count != count)
+        fault(CAUSES, "another number than of errors", text_len, causes_count);
+    ftl_cause_messages(edition, FTL_NESTING, text, text_len, want, ROOM, &bytes);
+    const uint8_t *line = want, *end = want + bytes;
+    for (size_t i = 0; i < count && line < end; i++) {
+        const uint8_t *line_end = memchr(line, '\n', (size_t)(end - line));
+        const struct ftl_cause *it = &causes[i];
+        int is_none = it->column == 0 && it->column_utf16 == 0 && it->column_characters == 0 && it->start == 0 &&
+                      it->end == 0 && it->kind == 0;
+        if (line_end == NULL || (it->line == 0) != is_none || (it->line == 0) != (line_end == line) ||
+            it->start > it->end || it->end > text_len + 1 || it->kind > FTL_EXPECTED_LITERAL)
+            fault(CAUSES, "a cause that is none", text_len, i);
+        line = line_end != NULL ? line_end + 1 : end;
+        causes_count--;
+    }
+    if (causes_count != 0 || line != end)
+        fault(CAUSE_MESSAGES, "another number than of errors", text_len, causes_count);
+    free(causes);
+}
+
 /* With room for no item, for each number of them and for more; then each request for memory is refused in turn. */
 static void call_over(int call, const uint8_t *text, size_t text_len)
 {
@@ -279,11 +316,13 @@ static void odd_calls(void)
     for (size_t i = 0; i < sizeof wrong / sizeof wrong[0]; i++) {
         uint8_t out[4] = {MARK, MARK, MARK, MARK};
         struct ftl_error error;
+        struct ftl_cause cause;
         struct ftl_name name;
         struct ftl_value value;
         struct ftl_finding finding;
         struct ftl_text none = {bad, sizeof bad};
         memset(&error, MARK, sizeof error);
+        memset(&cause, MARK, sizeof cause);
         memset(&name, MARK, sizeof name);
         memset(&value, MARK, sizeof value);
         memset(&finding, MARK, sizeof finding);
@@ -295,6 +334,10 @@ static void odd_calls(void)
         if (ftl_errors(wrong[i], FTL_NESTING, bad, 3, &error, 1, &count) != FTL_WRONG_ARGUMENT || count != 0 ||
             *(uint8_t *)&error != MARK)
             fault(ERRORS, "no edition has that number", 3, wrong[i]);
+        count = 99;
+        if (ftl_causes(wrong[i], FTL_NESTING, bad, 3, &cause, 1, &count) != FTL_WRONG_ARGUMENT || count != 0 ||
+            *(uint8_t *)&cause != MARK)
+            fault(CAUSES, "no edition has that number", 3, wrong[i]);
         count = 99;
         if (ftl_names(wrong[i], FTL_NESTING, bad, 3, &name, 1, &count) != FTL_WRONG_ARGUMENT || count != 0 ||
             *(uint8_t *)&name != MARK)
@@ -326,6 +369,10 @@ static void odd_calls(void)
     if (ftl_error_messages(3, FTL_NESTING, bad, 3, out, 4, &count) != FTL_WRONG_ARGUMENT || count != 0 ||
         out[0] != MARK)
         fault(MESSAGES, "no edition has that number", 3, 3);
+    count = 99;
+    if (ftl_cause_messages(3, FTL_NESTING, bad, 3, out, 4, &count) != FTL_WRONG_ARGUMENT || count != 0 ||
+        out[0] != MARK)
+        fault(CAUSE_MESSAGES, "no edition has that number", 3, 3);
 }
 
 /* The name of a kind, with room for no byte, for each number of them and for more, and without memory. */
@@ -534,6 +581,29 @@ static void deep_calls(void)
         }
 }
 
+/* An attribute that is refused, read to the bound and one beyond. */
+static void deep_causes(void)
+{
+    static const char start[] = "k =\n .a = ", end[] = "$a\n";
+    static const int asked[] = {CAUSES, CAUSES + 1, CAUSE_MESSAGES, CAUSE_MESSAGES + 1};
+    size_t count, start_len = sizeof start - 1, end_len = sizeof end - 1;
+    for (size_t times = FTL_NESTING; times < FTL_NESTING + 2; times++) {
+        size_t len = start_len + times + end_len;
+        uint8_t *text = text_end - len;
+        memcpy(text, start, start_len);
+        memset(text + start_len, '{', times);
+        memcpy(text + start_len + times, end, end_len);
+        for (size_t i = 0; i < sizeof asked / sizeof asked[0]; i++) {
+            uint32_t wants = times > FTL_NESTING ? FTL_TOO_DEEP : FTL_SYNTAX_ERRORS;
+            size_t bytes = PAGE / size_of(asked[i]) * size_of(asked[i]);
+            if (made(asked[i], FTL_NESTING, text, len, array_end - bytes, bytes / size_of(asked[i]), &count) != wants)
+                fault(asked[i], "another status by nesting", times, wants);
+            if (live != 0)
+                fault(asked[i], "a block was not given back after nesting", times, wants);
+        }
+    }
+}
+
 int main(int argc, char **argv)
 {
     size_t len, texts = 0;
@@ -543,6 +613,7 @@ int main(int argc, char **argv)
         edited = "k";
         new_len = 0;
         deep_calls();
+        deep_causes();
         printf("nesting: %ld calls, %ld faults\n", calls, faults);
         return faults != 0;
     }
@@ -557,8 +628,10 @@ int main(int argc, char **argv)
         texts++;
         for (int call = 0; call < FROM_JSON; call++)
             call_over(call, text_end - len, len);
-        values_beside_names(FTL_EDITION_ONE, text_end - len, len);
-        values_beside_names(FTL_EDITION_TWO, text_end - len, len);
+        for (uint32_t edition = FTL_EDITION_ONE; edition <= FTL_EDITION_TWO; edition++) {
+            values_beside_names(edition, text_end - len, len);
+            causes_beside_errors(edition, text_end - len, len);
+        }
         uint32_t status = ftl_answer(FTL_JSON, FTL_NESTING, text_end - len, len, json, ROOM, &len);
         if (status > FTL_SYNTAX_ERRORS)
             fault(FTL_JSON, "no JSON", len, status);

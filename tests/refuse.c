@@ -1,7 +1,7 @@
 /* Refuses one request for memory of a program that it is loaded into before the C library.
 
    `fluent_syntax_checks refusals` speaks to it by requests of sizes that nothing else asks for (its file
-   refusals/requests.rt). REFUSE + n: the n-th request from now on is refused. TELL: none is refused from now on;
+   refusals/requests.rt). REFUSE + n: the n-th request from now on is refused. REPORT: none is refused from now on;
    granted where one was. Both words are themselves refused otherwise, as they are without this library.
 
    For a program that doesn't speak to it, the environment's REFUSE is the number of the request that is
@@ -11,7 +11,7 @@
 #include <unistd.h>
 
 static const size_t REFUSE = (size_t)1 << 62;
-static const size_t TELL = (size_t)1 << 61;
+static const size_t REPORT = (size_t)1 << 61;
 
 extern void *__libc_malloc(size_t size);
 extern void *__libc_realloc(void *old, size_t size);
@@ -45,7 +45,7 @@ static void *told(void)
 
 void *malloc(size_t size)
 {
-    if (size == TELL)
+    if (size == REPORT)
         return told();
     if (size > REFUSE) {
         left = size - REFUSE;

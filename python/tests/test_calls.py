@@ -134,6 +134,27 @@ class Told(unittest.TestCase):
             (error,) = dovelectern.check(text)
             self.assertEqual(error.message, message)
 
+    def test_causes(self) -> None:
+        for text, place, kind, spoken in (
+            ("k =\n    .a = A\n    .b = 😀{ $x\n", (4, 1, 1, 1, 30, 30), "ExpectedToken", "}"),
+            ("k =\n    .a = 😀{ 5x }\n", (2, 14, 15, 17, 17, 18), "ExpectedToken", "}"),
+            ("ü =\n\t.a = A\n", (2, 1, 1, 1, 4, 5), None, "tab"),
+            ("ü\nkey\u00a0= x\n", (2, 4, 4, 4, 5, 6), None, "U+00A0"),
+        ):
+            for edition in (1, 2):
+                cause = dovelectern.check(text, edition=edition)[-1].cause
+                assert cause is not None
+                self.assertEqual((cause.line, cause.column, cause.column_utf16, cause.column_bytes,
+                                  cause.span.start, cause.span.end), place)
+                self.assertEqual(cause.kind, kind)
+                self.assertIn(spoken, cause.message)
+                self.assertEqual(str(cause), f"{cause.line}:{cause.column}: {cause.message}")
+        self.assertEqual([error.cause for error in dovelectern.check("bro ken\n\nkey = {\n")], [None, None])
+        with self.assertRaises(dovelectern.SyntaxErrors) as raised:
+            dovelectern.format("k =\n\t.a = A\n")
+        self.assertEqual(raised.exception.errors, dovelectern.check("k =\n\t.a = A\n"))
+        self.assertIsNotNone(raised.exception.errors[0].cause)
+
     def test_syntax_errors(self) -> None:
         with self.assertRaises(dovelectern.SyntaxErrors) as raised:
             dovelectern.format("bro ken\nk\n")

@@ -77,14 +77,14 @@ module _ {S : Type 0} (text : S → List ℕ) (t : List ℕ) (tiles : List Tile)
   junk_given : (result : Result (Resource S) (ParseFault S)) →
       flat_map junk_slice (body tiles) ≡ map fault_slice (faults tiles) → Given result → JunkIsRefused t text result
   junk_given (Ok tree) law (same, none) = junk_of tree same law ∙ ap (λ fs. map (bytes_at t) (map fault_slice fs)) none
-  junk_given (Err (Syntax tree errors)) law (same, told, some) =
-      ap (map Some) (junk_of tree same law) ∙ sym (refused_texts t errors.items (faults tiles) told)
+  junk_given (Err (Syntax tree errors)) law (same, stated, some) =
+      ap (map Some) (junk_of tree same law) ∙ sym (refused_texts t errors.items (faults tiles) stated)
   junk_given (Err Memory) law given = tt
 
   errors_given : (result : Result (Resource S) (ParseFault S)) → laws.Ascend t 0 (faults tiles) → Given result →
       ErrorsAscend t result
   errors_given (Ok tree) law given = tt
-  errors_given (Err (Syntax tree errors)) law (same, told, some) = (faults tiles, told, law)
+  errors_given (Err (Syntax tree errors)) law (same, stated, some) = (faults tiles, stated, law)
   errors_given (Err Memory) law given = tt
 
 module _ {S : Type 0} (text : S → List ℕ) (edition : Edition) (t : List ℕ) (result : Result (Resource S) (ParseFault S))

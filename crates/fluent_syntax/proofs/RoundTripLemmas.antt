@@ -37,7 +37,7 @@ module _ {S : Type 0} (text : S → List ℕ) where
     λ bare. readable_as found (tree_of t tiles) same (joined_is_readable t tiles bare tiling),
     λ none. joined_as found (tree_of t tiles) same (joined_is_same t tiles none tiling clean),
   )
-  readable_given t tiles (Err (Syntax found errors)) tiling (same, told, some) =
+  readable_given t tiles (Err (Syntax found errors)) tiling (same, stated, some) =
       λ bare. readable_as found (tree_of t tiles) same (joined_is_readable t tiles bare tiling)
   readable_given t tiles (Err Memory) tiling given = tt
 
@@ -55,7 +55,7 @@ module _ {S : Type 0} (text : S → List ℕ) where
       faults tiles ≡ [] → tree_of t tiles ≡ tree → Answers text (body_map (bytes_at t)) tiles result →
       IsTree text tree result
   tree_given t tiles tree (Ok found) clean is (same, none) = same ∙ is
-  tree_given t tiles tree (Err (Syntax found errors)) clean is (same, told, some) = some clean
+  tree_given t tiles tree (Err (Syntax found errors)) clean is (same, stated, some) = some clean
   tree_given t tiles tree (Err Memory) clean is given = tt
 
   -- A text that reads as a tree is answered with that tree.

@@ -17,11 +17,11 @@ module _ {S Z : Type 0} (text : S → List ℕ) (other : Z → List ℕ) (whole 
       (tiles : List Tile) (a : Result (Resource S) (ParseFault S)) (b : Result (Resource Z) (ParseFault Z)) →
       Answers text whole tiles a → Answers other whole tiles b → SameAnswers text other a b
   of_one_tiling tiles (Ok x) (Ok y) (p, e) (q, f) = p ∙ sym q
-  of_one_tiling tiles (Ok x) (Err (Syntax y others)) (p, e) (q, told, some) = some e
+  of_one_tiling tiles (Ok x) (Err (Syntax y others)) (p, e) (q, stated, some) = some e
   of_one_tiling tiles (Ok x) (Err Memory) h k = tt
-  of_one_tiling tiles (Err (Syntax x errors)) (Ok y) (p, told, some) (q, f) = some f
-  of_one_tiling tiles (Err (Syntax x errors)) (Err (Syntax y others)) (p, told, some) (q, found, any) =
-      (p ∙ sym q, told ∙ sym found)
+  of_one_tiling tiles (Err (Syntax x errors)) (Ok y) (p, stated, some) (q, f) = some f
+  of_one_tiling tiles (Err (Syntax x errors)) (Err (Syntax y others)) (p, stated, some) (q, found, any) =
+      (p ∙ sym q, stated ∙ sym found)
   of_one_tiling tiles (Err (Syntax x errors)) (Err Memory) h k = tt
   of_one_tiling tiles (Err Memory) b h k = tt
 

@@ -15,7 +15,7 @@ use Rattle.fluent_syntax_parser.specs.declared.fault.ParseFault.TheVariants.{Syn
 abbrev pub junk_texts : {X : Type 0} → BodyTree X → List X
 junk_texts body = flat_map junk_slice body
 
--- the text that an error tells to have become junk
+-- the text that an error says to have become junk
 abbrev pub refused_text : List ℕ → ParserError → Option (List ℕ)
 refused_text t e = option_map (λ range. slice_range t range.start range.end) e.slice
 
@@ -27,7 +27,7 @@ module _ {S : Type 0} (t : List ℕ) where
       map Some (junk_texts (resource_view text tree)) ≡ map (refused_text t) errors.items
   JunkIsRefused text (Err Memory) = Unit {0}
 
-  -- The errors tell of faults that ascend: their stretches are nonempty and disjoint, in order, and each error's place
+  -- The errors report faults that ascend: their stretches are nonempty and disjoint, in order, and each error's place
   -- begins within its stretch, both ends included.
   abbrev pub ErrorsAscend : Result (Resource S) (ParseFault S) → Type 0
   ErrorsAscend (Ok tree) = Unit {0}

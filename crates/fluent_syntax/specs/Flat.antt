@@ -12,8 +12,8 @@ abbrev pub is_line_mark : ℕ → Bool
 is_line_mark b = b == space || b == hash || b == full_stop || b == hyphen || b == cr
 
 -- whether a flat text may hold the byte, at a line's start or elsewhere
-abbrev pub may_stand : Bool → ℕ → Bool
-may_stand first b = not (is_brace b) && not (first && is_line_mark b)
+abbrev pub may_occur : Bool → ℕ → Bool
+may_occur first b = not (is_brace b) && not (first && is_line_mark b)
 
 abbrev pub IsFlat : List ℕ → Type 0
-IsFlat t = EachIndex t (λ i. may_stand (starts_line t i) (slice_index t i) ≡ true)
+IsFlat t = EachIndex t (λ i. may_occur (starts_line t i) (slice_index t i) ≡ true)

@@ -1,6 +1,6 @@
 //! A plain test of texts.
 ghost use Rattle.std.specs.Prelude.{◌≡◌, ◌↔◌, IsTrue};
-ghost use Rattle.fluent_syntax.specs.Flat.{IsFlat, is_line_mark, may_stand};
+ghost use Rattle.fluent_syntax.specs.Flat.{IsFlat, is_line_mark, may_occur};
 ghost use Rattle.fluent_syntax_grammar.specs.PatternTexts.{is_brace};
 
 /// Whether the text holds no `{` and no `}`, and no line begins with a space, `#`, `.`, `-` or CR.
@@ -9,7 +9,7 @@ pub fn is_flat(text: &str) -> bool
 {
     let mut starts_line = true;
     for byte in text.as_bytes() {
-        if !can_stand(*byte, starts_line) {
+        if !can_occur(*byte, starts_line) {
             return false;
         }
         starts_line = *byte == b'\n';
@@ -17,8 +17,8 @@ pub fn is_flat(text: &str) -> bool
     true
 }
 
-fn can_stand(byte: u8, starts_line: bool) -> bool
-    ensures { result ≡ may_stand starts_line byte }
+fn can_occur(byte: u8, starts_line: bool) -> bool
+    ensures { result ≡ may_occur starts_line byte }
 {
     !has_brace(byte) && !(starts_line && has_line_mark(byte))
 }

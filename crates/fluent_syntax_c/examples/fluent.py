@@ -3,6 +3,7 @@
     library = Fluent("libfluent.so")
     library.answer("format", b"key=value\n")      # (b"key = value\n", False)
     library.errors(b"bro ken\n")                  # [Error(line=1, column=5, ..)]
+    library.causes(b"key =\n\t.a = b\n")         # [Cause(line=2, column=1, ..)]
     library.names(b"key = value\n    .a = b\n")   # [Name(..), Name(..)]
     library.values(b"key = value\n    .a = b\n")  # [Value(start=5, end=12), Value(start=20, end=23)]
     library.findings([b"a = { b }\n"])            # [Finding(text=0, line=1, column=7, ..)]
@@ -32,6 +33,7 @@ def _record(name, fields, last):
 
 _PLACE = ["line", "column", "column_utf16", "column_characters", "start", "end"]
 _ERROR, Error = _record("Error", [*_PLACE, "junk_start", "junk_end"], ["kind"])
+_CAUSE, Cause = _record("Cause", _PLACE, ["kind"])
 _NAME, Name = _record("Name", [*_PLACE, "owner", "entry_start", "entry_end"], ["kind"])
 _VALUE, Value = _record("Value", ["start", "end"], [])
 _FINDING, Finding = _record("Finding", ["text", *_PLACE, "other_text", "other_start", "other_end"],
@@ -54,6 +56,7 @@ class Fluent:
         for name, arguments in {
             "ftl_answer": [*read, *text], "ftl_errors": [*read, *text], "ftl_names": [*read, *text],
             "ftl_values": [*read, *text], "ftl_error_messages": [*read, *text],
+            "ftl_causes": [*read, *text], "ftl_cause_messages": [*read, *text],
             "ftl_findings": [*read, ctypes.POINTER(_TEXT), ctypes.c_size_t],
             "ftl_comparison": [*read, *text, *text], "ftl_kind_name": read[:1], "ftl_finding_kind_name": read[:1],
         }.items():
@@ -86,6 +89,10 @@ class Fluent:
         rows, count, _ = self._items(name, arguments, kind, room)
         return [made(*(getattr(row, field) for field in made._fields)) for row in rows[:count]]
 
+    def _lines(self, name, arguments):
+        out, length, _ = self._items(name, arguments, ctypes.c_char, 1024)
+        return out.raw[:length].decode().split("\n")[:-1]
+
     def _name(self, call, kind):
         out, length, _ = self._items(call, [kind], ctypes.c_char, 64)
         return out.raw[:length].decode()
@@ -102,9 +109,15 @@ class Fluent:
 
     def messages(self, text, edition=1, nesting=NESTING):
         """The messages of the syntax errors of the bytes, in order: each is one line."""
-        arguments = [edition, nesting, text, len(text)]
-        out, length, _ = self._items("ftl_error_messages", arguments, ctypes.c_char, 1024)
-        return out.raw[:length].decode().split("\n")[:-1]
+        return self._lines("ftl_error_messages", [edition, nesting, text, len(text)])
+
+    def causes(self, text, edition=1, nesting=NESTING):
+        """The causes of the syntax errors of the bytes, in the order of these; all 0 where none is known."""
+        return self._rows("ftl_causes", [edition, nesting, text, len(text)], _CAUSE, Cause, 8)
+
+    def cause_messages(self, text, edition=1, nesting=NESTING):
+        """What the causes of the syntax errors of the bytes are: each is one line, empty where none is known."""
+        return self._lines("ftl_cause_messages", [edition, nesting, text, len(text)])
 
     def kind_name(self, kind):
         """The name of a kind of errors."""

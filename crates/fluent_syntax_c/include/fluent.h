@@ -97,6 +97,17 @@ struct ftl_error {
     uint32_t kind;            /* an ftl_error_kind */
 };
 
+/* The cause of a syntax error: a mistake from which the error comes. Where none is known all are 0. Since 2.4. */
+struct ftl_cause {
+    size_t line;              /* where it is: the line, from 1 */
+    size_t column;            /* and the column, from 1, in bytes, */
+    size_t column_utf16;      /* in UTF-16 units */
+    size_t column_characters; /* and in characters */
+    size_t start;             /* its place, in bytes of the text: from start */
+    size_t end;               /* up to end */
+    uint32_t kind;            /* of an attribute that is refused, an ftl_error_kind; of all others 0 */
+};
+
 /* What a name is the name of. */
 enum ftl_name_kind {
     FTL_MESSAGE = 1,
@@ -201,6 +212,17 @@ uint32_t ftl_values(uint32_t edition, size_t nesting, const uint8_t *text, size_
    `*needed` bytes of UTF-8. A line end that a message tells of is written as \n or \r. `edition` is an ftl_edition.
    Returns an ftl_status. */
 uint32_t ftl_error_messages(uint32_t edition, size_t nesting, const uint8_t *text, size_t text_len,
+                            uint8_t *out, size_t out_len, size_t *needed);
+
+/* Writes the cause of each syntax error of the text: `*count` rows, as many as those of ftl_errors and in the same
+   order: causes[i] is that of errors[i]. `edition` is an ftl_edition. Returns an ftl_status. Since 2.4. */
+uint32_t ftl_causes(uint32_t edition, size_t nesting, const uint8_t *text, size_t text_len,
+                    struct ftl_cause *rows, size_t rows_len, size_t *count);
+
+/* Writes what the cause of each syntax error of the text is, in order and each on a line of its own, which is empty
+   where none is known: `*needed` bytes of UTF-8. A line end in a message is written as \n or \r. What a message says
+   may change with each version. `edition` is an ftl_edition. Returns an ftl_status. Since 2.4. */
+uint32_t ftl_cause_messages(uint32_t edition, size_t nesting, const uint8_t *text, size_t text_len,
                             uint8_t *out, size_t out_len, size_t *needed);
 
 /* Writes a row for each finding in the texts, which are those of one language, in the order of the texts and of the

@@ -15,7 +15,7 @@ use Rattle.fluent_syntax_c.specs.Errors.{error_row}
 use Rattle.fluent_syntax_c.specs.Messages.{kind_message, message_line, shown}
 use Rattle.fluent_syntax_c.specs.declared.errors.FtlError.{FtlError}
 
--- errors that tell of faults have the lines of the faults
+-- errors that report faults have the lines of the faults
 lines_of_faults : (line : Kind → List ℕ) (errors : List ParserError) (fs : List Fault) →
     map fault_of errors ≡ map Some fs → flat_map (λ e. line (kind_of e.kind)) errors ≡ flat_map (λ f. line f.kind) fs
 lines_of_faults line errors fs errors_are =
@@ -24,19 +24,19 @@ lines_of_faults line errors fs errors_are =
     ∙ ap (flat_map (λ l. l)) (made_of_faults of_fault errors fs errors_are)
     ∙ flat_map-map (λ l. l) of_fault fs
 
--- the message of a kind that tells of a range
+-- the message of a kind that is about a range
 pub message_of_range : (kind : Kind) (range bytes : List ℕ) → kind ≡ ExpectedCharRange range → bytes ≡ range →
     kind_message kind ≡ codes "Expected one of \"" ++ shown bytes ++ codes "\""
 message_of_range kind range bytes is same =
     ap kind_message is ∙ ap (λ t. codes "Expected one of \"" ++ shown t ++ codes "\"") (sym same)
 
--- three lists one by one behind another are the three behind it
-pub three_behind : (xs a b c : List ℕ) → xs ++ a ++ b ++ c ≡ xs ++ (a ++ b ++ c)
-three_behind xs a b c = ap (λ l. l ++ c) (append_assoc xs a b) ∙ append_assoc xs (a ++ b) c
+-- three lists joined one by one are the first before the other two
+pub append_three : (xs a b c : List ℕ) → xs ++ a ++ b ++ c ≡ xs ++ (a ++ b ++ c)
+append_three xs a b c = ap (λ l. l ++ c) (append_assoc xs a b) ∙ append_assoc xs (a ++ b) c
 
 module _ {E : Type 0} (t : List ℕ) (tiles : List Tile) (errors : List ParserError)
     (errors_are : map fault_of errors ≡ map Some (faults tiles)) where
-  -- rows of errors that tell of the faults of tiles are those of the faults
+  -- rows of errors that report the faults of tiles are those of the faults
   pub rows_of_errors : (s : List ℕ) → s ≡ t → (answer : Result (Vec FtlError Global) E) →
       IfOk answer (λ rows. rows.items ≡ map (λ e. error_row s (error_fault e)) errors) →
       IfOk answer (λ rows. rows.items ≡ map (error_row t) (faults tiles))

@@ -4,6 +4,7 @@ mod ValueRows
 mod LineStarts
 mod Recovered
 mod ErrorRows
+mod CauseRows
 mod Commands
 mod NameIndexes
 mod PartsRead

@@ -17,7 +17,7 @@ module _ (t : List ℕ) (place : ℕ) (inside : place ≤ length t) where
       let within = suffix_len-le-length (λ b. not (b == 10)) (take place t) in
       omega (arith, within, length-take-le place t inside)
 
-  -- they are those from the line's start, which the column tells
+  -- they are those from the line's start, which the column gives
   line_before_is : (column : ℕ) → column ≡ column_at t place →
       slice_range t (place - (column - 1)) place ≡ line_before t place
   line_before_is column same =
@@ -46,7 +46,7 @@ known_on_line t last start known placed from at units chars =
     let range : slice_range t start known.byte ≡ line_before t last.byte =
     ap (λ b. slice_range t start b) at ∙ ap (λ a. slice_range t a last.byte) (sym from) ∙ before in
     record {
-      behind = omega (arith, from, at);
+      beyond = omega (arith, from, at);
       units_are =
           units ∙ ap (λ place. place.column_utf16) placed.position_is
           ∙ ap (λ bytes. 1 + sum_by utf16_units bytes) (sym range);
@@ -65,7 +65,7 @@ rest_sum f t a b l =
     (sym (drop-drop (b - a) a t ∙ ap (λ n. drop n t) whole))
     ∙ sum_by-take-drop f (drop a t) (b - a)
 
--- a sum over a range and one over the range behind it
+-- a sum over a range and one over the range after it
 range_sums : (f : ℕ → ℕ) (t : List ℕ) (a b c : ℕ) → a ≤ b → b ≤ c →
     sum_by f (slice_range t a b) + sum_by f (slice_range t b c) ≡ sum_by f (slice_range t a c)
 range_sums f t a b c l m =
@@ -96,9 +96,9 @@ pub counted_fits : (f : ℕ → ℕ) (t s : List ℕ) (start from to i d known f
     given ≡ f (get_or (slice_range s from to) i d) → found + given < 2 ^ 64
 counted_fits f t s start from to i d known found given small short l m inside at before is one =
     let more = sum_by_more_le f (slice_range s from to) i d at in
-    let behind = range_sum_small f s from to small in
+    let beyond = range_sum_small f s from to small in
     let ahead = range_sum_small f t start from small in
-    omega (arith, more, behind, ahead, before, is, one, short, inside)
+    omega (arith, more, beyond, ahead, before, is, one, short, inside)
 
 chosen_small : (goes_on is_long : Bool) → cond goes_on 0 (cond is_long 2 1) ≤ 2
 chosen_small true is_long = omega arith

@@ -37,18 +37,18 @@ attribute_inside t s attributes items i a all same l is text =
     subst (λ u. a.id.name.start ≤ length u) (sym text) h.0.1.0
 
 -- one more tile's rows
-rows_behind : (t : List ℕ) (n : ℕ) (tiles : List Tile) (tile : Tile) →
+rows_after : (t : List ℕ) (n : ℕ) (tiles : List Tile) (tile : Tile) →
     tiles_rows t n (tiles ++ (tile ∷ []))
     ≡ tiles_rows t n tiles ++ tile_rows t (n + length (tiles_rows t n tiles)) tile
-rows_behind t n [] tile =
+rows_after t n [] tile =
     let same : n ≡ n + 0 = omega arith in
     append-nil (tile_rows t n tile) ∙ ap (λ m. tile_rows t m tile) same
-rows_behind t n (x ∷ xs) tile =
+rows_after t n (x ∷ xs) tile =
     let own = tile_rows t n x in
     let m = n + length own in
     let others = tiles_rows t m xs in
     let counted : m + length others ≡ n + length (own ++ others) = omega (arith, length-append own others) in
-    ap (λ rows. own ++ rows) (rows_behind t m xs tile)
+    ap (λ rows. own ++ rows) (rows_after t m xs tile)
     ∙ sym (append_assoc own others (tile_rows t (m + length others) tile))
     ∙ ap (λ k. (own ++ others) ++ tile_rows t k tile) counted
 
@@ -80,7 +80,7 @@ module _ (edition : Edition) (t : List ℕ) where
     ends_there =
         let cuts = boundary_cuts t utf8 in
         tile_good edition t (IsCharBoundary t) cuts found.span.start found.span.end to.tile
-        (block_place t (IsCharBoundary t) cuts i found.span.start names.boundary to.blank) to.inside to.stands
+        (block_place t (IsCharBoundary t) cuts i found.span.start names.boundary to.blank) to.inside to.in_place
 
     parts_given : (tile : Tile) → TileAt edition t found.span.start found.span.end tile →
         alone tile ≡ tree_of found.entry ∷ [] →
@@ -93,13 +93,13 @@ module _ (edition : Edition) (t : List ℕ) where
 
     -- the texts of what was found are parts of the source
     pub parts_found : entry_every (IsTextRange t) (tree_of found.entry)
-    parts_found = parts_given to.tile to.stands to.yields.entry ends_there.good
+    parts_found = parts_given to.tile to.in_place to.yields.entry ends_there.good
 
-    -- its rows behind those before it
+    -- its rows after those before it
     pub names_on : (new : List FtlName) → new ≡ rows ++ entry_rows t (length rows) found.span (tree_of found.entry) →
         NamesTo j new
     names_on new added =
-        let own = rows_given found.span to.tile found.entry (length rows) to.stands to.yields.entry in
+        let own = rows_given found.span to.tile found.entry (length rows) to.in_place to.yields.entry in
         let counted : length rows ≡ 0 + length rows = omega arith in
         record {
           boundary = subst (IsCharBoundary t) (sym to.ends) ends_there.place;
@@ -108,11 +108,11 @@ module _ (edition : Edition) (t : List ℕ) where
               added ∙ ap (λ given. rows ++ given) (sym own)
               ∙ ap (λ n. rows ++ tile_rows t n to.tile) counted
               ∙ ap (λ before. before ++ tile_rows t (0 + length before) to.tile) names.rows_are
-              ∙ sym (rows_behind t 0 names.tiles to.tile);
+              ∙ sym (rows_after t 0 names.tiles to.tile);
           whole = λ more tiled.
               subst (Tiled t (TileAt edition t) 0) (sym (append_assoc names.tiles (to.tile ∷ []) more))
               (names.whole (to.tile ∷ more)
-              (next to.blank to.inside to.stands (subst (λ k. Tiled t (TileAt edition t) k more) to.ends tiled)));
+              (next to.blank to.inside to.in_place (subst (λ k. Tiled t (TileAt edition t) k more) to.ends tiled)));
         }
 
   -- the rows of the whole text, where nothing but a blank block is left

@@ -174,8 +174,8 @@ pub place_read : (edition : Edition) (t : List ℕ) (source : TextTree) (is : Is
     (action : Action) (name : Text) (place found : Option ℕ) →
     place ≡ place_of action name (resource_view (λ text. text.now) source.tree) → place ≡ found →
     place_of action name (tree_of t is.tiles) ≡ found
-place_read edition t source is action name place found told e =
-    ap (place_of action name) (sym is.tree_is) ∙ sym told ∙ e
+place_read edition t source is action name place found stated e =
+    ap (place_of action name) (sym is.tree_is) ∙ sym stated ∙ e
 
 -- what holds by the edition by which two texts were read, holds by its number
 pub reads_both : (number : ℕ) (input : List ℕ) (action : Action) (source other : TextTree) (u p : List ℕ) →
@@ -213,10 +213,11 @@ pub gives_edit : (number nesting : ℕ) (t name : List ℕ) (action : Action) (p
     ((why : EditRefusal) → status ≡ edit_refusal_number why → answer ≡ Ok (Err why)) →
     GivesEdit number t name action part nesting before after count status
 gives_edit number nesting t name action part answer before after count status edited not_edited argument input deep
-    deeper shallow tree leaves refused told = record {
+    deeper shallow tree leaves refused stated = record {
       gives =
           gives_edited number (IsEdited number t name action part) _ _ _ answer before after count status edited
           argument input deep deeper shallow
           (λ none nests. either_absurd (λ d. none d.0 d.1) (λ d. none d.0 d.1) nests) tree leaves refused;
-      not_edited = λ why is. not_edited_of (IsNotEdited number t name action part) answer why (told why is) not_edited;
+      not_edited = λ why is.
+          not_edited_of (IsNotEdited number t name action part) answer why (stated why is) not_edited;
     }

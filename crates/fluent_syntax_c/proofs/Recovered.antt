@@ -18,11 +18,11 @@ module _ (tree : Resource Span) (errors : List ParserError) where
   pub recovered_tiles : (tiles : List Tile) (answer : Result (Resource Span) (ParseFault Span)) →
       Answers (λ s. s) (λ b. b) tiles answer → HasRecovered answer tree errors →
       (resource_view (λ s. s) tree ≡ body tiles) × (map fault_of errors ≡ map Some (faults tiles))
-  recovered_tiles tiles (Ok whole) told is =
-      (ap (resource_view (λ s. s)) is.0 ∙ told.0, ap (map fault_of) is.1 ∙ sym (ap (map Some) told.1))
-  recovered_tiles tiles (Err (Syntax whole found)) told is =
-      (ap (resource_view (λ s. s)) is.0 ∙ told.0, ap (map fault_of) is.1 ∙ told.1)
-  recovered_tiles tiles (Err Memory) told is = absurd is
+  recovered_tiles tiles (Ok whole) stated is =
+      (ap (resource_view (λ s. s)) is.0 ∙ stated.0, ap (map fault_of) is.1 ∙ sym (ap (map Some) stated.1))
+  recovered_tiles tiles (Err (Syntax whole found)) stated is =
+      (ap (resource_view (λ s. s)) is.0 ∙ stated.0, ap (map fault_of) is.1 ∙ stated.1)
+  recovered_tiles tiles (Err Memory) stated is = absurd is
 
   -- the texts of the tree are parts of the source, as those of the answer
   pub recovered_parts : (t : List ℕ) (answer : Result (Resource Span) (ParseFault Span)) → HasParts t answer →

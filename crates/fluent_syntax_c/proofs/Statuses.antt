@@ -41,7 +41,7 @@ number_reads_back (NotEdited ReadsOtherwise) = refl
 same_status : (a b : Status) → status_number a ≡ status_number b → a ≡ b
 same_status a b e = sym (number_reads_back a) ∙ ap status_at e ∙ number_reads_back b
 
--- The number of a refusal is told exactly where the answer is that refusal.
+-- The number of a refusal is given exactly where the answer is that refusal.
 pub refusal_exactly : {X : Type 0} (answer : Result X Refusal) (number : ℕ) (status : Status) →
     number ≡ status_number status → ((why : Refusal) → (status ≡ Refused why) ↔ (answer ≡ Err why)) → (why : Refusal) →
     (number ≡ refusal_number why) ↔ (answer ≡ Err why)
@@ -50,9 +50,9 @@ refusal_exactly answer number status is refused why = (
   (λ e. is ∙ ap status_number ((refused why).1 e)),
 )
 
--- What is told exactly of an answer that is given exactly where P holds, is told exactly there.
-pub status_where : {Told Answered P : Type 0} → (Told ↔ Answered) → (Answered ↔ P) → Told ↔ P
-status_where told answered = ((λ e. answered.0 (told.0 e)), (λ p. told.1 (answered.1 p)))
+-- What is stated exactly of an answer that is given exactly where P holds, is stated exactly there.
+pub status_where : {Stated Answered P : Type 0} → (Stated ↔ Answered) → (Answered ↔ P) → Stated ↔ P
+status_where stated answered = ((λ e. answered.0 (stated.0 e)), (λ p. stated.1 (answered.1 p)))
 
 -- Where nothing that nests deeper is answered, no number is wrong and no tree is asked for, what nests deeper is
 -- refused: for its bytes, for want of memory, or for its depth.
@@ -112,8 +112,8 @@ gives_answered number expected AreTexts Long Deeper answer before after count st
       leaves;
   argument = status_where (refused Argument) h.argument;
   input = λ known. status_where (refused Input) (h.input known);
-  deep = λ told. h.deep ((refused Depth).0 told);
-  deeper = λ told. h.deeper ((refused Depth).0 told);
+  deep = λ stated. h.deep ((refused Depth).0 stated);
+  deeper = λ stated. h.deeper ((refused Depth).0 stated);
   shallow = λ deeper. refused_deeper answer status Deeper refused h.shallow h.read (λ e d. h.tree e) deeper;
 }
 
@@ -170,16 +170,16 @@ gives_edited number expected AreTexts Long Deeper answer before after count stat
       );
       argument = status_where (refused Argument) argument;
       input = λ known. status_where (refused Input) (input known);
-      deep = λ told. deep ((refused Depth).0 told);
-      deeper = λ told. deeper ((refused Depth).0 told);
+      deep = λ stated. deep ((refused Depth).0 stated);
+      deeper = λ stated. deeper ((refused Depth).0 stated);
       shallow = λ nests.
           refused_deeper answer status Deeper refused shallow (λ e. read (argument.0 e)) (λ e d. tree e) nests;
     }
 
--- An edit that is not made is told exactly as it was answered.
+-- An edit that is not made is reported exactly as it was answered.
 pub not_edited_exactly : (number : ℕ) (status : Status) (why : EditRefusal) → number ≡ status_number status →
     number ≡ edit_refusal_number why → status ≡ NotEdited why
-not_edited_exactly number status why is told = same_status status (NotEdited why) (sym is ∙ told)
+not_edited_exactly number status why is stated = same_status status (NotEdited why) (sym is ∙ stated)
 
 -- no two refusals have one number
 pub same_refusal : (why other : Refusal) → refusal_number why ≡ refusal_number other → why ≡ other

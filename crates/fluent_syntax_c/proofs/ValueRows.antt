@@ -20,15 +20,15 @@ use Rattle.fluent_syntax_c.specs.declared.values.FtlValue.{FtlValue}
 
 module _ (edition : Edition) (t : List ℕ) where
   -- one more tile's rows
-  values_behind : {tiles : List Tile} {rows : List FtlValue} {tile : Tile} {own : List FtlValue} →
+  values_after : {tiles : List Tile} {rows : List FtlValue} {tile : Tile} {own : List FtlValue} →
       TilesValues edition t tiles rows → TileValues edition t tile own →
       TilesValues edition t (tiles ++ (tile ∷ [])) (rows ++ own)
-  values_behind {tile = tile} {own = own} no_more last =
+  values_after {tile = tile} {own = own} no_more last =
       subst (TilesValues edition t (tile ∷ [])) (append-nil own) (one_more last no_more)
-  values_behind {tile = tile} {own = own} (one_more {tile = x} {tiles = xs} {own = first} {others = others} h more)
+  values_after {tile = tile} {own = own} (one_more {tile = x} {tiles = xs} {own = first} {others = others} h more)
       last =
       subst (TilesValues edition t (x ∷ (xs ++ (tile ∷ [])))) (sym (append_assoc first others own))
-      (one_more h (values_behind more last))
+      (one_more h (values_after more last))
 
   -- what is found where a tile begins gives the tile's rows
   tile_values : (s : Span) (tile : Tile) (found : Option EntryRanges) → TileAt edition t s.start s.end tile →
@@ -56,18 +56,18 @@ module _ (edition : Edition) (t : List ℕ) where
   pub values_of_nothing : ValuesTo 0 []
   values_of_nothing = record { tiles = []; values = no_more; whole = λ more tiled. tiled }
 
-  -- the rows of what was found behind those before it
+  -- the rows of what was found after those before it
   pub values_on : (i j : ℕ) (found : SpannedTile) (before after : List FtlValue) → ValuesTo i before →
       TileTo edition t i j found → AddsValues edition t found.span.start before after → ValuesTo j after
   values_on i j found before after values to adds = record {
     tiles = values.tiles ++ (to.tile ∷ []);
     values =
         subst (TilesValues edition t (values.tiles ++ (to.tile ∷ []))) (sym adds.2)
-        (values_behind values.values (tile_values found.span to.tile adds.0 to.stands adds.1));
+        (values_after values.values (tile_values found.span to.tile adds.0 to.in_place adds.1));
     whole = λ more tiled.
         subst (Tiled t (TileAt edition t) 0) (sym (append_assoc values.tiles (to.tile ∷ []) more))
         (values.whole (to.tile ∷ more)
-        (next to.blank to.inside to.stands (subst (λ k. Tiled t (TileAt edition t) k more) to.ends tiled)));
+        (next to.blank to.inside to.in_place (subst (λ k. Tiled t (TileAt edition t) k more) to.ends tiled)));
   }
 
   -- the rows of the whole text, where nothing but a blank block is left

@@ -18,10 +18,10 @@ pub record IsCanonicalJson (number : ℕ) (json : List ℕ) (is : Bool) : Type 0
   pub canonical : is ≡ is_canonical edition tree
 
 -- What the call leaves by how it ended: 1 where the tree is canonical, and 0 where it is not or there is none.
-abbrev pub LeavesCanonical : (number : ℕ) (json : List ℕ) (told : ℕ) → Status → Type 0
-LeavesCanonical number json told Clean =
-    (is : Bool) × IsCanonicalJson number json is × (told ≡ (if is then 1 else 0))
-LeavesCanonical number json told (Refused refusal) = told ≡ 0
-LeavesCanonical number json told SyntaxErrors = ⊥
-LeavesCanonical number json told TooSmall = ⊥
-LeavesCanonical number json told (NotEdited refusal) = ⊥
+abbrev pub LeavesCanonical : (number : ℕ) (json : List ℕ) (stated : ℕ) → Status → Type 0
+LeavesCanonical number json stated Clean =
+    (is : Bool) × IsCanonicalJson number json is × (stated ≡ (if is then 1 else 0))
+LeavesCanonical number json stated (Refused refusal) = stated ≡ 0
+LeavesCanonical number json stated SyntaxErrors = ⊥
+LeavesCanonical number json stated TooSmall = ⊥
+LeavesCanonical number json stated (NotEdited refusal) = ⊥

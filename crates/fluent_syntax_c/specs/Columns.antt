@@ -43,6 +43,6 @@ pub record IsPositionOf (t : List ℕ) (last : LastPosition) : Type 0 where
 
 -- The columns are those of the byte on a line that begins at `start`.
 pub record IsOnLine (t : List ℕ) (start : ℕ) (known : OnLine) : Type 0 where
-  pub behind : start ≤ known.byte
+  pub beyond : start ≤ known.byte
   pub units_are : known.column_utf16 ≡ 1 + sum_by utf16_units (slice_range t start known.byte)
   pub characters_are : known.column_characters ≡ 1 + sum_by characters (slice_range t start known.byte)

@@ -29,7 +29,7 @@ module _ (side : Side) (text : List ℕ) where
   abbrev pub missing_part_rows : MissingPart → List FtlFinding
   missing_part_rows missing = difference_rows (side_difference side missing.part) missing
 
--- the rows of what the reference has and the other text lacks, and behind them those of what the other one has
+-- the rows of what the reference has and the other text lacks, and after them those of what the other one has
 abbrev pub compared_rows : (reference other : NameIndex) → List FtlFinding
 compared_rows reference other =
     flat_map (missing_part_rows Reference reference.text.now) (all_missing_parts reference other)

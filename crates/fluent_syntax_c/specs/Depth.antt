@@ -1,4 +1,4 @@
--- How deeply an input nests, read by what a number stands for.
+-- How deeply an input nests, read by what a number means.
 use Rattle.std.specs.Prelude.{◌≡◌, ℕ, List}
 use Rattle.fluent_syntax_tree.specs.declared.edition.Edition.{Edition}
 use Rattle.fluent_syntax_grammar.specs.Nesting.{NestsDeeper}

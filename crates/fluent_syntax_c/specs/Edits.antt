@@ -54,7 +54,7 @@ has_entry_name name (junk content) = false
 abbrev pub first_entry_named : Text → BodyTree Text → Option ℕ
 first_entry_named name body = position_from (has_entry_name name) 0 body
 
--- where the edit is made: at the entry of that name; what is inserted before no name comes behind all
+-- where the edit is made: at the entry of that name; what is inserted before no name comes after the last
 abbrev pub place_of : Action → Text → BodyTree Text → Option ℕ
 place_of SetValue name body = first_entry_named name body
 place_of Replace name body = first_entry_named name body
@@ -83,7 +83,7 @@ SetsValue (replaces e) v = ⊥
 SetsValue (inserts e) v = ⊥
 SetsValue removes v = ⊥
 
--- The part spells this change: a value stands behind `a =` and is the only part of that message, and an entry is the
+-- The part spells this change: a value comes after `a =` and is the only part of that message, and an entry is the
 -- only one that is read. There is no error.
 abbrev pub Spells : Edition → Action → (part : Text) → Change → Type 0
 Spells edition SetValue part change = (v : PatternTree Text) ×
@@ -96,7 +96,7 @@ Spells edition Remove part change = change ≡ removes
 
 -- ---- what is answered
 
--- why an edit is not made, by its fault; want of memory is told otherwise
+-- why an edit is not made, by its fault; want of memory is reported otherwise
 abbrev pub edit_refusal : EditFault → Option EditRefusal
 edit_refusal fault.NoEntry = Some NotFound
 edit_refusal (fault.IsJunk span) = Some NotFound

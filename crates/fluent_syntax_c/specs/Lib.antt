@@ -11,6 +11,7 @@ pub mod Errors
 pub mod Names
 pub mod Values
 pub mod Messages
+pub mod Causes
 pub mod FindingKinds
 pub mod NameIndexes
 pub mod Findings

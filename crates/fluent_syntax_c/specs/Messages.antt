@@ -16,11 +16,11 @@ use Rattle.ftl.specs.declared.outcome.Outcome.{Outcome}
 use Rattle.ftl.specs.declared.outcome.Outcome.TheVariants.{Clean}
 use Rattle.fluent_syntax_c.specs.Kinds.{kind_number}
 
--- a byte of what is told, with two for a line end
+-- a byte of what is reported, with two for a line end
 abbrev pub shown_byte : ℕ → List ℕ
 shown_byte b = cond (b == 10) (codes "\\n") (cond (b == 13) (codes "\\r") (b ∷ []))
 
--- what is told, on one line
+-- what is reported, on one line
 abbrev pub shown : List ℕ → List ℕ
 shown text = flat_map shown_byte text
 

@@ -16,7 +16,7 @@ named_number Term = 2
 named_number Attribute = 3
 
 module _ (t : List ℕ) where
-  -- the row of a name; `owner` is the number of the row of its message or term, from 0, which stands at `whole`
+  -- the row of a name; `owner` is the number of the row of its message or term, from 0, which is at `whole`
   abbrev pub name_row : Named → (owner : ℕ) → (whole : Span) → Span → FtlName
   name_row named owner whole name = let place = position_at t name.start in record {
     line = place.line;
@@ -40,7 +40,7 @@ module _ (t : List ℕ) where
   owner_rows named number whole name attributes =
       name_row named number whole name ∷ map (attribute_row number whole) attributes
 
-  -- the rows of an entry that stands there, the first of which has this number
+  -- the rows of an entry that is there, the first of which has this number
   abbrev pub entry_rows : ℕ → (whole : Span) → EntryTree Span → List FtlName
   entry_rows number whole (message m) = owner_rows Message number whole m.id m.attributes
   entry_rows number whole (term m) = owner_rows Term number whole m.id m.attributes

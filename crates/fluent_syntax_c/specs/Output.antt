@@ -6,13 +6,13 @@ use Rattle.fluent_syntax_c.specs.declared.status.Status.{Status}
 use Rattle.fluent_syntax_c.specs.declared.status.Status.TheVariants.{Clean, SyntaxErrors, TooSmall, Refused, NotEdited}
 
 module _ {A : Type 0} where
-  -- The array has the items at its front, and behind them what it had there; their number was told.
+  -- The array has the items at its front, and after them what it had there; their number was given.
   abbrev pub FillsOutput : (items before after : List A) → (count : ℕ) → Type 0
   FillsOutput items before after count = (after ≡ items ++ drop (length items) before) × (count ≡ length items)
 
-  -- The array is as it was, and this number was told.
-  abbrev pub SetsCount : (before after : List A) → (count told : ℕ) → Type 0
-  SetsCount before after count told = (after ≡ before) × (count ≡ told)
+  -- The array is as it was, and this number was given.
+  abbrev pub SetsCount : (before after : List A) → (count stated : ℕ) → Type 0
+  SetsCount before after count stated = (after ≡ before) × (count ≡ stated)
 
   -- What a call leaves by how it ended, that is asked for these items of a text with this outcome.
   abbrev pub LeavesOutput : (List A → Outcome → Type 0) → (before after : List A) → (count : ℕ) → Status → Type 0

@@ -1,4 +1,4 @@
--- Where the values of messages, terms and attributes stand, as rows.
+-- Where the values of messages, terms and attributes are, as rows.
 use Rattle.std.specs.Prelude.{◌≡◌, ◌++◌, ℕ, List, [], ◌∷◌, map, Option, Some, None}
 use Rattle.fluent_syntax_tree.specs.Entry.{EntryTree, Level, comment}
 use Rattle.fluent_syntax_tree.specs.declared.edition.Edition.{Edition}
@@ -9,7 +9,7 @@ use Rattle.fluent_syntax_parser.specs.PartRanges.{HasEntryParts, HasRanges}
 use Rattle.fluent_syntax_parser.specs.declared.ranges.EntryRanges.{EntryRanges}
 use Rattle.fluent_syntax_c.specs.declared.values.FtlValue.{FtlValue}
 
--- the row of a value that stands there; of none both are 0
+-- the row of a value that is there; of none both are 0
 abbrev pub value_row : Option Span → FtlValue
 value_row None = record { start = 0; end = 0 }
 value_row (Some s) = record { start = s.start; end = s.end }
@@ -23,13 +23,13 @@ abbrev pub values_of_entry : Option EntryRanges → List FtlValue
 values_of_entry None = []
 values_of_entry (Some x) = entry_values x
 
--- Those of the message or the term that begins at the place, if one does, came behind the others.
+-- Those of the message or the term that begins at the place, if one does, came after the others.
 abbrev pub AddsValues : Edition → List ℕ → (start : ℕ) → (before after : List FtlValue) → Type 0
 AddsValues edition t start before after =
     (found : Option EntryRanges) × HasRanges edition t start found × (after ≡ before ++ values_of_entry found)
 
 module _ (edition : Edition) (t : List ℕ) where
-  -- The rows are those of the tile: of a message or a term with its parts where they stand, and of others none.
+  -- The rows are those of the tile: of a message or a term with its parts where they are, and of others none.
   pub data TileValues : Tile → List FtlValue → Type 0 where
     of_entry : {whole : Span} {e : EntryTree Span} {x : EntryRanges} →
         HasEntryParts edition t (family edition t) whole.start x e whole.end →

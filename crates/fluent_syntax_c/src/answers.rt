@@ -20,7 +20,7 @@ use std::alloc::Global;
 /// Writes the command's text of the input to the front of `out`, and the number of its bytes to `needed`.
 ///
 /// Returns 0, or 1 where the input has syntax errors. Where it returns 5 the text has more bytes than `out`: `needed`
-/// tells how many, and `out` is as it was. Otherwise `needed` is 0 and `out` as it was: 2 where no command has the
+/// says how many, and `out` is as it was. Otherwise `needed` is 0 and `out` as it was: 2 where no command has the
 /// number, 3 where the input is not UTF-8, 4 where a growth was refused, 6 where the input's placeables and argument
 /// lists nest more than `nesting` deep, or, of JSON, its arrays and objects more than 127; 7 where the input is no
 /// JSON, or JSON that spells no tree.

@@ -102,7 +102,7 @@ pub(crate) struct OnLine {
 }
 
 /// The columns of a place in UTF-16 units and in characters, by its column in bytes. They are counted on from the last
-/// place where that stands before it on the same line.
+/// place where that is before it on the same line.
 fn wide_columns(text: &str, last: LastPosition, byte: usize, column: usize) -> (usize, usize)
     requires in_text { byte ≤ length text.now }
     requires short { length text.now < 2 ^ 63 }

@@ -28,12 +28,12 @@ fn side_number(side: Side) -> usize
     }
 }
 
-/// Writes what the other text lacks of the reference, and behind it what is obsolete or unknown in the other text, to
+/// Writes what the other text lacks of the reference, and after it what is obsolete or unknown in the other text, to
 /// the front of `rows`, and their number to `count`. Both are read by the edition of the number. A row's text is 0 for
 /// the reference and 1 for the other; each part is in the order of the text that has it.
 ///
 /// Returns 0, or 1 where one of the texts has syntax errors. Where it returns 5 there are more than `rows` has room
-/// for: `count` tells how many, and `rows` is as it was. Otherwise `count` is 0 and `rows` as it was: 2 where no
+/// for: `count` says how many, and `rows` is as it was. Otherwise `count` is 0 and `rows` as it was: 2 where no
 /// edition has the number, 3 where one of the texts is not UTF-8, 4 where a growth was refused, 6 where placeables and
 /// argument lists of one of them nest more than `nesting` deep.
 #[unsafe(no_mangle)]
@@ -122,7 +122,7 @@ fn add_missing_parts(
     Ok(())
 }
 
-/// Adds the row of what this text has and the other one lacks, if it is told.
+/// Adds the row of what this text has and the other one lacks, if it is reported.
 fn add_missing_part<'t>(
     rows: &mut Vec<FtlFinding>,
     positions: &mut Positions<'t>,

@@ -70,7 +70,7 @@ fn first_entry_named(tree: &Resource<&str>, name: &str) -> Option<usize>
     None
 }
 
-/// Where the edit is made: the number of an entry, or that behind all.
+/// Where the edit is made: the number of an entry, or that after the last.
 pub(crate) fn place_of(action: Action, name: &str, tree: &Resource<&str>) -> Option<usize>
     ensures { result ≡ place_of action name.now (map (entry_view (λ text. text.now)) tree.now.body.items) }
 {
@@ -106,7 +106,7 @@ fn one_entry<'p, 't>(part: &'p TextTree<'t>) -> Option<&'p Entry<&'t str>>
     }
 }
 
-/// The value that stands behind `a =`, as the only part of the only entry of a text without errors.
+/// The value that comes after `a =`, as the only part of the only entry of a text without errors.
 fn one_value<'p, 't>(part: &'p TextTree<'t>) -> Option<&'p Pattern<&'t str>>
     ensures some { (edition : ByEdition) (t : List ℕ) → IsTextTree edition t part.now →
         IfSome result (λ value.

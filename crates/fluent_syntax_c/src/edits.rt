@@ -17,11 +17,11 @@ use ftl::Outcome;
 use std::alloc::Global;
 
 /// Writes the input with another value for the first message or term of the name, which is written with the `-` of a
-/// term, to the front of `out`, and the number of its bytes to `needed`. The value is written as it stands behind a
+/// term, to the front of `out`, and the number of its bytes to `needed`. The value is written as it is after a
 /// `=`.
 ///
 /// Returns 0, or 1 where the input has syntax errors: the new text has as many. Where it returns 5 the new text has
-/// more bytes than `out`: `needed` tells how many, and `out` is as it was. Otherwise `needed` is 0 and `out` as it was:
+/// more bytes than `out`: `needed` says how many, and `out` is as it was. Otherwise `needed` is 0 and `out` as it was:
 /// 2 where no edition has the number, 3 where the input, the name or the value is not UTF-8, 4 where a growth was
 /// refused, 6 where placeables and argument lists of the input or the value nest more than `nesting` deep; 8 where no
 /// message and no term has the name, or it has no value, 9 where the value is not one value, 10 where the new text
@@ -93,7 +93,7 @@ pub extern "C" fn ftl_insert(
 }
 
 /// Writes the input without the first message or term of the name, the comment that is attached to it and the blank
-/// lines behind it; returns what `ftl_set_value` does.
+/// lines after it; returns what `ftl_set_value` does.
 #[unsafe(no_mangle)]
 pub extern "C" fn ftl_remove(
     alloc: Global,

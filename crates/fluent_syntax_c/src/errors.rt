@@ -37,7 +37,7 @@ pub struct FtlError {
 /// number to `count`.
 ///
 /// Returns 0 where there are none, and 1 where there are some. Where it returns 5 there are more than `rows` has room
-/// for: `count` tells how many, and `rows` is as it was. Otherwise `count` is 0 and `rows` as it was: 2 where no
+/// for: `count` says how many, and `rows` is as it was. Otherwise `count` is 0 and `rows` as it was: 2 where no
 /// edition has the number, 3 where the input is not UTF-8, 4 where a growth was refused, 6 where the input's placeables
 /// and argument lists nest more than `nesting` deep.
 #[unsafe(no_mangle)]

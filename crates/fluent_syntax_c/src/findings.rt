@@ -51,7 +51,7 @@ pub struct FtlFinding {
 /// `rows`, and their number to `count`. The findings come in the order of the texts and of the places in each.
 ///
 /// Returns 0, or 1 where a text has syntax errors. Where it returns 5 there are more than `rows` has room for: `count`
-/// tells how many, and `rows` is as it was. Otherwise `count` is 0 and `rows` as it was: 2 where no edition has the
+/// says how many, and `rows` is as it was. Otherwise `count` is 0 and `rows` as it was: 2 where no edition has the
 /// number, 3 where a text is not UTF-8, 4 where a growth was refused, 6 where placeables and argument lists of a text
 /// nest more than `nesting` deep.
 #[unsafe(no_mangle)]
@@ -219,7 +219,7 @@ fn place_or_none(place: Option<Place>) -> Place
 /// Writes the name of the kind of findings of the number, as `defined-twice`, to the front of `out`, and the number of
 /// its bytes to `needed`.
 ///
-/// Returns 0. Where it returns 5 the name has more bytes than `out`: `needed` tells how many, and `out` is as it was.
+/// Returns 0. Where it returns 5 the name has more bytes than `out`: `needed` says how many, and `out` is as it was.
 /// Otherwise `needed` is 0 and `out` as it was: 2 where no kind has the number, 4 where a growth was refused.
 #[unsafe(no_mangle)]
 pub extern "C" fn ftl_finding_kind_name(

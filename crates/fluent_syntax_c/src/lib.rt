@@ -1,12 +1,13 @@
 //! Fluent Translation Lists for C, and for all that calls C: a static library.
 //!
-//! `include/fluent.h` declares what is exported here, and `docs/C.md` tells of it. An exported function takes a text
+//! `include/fluent.h` declares what is exported here, and `docs/C.md` explains it. An exported function takes a text
 //! and the caller's memory, and returns the number of a status; nothing of a call is kept.
 #![tactic(auto)]
 
 mod answers;
 mod arguments;
 mod canonical;
+mod causes;
 mod columns;
 mod comparison;
 mod edited;
@@ -28,6 +29,7 @@ mod values;
 
 pub use answers::ftl_answer;
 pub use canonical::ftl_is_canonical;
+pub use causes::{FtlCause, ftl_cause_messages, ftl_causes};
 pub use comparison::ftl_comparison;
 pub use edits::{ftl_insert, ftl_remove, ftl_replace, ftl_set_value};
 pub use errors::{FtlError, ftl_errors};

@@ -23,7 +23,7 @@ use std::alloc::{AllocError, Global};
 /// Writes the name of the kind of the number, as `ExpectedToken`, to the front of `out`, and the number of its bytes to
 /// `needed`.
 ///
-/// Returns 0. Where it returns 5 the name has more bytes than `out`: `needed` tells how many, and `out` is as it was.
+/// Returns 0. Where it returns 5 the name has more bytes than `out`: `needed` says how many, and `out` is as it was.
 /// Otherwise `needed` is 0 and `out` as it was: 2 where no kind has the number, 4 where a growth was refused.
 #[unsafe(no_mangle)]
 pub extern "C" fn ftl_kind_name(alloc: Global, kind: u32, out: &mut [u8], needed: &mut usize) -> u32
@@ -52,7 +52,7 @@ fn name_bytes(alloc: Global, kind: u32) -> Result<(Vec<u8>, Outcome), Refusal>
 /// or `\r`, so that each message is one line.
 ///
 /// Returns 0 where there are none, and 1 where there are some. Where it returns 5 they have more bytes than `out`:
-/// `needed` tells how many, and `out` is as it was. Otherwise `needed` is 0 and `out` as it was: 2 where no edition has
+/// `needed` says how many, and `out` is as it was. Otherwise `needed` is 0 and `out` as it was: 2 where no edition has
 /// the number, 3 where the input is not UTF-8, 4 where a growth was refused, 6 where the input's placeables and
 /// argument lists nest more than `nesting` deep.
 #[unsafe(no_mangle)]
@@ -195,20 +195,20 @@ fn add_message(alloc: Global, lines: &mut Vec<u8>, kind: &ErrorKind) -> Result<(
     }
 }
 
-/// Adds a text with what is told between its two parts.
-fn add_with(lines: &mut Vec<u8>, before: &str, told: &str, after: &str) -> Result<(), AllocError>
-    ensures { OnOk result (lines.new.items ≡ lines.old.items ++ before.now ++ shown told.now ++ after.now) }
+/// Adds a text with what is reported between its two parts.
+fn add_with(lines: &mut Vec<u8>, before: &str, detail: &str, after: &str) -> Result<(), AllocError>
+    ensures { OnOk result (lines.new.items ≡ lines.old.items ++ before.now ++ shown detail.now ++ after.now) }
 {
     add_text(lines, before)?;
-    add_shown(lines, told)?;
+    add_shown(lines, detail)?;
     add_text(lines, after)
 }
 
-/// Adds what is told, with `\n` and `\r` for its line ends.
-fn add_shown(lines: &mut Vec<u8>, told: &str) -> Result<(), AllocError>
-    ensures { OnOk result (lines.new.items ≡ lines.old.items ++ shown told.now) }
+/// Adds what is reported, with `\n` and `\r` for its line ends.
+pub(crate) fn add_shown(lines: &mut Vec<u8>, detail: &str) -> Result<(), AllocError>
+    ensures { OnOk result (lines.new.items ≡ lines.old.items ++ shown detail.now) }
 {
-    for byte in told.as_bytes() {
+    for byte in detail.as_bytes() {
         add_byte(lines, *byte)?;
     }
     Ok(())

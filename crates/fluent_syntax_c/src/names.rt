@@ -27,12 +27,12 @@ pub struct FtlName {
     /// The column in UTF-16 units and in characters, both from 1.
     pub column_utf16: usize,
     pub column_characters: usize,
-    /// The bytes of the input that spell it. The `-` of a term and the `.` of an attribute stand before them.
+    /// The bytes of the input that spell it. The `-` of a term and the `.` of an attribute come before them.
     pub start: usize,
     pub end: usize,
     /// The row of the message or the term whose name or attribute it is, from 0.
     pub owner: usize,
-    /// The stretch of that message or term, with the blank lines directly behind it, and without a comment before it.
+    /// The stretch of that message or term, with the blank lines directly after it, and without a comment before it.
     pub entry_start: usize,
     pub entry_end: usize,
     /// What is named.
@@ -63,7 +63,7 @@ impl Named {
 /// of `rows`, and their number to `count`. They come in the order of the input, and what was refused has none.
 ///
 /// Returns 0, or 1 where the input has syntax errors. Where it returns 5 there are more than `rows` has room for:
-/// `count` tells how many, and `rows` is as it was. Otherwise `count` is 0 and `rows` as it was: 2 where no edition has
+/// `count` says how many, and `rows` is as it was. Otherwise `count` is 0 and `rows` as it was: 2 where no edition has
 /// the number, 3 where the input is not UTF-8, 4 where a growth was refused, 6 where the input's placeables and
 /// argument lists nest more than `nesting` deep.
 #[unsafe(no_mangle)]
@@ -136,7 +136,7 @@ fn add_tile<'t>(
     add_entry(rows, positions, found.span, &found.entry)
 }
 
-/// Adds the rows of an entry that stands there.
+/// Adds the rows of an entry that is there.
 fn add_entry<'t>(
     rows: &mut Vec<FtlName>,
     positions: &mut Positions<'t>,
@@ -171,7 +171,7 @@ fn add_entry<'t>(
     }
 }
 
-/// Adds the rows of a message or a term that stands there, and of its attributes.
+/// Adds the rows of a message or a term that is there, and of its attributes.
 fn add_owner<'t>(
     rows: &mut Vec<FtlName>,
     positions: &mut Positions<'t>,

@@ -1,4 +1,4 @@
-//! The caller's array, and the number that tells how much there is.
+//! The caller's array, and the number that says how much there is.
 ghost use Rattle.std.specs.Prelude.{◌≡◌, ◌↔◌, Ok, Err, IsOkAnd};
 ghost use Rattle.fluent_syntax_c.specs.Output.{LeavesOutput};
 ghost use Rattle.fluent_syntax_c.specs.Status.{EndsAs, edit_refusal_number, refusal_number};
@@ -9,7 +9,7 @@ ghost use Rattle.fluent_syntax_c.specs.declared.status.Status.TheVariants.{NotEd
 use crate::status::{EditRefusal, Refusal, Status};
 use ftl::Outcome;
 
-/// Gives the caller what was answered, if there is room for all of it, and tells how much it is. Returns the number of
+/// Gives the caller what was answered, if there is room for all of it, and says how much it is. Returns the number of
 /// how that ended.
 pub(crate) fn give<T: Copy>(
     answer: Result<(Vec<T>, Outcome), Refusal>,
@@ -25,7 +25,7 @@ pub(crate) fn give<T: Copy>(
     give_answer(answer, out, count).number()
 }
 
-/// Gives the caller the text that an edit made, if there is room for all of it, and tells how much it is. Returns the
+/// Gives the caller the text that an edit made, if there is room for all of it, and says how much it is. Returns the
 /// number of how that ended, or why the edit is not made.
 pub(crate) fn give_edited(
     answer: Result<Result<(Vec<u8>, Outcome), EditRefusal>, Refusal>,

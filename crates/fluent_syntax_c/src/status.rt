@@ -20,7 +20,7 @@ pub enum Status {
 /// Why nothing is given.
 #[derive(Clone, Copy)]
 pub enum Refusal {
-    /// A number stands for no command or no edition.
+    /// A number is of no command or no edition.
     Argument,
     /// The input is not UTF-8.
     Input,
@@ -44,7 +44,7 @@ pub enum EditRefusal {
 }
 
 impl Status {
-    /// The number that the caller is told.
+    /// The number that the caller gets.
     pub fn number(self) -> u32
         ensures { result ≡ status_number self }
     {

@@ -1,4 +1,4 @@
-//! Where the values of messages, terms and attributes stand, as rows.
+//! Where the values of messages, terms and attributes are, as rows.
 ghost use Rattle.std.specs.Prelude.{◌≡◌, ◌+◌, ◌++◌, ◌<◌, ◌≤◌, ◌^◌, length, IfOk, OnOk};
 ghost use Rattle.std.specs.Str.{IsUtf8};
 ghost use Rattle.fluent_syntax_c.specs.Depth.{EditionReadsDeeper};
@@ -11,22 +11,22 @@ use fluent_syntax::parser::Edition;
 use fluent_syntax::spans::{EntryRanges, Halt, Span, SpannedTile, Tiles, entry_ranges};
 use std::alloc::{AllocError, Global};
 
-/// Where a value stands: `struct ftl_value` of `include/fluent.h`.
+/// Where a value is: `struct ftl_value` of `include/fluent.h`.
 #[repr(C)]
 #[derive(Clone, Copy)]
 pub struct FtlValue {
-    /// The bytes of the input from directly behind the `=` up to the value's end, with the blank lines behind it. Both
+    /// The bytes of the input from directly after the `=` up to the value's end, with the blank lines after it. Both
     /// are 0 where a message has no value.
     pub start: usize,
     pub end: usize,
 }
 
-/// Writes where the values of the messages, terms and attributes of the input stand, read by the edition of the number,
+/// Writes where the values of the messages, terms and attributes of the input are, read by the edition of the number,
 /// to the front of `rows`, and their number to `count`. They are as many as the names that `ftl_names` gives, and come
 /// in the same order.
 ///
 /// Returns 0, or 1 where the input has syntax errors. Where it returns 5 there are more than `rows` has room for:
-/// `count` tells how many, and `rows` is as it was. Otherwise `count` is 0 and `rows` as it was: 2 where no edition has
+/// `count` says how many, and `rows` is as it was. Otherwise `count` is 0 and `rows` as it was: 2 where no edition has
 /// the number, 3 where the input is not UTF-8, 4 where a growth was refused, 6 where the input's placeables and
 /// argument lists nest more than `nesting` deep.
 #[unsafe(no_mangle)]
@@ -45,7 +45,7 @@ pub extern "C" fn ftl_values(
     give_rows::<Values>(alloc, edition, nesting, input, rows, count)
 }
 
-/// Where the values of a text stand.
+/// Where the values of a text are.
 struct Values;
 
 impl TextRows for Values {

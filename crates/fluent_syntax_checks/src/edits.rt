@@ -33,10 +33,10 @@ impl Count {
     }
 }
 
-/// How many texts of the corpus others are put behind.
+/// How many texts of the corpus are put before others.
 const BEFORE: usize = 107;
 
-/// Makes edits of each text of the corpus behind another, and prints how many were made; whether a value was not set,
+/// Makes edits of each text of the corpus after another, and prints how many were made; whether a value was not set,
 /// or half of the other edits were refused.
 pub(crate) fn many<R: Files + Print + AllocGlobal>(rt: &R) -> anyhow::Result<bool> {
     let texts = column(rt, "corpus.tsv", 0)?;

@@ -11,14 +11,14 @@ use Rattle.fluent_syntax_parser.specs.Rest.{tree_of}
 use Rattle.fluent_syntax_parser.specs.Tiles.{Gives, TileTo}
 use Rattle.fluent_syntax_parser.specs.declared.tiles.SpannedTile.{SpannedTile}
 use Rattle.fluent_syntax_edits.specs.EntryPlaces.{HasEntryPlaces, entry_place, entry_place_of, entry_places}
-use Rattle.fluent_syntax_edits.specs.EntryPlaces.{entry_places_behind}
+use Rattle.fluent_syntax_edits.specs.EntryPlaces.{entry_places_after}
 use Rattle.fluent_syntax_edits.specs.declared.entry_places.EntryPlace.{EntryPlace}
 
 module _ (edition : Edition) (t : List ℕ) where
   -- Whatever the tiles from the place on are: these places, the last one, and those of the tiles are the text's.
   pub record ReadTo (i : ℕ) (ps : List EntryPlace) (last : Option EntryPlace) : Type 0 where
     pub whole : (more : List Tile) → Tiled t (TileAt edition t) i more →
-        (tiles : List Tile) × Tiling edition t tiles × (ps ++ entry_places_behind last more ≡ entry_places tiles)
+        (tiles : List Tile) × Tiling edition t tiles × (ps ++ entry_places_after last more ≡ entry_places tiles)
 
   place_given : (s : Span) (tile : Tile) (e : Entry Span) (error : Option ParserError) →
       TileAt edition t s.start s.end tile → Gives tile e error →
@@ -33,18 +33,18 @@ module _ (edition : Edition) (t : List ℕ) where
       →
       ReadTo i ps last → TileTo edition t i j found →
       ((tile : Tile) (more : List Tile) → entry_place_of tile ≡ entry_place found.span (tree_of found.entry) →
-      qs ++ entry_places_behind (Some now) more ≡ ps ++ entry_places_behind last (tile ∷ more)) → ReadTo j qs (Some now)
+      qs ++ entry_places_after (Some now) more ≡ ps ++ entry_places_after last (tile ∷ more)) → ReadTo j qs (Some now)
   read_on i j ps qs last now found read to add = record {
     whole = λ more a.
-        let behind = subst (λ k. Tiled t (TileAt edition t) k more) to.ends a in
-        let (tiles, tiling, same) = read.whole (to.tile ∷ more) (next to.blank to.inside to.stands behind) in
-        let place = place_given found.span to.tile found.entry found.error to.stands to.yields in
+        let beyond = subst (λ k. Tiled t (TileAt edition t) k more) to.ends a in
+        let (tiles, tiling, same) = read.whole (to.tile ∷ more) (next to.blank to.inside to.in_place beyond) in
+        let place = place_given found.span to.tile found.entry found.error to.in_place to.yields in
         (tiles, tiling, add to.tile more place ∙ same);
   }
 
   -- no tile more
   pub read_all : (i : ℕ) (ps qs : List EntryPlace) (last : Option EntryPlace) → ReadTo i ps last
       → BlankBlock t i (length t) →
-      qs ≡ ps ++ entry_places_behind last [] → HasEntryPlaces edition t qs
+      qs ≡ ps ++ entry_places_after last [] → HasEntryPlaces edition t qs
   read_all i ps qs last read blank e =
       let (tiles, tiling, same) = read.whole [] (done blank) in (tiles, tiling, e ∙ same)

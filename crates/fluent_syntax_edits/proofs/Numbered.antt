@@ -20,7 +20,7 @@ module _ {X Y : Type 0} (v : X → Y) where
   set_there f zero (x ∷ xs) y d l e = ap (λ z. z ∷ map v xs) e
   set_there f (suc n) (x ∷ xs) y d l e = ap (λ ys. v x ∷ ys) (set_there f n xs y d (omega arith) e)
 
-  -- an item comes before it, or behind all
+  -- an item comes before it, or after the last
   pub insert_there : (n m : ℕ) (xs : List X) (y : X) → m ≤ n → m ≤ length xs → (m < n → length xs ≤ m) →
       map v (insert xs m y) ≡ insert (map v xs) n (v y)
   insert_there zero zero xs y a b l = refl

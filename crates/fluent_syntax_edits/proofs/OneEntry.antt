@@ -1,4 +1,4 @@
--- The text of one entry, written behind nothing and without junk.
+-- The text of one entry, written with nothing before it and without junk.
 use Rattle.std.proofs.Common.{◌≡◌, ℕ, List, [], ◌∷◌, ◌++◌, ◌∙◌, ap, Bool, false}
 use Rattle.fluent_syntax_tree.specs.Entry.{EntryTree}
 use Rattle.fluent_syntax_grammar.specs.Written.{Text, written}

@@ -70,17 +70,17 @@ is_blank b = b == lf || b == space || b == cr
 abbrev pub line_ends_in : ℕ → ℕ
 line_ends_in b = if b == lf then 1 else 0
 
--- at a blank byte the count and its line end, and 0 behind any other byte
+-- at a blank byte the count and its line end, and 0 after any other byte
 abbrev pub counted : Option ℕ → ℕ → ℕ
 counted None count = 0
 counted (Some b) count = if is_blank b then line_ends_in b + count else 0
 
--- how many line ends stand directly before the place, with nothing but spaces and CRs between them
+-- how many line ends come directly before the place, with nothing but spaces and CRs between them
 abbrev pub line_ends_before : List ℕ → ℕ → ℕ
 line_ends_before t zero = 0
 line_ends_before t (suc k) = counted (slice_get t k) (line_ends_before t k)
 
--- the text with as many blank lines behind it as stand before the place
+-- the text with as many blank lines after it as come before the place
 abbrev pub with_blank_lines : List ℕ → (place : ℕ) → Text → Text
 with_blank_lines t place text =
     text ++ replicate (line_ends_before t place - line_ends_before text (length text)) lf
@@ -99,16 +99,16 @@ scratch_message (Attribute n) v = message (record {
   comment = None;
 })
 
--- how many bytes of that message stand before the pattern: `a =`, or `a =`, a line end and `    .a =`
+-- how many bytes of that message come before the pattern: `a =`, or `a =`, a line end and `    .a =`
 abbrev pub before_pattern : ValueTarget → ℕ
 before_pattern Value = 3
 before_pattern (Attribute n) = 12
 
--- what the serializer writes for the pattern behind the `=`
+-- what the serializer writes for the pattern after the `=`
 abbrev pub pattern_text : ValueTarget → PatternTree Text → Text
 pattern_text target v = drop (before_pattern target) (entry_text (scratch_message target v))
 
--- What comes in place of a stretch of the text that ends there. A new entry or pattern has as many blank lines behind
+-- What comes in place of a stretch of the text that ends there. A new entry or pattern has as many blank lines after
 -- it as the old one had.
 abbrev pub replacement_text : Change → List ℕ → (end : ℕ) → Text
 replacement_text (replaces e) t end = with_blank_lines t end (entry_text e)

@@ -1,4 +1,4 @@
--- Where the entries of a text stand, and which stretch of it an edit changes.
+-- Where the entries of a text are, and which stretch of it an edit changes.
 use Rattle.std.specs.Prelude.{◌≡◌, ℕ, ◌+◌, ◌==◌, ◌&&◌, Bool, true, false, List, [], ◌∷◌, length, if◌then◌else◌}
 use Rattle.std.specs.Prelude.{Option, Some, None, Result, Ok, Err, nat_le, slice_get}
 use Rattle.fluent_syntax_tree.specs.Entry.{EntryTree, message, term, comment, junk, regular, group, resource}
@@ -27,11 +27,11 @@ kind_of (comment group content) = OtherComment
 kind_of (comment resource content) = OtherComment
 kind_of (junk content) = Junk
 
--- where an entry stands by itself
+-- where an entry is by itself
 abbrev pub entry_place : Span → EntryTree Span → EntryPlace
 entry_place s e = record { start = s.start; span = s; kind = kind_of e }
 
--- where a tile stands; one that was dropped has no place
+-- where a tile is; one that was dropped has no place
 abbrev pub entry_place_of : Tile → EntryPlace
 entry_place_of (entry s e) = entry_place s e
 entry_place_of (refused f) = entry_place f.slice (junk f.slice)
@@ -59,20 +59,20 @@ is_field Junk = false
 abbrev pub attaches_to : EntryPlace → EntryPlace → Bool
 attaches_to x y = is_comment x.kind && is_field y.kind && x.span.end == y.span.start
 
--- The place read last, and those of the tiles behind it. A message or a term has one place with the comment that hangs
--- on it.
-abbrev pub entry_places_behind : Option EntryPlace → List Tile → List EntryPlace
-entry_places_behind None [] = []
-entry_places_behind (Some p) [] = p ∷ []
-entry_places_behind None (x ∷ tiles) = entry_places_behind (Some (entry_place_of x)) tiles
-entry_places_behind (Some p) (x ∷ tiles) =
+-- The place read last, and those of the tiles after it. A message or a term has one place with the comment that is
+-- attached to it.
+abbrev pub entry_places_after : Option EntryPlace → List Tile → List EntryPlace
+entry_places_after None [] = []
+entry_places_after (Some p) [] = p ∷ []
+entry_places_after None (x ∷ tiles) = entry_places_after (Some (entry_place_of x)) tiles
+entry_places_after (Some p) (x ∷ tiles) =
     if attaches_to p (entry_place_of x)
-    then entry_places_behind (Some (record (entry_place_of x) { start = p.start })) tiles
-    else p ∷ entry_places_behind (Some (entry_place_of x)) tiles
+    then entry_places_after (Some (record (entry_place_of x) { start = p.start })) tiles
+    else p ∷ entry_places_after (Some (entry_place_of x)) tiles
 
 -- the places of the entries of the tree, in order
 abbrev pub entry_places : List Tile → List EntryPlace
-entry_places tiles = entry_places_behind None tiles
+entry_places tiles = entry_places_after None tiles
 
 -- These are the places of the text's entries.
 abbrev pub HasEntryPlaces : Edition → List ℕ → List EntryPlace → Type 0
@@ -80,7 +80,7 @@ HasEntryPlaces edition t ps = (tiles : List Tile) × Tiling edition t tiles × (
 
 -- ---- the stretch that changes
 
--- where what has that place begins, with its comment; behind the last one the text's end
+-- where what has that place begins, with its comment; after the last one the text's end
 abbrev pub start_of : List ℕ → Option EntryPlace → ℕ
 start_of t None = length t
 start_of t (Some p) = p.start
@@ -90,7 +90,7 @@ abbrev pub up_to : (end : ℕ) → Option EntryPlace → Result Span EditFault
 up_to end None = Err NoEntry
 up_to end (Some p) = if is_junk p.kind then Err (IsJunk p.span) else Ok (record { start = p.start; end = end })
 
--- the n-th entry with its comment, up to where what stands behind it begins
+-- the n-th entry with its comment, up to where what comes after it begins
 abbrev pub entry_range : List ℕ → (n : ℕ) → List EntryPlace → Result Span EditFault
 entry_range t n ps = up_to (start_of t (slice_get ps (n + 1))) (slice_get ps n)
 
@@ -101,7 +101,7 @@ insertion t n ps =
     then Ok (record { start = start_of t (slice_get ps n); end = start_of t (slice_get ps n) })
     else Err NoEntry
 
--- where a message or a term begins, behind its comment
+-- where a message or a term begins, after its comment
 abbrev pub field_by : EntryKind → Span → Result ℕ EditFault
 field_by Field s = Ok s.start
 field_by Junk s = Err (IsJunk s)

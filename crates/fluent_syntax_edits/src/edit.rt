@@ -77,7 +77,7 @@ fn scratch_message(
     }))
 }
 
-/// How many bytes of that message stand before the pattern.
+/// How many bytes of that message come before the pattern.
 fn before_pattern(target: ValueTarget) -> usize
     ensures { result ≡ before_pattern target }
 {
@@ -87,7 +87,7 @@ fn before_pattern(target: ValueTarget) -> usize
     }
 }
 
-/// The text of the pattern, as it is written behind the `=`.
+/// The text of the pattern, as it is written after the `=`.
 fn pattern_text(
     alloc: Global,
     target: ValueTarget,
@@ -100,7 +100,7 @@ fn pattern_text(
     let written = entry_text(alloc, &scratch_message)?;
     let before = before_pattern(target);
     if !written.as_str().is_char_boundary(before) {
-        // what stands there is ASCII
+        // what is there is ASCII
         return Err(AllocError);
     }
     String::from_str(alloc, &written.as_str()[before..])
@@ -159,7 +159,7 @@ fn is_blank(byte: u8) -> bool
     byte == b'\n' || byte == b' ' || byte == b'\r'
 }
 
-/// How many line ends stand directly before the place, with nothing but spaces and CRs between them.
+/// How many line ends come directly before the place, with nothing but spaces and CRs between them.
 fn line_ends_before(bytes: &[u8], place: usize) -> usize
     requires { place ≤ length bytes.now }
     ensures count { result ≡ line_ends_before bytes.now place }
@@ -174,7 +174,7 @@ fn line_ends_before(bytes: &[u8], place: usize) -> usize
     count
 }
 
-/// The text with as many blank lines behind it as the source has before the place.
+/// The text with as many blank lines after it as the source has before the place.
 pub(crate) fn with_blank_lines(
     source: &[u8],
     place: usize,

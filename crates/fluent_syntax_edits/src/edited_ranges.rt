@@ -45,7 +45,7 @@ pub(crate) fn target_at(
     ensures { (result ≡ Err Memory) ⊎ TargetAt edition source.now target (Ok start) result }
 {
     if start > source.len() {
-        // no entry begins behind the end
+        // no entry begins after the end
         return Err(EditFault::Memory);
     }
     match entry_ranges(alloc, source, edition, usize::MAX, start) {
@@ -56,7 +56,7 @@ pub(crate) fn target_at(
     }
 }
 
-/// Where what has that place begins; behind the last one the text's end.
+/// Where what has that place begins; after the last one the text's end.
 fn start_of(source: &str, place: Option<&EntryPlace>) -> usize
     ensures { result ≡ start_of source.now (option_copied place.entry) }
 {
@@ -66,7 +66,7 @@ fn start_of(source: &str, place: Option<&EntryPlace>) -> usize
     }
 }
 
-/// The entry of that number with its comment, up to where what stands behind it begins.
+/// The entry of that number with its comment, up to where what comes after it begins.
 fn entry_range(source: &str, entry_places: &[EntryPlace], index: usize) -> Result<Span, EditFault>
     ensures { result ≡ entry_range source.now index entry_places.now }
 {
@@ -94,7 +94,7 @@ fn insertion(source: &str, entry_places: &[EntryPlace], index: usize) -> Result<
     }
 }
 
-/// Where the message or the term of that number begins, behind its comment.
+/// Where the message or the term of that number begins, after its comment.
 fn field_start(entry_places: &[EntryPlace], index: usize) -> Result<usize, EditFault>
     ensures { result ≡ field_start (slice_get entry_places.now index) }
 {

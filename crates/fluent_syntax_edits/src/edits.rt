@@ -122,7 +122,7 @@ pub fn replace<'s, S: Slice<'s>>(
 }
 
 /// The source with the entry before the one of that number, counted from 0 as in the tree, and before the comment that
-/// is attached to that one. With the number behind all it stands at the end of the source.
+/// is attached to that one. With the number after the last it is at the end of the source.
 pub fn insert<'s, S: Slice<'s>>(
     alloc: Global,
     source: &str,
@@ -137,7 +137,7 @@ pub fn insert<'s, S: Slice<'s>>(
 }
 
 /// The source without the entry of that number, counted from 0 as in the tree, the comment that is attached to it and
-/// the blank lines behind it.
+/// the blank lines after it.
 pub fn remove(
     alloc: Global,
     source: &str,

@@ -1,8 +1,8 @@
-//! Where the entries of a text stand.
+//! Where the entries of a text are.
 ghost use Rattle.std.specs.Prelude.{◌≡◌, ◌∷◌, ◌++◌, List, Some, IfOk};
 ghost use Rattle.fluent_syntax_edits.specs.EntryPlaces.{HasEntryPlaces, attaches_to, kind_of, entry_place};
 ghost use Rattle.fluent_syntax_edits.specs.EntryPlaces.{entry_place_of};
-ghost use Rattle.fluent_syntax_edits.specs.EntryPlaces.{entry_places_behind};
+ghost use Rattle.fluent_syntax_edits.specs.EntryPlaces.{entry_places_after};
 ghost use Rattle.fluent_syntax_grammar.specs.Tiling.{Tile};
 ghost use Rattle.fluent_syntax_parser.specs.Rest.{tree_of};
 
@@ -13,7 +13,7 @@ use fluent_syntax_tree::edition::Edition;
 use fluent_syntax_tree::spans::Span;
 use std::alloc::{AllocError, Global};
 
-/// What stands at a place, as far as edits ask.
+/// What is at a place, as far as edits ask.
 #[derive(Clone, Copy, Debug, Drop, Eq, PartialEq)]
 pub enum EntryKind {
     /// A message or a term.
@@ -25,7 +25,7 @@ pub enum EntryKind {
     Junk,
 }
 
-/// Where an entry or junk stands.
+/// Where an entry or junk is.
 #[derive(Clone, Copy, Debug, Drop)]
 pub struct EntryPlace {
     /// Where it begins, with the comment that is attached to it.
@@ -64,7 +64,7 @@ fn attaches_to(comment: EntryPlace, place: EntryPlace) -> bool
         && comment.span.end == place.span.start
 }
 
-/// Adds the place read before, unless it is that of a comment that is attached to what stands at the next one. What is
+/// Adds the place read before, unless it is that of a comment that is attached to what is at the next one. What is
 /// the last place now.
 fn add_place(
     entry_places: &mut Vec<EntryPlace>,
@@ -72,8 +72,8 @@ fn add_place(
     next: EntryPlace,
 ) -> Result<EntryPlace, AllocError>
     ensures { IfOk result (λ now. (tile : Tile) (more : List Tile) → entry_place_of tile ≡ next →
-        entry_places.new.items ++ entry_places_behind (Some now) more ≡ entry_places.old.items
-        ++ entry_places_behind last (tile ∷ more)) }
+        entry_places.new.items ++ entry_places_after (Some now) more ≡ entry_places.old.items
+        ++ entry_places_after last (tile ∷ more)) }
 {
     match last {
         Some(comment) if attaches_to(comment, next) => Ok(EntryPlace {

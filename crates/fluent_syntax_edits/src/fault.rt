@@ -8,13 +8,13 @@ use thiserror::Error;
 /// Why an edit was refused. Then there is no new text.
 #[derive(Clone, Copy, Debug, Drop, Eq, Error, PartialEq)]
 pub enum EditFault {
-    /// The text has no entry of that number. (An entry may be inserted with the number behind all.)
+    /// The text has no entry of that number. (An entry may be inserted with the number after the last.)
     #[error("there is no such entry")]
     NoEntry,
     /// What has that number is junk, which is there in the source.
     #[error("it is junk")]
     IsJunk(Span),
-    /// What has that number has no such value: it is a comment that stands alone, a message without a value, or has
+    /// What has that number has no such value: it is a comment by itself, a message without a value, or has
     /// fewer attributes.
     #[error("there is no such value")]
     NoValue,

@@ -20,7 +20,7 @@ use fluent_syntax_tree::spans::Span;
 use std::alloc::{AllocError, Global};
 use std::ops::Range;
 
-/// A stretch of a text, and where what stands behind it begins now.
+/// A stretch of a text, and where what comes after it begins now.
 #[derive(Clone, Copy)]
 pub(crate) struct Shift {
     pub(crate) replaced: Span,

@@ -1,4 +1,4 @@
--- The tiling of a text and its tiling without comments, tile beside tile.
+-- The tiling of a text and its tiling without comments, tile next to tile.
 use Rattle.std.proofs.Common.{◌≡◌, ℕ, ◌+◌, ◌<◌, ◌≤◌, List, [], ◌∷◌, ◌++◌, length, Option, Some, None, Bool, true, false}
 use Rattle.std.proofs.Common.{refl, sym, ◌∙◌, subst, arith, inl, inr}
 use Rattle.std.specs.Prelude.{slice_get, ◌==◌, ◌⊎◌}
@@ -17,7 +17,7 @@ use Rattle.fluent_syntax_grammar.specs.Comments.{hashes, comment_lines, other_le
 use Rattle.fluent_syntax_grammar.specs.Comments.{comment_entry, level_of}
 use Rattle.fluent_syntax_grammar.specs.Tiling.{Fault, Tile, entry, refused, dropped, failing_place, is_entry_byte}
 use Rattle.fluent_syntax_grammar.specs.Tiling.{starts_entry, JunkEnd, whole_line, Tiled, done, next, entry_of, entry_at}
-use Rattle.fluent_syntax_grammar.specs.Tiling.{TileAt, reads, refuses, RuntimeTileAt, drops, stands, Tiling}
+use Rattle.fluent_syntax_grammar.specs.Tiling.{TileAt, reads, refuses, RuntimeTileAt, drops, keeps_tile, Tiling}
 use Rattle.fluent_syntax_grammar.specs.Tiling.{RuntimeTiling}
 use Rattle.fluent_syntax_tree.specs.declared.edition.Edition.{Edition}
 use Rattle.fluent_syntax_tree.specs.declared.spans.Span.{Span}
@@ -83,7 +83,7 @@ module _ (edition : Edition) (t : List ℕ) where
       let one = (functional_whole_line t).same i _ _ w' (line_to t i j x) in
       let same_end : end ≡ j = cc in
       record { rest = more; tiled = subst (λ k. Runtime k more) same_end m; aligned = λ xs a. dropped_right a }
-  drop_line i j ys e x (next {start = start} b l (stands h y) m) =
+  drop_line i j ys e x (next {start = start} b l (keeps_tile h y) m) =
       let same : start ≡ i = single_block.same i _ _ b (block_at_entry t i (hash_there t i e)) in
       differs e (subst (λ k. has_byte t 35 k ≡ false) same h)
 
@@ -132,7 +132,7 @@ module _ (edition : Edition) (t : List ℕ) where
         tiled = m;
         aligned = λ xs a. dropped_right a;
       }
-  dropped_first i ys e (next {start = start} b l (stands h y) m) =
+  dropped_first i ys e (next {start = start} b l (keeps_tile h y) m) =
       let same : start ≡ i = single_block.same i _ _ b (block_at_entry t i (hash_there t i e)) in
       differs e (subst (λ k. has_byte t 35 k ≡ false) same h)
 
@@ -194,11 +194,12 @@ module _ (edition : Edition) (t : List ℕ) where
       RuntimeTileAt edition t s end tile → Runtime end more → tile ∷ more ≡ ys → AlignedRest e ys (λ xs. refused f ∷ xs)
   junk_inside m s e end f tile more ys h b l x j (drops g w) r same =
       differs (hash_there t s g) (no_entry_there m s e h b l x j)
-  junk_inside m s e end f tile more ys h b l x j (stands g (reads {e = a} y)) r same =
+  junk_inside m s e end f tile more ys h b l x j (keeps_tile g (reads {e = a} y)) r same =
       let k = refused_there s (Read a end) (no_entry_there m s e h b l x j) y in
       let wrong = k.3 in
       absurd cc
-  junk_inside m s e end f tile more ys h b l x j (stands g (refuses {from = from} {to = to} {k = kind} y n)) r same =
+  junk_inside m s e end f tile more ys h b l x j
+      (keeps_tile g (refuses {from = from} {to = to} {k = kind} y n)) r same =
       let k = refused_there s (Refused kind from to) (no_entry_there m s e h b l x j) y in
       let is = k.3 in
       let at = k.4 in
@@ -282,12 +283,12 @@ module _ (edition : Edition) (t : List ℕ) where
   hash_entry_of i o (Some b) e h (first f x) = x
   hash_entry_of i o (Some b) e h (second f x) = absurd (other_byte i b h e f)
 
-  -- where a `#` stands, an entry is a comment
+  -- where there is a `#`, an entry is a comment
   hash_comment : (i : ℕ) (o : Outcome (EntryTree Span)) → has_byte t 35 i ≡ true → entry_at edition t i o →
       comment_entry t i o
   hash_comment i o h (chosen x) = hash_entry_of i o (slice_get t i) refl h x
 
-  -- a tile of the one, where a `#` stands or not
+  -- a tile of the one, where there is a `#` or none
   tile_step : (i j : ℕ) (x : Tile) (ys : List Tile) → has_byte t 35 i ≡ true → TileAt edition t i j x → Runtime i ys →
       AlignedRest j ys (λ xs. x ∷ xs)
   tile_step i j x ys h (reads {e = e} y) r =
@@ -302,7 +303,7 @@ module _ (edition : Edition) (t : List ℕ) where
   other_step i j x ys h l b y (done c) = let same = single_block.same i _ _ c b in absurd (omega arith)
   other_step i j x ys h l b y (next {start = s} c m (drops g w) r) = let same : s ≡ i = single_block.same i _ _ c b in
       differs g (subst (λ k. has_byte t 35 k ≡ false) (sym same) h)
-  other_step i j x ys h l b y (next {start = s} {end = end} {tile = tile} {tiles = more} c m (stands g z) r) =
+  other_step i j x ys h l b y (next {start = s} {end = end} {tile = tile} {tiles = more} c m (keeps_tile g z) r) =
       let same : s ≡ i = single_block.same i _ _ c b in
       let z' = subst (λ k. TileAt edition t k end tile) same z in
       let same_end : end ≡ j = (one_tile edition t).same_end i end j tile x z' y in
@@ -325,6 +326,6 @@ module _ (edition : Edition) (t : List ℕ) where
       let q = step s j x ys (has_byte t 35 s) refl l (block_end t i s b) y (runtime_at i s ys b r) in
       q.aligned more (tiles_aligned j more q.rest m q.tiled)
 
-  -- the tiling of a text lies beside its tiling without comments
+  -- the tiling of a text next to its tiling without comments
   pub aligned : (xs ys : List Tile) → Tiling edition t xs → RuntimeTiling edition t ys → Aligned xs ys
   aligned xs ys a b = tiles_aligned 0 xs ys a b

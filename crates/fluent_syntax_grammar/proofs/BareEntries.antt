@@ -1,4 +1,4 @@
--- An entry that is read where no `#` stands is no comment, and has none attached.
+-- An entry that is read where there is no `#` is no comment, and has none attached.
 use Rattle.std.proofs.Common.{◌≡◌, ℕ, List, [], ◌∷◌, Option, Some, None, true, false, refl}
 use Rattle.std.specs.Prelude.{slice_get, ◌==◌}
 use Rattle.fluent_syntax_tree.specs.Kind.{Kind}
@@ -10,7 +10,7 @@ use Rattle.fluent_syntax_grammar.specs.Places.{holds, has_byte}
 use Rattle.fluent_syntax_grammar.specs.Construct.{Read, Construct, chosen, first, second}
 use Rattle.fluent_syntax_grammar.specs.Entries.{message_with, term_with, message_entry, term_entry}
 use Rattle.fluent_syntax_grammar.specs.Tiling.{Tile, Tiled, done, next, entry_of, TileAt, reads, refuses, RuntimeTileAt}
-use Rattle.fluent_syntax_grammar.specs.Tiling.{drops, stands}
+use Rattle.fluent_syntax_grammar.specs.Tiling.{drops, keeps_tile}
 use Rattle.fluent_syntax_tree.specs.declared.edition.Edition.{Edition}
 use Rattle.fluent_syntax_tree.specs.declared.spans.Span.{Span}
 use Rattle.fluent_syntax_grammar.proofs.HoareTriple.{HoareTriple, holds_bind, holds_yields, holds_fails_from}
@@ -73,14 +73,14 @@ module _ (edition : Edition) (t : List ℕ) where
   entry_is_bare i j e (Some b) p h (second f (first g x)) = term_bare.on_read i j e tt x
   entry_is_bare i j e (Some b) p h (second f (second g x)) = message_bare.on_read i j e tt x
 
-  -- where no `#` stands the tile is none of a comment
+  -- where there is no `#` the tile is none of a comment
   pub bare_tile_at : (i j : ℕ) (tile : Tile) → has_byte t 35 i ≡ false → TileAt edition t i j tile → IsBareTile tile
   bare_tile_at i j tile h (reads {e = e} (chosen x)) = entry_is_bare i j e (slice_get t i) refl h x
   bare_tile_at i j tile h (refuses x y) = tt
 
   bare_runtime_tile : (i j : ℕ) (tile : Tile) → RuntimeTileAt edition t i j tile → IsBareTile tile
   bare_runtime_tile i j tile (drops h x) = tt
-  bare_runtime_tile i j tile (stands h x) = bare_tile_at i j tile h x
+  bare_runtime_tile i j tile (keeps_tile h x) = bare_tile_at i j tile h x
 
   -- the tiling without comments has none
   pub bare_runtime : (i : ℕ) (tiles : List Tile) → Tiled t (RuntimeTileAt edition t) i tiles →

@@ -9,18 +9,18 @@ use Rattle.fluent_syntax_grammar.proofs.SoundStrings.{InText}
 pub text_cuts : (t : List ℕ) → AreBoundaries t (InText t)
 text_cuts t = record {
   in_text = λ i p. p;
-  before = λ i a. let l = slice_get_within t i a.byte a.stands in omega arith;
-  after = λ i a. let l = slice_get_within t i a.byte a.stands in omega arith;
+  before = λ i a. let l = slice_get_within t i a.byte a.in_place in omega arith;
+  after = λ i a. let l = slice_get_within t i a.byte a.in_place in omega arith;
   at_end = omega arith;
 }
 
 small_there : (t : List ℕ) (i : ℕ) → AsciiAt t i → get_or t i 0 < 128
-small_there t i a = let e = get_or_from_slice_get t i a.byte 0 a.stands in let s = a.ascii in omega arith
+small_there t i a = let e = get_or_from_slice_get t i a.byte 0 a.in_place in let s = a.ascii in omega arith
 
 pub boundary_cuts : (t : List ℕ) → IsUtf8 t → AreBoundaries t (IsCharBoundary t)
 boundary_cuts t u = record {
   in_text = λ i p. p.0;
-  before = λ i a. IsCharBoundary-before_ascii t i (slice_get_within t i a.byte a.stands) (small_there t i a);
-  after = λ i a. IsCharBoundary-after_ascii t i u (slice_get_within t i a.byte a.stands) (small_there t i a);
+  before = λ i a. IsCharBoundary-before_ascii t i (slice_get_within t i a.byte a.in_place) (small_there t i a);
+  after = λ i a. IsCharBoundary-after_ascii t i u (slice_get_within t i a.byte a.in_place) (small_there t i a);
   at_end = IsCharBoundary-end t;
 }

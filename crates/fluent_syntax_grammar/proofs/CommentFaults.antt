@@ -89,7 +89,7 @@ module _ (t : List ℕ) where
       IsAt (i + hashes t i) k from to
   comment_fault i from to k (chosen x) = (comment_at i (hashes t i)).on_refused i from to k refl x
 
-  -- where a `#` stands, hashes do
+  -- where there is a `#`, there are hashes
   pub some_hash : (i : ℕ) → has_byte t 35 i ≡ true → 1 ≤ hashes t i
   some_hash i e = some_hashes (has_byte t 35 i) (has_byte t 35 (i + 1)) (has_byte t 35 (i + 2)) e
 

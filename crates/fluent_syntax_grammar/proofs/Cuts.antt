@@ -13,10 +13,10 @@ use Rattle.fluent_syntax_grammar.specs.Lines.{is_run_place}
 use Rattle.fluent_syntax_grammar.proofs.Facts.{byte_found, longest_run_in_text, two_on, add_one, has_inside, some_none}
 use Rattle.fluent_syntax_grammar.proofs.Tests.{or_cases}
 
--- an ASCII byte stands there
+-- there is an ASCII byte
 pub record AsciiAt (t : List ℕ) (i : ℕ) : Type 0 where
   pub byte : ℕ
-  pub stands : slice_get t i ≡ Some byte
+  pub in_place : slice_get t i ≡ Some byte
   pub ascii : byte < 128
 
 -- Places of a kind: they lie in the text; before and after each ASCII byte is one, and the text's end is one.
@@ -34,7 +34,7 @@ pub record IsAsciiSet (test : ℕ → Bool) : Type 0 where
 
 pub ascii_has : (t : List ℕ) (test : ℕ → Bool) (i : ℕ) → IsAsciiSet test → has t test i ≡ true → AsciiAt t i
 ascii_has t test i s e = let f = byte_found test (slice_get t i) e in
-    record { byte = f.0; stands = f.1; ascii = s.small f.0 f.2 }
+    record { byte = f.0; in_place = f.1; ascii = s.small f.0 f.2 }
 
 small_byte : (c : ℕ) → c < 128 → (b : ℕ) → (b == c) ≡ true → b < 128
 small_byte c l b e = grind (arith, nat_tests)
@@ -135,7 +135,7 @@ run_stops (Some b) false h = inr (inl (b, refl, (and_true_is (is_run_byte b) h))
 run_ends : (t : List ℕ) (j : ℕ) → is_run_place t j ≡ false → (slice_get t j ≡ None) ⊎ AsciiAt t j
 run_ends t j h = elim (run_stops (slice_get t j) (has_eol t j) h) [
   | inl e ↦ inl e
-  | inr (inl x) ↦ inr (record { byte = x.0; stands = x.1; ascii = brace_small x.0 x.2 })
+  | inr (inl x) ↦ inr (record { byte = x.0; in_place = x.1; ascii = brace_small x.0 x.2 })
   | inr (inr e) ↦ inr (ascii_eol t j e)
 ]
 

@@ -18,7 +18,7 @@ module _ {A B : Type 0} {c : Construct A} {f : A → Construct B} {i : ℕ} wher
   deeper_first d o (stops x) = d _ x
   deeper_first d o (goes_on x y) = d _ x
 
-  -- the next one, behind a first part that is read
+  -- the next one, after a first part that is read
   pub deeper_next : IsFunctional c → (a : A) (j : ℕ) → c i (Read a j) → TooDeep (f a) j → TooDeep (c >>= f) i
   deeper_next h a j x d o (stops y) = let e = h.same i _ _ x y in cc
   deeper_next h a j x d o (goes_on {j = k} {a = b} y z) =
@@ -53,7 +53,7 @@ module _ {A S B : Type 0} {next : S → Construct (More A S)} {add : A → B →
   deeper_item d o (item_and_more x y) = d _ x
   deeper_item d o (stops_later x y) = d _ x
 
-  -- a later one, behind an item that is read
+  -- a later one, after an item that is read
   pub deeper_later : {s : S} {i : ℕ} → IsFunctional (next s) → (a : A) (r : S) (j : ℕ) → next s i (Read (item a r) j) →
       TooDeep (many next add none r) j → TooDeep (many next add none s) i
   deeper_later {i = i} h a r j x d o (list_ends y) = let e = h.same i _ _ x y in cc

@@ -16,7 +16,7 @@ module _ (edition : Edition) (t : List ℕ) (R : Family) where
   deeper_attribute d o (no_more x) = d _ x
   deeper_attribute d o (one_more x y) = d _ x
 
-  -- a later one, behind an attribute that is read
+  -- a later one, after an attribute that is read
   pub deeper_attributes : IsFunctionalFamily R → {i j : ℕ} {a : AttributeTree Span} →
       attribute_of edition t R i (Read a j) → TooDeep (attributes_of edition t R) j →
       TooDeep (attributes_of edition t R) i

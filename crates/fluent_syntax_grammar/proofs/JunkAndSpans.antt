@@ -12,7 +12,7 @@ use Rattle.fluent_syntax_grammar.specs.Places.{BlankBlock}
 use Rattle.fluent_syntax_grammar.specs.Construct.{Read, chosen, goes_on, first, second}
 use Rattle.fluent_syntax_grammar.specs.Comments.{comment_entry, level_of, hashes}
 use Rattle.fluent_syntax_grammar.specs.Tiling.{Fault, Tile, entry, refused, dropped, Tiled, done, next, entry_of}
-use Rattle.fluent_syntax_grammar.specs.Tiling.{TileAt, reads, refuses, RuntimeTileAt, drops, stands}
+use Rattle.fluent_syntax_grammar.specs.Tiling.{TileAt, reads, refuses, RuntimeTileAt, drops, keeps_tile}
 use Rattle.fluent_syntax_grammar.specs.Body.{faults, attached, attached_entry, alone, or_attached, body}
 use Rattle.fluent_syntax_grammar.specs.UniqueReading.{Ascend, junk_slice, fault_slice, JunkOfErrors}
 use Rattle.fluent_syntax_grammar.specs.UniqueReading.{RuntimeJunkOfErrors}
@@ -159,7 +159,7 @@ module _ (edition : Edition) (t : List ℕ) where
       let blank = block_forward t i start b in
       let on = q.late in
       later i end (faults more) (omega arith) (runtime_ascend end more q.place m)
-  runtime_ascend i tiles p (next {start = start} {end = end} {tile = tile} {tiles = more} b l (stands h x) m) =
+  runtime_ascend i tiles p (next {start = start} {end = end} {tile = tile} {tiles = more} b l (keeps_tile h x) m) =
       let q = tile_good edition t AllPlaces (text_cuts t) start end tile (omega arith) l x in
       ascend_tile i start end tile more b p l x (runtime_ascend end more q.place m)
 
@@ -210,7 +210,7 @@ module _ (edition : Edition) (t : List ℕ) where
 
   runtime_is : (i j : ℕ) (x : Tile) → RuntimeTileAt edition t i j x → HoldsEntry x
   runtime_is i j x (drops h y) = tt
-  runtime_is i j x (stands h y) = tile_is i j x y
+  runtime_is i j x (keeps_tile h y) = tile_is i j x y
 
   runtime_are : (i : ℕ) (xs : List Tile) → Tiled t (RuntimeTileAt edition t) i xs → list_every HoldsEntry xs
   runtime_are i xs (done b) = tt

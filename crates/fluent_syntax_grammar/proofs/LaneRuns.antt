@@ -67,13 +67,13 @@ module _ (test : ℕ → Bool) (t : List ℕ) where
   at_byte k b within is = ap (holds test) (sym (slice_get-get_or t k 0 within)) ∙ is
 
   -- the bytes before the run, and those of the run, if it ends before its n bytes or the text does
-  pub run_behind : (i n r : ℕ) → i + n ≤ length t → ((k : ℕ) → k < i → has t test k ≡ true) → RunOf test t i n r
+  pub run_after : (i n r : ℕ) → i + n ≤ length t → ((k : ℕ) → k < i → has t test k ≡ true) → RunOf test t i n r
       → (i + r < length t → r < n) → i + r ≡ prefix_len test t
-  run_behind i n r room before run ends =
+  run_after i n r room before run ends =
       sym (prefix_len_is test t (i + r) 0 (omega (arith, run.within))
       (λ k within. at_byte k true (omega (arith, run.within)) (elim (cases_lt k i) [
         | inl first ↦ before k first
-        | inr behind ↦ run.each k (omega (arith, behind)) within
+        | inr beyond ↦ run.each k (omega (arith, beyond)) within
       ]))
       (λ more. at_byte (i + r) false more (run.stops (ends more))))
 

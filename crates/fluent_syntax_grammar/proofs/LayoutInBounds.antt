@@ -158,7 +158,7 @@ module _ (t : List ℕ) (P : ℕ → Type 0) (cuts : AreBoundaries t P) where
       let same : get_or (slice_range t from to) n 0 ≡ get_or t (from + n) 0 =
       get_or-take (to - from) (drop from t) n 0 m ∙ get_or-drop from t n 0 in
       let small : get_or t (from + n) 0 < 128 = trimmed_small (get_or t (from + n) 0) (ap is_trimmed (sym same) ∙ e) in
-      record { byte = get_or t (from + n) 0; stands = slice_get-get_or t (from + n) 0 (omega arith); ascii = small }
+      record { byte = get_or t (from + n) 0; in_place = slice_get-get_or t (from + n) 0 (omega arith); ascii = small }
 
   trimmed_place : (from to n : ℕ) → to ≤ length t → n ≤ to - from → P from → P (from + n) →
       P (from + trimmed_len_below (slice_range t from to) n)

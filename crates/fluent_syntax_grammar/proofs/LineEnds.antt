@@ -1,4 +1,4 @@
--- What stands in blank blocks and on lines.
+-- What is in blank blocks and on lines.
 use Rattle.std.proofs.Common.{◌≡◌, ℕ, ◌+◌, ◌-◌, ◌<◌, ◌≤◌, List, length, Some, None, Bool, true, false, refl, sym, subst}
 use Rattle.std.proofs.Common.{arith, inl, inr, Option}
 use Rattle.std.specs.Prelude.{slice_get, ◌==◌, ◌||◌, ◌&&◌, ◌⊎◌, if◌then◌else◌}
@@ -47,7 +47,7 @@ eol_between : (i k m : ℕ) → k ≤ i → i < m → (m ≡ k + 1) ⊎ (m ≡ k
 eol_between i k m a b (inl e) = inl (omega arith)
 eol_between i k m a b (inr e) = grind arith
 
--- where neither an LF nor a CRLF stands no line end stands, and conversely
+-- where there is neither an LF nor a CRLF there is no line end, and conversely
 pub eol_none : (a b : Bool) (x y : Option ℕ) → (a || b) ≡ false → (if a then x else if b then y else None) ≡ None
 eol_none true b x y e = cc
 eol_none false true x y e = cc
@@ -75,7 +75,7 @@ module _ (t : List ℕ) where
     ]
   ]
 
-  -- in a blank block stand spaces and line ends
+  -- in a blank block there are spaces and line ends
   block_bytes : (i j k : ℕ) → BlankBlock t i j → i ≤ k → k < j → has t is_blank_byte k ≡ true
   block_bytes i j k (no_line a b) l m = absurd (omega arith)
   block_bytes i j k (line {k = n} {m = p} a b c) l m = elim (lt_or_le k n) [

@@ -24,12 +24,12 @@ or_swap true false c = refl
 or_swap false true c = refl
 or_swap false false c = refl
 
--- one name more behind others
-used_behind : (name n : List ℕ) (names : List (List ℕ)) →
+-- one more name after others
+used_after : (name n : List ℕ) (names : List (List ℕ)) →
     is_used name (names ++ n ∷ []) ≡ (bytes_eq name n || is_used name names)
-used_behind name n [] = refl
-used_behind name n (x ∷ xs) =
-    ap (λ b. bytes_eq name x || b) (used_behind name n xs)
+used_after name n [] = refl
+used_after name n (x ∷ xs) =
+    ap (λ b. bytes_eq name x || b) (used_after name n xs)
     ∙ or_swap (bytes_eq name x) (bytes_eq name n) (is_used name xs)
 
 module _ {K : Type 0} (text : K → List ℕ) where
@@ -56,9 +56,9 @@ module _ {K : Type 0} (text : K → List ℕ) where
     key_inserted (x ∷ keys) = by_order x keys (cmp k x) refl (key_inserted keys)
 
   -- one name more
-  pub notes_behind : (cmp : K → K → Ordering) → ((x y : K) → cmp x y ≡ Equal → text x ≡ text y) → (keys : List K)
+  pub notes_after : (cmp : K → K → Ordering) → ((x y : K) → cmp x y ≡ Equal → text x ≡ text y) → (keys : List K)
       (names : List (List ℕ)) (k : K) → NotesAll text keys names →
       NotesAll text (insert_key cmp keys k) (names ++ text k ∷ [])
-  notes_behind cmp same keys names k all = λ name.
+  notes_after cmp same keys names k all = λ name.
       key_inserted cmp same name k keys ∙ ap (λ b. bytes_eq name (text k) || b) (all name)
-      ∙ sym (used_behind name (text k) names)
+      ∙ sym (used_after name (text k) names)

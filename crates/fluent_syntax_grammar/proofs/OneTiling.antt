@@ -7,7 +7,7 @@ use Rattle.fluent_syntax_grammar.specs.Tiling.{TileIn, RuntimeTileIn}
 use Rattle.fluent_syntax_grammar.proofs.FunctionalRules.{IsFunctionalFamily}
 use Rattle.fluent_syntax_grammar.proofs.Nesting.{functional_family}
 use Rattle.fluent_syntax_grammar.specs.Tiling.{Tile, failing_place, JunkEnd, whole_line, Tiled, done, next, TileAt}
-use Rattle.fluent_syntax_grammar.specs.Tiling.{reads, refuses, RuntimeTileAt, drops, stands, Tiling, RuntimeTiling}
+use Rattle.fluent_syntax_grammar.specs.Tiling.{reads, refuses, RuntimeTileAt, drops, keeps_tile, Tiling, RuntimeTiling}
 use Rattle.fluent_syntax_tree.specs.declared.edition.Edition.{Edition}
 use Rattle.fluent_syntax_grammar.specs.UniqueReading.{IsFunctional}
 use Rattle.fluent_syntax_grammar.proofs.Functional.{functional, single_block}
@@ -26,7 +26,7 @@ module _ (t : List ℕ) where
   pub functional_whole_line : IsFunctional (whole_line t)
   functional_whole_line = search (functional, functional_rest_of_line, functional_optional_eol) depth 30
 
--- At each place stands at most one tile, with one end.
+-- At each place there is at most one tile, with one end.
 pub record IsOneTile (at : (i j : ℕ) → Tile → Type 0) : Type 0 where
   pub same_end : (i j k : ℕ) (x y : Tile) → at i j x → at i k y → j ≡ k
   pub same_tile : (i j k : ℕ) (x y : Tile) → at i j x → at i k y → x ≡ y
@@ -74,15 +74,15 @@ module _ (edition : Edition) (t : List ℕ) (R : Family) (h : IsFunctionalFamily
 
   runtime_end : (i j k : ℕ) (x y : Tile) → RuntimeTileIn edition t R i j x → RuntimeTileIn edition t R i k y → j ≡ k
   runtime_end i j k x y (drops a b) (drops c d) = let g = (functional_whole_line t).same i _ _ b d in cc
-  runtime_end i j k x y (drops a b) (stands c d) = cc
-  runtime_end i j k x y (stands a b) (drops c d) = cc
-  runtime_end i j k x y (stands a b) (stands c d) = tile_end i j k _ _ b d
+  runtime_end i j k x y (drops a b) (keeps_tile c d) = cc
+  runtime_end i j k x y (keeps_tile a b) (drops c d) = cc
+  runtime_end i j k x y (keeps_tile a b) (keeps_tile c d) = tile_end i j k _ _ b d
 
   runtime_same : (i j k : ℕ) (x y : Tile) → RuntimeTileIn edition t R i j x → RuntimeTileIn edition t R i k y → x ≡ y
   runtime_same i j k x y (drops a b) (drops c d) = refl
-  runtime_same i j k x y (drops a b) (stands c d) = cc
-  runtime_same i j k x y (stands a b) (drops c d) = cc
-  runtime_same i j k x y (stands a b) (stands c d) = tile_same i j k _ _ b d
+  runtime_same i j k x y (drops a b) (keeps_tile c d) = cc
+  runtime_same i j k x y (keeps_tile a b) (drops c d) = cc
+  runtime_same i j k x y (keeps_tile a b) (keeps_tile c d) = tile_same i j k _ _ b d
 
   pub one_runtime_tile_in : IsOneTile (RuntimeTileIn edition t R)
   one_runtime_tile_in = record { same_end = runtime_end; same_tile = runtime_same }

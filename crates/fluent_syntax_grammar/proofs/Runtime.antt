@@ -113,7 +113,7 @@ body_bare (x ∷ y ∷ tiles) (b, c) =
     ap (λ o. or_attached o (alone x) (body (y ∷ tiles)) (body tiles)) (bare_attaches x y b) ∙
     (ap (λ zs. zs ++ body (y ∷ tiles)) (bare_alone x b) ∙ ap (λ zs. bare_tile x ++ zs) (body_bare (y ∷ tiles) c))
 
--- ---- beside one another
+-- ---- next to one another
 
 pub aligned_named : (xs ys : List Tile) → Aligned xs ys →
     messages_and_terms (bare_tiles ys) ≡ messages_and_terms (bare_tiles xs)

@@ -7,7 +7,7 @@ use Rattle.fluent_syntax_grammar.specs.Places.{LongestRun, has_byte, after_eol, 
 use Rattle.fluent_syntax_grammar.specs.Construct.{Outcome, Read, Refused}
 use Rattle.fluent_syntax_grammar.specs.Tiling.{Tile, entry, dropped, failing_place, starts_entry, JunkEnd, Tiled, done}
 use Rattle.fluent_syntax_grammar.specs.Tiling.{next, entry_at, TileAt, reads, refuses, RuntimeTileAt, drops}
-use Rattle.fluent_syntax_grammar.specs.Tiling.{stands, SomeTiling, SomeRuntimeTiling}
+use Rattle.fluent_syntax_grammar.specs.Tiling.{keeps_tile, SomeTiling, SomeRuntimeTiling}
 use Rattle.fluent_syntax_tree.specs.declared.edition.Edition.{Edition}
 use Rattle.fluent_syntax_tree.specs.declared.spans.Span.{Span}
 use Rattle.fluent_syntax_grammar.proofs.Cuts.{block_forward, line_inside}
@@ -49,11 +49,11 @@ module _ (edition : Edition) (t : List ℕ) where
   every : IsIncludedFamily (family edition t) (family edition t)
   every = record { expression = included_same; argument_list = included_same }
 
-  -- a tile that stands at a place, and goes on
+  -- a tile that is at a place, and goes on
   record TileThere (i : ℕ) : Type 0 where
     tile : Tile
     end : ℕ
-    stands_there : TileAt edition t i end tile
+    tile_there : TileAt edition t i end tile
     on : i < end
     in_text : end ≤ length t
 
@@ -63,7 +63,7 @@ module _ (edition : Edition) (t : List ℕ) where
       record {
         tile = entry (record { start = i; end = j }) e;
         end = j;
-        stands_there = reads x;
+        tile_there = reads x;
         on = q.onward;
         in_text = q.place;
       }
@@ -71,7 +71,7 @@ module _ (edition : Edition) (t : List ℕ) where
       let f = entry_refused edition t (InText t) (text_cuts t) i from to k (omega arith) x in
       let e = end_exists t (length t) (failing_place k from to) (omega arith) f.in_text in
       let q = tile_good edition t (InText t) (text_cuts t) i e.0 _ (omega arith) l (refuses x e.1) in
-      record { tile = _; end = e.0; stands_there = refuses x e.1; on = q.onward; in_text = q.place }
+      record { tile = _; end = e.0; tile_there = refuses x e.1; on = q.onward; in_text = q.place }
 
   tile_exists : (i : ℕ) → i < length t → TileThere i
   tile_exists i l =
@@ -82,7 +82,7 @@ module _ (edition : Edition) (t : List ℕ) where
   record RuntimeTileThere (i : ℕ) : Type 0 where
     tile : Tile
     end : ℕ
-    stands_there : RuntimeTileAt edition t i end tile
+    tile_there : RuntimeTileAt edition t i end tile
     on : i < end
     in_text : end ≤ length t
 
@@ -94,19 +94,19 @@ module _ (edition : Edition) (t : List ℕ) where
       record {
         tile = dropped;
         end = x.0;
-        stands_there = drops h (line_to t i x.0 x.1);
+        tile_there = drops h (line_to t i x.0 x.1);
         on = omega arith;
         in_text = line_in_text t i x.0 (omega arith) x.1;
       }
   runtime_tile i l false h = let x = tile_exists i l in
-      record { tile = x.tile; end = x.end; stands_there = stands h x.stands_there; on = x.on; in_text = x.in_text }
+      record { tile = x.tile; end = x.end; tile_there = keeps_tile h x.tile_there; on = x.on; in_text = x.in_text }
 
   tiles_at : (i : ℕ) → i ≤ length t → (s : ℕ) → BlankBlock t i s → s ≤ length t →
       ((j : ℕ) → i < j → j ≤ length t → (tiles : List Tile) × Tiled t (TileAt edition t) j tiles) →
       (tiles : List Tile) × Tiled t (TileAt edition t) i tiles
   tiles_at i l s b m more = elim (lt_or_same s (length t) m) [
     | inl n ↦ (let x = tile_exists s n in let on = x.on in let f = block_forward t i s b in
-        let r = more x.end (omega arith) x.in_text in (x.tile ∷ r.0, next b n x.stands_there r.1))
+        let r = more x.end (omega arith) x.in_text in (x.tile ∷ r.0, next b n x.tile_there r.1))
     | inr same ↦ ([], done (subst (λ s. BlankBlock t i s) same b))
   ]
 
@@ -121,7 +121,7 @@ module _ (edition : Edition) (t : List ℕ) where
       (tiles : List Tile) × Tiled t (RuntimeTileAt edition t) i tiles
   runtime_at i l s b m more = elim (lt_or_same s (length t) m) [
     | inl n ↦ (let x = runtime_tile s n (has_byte t 35 s) refl in let on = x.on in let f = block_forward t i s b in
-        let r = more x.end (omega arith) x.in_text in (x.tile ∷ r.0, next b n x.stands_there r.1))
+        let r = more x.end (omega arith) x.in_text in (x.tile ∷ r.0, next b n x.tile_there r.1))
     | inr same ↦ ([], done (subst (λ s. BlankBlock t i s) same b))
   ]
 

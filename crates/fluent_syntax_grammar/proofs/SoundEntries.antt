@@ -221,7 +221,7 @@ module _ (t : List ℕ) (P : ℕ → Type 0) (cuts : AreBoundaries t P) where
         λ j from to k e x. absurd (name_refused i from to k l (subst (λ j. identifier t j (Refused k from to)) e x));
   }
 
-  -- a byte that stands there is read
+  -- a byte that is there is read
   token_there : (b i : ℕ) → b < 128 → has_byte t b i ≡ true → (F : Kind → ℕ → ℕ → Type 0) →
       HoareTriple (λ j. j ≡ i) (token t b) (λ u. Inside P (i + 1)) F
   token_there b i l h F = holds_bind {mid = λ found j. (found ≡ true) × Inside P (i + 1) j}

@@ -25,7 +25,7 @@ InText t i = i ≤ length t
 
 module _ (t : List ℕ) where
   inside_text : (i : ℕ) → AsciiAt t i → i < length t
-  inside_text i a = slice_get_within t i a.byte a.stands
+  inside_text i a = slice_get_within t i a.byte a.in_place
 
   hex_in_text : (i w k : ℕ) → i ≤ length t → HexDigits t i w k → k ≤ length t
   hex_in_text i w k l h =
@@ -81,7 +81,7 @@ module _ (t : List ℕ) where
       (λ e. holds_fails
       (λ i p. let q = p.0 in record { late = q.late; in_text = q.place; one = refl; plain = tt; means = tt }))))
 
-  -- before a unit stands no quote
+  -- before a unit there is no quote
   abbrev AtUnit : ℕ → Option ℕ → ℕ → Type 0
   AtUnit s o i = Inside (InText t) s i × (slice_get t i ≡ o) × (has_byte t 34 i ≡ false)
 

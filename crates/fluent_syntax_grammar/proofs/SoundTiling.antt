@@ -14,7 +14,7 @@ use Rattle.fluent_syntax_grammar.specs.Construct.{Read, Refused, chosen, first, 
 use Rattle.fluent_syntax_grammar.specs.Meaning.{kind_means}
 use Rattle.fluent_syntax_grammar.specs.Tiling.{Tile, entry, refused, dropped, failing_place, is_entry_byte}
 use Rattle.fluent_syntax_grammar.specs.Tiling.{starts_entry, JunkEnd, whole_line, Tiled, done, next, entry_of, entry_at}
-use Rattle.fluent_syntax_grammar.specs.Tiling.{TileAt, reads, refuses, RuntimeTileAt, drops, stands}
+use Rattle.fluent_syntax_grammar.specs.Tiling.{TileAt, reads, refuses, RuntimeTileAt, drops, keeps_tile}
 use Rattle.fluent_syntax_tree.specs.declared.edition.Edition.{Edition}
 use Rattle.fluent_syntax_tree.specs.declared.spans.Span.{Span}
 use Rattle.fluent_syntax_grammar.proofs.Cuts.{IsAsciiSet, AreBoundaries, ascii_has, block_place}
@@ -156,6 +156,6 @@ module _ (edition : Edition) (t : List ℕ) (P : ℕ → Type 0) (cuts : AreBoun
   runtime_good i tiles p (next {start = start} {end = end} {tiles = more} b l (drops h x) y) =
       let q = line_end start end (block_place t P cuts i start p b) x in
       (tt, runtime_good end more q.place y)
-  runtime_good i tiles p (next {start = start} {end = end} {tile = tile} {tiles = more} b l (stands h x) y) =
+  runtime_good i tiles p (next {start = start} {end = end} {tile = tile} {tiles = more} b l (keeps_tile h x) y) =
       let q = tile_good start end tile (block_place t P cuts i start p b) l x in
       (q.good, runtime_good end more q.place y)

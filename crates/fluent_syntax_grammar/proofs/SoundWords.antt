@@ -21,7 +21,7 @@ true_false : true ≡ false → ⊥
 true_false e = cc
 
 module _ (t : List ℕ) (P : ℕ → Type 0) (cuts : AreBoundaries t P) where
-  -- after an optional byte that was not there, it does not stand there
+  -- after an optional byte that was not there, there is none
   pub record AfterOptional (s b : ℕ) (found : Bool) (j : ℕ) : Type 0 where
     pub inside : Inside P s j
     pub missing : found ≡ false → has_byte t b j ≡ false

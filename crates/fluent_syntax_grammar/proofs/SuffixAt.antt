@@ -143,5 +143,6 @@ suffix_blank {t = t} [] ys {i = i} a d e f h = let s : i ≡ i + 0 = omega arith
 suffix_blank {t = t} (x ∷ xs) ys {i = i} a d e f h =
     let s : (i + 1) + length xs ≡ i + suc (length xs) = omega arith in
     subst (λ n. LongestRun (is_blank_place t) i n) s
-    (run_goes_on (is_blank_place t) i _ (suffix_blank_place (left_true (is_blank_byte x) (list_all is_blank_byte xs) a) h)
+    (run_goes_on (is_blank_place t) i _
+    (suffix_blank_place (left_true (is_blank_byte x) (list_all is_blank_byte xs) a) h)
     (suffix_blank xs ys {i = i + 1} (right_true (is_blank_byte x) (list_all is_blank_byte xs) a) d e f (suffix_next h)))

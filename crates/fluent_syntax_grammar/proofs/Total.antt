@@ -159,7 +159,7 @@ module _ {t : List ℕ} {s : ℕ} where
 
 -- ---- lists
 
--- where a list's item stands, it goes on
+-- where there is a list's item, it goes on
 abbrev pub more_on : {A S : Type 0} (t : List ℕ) (s : ℕ) → More A S → ℕ → Type 0
 more_on t s no_item j = From t s j
 more_on t s (item a r) j = From t (s + 1) j

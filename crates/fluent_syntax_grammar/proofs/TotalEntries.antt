@@ -228,22 +228,37 @@ module _ (edition : Edition) (t : List ℕ) (R : Family) (h : IsIncludedFamily R
   pub entry_has : (i : ℕ) → low ≤ i → i ≤ length t → (o : Outcome (EntryTree Span)) × entry_in edition t R i o
   entry_has i g l = let x = entry_has_of i (slice_get t i) g l refl in (x.0, chosen x.1)
 
--- Where an entry nests deeper than n, more bytes are left than n.
-pub too_deep_left : (edition : Edition) (t : List ℕ) (n i : ℕ) → i ≤ length t →
-    TooDeep (entry_in edition t (within edition t n)) i → n < length t - i
-too_deep_left edition t n i l d =
-    elim (below n (length t - i)) [
-      | inl e ↦ e
-      | inr e ↦ (
-          let patterns : (s : ℕ) → i ≤ s → TotalOnward t s (pattern edition t (within edition t n)) =
-          λ s g. pattern_within edition t n s (omega arith) in
-          let has = entry_has edition t (within edition t n) (within_family edition t n) i patterns i (omega arith) l in
-          absurd (d has.0 has.1)
-          )
-    ]
-  where
-    below : (a b : ℕ) → (a < b) ⊎ (b ≤ a)
-    below zero zero = inr (omega arith)
-    below zero (suc b) = inl (omega arith)
-    below (suc a) zero = inr (omega arith)
-    below (suc a) (suc b) = elim (below a b) [ inl e ↦ inl (omega arith) | inr e ↦ inr (omega arith) ]
+less_or_not : (a b : ℕ) → (a < b) ⊎ (b ≤ a)
+less_or_not zero zero = inr (omega arith)
+less_or_not zero (suc b) = inl (omega arith)
+less_or_not (suc a) zero = inr (omega arith)
+less_or_not (suc a) (suc b) = elim (less_or_not a b) [ inl e ↦ inl (omega arith) | inr e ↦ inr (omega arith) ]
+
+module _ (edition : Edition) (t : List ℕ) (n i : ℕ) (l : i ≤ length t) where
+  patterns_left : length t - i ≤ n → (s : ℕ) → i ≤ s → TotalOnward t s (pattern edition t (within edition t n))
+  patterns_left e s g = pattern_within edition t n s (omega (arith, e))
+
+  -- Where an entry nests deeper than n, more bytes are left than n.
+  pub too_deep_left : TooDeep (entry_in edition t (within edition t n)) i → n < length t - i
+  too_deep_left d =
+      elim (less_or_not n (length t - i)) [
+        | inl e ↦ e
+        | inr e ↦ (
+            let has = entry_has edition t (within edition t n) (within_family edition t n) i (patterns_left e) i
+            (omega arith) l in
+            absurd (d has.0 has.1)
+            )
+      ]
+
+  -- And so it is with an attribute.
+  pub attribute_too_deep_left : TooDeep (attribute_of edition t (within edition t n)) i → n < length t - i
+  attribute_too_deep_left d =
+      elim (less_or_not n (length t - i)) [
+        | inl e ↦ e
+        | inr e ↦ (
+            let all = consuming_attribute edition t (within edition t n) (within_family edition t n) i (patterns_left e)
+            i (omega arith) in
+            let has = all.total.has i (record { late = omega arith; in_text = l }) in
+            absurd (d has.0 has.1)
+            )
+      ]

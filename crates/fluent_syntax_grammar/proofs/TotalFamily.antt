@@ -171,7 +171,7 @@ module _ (edition : Edition) (t : List ℕ) (R : Family) (low : ℕ) (h : (s : �
       HoareTriple (From t s) (variants_end edition starred star) (more_on {S = Bool} t s) AnyFault
   end_on s starred star = holds_branch_on (λ e. holds_yields (λ i p. p)) (λ e. holds_fails (λ i p. tt))
 
-  -- where `[` stands, the variant goes on after it
+  -- where there is a `[`, the variant goes on after it
   abbrev Bracket : (starred star : Bool) → Construct (More (VariantTree Span) Bool)
   Bracket starred star =
       optional t 91 >>= λ bracket.
@@ -287,7 +287,7 @@ module _ (edition : Edition) (t : List ℕ) where
     argument_list = onward_arguments t (within edition t n) (s + 1) h s (omega arith) [];
   }
 
-  -- What nests no deeper than a number has an outcome at each place behind which no more bytes are left than the
+  -- What nests no deeper than a number has an outcome at each place after which no more bytes are left than the
   -- number.
   pub within_has : (n s : ℕ) → length t < s + n → TotalOnwardFamily t s (within edition t n)
   within_has zero s l = nothing_left s (omega arith)

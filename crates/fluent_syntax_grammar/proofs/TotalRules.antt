@@ -111,7 +111,7 @@ module _ (t : List ℕ) where
   eol_some false true false i e f = cc
   eol_some false false c i e f = cc
 
-  -- where a line end stands, the ending passes over it
+  -- where there is a line end, the ending passes over it
   ending_past : (s i j : ℕ) (x : Ending) (o : Option ℕ) → From t s i → has_eol t i ≡ true → after_eol t i ≡ o →
       ending_of t i o i (Read x j) → From t (s + 1) j
   ending_past s i j x None p e f y = absurd (eol_some (has_byte t lf i) (has_byte t cr i) (has_byte t lf (i + 1)) i e f)
@@ -259,7 +259,7 @@ module _ (t : List ℕ) (R : Family) (low : ℕ) (h : (s : ℕ) → low ≤ s �
     placed_piece : TotalConsuming {A = More Piece (Unit {0})} t s (placeable t R >>= λ e. yields (item (placed e) tt))
     placed_piece = consuming_first (consuming_placeable s l) (λ e. onward_yields)
 
-    -- a byte stands there that begins no line end
+    -- there is a byte that begins no line end
     abbrev AtByte : ℕ → ℕ → Type 0
     AtByte b i = From t s i × (slice_get t i ≡ Some b) × (has_eol t i ≡ false)
 
@@ -311,7 +311,7 @@ module _ (t : List ℕ) (R : Family) (low : ℕ) (h : (s : ℕ) → low ≤ s �
     none_read i j p b e (chosen (first f x)) = (gave no_item p i j x).1
     none_read i j p b e (chosen (second f x)) = differs e f
 
-    -- after a piece of a line with a byte: it went on, or a line end stands there
+    -- after a piece of a line with a byte: it went on, or there is a line end
     abbrev pub AfterPiece : ℕ → Type 0
     AfterPiece j = From t (s + 1) j ⊎ (From t s j × (has_eol t j ≡ true))
 
@@ -334,7 +334,7 @@ module _ (t : List ℕ) (R : Family) (low : ℕ) (h : (s : ℕ) → low ≤ s �
       more_pieces t R m (Read ps j) → AfterPiece s l j
   after_rest s l m j b ps p x = inl ((onward_pieces (s + 1) (omega arith)).on.on_read m j ps p x)
 
-  -- after the pieces of a line with a byte: they went on, or a line end stands there
+  -- after the pieces of a line with a byte: they went on, or there is a line end
   more_of_read : (u : Unit {0}) (s : ℕ) (l : low ≤ s + 1) (i j b : ℕ) (ps : List Piece) → From t s i →
       slice_get t i ≡ Some b → many (λ u. next_piece t R) (λ p ps. p ∷ ps) [] u i (Read ps j) → AfterPiece s l j
   more_of_read u s l i j b ps p e (list_ends x) = next_read s l i j b _ p e x

@@ -66,7 +66,7 @@ module _ (t : List ℕ) where
   }
 
   blank_inside : (k : ℕ) → is_blank_place t k ≡ true → k < length t
-  blank_inside k e = let a = ascii_blank t k e in slice_get_within t k a.byte a.stands
+  blank_inside k e = let a = ascii_blank t k e in slice_get_within t k a.byte a.in_place
 
   pub word_of : (set : ℕ → Bool) → IsTotalRelation t (ByteRun t set)
   word_of set = longest_run_word (has t set) (has_inside set t)

@@ -247,7 +247,7 @@ module _ (t : List ℕ) where
   hash_bytes i k l m =
       hash_bytes_of i k (has_byte t 35 i) (has_byte t 35 (i + 1)) (has_byte t 35 (i + 2)) refl refl refl l m
 
-  -- where hashes stand, a line goes on
+  -- where there are hashes, a line goes on
   hashes_line : (i j : ℕ) → IsLine t (i + hashes t i) j → IsLine t i j
   hashes_line i j x = record {
     end = x.end;
@@ -265,7 +265,7 @@ module _ (t : List ℕ) where
       let same : m ≡ i + hashes t i = omega arith in
       hashes_line i j (subst (λ m. IsLine t m j) same (rest_line t m j content (slice_get t m) refl x))
 
-  -- hashes stand before the line end
+  -- there are hashes before the line end
   pub hashes_onward : (i j : ℕ) → IsLine t i j → i + hashes t i ≤ j
   hashes_onward i j x =
       let on = line_onward t i j x in

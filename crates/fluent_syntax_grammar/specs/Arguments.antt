@@ -69,7 +69,7 @@ module _ (t : List ℕ) (R : Family) where
   argument_value _ = fails ExpectedLiteral
 
   -- From the `:` of a named argument on: a name that was used is refused there. Else `:`, a blank and the value; and
-  -- what stands between it and the next argument.
+  -- what is between it and the next argument.
   abbrev pub named_rest : List (List ℕ) → Span → Construct (More Argument (List (List ℕ)))
   named_rest names name =
       branch_on (is_used (bytes_at t name) names) (fails (DuplicatedNamedArgument (bytes_at t name))) (do

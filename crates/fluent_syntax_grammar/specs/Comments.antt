@@ -15,7 +15,7 @@ abbrev pub level_of : ℕ → Level
 level_of hashes = if hashes == 1 then regular else if hashes == 2 then group else resource
 
 module _ (t : List ℕ) where
-  -- the number of `#` that stand from a place on, at most 3
+  -- the number of `#` from a place on, at most 3
   abbrev pub hashes : ℕ → ℕ
   hashes i =
       if not (has_byte t hash i) then 0

@@ -12,7 +12,7 @@ use Rattle.fluent_syntax_tree.specs.declared.spans.Span.{Span}
 use Rattle.fluent_syntax_tree.specs.declared.edition.Edition.{Edition}
 use Rattle.fluent_syntax_tree.specs.declared.edition.Edition.TheVariants.{One, Two}
 
--- an element before the tail is cut: a text from the one place to the other, or a placeable, for which an E stands
+-- an element before the tail is cut: a text from the one place to the other, or a placeable, given as an E
 pub data ItemOf (E : Type 0) : Type 0 where
   text : (from to : ℕ) → ItemOf E
   placeable_item : E → ItemOf E

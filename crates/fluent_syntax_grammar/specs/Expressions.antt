@@ -1,4 +1,4 @@
--- The expressions that stand in placeables.
+-- The expressions in placeables.
 use Rattle.std.specs.Prelude.{ℕ, ◌+◌, List, [], ◌∷◌, Option, Some, None, Bool, false, ◌&&◌, is_some}
 use Rattle.fluent_syntax_grammar.specs.Bytes.{lf, cr, space, greater_than, hyphen, vertical_bar}
 use Rattle.fluent_syntax_grammar.specs.Places.{Steps, JumpsTo, has_byte, after_eol}
@@ -30,13 +30,13 @@ abbrev pub is_term_attribute : {X : Type 0} → InlineTree X → Bool
 is_term_attribute (term_reference id attribute a) = is_some attribute
 is_term_attribute _ = false
 
--- The line end after the arrow, which has to stand there.
+-- The line end after the arrow, which has to be there.
 abbrev pub arrow_line_end : Option ℕ → Construct (Unit {0})
 arrow_line_end (Some k) = skip (JumpsTo k)
 arrow_line_end None = fails (ExpectedCharRange (lf ∷ space ∷ vertical_bar ∷ space ∷ cr ∷ lf ∷ []))
 
 module _ (t : List ℕ) where
-  -- whether `->` stands at the place
+  -- whether `->` is at the place
   abbrev pub has_arrow : ℕ → Bool
   has_arrow i = has_byte t hyphen i && has_byte t greater_than (i + 1)
 

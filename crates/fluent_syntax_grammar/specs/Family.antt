@@ -6,7 +6,7 @@ use Rattle.fluent_syntax_grammar.specs.Construct.{Construct, ◌>>=◌, ◌>>◌
 use Rattle.fluent_syntax_grammar.specs.Tokens.{optional, token, inline_blank, blank}
 use Rattle.fluent_syntax_tree.specs.declared.spans.Span.{Span}
 
--- What may stand inside: in the braces of a placeable an expression, and in the parentheses of an argument list the
+-- What may be inside: in the braces of a placeable an expression, and in the parentheses of an argument list the
 -- arguments, with the `)`. Each rule is written over a family R that reads what is inside; the grammar is the family
 -- that the rules make of themselves.
 pub record Family : Type 1 where

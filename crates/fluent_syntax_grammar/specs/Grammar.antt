@@ -19,13 +19,13 @@ module _ (edition : Edition) (t : List ℕ) where
   abbrev pub next : Family → Family
   next R = record { expression = expressions.expression edition t R; argument_list = arguments.more_arguments t R [] }
 
-  -- What stands inside, where at most n placeables and argument lists are open at once inside it. What opens one more
+  -- What is inside, where at most n placeables and argument lists are open at once inside it. What opens one more
   -- has no outcome: so a construct over this family has none where it nests deeper than n.
   unfoldable pub within : ℕ → Family
   within zero = record { expression = λ i o. ⊥; argument_list = λ i o. ⊥ }
   within (suc n) = next (within n)
 
-  -- What stands inside, at any depth. There is no limit: each text that is read or refused is so within some number.
+  -- What is inside, at any depth. There is no limit: each text that is read or refused is so within some number.
   unfoldable pub family : Family
   family = record {
     expression = λ i o. (n : ℕ) × (within n).expression i o;
@@ -52,7 +52,7 @@ module _ (edition : Edition) (t : List ℕ) where
   abbrev pub placeable : Construct (ExpressionTree Span)
   placeable = expressions.placeable t family
 
-  -- the rest of a list of variants; the flag says whether a default stood before
+  -- the rest of a list of variants; the flag says whether there was a default before
   abbrev pub more_variants : (starred : Bool) → Construct (VariantTrees Span)
   more_variants starred = variants.more_variants edition t family starred
 

@@ -55,6 +55,6 @@ module _ (t : List ℕ) (R : Family) where
   inline_of brace = placeable t R >>= λ e. yields (inline_placeable e)
   inline_of other = fails ExpectedInlineExpression
 
-  -- Inline expression: what stands at the place decides its form.
+  -- Inline expression: what is at the place decides its form.
   abbrev pub inline_expression : Construct (InlineTree Span)
   inline_expression = peek (start t) inline_of

@@ -6,7 +6,7 @@ use Rattle.fluent_syntax_tree.specs.declared.spans.Span.{Span}
 use Rattle.fluent_syntax_tree.specs.declared.edition.Edition.{Edition}
 use Rattle.fluent_syntax_tree.specs.declared.edition.Edition.TheVariants.{One, Two}
 
--- A run of text, from the one place to the other, or a placeable, for which an E stands. (A placeable may span several
+-- A run of text, from the one place to the other, or a placeable, given as an E. (A placeable may span several
 -- lines of the source.)
 pub data PieceOf (E : Type 0) : Type 0 where
   run : (from to : ℕ) → PieceOf E
@@ -29,12 +29,12 @@ pub record LineOf (E : Type 0) : Type 0 where
 
 -- the source of a pattern
 pub record LayoutOf (E : Type 0) : Type 0 where
-  -- the line on which the pattern opens, if something stands there
+  -- the line on which the pattern opens, if there is something on it
   pub opening : Option (LineOf E)
   -- the later lines that belong to the pattern
   pub lines : List (LineOf E)
 
--- those of a source: the tree of an expression stands for a placeable
+-- those of a source: the tree of an expression represents a placeable
 abbrev pub Piece : Type 0
 Piece = PieceOf (ExpressionTree Span)
 

@@ -26,7 +26,7 @@ module _ (t : List ℕ) where
     i ← here
     peek (after_eol t) (ending_of i)
 
-  -- Whether a line belongs to a pattern, by what stands after its leading spaces, if it has some. A blank line does.
+  -- Whether a line belongs to a pattern, by what comes after its leading spaces, if it has some. A blank line does.
   -- With leading spaces: any byte but `.`, `}`, `[` and `*`. Without: `{`, or a CR that begins no line end.
   abbrev pub belongs : (indented : Bool) → ℕ → Bool
   belongs true i =

@@ -13,7 +13,7 @@ abbrev pub TooDeep : {A : Type 0} → Construct A → ℕ → Type 0
 TooDeep c i = (o : Outcome _) → c i o → ⊥
 
 module _ (edition : Edition) (t : List ℕ) where
-  -- From the place on the tiles nest deeper than n: within n there is no tiling from there. `at` says which tiles stand
+  -- From the place on the tiles nest deeper than n: within n there is no tiling from there. `at` says which tiles are
   -- where, over a family.
   abbrev pub TextDeeper : (at : Family → (i j : ℕ) → Tile → Type 0) → (n i : ℕ) → Type 0
   TextDeeper at n i = (tiles : List Tile) → Tiled t (at (within edition t n)) i tiles → ⊥

@@ -24,11 +24,11 @@ pub record JumpsTo (place i j : ℕ) : Type 0 where
   pub there : j ≡ place
 
 module _ (t : List ℕ) where
-  -- whether a byte that passes the test stands at the place
+  -- whether a byte that passes the test is at the place
   abbrev pub has : (ℕ → Bool) → ℕ → Bool
   has test i = holds test (slice_get t i)
 
-  -- whether the byte b stands at the place
+  -- whether the byte b is at the place
   abbrev pub has_byte : ℕ → ℕ → Bool
   has_byte b i = has (λ c. c == b) i
 
@@ -48,7 +48,7 @@ module _ (t : List ℕ) where
   abbrev pub has_eol : ℕ → Bool
   has_eol i = has_byte lf i || has_byte cr i && has_byte lf (i + 1)
 
-  -- whether a byte stands there that begins no line end
+  -- whether there is a byte that begins no line end
   abbrev pub is_line_place : ℕ → Bool
   is_line_place i = is_some (slice_get t i) && not (has_eol i)
 
@@ -56,7 +56,7 @@ module _ (t : List ℕ) where
   abbrev pub InlineBlank : ℕ → ℕ → Type 0
   InlineBlank = ByteRun is_space
 
-  -- whether a space stands or a line end begins at the place
+  -- whether there is a space or a line end begins at the place
   abbrev pub is_blank_place : ℕ → Bool
   is_blank_place i = has_byte space i || has_eol i
 

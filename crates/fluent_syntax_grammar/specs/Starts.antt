@@ -19,6 +19,6 @@ start_of (Some b) letter_next =
     else if b == left_brace then brace
     else other
 
--- the start that stands at a place
+-- the start at a place
 abbrev pub start : List ℕ → ℕ → Start
 start t i = start_of (slice_get t i) (has t is_letter (i + 1))

@@ -13,7 +13,7 @@ use Rattle.fluent_syntax_grammar.specs.Tokens.{spanned, token}
 use Rattle.fluent_syntax_tree.specs.declared.spans.Span.{Span}
 
 module _ (t : List ℕ) where
-  -- From i to k stand hexadecimal digits: w of them, or fewer, and then none stands at k.
+  -- From i to k there are hexadecimal digits: w of them, or fewer, and then there is none at k.
   pub record HexDigits (i w k : ℕ) : Type 0 where
     pub forward : i ≤ k
     pub most : k ≤ i + w

@@ -20,7 +20,7 @@ pub record Fault : Type 0 where
   pub pos : Span
   pub slice : Span
 
--- what stands between two blank blocks
+-- what is between two blank blocks
 pub data Tile : Type 0 where
   -- an entry, from where to where
   entry : Span → EntryTree Span → Tile
@@ -69,11 +69,11 @@ module _ (edition : Edition) (t : List ℕ) (R : Family) where
   entry_of (Some b) =
       branch_on (b == hash) (comment_entry t) (branch_on (b == hyphen) (term_of edition t R) (message_of edition t R))
 
-  -- Entry: what stands at the place decides its form.
+  -- Entry: what is at the place decides its form.
   abbrev pub entry_in : Construct (EntryTree Span)
   entry_in = peek (slice_get t) entry_of
 
-  -- The tile that stands from i to j: the entry that is read there; or, where it is refused, junk that reaches
+  -- The tile from i to j: the entry that is read there; or, where it is refused, junk that reaches
   -- from there to the first entry start at or after the failing place.
   pub data TileIn : (i j : ℕ) → Tile → Type 0 where
     reads : {i j : ℕ} {e : EntryTree Span} → entry_in i (Read e j) →
@@ -88,7 +88,7 @@ module _ (edition : Edition) (t : List ℕ) (R : Family) where
   -- Without comments: a line that begins with `#` is dropped with its end, malformed or not; other tiles are the same.
   pub data RuntimeTileIn : (i j : ℕ) → Tile → Type 0 where
     drops : {i j : ℕ} → has_byte t hash i ≡ true → whole_line t i (Read tt j) → RuntimeTileIn i j dropped
-    stands : {i j : ℕ} {tile : Tile} → has_byte t hash i ≡ false → TileIn i j tile → RuntimeTileIn i j tile
+    keeps_tile : {i j : ℕ} {tile : Tile} → has_byte t hash i ≡ false → TileIn i j tile → RuntimeTileIn i j tile
 
 module _ (edition : Edition) (t : List ℕ) where
   -- an entry, with what nests in it to any depth; and so on for the others

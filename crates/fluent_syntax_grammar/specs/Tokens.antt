@@ -20,11 +20,11 @@ past_eol None = yields tt
 past_eol (Some k) = skip (JumpsTo k)
 
 module _ (t : List ℕ) where
-  -- whether the byte stands there; if it does, it is passed over
+  -- whether the byte is there; if it is, it is passed over
   abbrev pub optional : ℕ → Construct Bool
   optional b = peek (has_byte t b) (λ found. branch_on found (skip (Steps 1) >> yields true) (yields false))
 
-  -- the byte, which has to stand there
+  -- the byte, which has to be there
   abbrev pub token : ℕ → Construct (Unit {0})
   token b = do
     found ← optional b

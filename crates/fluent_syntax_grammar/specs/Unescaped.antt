@@ -8,7 +8,7 @@ use Rattle.std.specs.Str.Parse.{digits_value, without_leading_plus}
 use lib.Utf8.{scalar}
 use Rattle.fluent_syntax_grammar.specs.Bytes.{backslash, capital_u, double_quote, small_u}
 
--- U+FFFD, which stands for an escape that is of no character
+-- U+FFFD, in the place of an escape that is of no character
 abbrev pub unknown_char : ℕ
 unknown_char = 0xfffd
 

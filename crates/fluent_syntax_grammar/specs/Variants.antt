@@ -15,7 +15,7 @@ use Rattle.fluent_syntax_tree.specs.declared.edition.Edition.{Edition}
 use Rattle.fluent_syntax_tree.specs.declared.edition.Edition.TheVariants.{One, Two}
 
 -- Whether the list of variants has a default where it ends: one of its variants does, or in edition one a star that no
--- `[` follows stands there.
+-- `[` follows is there.
 abbrev pub has_default : Edition → (starred star : Bool) → Bool
 has_default One starred star = starred || star
 has_default Two starred star = starred
@@ -24,13 +24,13 @@ has_default Two starred star = starred
 abbrev pub is_number_start : ℕ → Bool
 is_number_start b = is_digit b || b == hyphen
 
--- Key: a number where a digit or `-` stands, else an identifier.
+-- Key: a number where there is a digit or `-`, else an identifier.
 abbrev pub variant_key : List ℕ → Construct (KeyTree Span)
 variant_key t = peek (has t is_number_start) (λ is_number. branch_on is_number
     (number t >>= λ v. yields (number_key v))
     (identifier t >>= λ v. yields (name_key v)))
 
--- A star, where one stood before: refused at the place after it.
+-- A star, where there was one before: refused at the place after it.
 abbrev pub only_star : (starred star : Bool) → Construct (Unit {0})
 only_star starred star = branch_on (starred && star) (fails MultipleDefaultVariants) (yields tt)
 
@@ -66,6 +66,6 @@ module _ (edition : Edition) (t : List ℕ) (R : Family) where
     bracket ← optional t left_bracket
     branch_on bracket (variant_after starred star) (variants_end edition starred star)
 
-  -- the rest of a list of variants; the flag says whether a default stood before
+  -- the rest of a list of variants; the flag says whether there was a default before
   abbrev pub more_variants : (starred : Bool) → Construct (VariantTrees Span)
   more_variants = many next_variant variants no_variants

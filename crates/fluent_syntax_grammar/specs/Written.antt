@@ -1,4 +1,4 @@
--- The text that a tree is written as. A tree gives a list of marks: literals, stars and line ends. Marks stand at
+-- The text that a tree is written as. A tree gives a list of marks: literals, stars and line ends. Marks have
 -- levels, and only where the list is turned into text do levels become spaces.
 use Rattle.std.specs.Prelude.{ℕ, ◌+◌, ◌-◌, ◌*◌, List, [], ◌∷◌, ◌++◌, replicate, Option, Some, None, Bool, true, false}
 use Rattle.std.specs.Prelude.{◌&&◌, ◌||◌, ◌==◌, not, if◌then◌else◌, codes}
@@ -154,8 +154,8 @@ abbrev mutual
       (literal level (codes "[") ∷ literal level (key_text key) ∷ literal level (codes "]") ∷
       opening_mark level value ∷ elements_marks (inner_level level value) value)
 
-  -- A string stands in quotes, as it is spelled. A variable has a `$` and a term a `-` before its name. A placeable
-  -- stands in braces.
+  -- A string is in quotes, as it is spelled. A variable has a `$` and a term a `-` before its name. A placeable
+  -- is in braces.
   pub inline_marks : ℕ → InlineTree Text → List Mark
   inline_marks level (string_literal v) = literal level (codes "\"") ∷ literal level v ∷ literal level (codes "\"") ∷ []
   inline_marks level (number_literal v) = literal level v ∷ []
@@ -194,7 +194,7 @@ abbrev mutual
   elements_marks level no_elements = []
   elements_marks level (elements e es) = element_marks level e ++ elements_marks level es
 
-  -- A text is one literal. A placeable stands in braces with a space inside each, but none after a select, which has
+  -- A text is one literal. A placeable is in braces with a space inside each, but none after a select, which has
   -- ended its line, and a placeable of a placeable in double braces.
   pub element_marks : ℕ → ElementTree Text → List Mark
   element_marks level (text_element v) = literal level v ∷ []

@@ -46,7 +46,7 @@ later_after-last : (later : Bool) (body : BodyTree Text) (e : EntryTree Text) �
 later_after-last later [] e = refl
 later_after-last later (x ∷ xs) e = later_after-last true xs e
 
--- the text of an entry behind others
+-- the text of an entry after others
 unclosed_text-last : (body : BodyTree Text) (e : EntryTree Text) (later : Bool) → later ≡ later_after false body
     → unclosed_text (body ++ e ∷ []) ≡ unclosed_text body ++ next_text later e
 unclosed_text-last body e later is =

@@ -1,4 +1,4 @@
--- What stands in a value nests less deep than the value.
+-- What is in a value nests less deep than the value.
 use Rattle.std.proofs.Common.{◌≡◌, ℕ, zero, suc, ◌<◌, ◌≤◌, max, List, [], ◌∷◌, length, get_or, Option, Some, None}
 use Rattle.std.proofs.Common.{Ordering, Less, Equal, Greater, nat_cmp, ap, arith}
 use Rattle.std.proofs.lemmas.Option.{none-some, same_Some}
@@ -43,7 +43,7 @@ there : (found : Option Data) (e : Data) → (found >>= unless_null) ≡ Some e 
 there None e is = absurd (none-some _ is)
 there (Some d) e is = ap Some (not_null d e is)
 
--- what is present at a key stands there
+-- what is present at a key is there
 pub present_there : (k : Text) (d e : Data) → present k d ≡ Some e → get k d ≡ Some e
 present_there k d e is = there (get k d) e is
 

@@ -1,4 +1,4 @@
--- The bytes of a text, one by one, and what stands for them in a JSON string.
+-- The bytes of a text, one by one, and what each becomes in a JSON string.
 use Rattle.std.proofs.Common.{◌≡◌, ℕ, zero, suc, ◌+◌, ◌≤◌, ◌/◌, ◌%◌, ◌<◌, ◌==◌, cond, nat_lt, ◌||◌, List, [], ◌∷◌, ◌++◌}
 use Rattle.std.proofs.Common.{length, take, drop, get_or, true, false}
 use Rattle.std.proofs.Common.{sym, ap, subst, ◌∙◌, arith, append_assoc}
@@ -35,7 +35,7 @@ plain_byte b h =
     let tests = or_parts (b == 34) _ none.0 in
     escape_byte_plain b (eqb-false b 34 tests.0) (eqb-false b 92 tests.1) (ltb-false b 32 none.1)
 
--- The bytes before the place stand for themselves.
+-- The bytes before the place represent themselves.
 module _ (bs : List ℕ) where
   pub plain_more : (end : ℕ) → end < length bs → is_plain (get_or bs end 0) ≡ true → IsPlainBefore bs end
       → IsPlainBefore bs (end + 1)

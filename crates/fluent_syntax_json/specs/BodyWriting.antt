@@ -10,7 +10,7 @@ use Rattle.fluent_syntax_json.specs.declared.writing.body_writer.BodyWriter.{Bod
 abbrev pub unclosed_text : BodyTree Text → Text
 unclosed_text body = codes "{\"body\":[" ++ entries_text false body
 
--- whether what comes after these entries stands after one
+-- whether what comes after these entries comes after one
 abbrev pub later_after : Bool → BodyTree Text → Bool
 later_after later [] = later
 later_after later (e ∷ es) = later_after true es

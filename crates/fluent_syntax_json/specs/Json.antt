@@ -1,4 +1,4 @@
--- A value and the tree that it stands for.
+-- A value and the tree that it represents.
 use Rattle.std.specs.Prelude.{◌≡◌, Some}
 use Rattle.serde_json.specs.Data.{Data}
 use Rattle.fluent_syntax_tree.specs.Entry.{BodyTree}

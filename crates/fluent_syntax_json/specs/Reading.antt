@@ -22,7 +22,7 @@ infixl 10 ◌>>=◌
 abbrev pub ◌>>=◌ : {A B : Type 0} → Option A → (A → Option B) → Option B
 o >>= f = option_and_then f o
 
--- what stands at a key, read by a rule; nothing where the value is no object or has no such key
+-- what is at a key, read by a rule; nothing where the value is no object or has no such key
 abbrev pub at : {A : Type 0} → (Data → Option A) → Text → Data → Option A
 at read key d = get key d >>= read
 
@@ -35,7 +35,7 @@ unless_null (string s) = Some (string s)
 unless_null (array ds) = Some (array ds)
 unless_null (object ms) = Some (object ms)
 
--- what stands at a key that may be absent or null, which mean the same
+-- what is at a key that may be absent or null, which mean the same
 abbrev pub present : Text → Data → Option Data
 present key d = get key d >>= unless_null
 

@@ -14,7 +14,7 @@ module _ {T W : Type 0} (text : W → List ℕ) (room : W → ℕ) where
   abbrev pub WritesData : (old new : TextWriter T W) → Data → Type 0
   WritesData old new d = Appends text room old new (compact_text d)
 
--- an entry's text, behind a comma where one stands before it
+-- an entry's text, after a comma where there is one before it
 abbrev pub next_text : Bool → EntryTree Text → Text
 next_text later e = comma_if later ++ compact_text (entry_form e)
 
@@ -23,6 +23,6 @@ abbrev pub entries_text : Bool → BodyTree Text → Text
 entries_text later [] = []
 entries_text later (e ∷ es) = next_text later e ++ entries_text true es
 
--- The bytes before the place stand for themselves in a string.
+-- The bytes before the place represent themselves in a string.
 abbrev pub IsPlainBefore : List ℕ → ℕ → Type 0
 IsPlainBefore bs end = escape bs ≡ take end bs ++ escape (drop end bs)

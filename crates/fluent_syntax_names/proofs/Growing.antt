@@ -107,13 +107,13 @@ module _ (A B : Set) (defines : (name : Text) → A.defines name ≡ B.defines n
   findings_in_same file text known pattern (m ∷ ms) others same tail tail' later =
       let rest = links_in text (pattern_after pattern m) ms others in
       let here = cycle_same A B file text pattern (referenced_pattern m) rest same in
-      let behind =
+      let beyond =
       findings_in_same file text (after text known m) (pattern_after pattern m) ms others here.1 tail tail' later in
       let left = findings_in A file text (after text known m) (pattern_after pattern m) ms tail in
       ap (λ o. put o (put (cycle A.is_cyclic file text pattern m) left))
       (finding_same file text A.defines B.defines defines known m)
       ∙ ap (λ o. put (finding_of B.defines file text known m) (put o left)) here.0
-      ∙ ap (λ l. put (finding_of B.defines file text known m) (put (cycle B.is_cyclic file text pattern m) l)) behind
+      ∙ ap (λ l. put (finding_of B.defines file text known m) (put (cycle B.is_cyclic file text pattern m) l)) beyond
 
   pub findings_from_same : (n : ℕ) (files : List NameIndex) → SameOn A B (links files) → (tail : List Finding)
       → findings_from A n files tail ≡ findings_from B n files tail

@@ -85,10 +85,10 @@ module _ (A B : Set) where
       let rest = links_in text (pattern_after pattern m) ms others in
       let here = cycle_same A B file text pattern (referenced_pattern m) rest same in
       let left = λ (S : Set). findings_in S file text (after text known m) (pattern_after pattern m) ms tail in
-      let behind = findings_in_local file text (after text known m) (pattern_after pattern m) ms others here.1 tail in
+      let beyond = findings_in_local file text (after text known m) (pattern_after pattern m) ms others here.1 tail in
       let comes = cycle A.is_cyclic file text pattern m in
       finding_local file text A.defines B.defines known m (put comes (left A)) (put comes (left B))
-      (put_own comes (left A) (left B) behind)
+      (put_own comes (left A) (left B) beyond)
       ∙ ap (λ o. own (put (finding_of B.defines file text known m) (put o (left B)))) here.0
 
   pub findings_local : (file : NameIndex) → SameOn A B (links (file ∷ []))

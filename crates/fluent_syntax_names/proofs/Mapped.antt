@@ -1,5 +1,5 @@
--- A tree with f of each text in its place says what the tree says, with f of each text in its place. Behind it stands
--- more.
+-- A tree with f of each text in its place gives what the tree gives, with f of each text in its place. There is more
+-- after it.
 use Rattle.std.proofs.Common.{◌≡◌, List, [], ◌∷◌, ◌++◌, map, Option, Some, None, refl, ap, ◌∙◌}
 use Rattle.fluent_syntax_tree.specs.Tree.{ExpressionTree, select, inline, InlineTree, string_literal, number_literal}
 use Rattle.fluent_syntax_tree.specs.Tree.{function_reference, message_reference, term_reference, variable_reference}

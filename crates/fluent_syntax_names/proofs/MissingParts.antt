@@ -144,7 +144,7 @@ module _ (D : Other) (text : Text) (old now : List MissingPart) (all : List Miss
 abbrev no_text : Bor Text
 no_text = record { ref_ptr = (0, 0); now = [] }
 
--- what holds of one from an index on holds of the next message or of one behind it
+-- what holds of one from an index on holds of the next message or of one after it
 pub some_next : (test : Text → Bool) (messages : List (Bor Text)) (i : ℕ) → i < length messages → (b : Bool)
     → test (get_or messages i no_text).now ≡ b
     → (b || list_any test (texts_at (drop (i + 1) messages))) ≡ list_any test (texts_at (drop i messages))

@@ -49,12 +49,12 @@ module _ {X : Type 0} (key : Key) (place : X) (name : List ℕ) where
       ap (λ b. cond b (Some place) (find name rows)) (is_eq-slice_cmp name key.items)
       ∙ in_front rows absent (bytes_eq name key.items) refl
 
-  -- behind a row of another name
-  behind : (row : Row X) (rows : List (Row X)) (b : Bool) → wanted rows
+  -- after a row of another name
+  beyond : (row : Row X) (rows : List (Row X)) (b : Bool) → wanted rows
       → cond b (Some row.1) (find name (insert_entry order rows key place))
       ≡ first_of (cond b (Some row.1) (find name rows)) (place_where name key.items place)
-  behind row rows true held = refl
-  behind row rows false held = held
+  beyond row rows true held = refl
+  beyond row rows false held = held
 
   by_order : (row : Row X) (rows : List (Row X)) (o : Ordering) → order key row.0 ≡ o
       → find key.items (row ∷ rows) ≡ None
@@ -67,7 +67,7 @@ module _ {X : Type 0} (key : Key) (place : X) (name : List ℕ) where
   by_order row rows Greater e absent held =
       let rest : find key.items rows ≡ None =
       sym (ap (λ o. cond (is_eq o) (Some row.1) (find key.items rows)) e) ∙ absent in
-      rw e (behind row rows (is_at (λ k. slice_cmp nat_cmp name k.items) row.0) (held rest))
+      rw e (beyond row rows (is_at (λ k. slice_cmp nat_cmp name k.items) row.0) (held rest))
 
   -- a new name is put in
   pub put_in : (rows : List (Row X)) → find key.items rows ≡ None → wanted rows

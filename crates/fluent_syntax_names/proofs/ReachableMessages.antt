@@ -66,7 +66,7 @@ module _ (all : List Link) where
   all_reached from (suc room) [] reachable e reached y among =
       let none : [] ≡ reachable = cc in absurd (none_among y (subst (λ (l : List Text). IsAmong l y) (sym none) among))
   all_reached from (suc room) (x ∷ xs) reachable e reached y among =
-      let behind = put_before x (reachable_within (messages_of all) room (xs ++ messages_of all x)) reachable e in
+      let beyond = put_before x (reachable_within (messages_of all) room (xs ++ messages_of all x)) reachable e in
       let here : Reaches all from x = reached x (among_first x xs) in
       let reached_too : (z : Text) → IsAmong (xs ++ messages_of all x) z → Reaches all from z =
       λ z is.
@@ -75,10 +75,10 @@ module _ (all : List Link) where
         | inl w ↦ reached z (among_more x z xs w)
         | inr w ↦ reaches_on from x z here (sym (referred_are all x z) ∙ w)
       ] in
-      elim (among_cases x y behind.0 (subst (λ (l : List Text). IsAmong l y) (sym behind.2) among)) [
+      elim (among_cases x y beyond.0 (subst (λ (l : List Text). IsAmong l y) (sym beyond.2) among)) [
         | inl is ↦ subst (Reaches all from) (sym is) here
         | inr w ↦
-            all_reached from room (xs ++ messages_of all x) behind.0 behind.1 reached_too y w
+            all_reached from room (xs ++ messages_of all x) beyond.0 beyond.1 reached_too y w
       ]
 
   -- the list has the names and what each of its own refers to
@@ -116,9 +116,9 @@ module _ (all : List Link) where
   all_closed zero (x ∷ xs) reachable e = absurd (cc)
   all_closed (suc room) [] reachable e = let none : [] ≡ reachable = cc in subst (IsClosed []) none nothing_closed
   all_closed (suc room) (x ∷ xs) reachable e =
-      let behind = put_before x (reachable_within (messages_of all) room (xs ++ messages_of all x)) reachable e in
-      subst (IsClosed (x ∷ xs)) behind.2
-      (closed_more x xs behind.0 (all_closed room (xs ++ messages_of all x) behind.0 behind.1))
+      let beyond = put_before x (reachable_within (messages_of all) room (xs ++ messages_of all x)) reachable e in
+      subst (IsClosed (x ∷ xs)) beyond.2
+      (closed_more x xs beyond.0 (all_closed room (xs ++ messages_of all x) beyond.0 beyond.1))
 
   -- so it has what they reach
   reached_among : (names reachable : List Text) → IsClosed names reachable → (x y : Text) → IsAmong reachable x

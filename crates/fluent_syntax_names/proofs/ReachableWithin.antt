@@ -8,7 +8,7 @@ use Rattle.fluent_syntax_names.proofs.Adding.{drop_next}
 use Rattle.fluent_syntax_names.specs.MessageReferences.{reachable_within, reachable_by, followed_limit}
 use Rattle.fluent_syntax_names.specs.QualifiedNames.{Text}
 
--- behind a name more
+-- after one more name
 one_more : (front : List Text) (x : Text) (o : Option (List Text))
     → option_map (λ ys. front ++ ys) (option_map (λ ys. x ∷ ys) o) ≡ option_map (λ ys. (front ++ x ∷ []) ++ ys) o
 one_more front x None = refl

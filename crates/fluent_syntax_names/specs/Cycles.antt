@@ -54,7 +54,7 @@ links_in text pattern [] tail = tail
 links_in text pattern (m ∷ ms) tail =
     link_to text pattern (referenced_pattern m) (links_in text (pattern_after pattern m) ms tail)
 
--- All that the patterns of the files refer to. A name that is defined twice stands for each pattern that has it.
+-- All that the patterns of the files refer to. A name that is defined twice is that of each pattern that has it.
 abbrev pub links : List NameIndex → List Link
 links [] = []
 links (file ∷ files) = links_in file.text.now no_pattern file.mentions.items (links files)
@@ -87,6 +87,6 @@ targets (link ∷ all) = link.to ∷ targets all
 abbrev pub reaches : List Link → Text → Text → Bool
 reaches all from to = reaches_by all (targets all) from to
 
--- a reference comes back where what it refers to reaches the pattern that it stands in
+-- a reference comes back where what it refers to reaches the pattern that it is in
 abbrev pub is_cyclic : List Link → Text → Text → Bool
 is_cyclic all from to = reaches all to from

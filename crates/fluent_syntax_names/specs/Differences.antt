@@ -1,4 +1,4 @@
--- What is told where one of two files lacks what the other has.
+-- What is reported where one of two files lacks what the other has.
 use Rattle.std.specs.Prelude.{ℕ, List, Option, None, Some, codes}
 use Rattle.fluent_syntax_names.specs.declared.finding.Severity.{Severity}
 use Rattle.fluent_syntax_names.specs.declared.finding.Severity.TheVariants.{Error, Warning}

@@ -41,7 +41,7 @@ defines text owner (says.Term x) tail = qualified_name text (term_name x) ∷ ta
 defines text owner (says.Attribute x) tail = qualified_attribute text owner x ∷ tail
 defines text owner _ tail = tail
 
--- what each mention adds before others, where it is known whose attributes stand there
+-- what each mention adds before others, where it is known whose attributes they are
 abbrev pub gathered : (EntryName → Mention Span → List Text → List Text) → EntryName → Mentions Span → List Text
     → List Text
 gathered adds owner [] tail = tail
@@ -138,7 +138,7 @@ finding_of is_defined file text known (says.TermReference x a) =
     undefined_entry is_defined file text kind.UndefinedTerm (term_name x) a
 finding_of is_defined file text known _ = None
 
--- a reference to the target that stands in the pattern, where it comes back
+-- a reference to the target, in the pattern, where it comes back
 abbrev pub cycle_to : (Text → Text → Bool) → ℕ → Text → PatternName → Option PatternName → Option Finding
 cycle_to is_cyclic file text pattern None = None
 cycle_to is_cyclic file text pattern (Some target) =
@@ -175,7 +175,7 @@ set_of files = record { defines = is_defined files; is_cyclic = is_cyclic (links
 abbrev pub all_findings : List NameIndex → List Finding
 all_findings files = findings_from (set_of files) 0 files []
 
--- what is known of files beside others, of which it is known whether they define a name
+-- what is known of files among others, of which it is known whether they define a name
 abbrev pub set_with_externals : List NameIndex → (Text → Bool) → Set
 set_with_externals files others = record {
   defines = λ name. is_defined files name || others name;
@@ -186,6 +186,6 @@ set_with_externals files others = record {
 abbrev pub findings_with_externals : List NameIndex → (Text → Bool) → List Finding
 findings_with_externals files others = findings_from (set_with_externals files others) 0 files []
 
--- what is found in a file by itself that is found whatever stands in other files
+-- what is found in a file by itself that is found whatever there is in other files
 abbrev pub local_findings : NameIndex → List Finding
 local_findings file = filter (λ f. is_local f.kind) (all_findings (file ∷ []))

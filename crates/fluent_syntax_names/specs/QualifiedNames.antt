@@ -48,7 +48,7 @@ qualified_variable text entry variable = variable_of (qualified_name text entry)
 abbrev pub qualified_reference : List ℕ → EntryName → EntryName → List ℕ
 qualified_reference text entry other = (qualified_name text entry ++ greater_than ∷ []) ++ qualified_name text other
 
--- `12[key`, the key of a variant in the select whose first key stands at 12. A name begins with a letter and a number
+-- `12[key`, the key of a variant in the select whose first key is at 12. A name begins with a letter and a number
 -- does not, so keys that are spelled alike are of one kind. No attribute is spelled so.
 abbrev pub qualified_key : List ℕ → (first key : Span) → List ℕ
 qualified_key text first key = (decimal first.start ++ left_bracket ∷ []) ++ name_at text key

@@ -33,14 +33,14 @@ refused_in text (m ∷ ms) name = first_of (junk_named text m name) (refused_in 
 abbrev pub refused_at : NameIndex → (entry : Text) → Option Span
 refused_at file entry = refused_in file.text.now file.mentions.items entry
 
--- the range of a name with the `-` before it, where one stands there
+-- the range of a name with the `-` before it, where there is one
 abbrev pub with_hyphen : Text → Span → Span
 with_hyphen text name =
     if bytes_eq (name_at text (record { start = name.start - 1; end = name.start })) (hyphen ∷ [])
     then record { start = name.start - 1; end = name.end }
     else name
 
--- an entry as it is spelled whose name stands there in the text that defines it: before a term's stands its `-`
+-- an entry as it is spelled whose name is there in the text that defines it: a term has its `-` before it
 abbrev pub entry_at : Text → Span → Text
 entry_at text name = name_at text (with_hyphen text name)
 

@@ -40,7 +40,7 @@ IsMessageReferences all message_references =
 abbrev pub IsSomeMessageReferences : MessageReferences → Type 0
 IsSomeMessageReferences message_references = (all : List Link) × IsMessageReferences all message_references
 
--- it tells still what was told, with what `more` puts before other links
+-- it still reports what it reported, with what `more` puts before other links
 abbrev pub AddsReferences : MessageReferences → MessageReferences → (more : List Link → List Link) → Type 0
 AddsReferences old new more = (before : List Link) → IsMessageReferences before old
     → (now : List Link) × IsMessageReferences now new × Adds before now more

@@ -31,12 +31,12 @@ count_new states = count_by (λ b. b) (news states)
 abbrev pub last_of : List ℕ → ℕ
 last_of starts = at starts (length starts - 1)
 
--- no segment starts behind the one place and not behind the other: where the places have nodes, the one reaches the
+-- no segment starts after the one place and not after the other: where the places have nodes, the one reaches the
 -- other
 abbrev pub SameOrLaterSegment : (starts : List ℕ) → (from to : ℕ) → Type 0
 SameOrLaterSegment starts from to = (k : ℕ) → k < length starts → at starts k ≤ from → at starts k ≤ to
 
--- of an edge from the node at a place: its target is done, or stands in the same segment or behind it, or the edge is
+-- of an edge from the node at a place: its target is done, or is in the same segment or after it, or the edge is
 -- still to come
 pub data EdgeHandled (states : List State) (starts : List ℕ) (pending : List Pending) (i k t : ℕ) : Type 0 where
   at_done : (c : ℕ) → State_of states t ≡ state.Done c → EdgeHandled states starts pending i k t
@@ -98,9 +98,9 @@ number_of state.New = 0
 number_of (state.Open place) = 0
 number_of (state.Done component) = component
 
--- no segment starts behind the place
-abbrev pub IsBehind : (starts : List ℕ) → (place : ℕ) → Type 0
-IsBehind starts place = (k : ℕ) → k < length starts → at starts k ≤ place
+-- no segment starts after the place
+abbrev pub IsPastStarts : (starts : List ℕ) → (place : ℕ) → Type 0
+IsPastStarts starts place = (k : ℕ) → k < length starts → at starts k ≤ place
 
 -- an edge from the place, whichever it is, to this target is not to come
 abbrev pub IsSeen : Search → (place t : ℕ) → Type 0

@@ -20,9 +20,9 @@ sentence_of kind.UndefinedValue name = codes "no file gives the message `" ++ na
 sentence_of kind.CyclicReference name = codes "`" ++ name ++ codes "` leads back to this reference"
 
 -- and of the line where the name was given first
-abbrev pub behind_first : Option ℕ → List ℕ
-behind_first None = codes ""
-behind_first (Some line) = codes ", first on line " ++ decimal line
+abbrev pub first_on_line : Option ℕ → List ℕ
+first_on_line None = codes ""
+first_on_line (Some line) = codes ", first on line " ++ decimal line
 
 -- of the name of the entry, and of that of what one of the files has in it
 abbrev pub difference_sentence : Difference → (entry name : List ℕ) → List ℕ

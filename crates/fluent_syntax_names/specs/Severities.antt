@@ -26,7 +26,7 @@ name_of kind.UndefinedAttribute = codes "undefined-attribute"
 name_of kind.UndefinedValue = codes "undefined-value"
 name_of kind.CyclicReference = codes "cyclic-reference"
 
--- whether one in a file is one whatever stands in other files
+-- whether one in a file is one whatever there is in other files
 abbrev pub is_local : Kind → Bool
 is_local kind.DefinedTwice = true
 is_local kind.AttributeTwice = true

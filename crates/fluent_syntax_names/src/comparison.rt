@@ -29,9 +29,9 @@ use std::alloc::{AllocError, Global};
 /// - of messages and terms that both define each reference to a message or a term.
 ///
 /// A message leads to those that it refers to, and to those that these do, and so on. Where one of them is not defined
-/// in the other file, where there are more than 100, and where references come back, no variable is told.
+/// in the other file, where there are more than 100, and where references come back, no variable is reported.
 ///
-/// Attributes and variables of terms are for their own language alone. Of a reference and a translation it tells what
+/// Attributes and variables of terms are for their own language alone. Of a reference and a translation it reports what
 /// the translation lacks; the other way round what is obsolete or unknown there.
 ///
 /// Takes the memory of three tables of names, and of the list; `AllocError` where there is none. The time is that of

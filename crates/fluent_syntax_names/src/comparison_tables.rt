@@ -22,7 +22,7 @@ use crate::qualified_names::{
 use fluent_syntax_tree::spans::Span;
 use std::alloc::{AllocError, Global};
 
-/// A text beside another file: what that defines and uses, and where its messages lead.
+/// A text next to another file: what that defines and uses, and where its messages lead.
 #[derive(Clone, Copy)]
 pub(crate) struct ComparisonTables<'a> {
     pub(crate) alloc: Global,
@@ -33,7 +33,7 @@ pub(crate) struct ComparisonTables<'a> {
 }
 
 impl ComparisonTables<'_> {
-    /// What the other file lacks of the mention, which stands in the entry of that name.
+    /// What the other file lacks of the mention, which is in the entry of that name.
     pub(crate) fn missing_part_at(
         &self,
         owner: EntryName,

@@ -8,7 +8,7 @@ use crate::mention::Mention;
 use fluent_syntax_tree::spans::Span;
 use std::alloc::{AllocError, Global};
 
-/// The names that some files define, to look up references of others. A clause tells by `defines_name` which they are.
+/// The names that some files define, to look up references of others. `defines_name` in a clause says which they are.
 #[derive(Drop)]
 pub struct DefinedNames {
     places: FirstPlaces<Span>,

@@ -1,4 +1,4 @@
-//! What is told where one of two files lacks what the other has.
+//! What is reported where one of two files lacks what the other has.
 ghost use Rattle.std.specs.Prelude.{◌≡◌};
 ghost use Rattle.fluent_syntax_names.specs.Differences.{difference_name, difference_severity, side_difference};
 
@@ -14,7 +14,7 @@ pub enum Side {
     Other,
 }
 
-/// What is told of a part that one of the files lacks.
+/// What is reported of a part that one of the files lacks.
 #[derive(Clone, Copy, Debug, PartialEq, Eq)]
 pub enum Difference {
     Missing,
@@ -29,7 +29,7 @@ pub enum Difference {
 }
 
 impl Side {
-    /// What is told of a part that this file has and the other one lacks. A translation may leave a variable out.
+    /// What is reported of a part that this file has and the other one lacks. A translation may leave a variable out.
     pub fn difference(self, part: Part) -> Option<Difference>
         ensures { result ≡ side_difference self part }
     {

@@ -29,7 +29,7 @@ use std::slice::from_ref;
 /// - A name that a file defines twice, an attribute that an entry has twice, or a key that a select has twice: at each
 ///   place but the first.
 /// - A reference to a message or a term that no file defines, or to an attribute or a value that none has.
-/// - A reference that comes back: what it refers to reaches the pattern that it stands in.
+/// - A reference that comes back: what it refers to reaches the pattern that it is in.
 ///
 /// Takes the memory of tables of all names and references, and of the list; `AllocError` where there is none. The time
 /// is that of looking each name up in a sorted table.
@@ -60,7 +60,7 @@ pub fn findings_with_externals(
     findings_in_files(alloc, known, &cycles, files)
 }
 
-/// What is found in a file by itself, whatever stands in other files, in the order of its text: a name, an attribute or
+/// What is found in a file by itself, whatever other files have, in the order of its text: a name, an attribute or
 /// a key that is given twice, and a reference that comes back. The findings are of the file 0.
 ///
 /// Takes the memory of tables of its names and references, and of the list; `AllocError` where there is none.
@@ -69,7 +69,7 @@ pub fn local_findings(alloc: Global, file: &NameIndex<'_>) -> Result<Vec<Finding
 {
     let files = from_ref(file);
     let cycles = cycles_of(alloc, files)?;
-    // Where no name is known, each reference is found missing, and none of these findings stands alone.
+    // Where no name is known, each reference is found missing, and each of these findings has others with it.
     let unknown = FirstPlaces::new(alloc);
     let known = KnownNames {
         own: &unknown,

@@ -10,7 +10,7 @@ pub struct Finding {
     pub kind: Kind,
     /// The number of the file that has it, from 0.
     pub file: usize,
-    /// The name or the key there, as it stands in the text; `None` where the file has no place for what it lacks.
+    /// The name or the key there, as it is in the text; `None` where the file has no place for what it lacks.
     pub place: Option<Span>,
     /// The other place that it speaks of: of a name or a key that is given twice the first one.
     pub other: Option<Place>,
@@ -84,7 +84,7 @@ impl Kind {
         }
     }
 
-    /// Whether a finding of this kind in a file is one whatever stands in other files. What no file defines may be
+    /// Whether a finding of this kind in a file is one whatever there is in other files. What no file defines may be
     /// defined in one more.
     pub fn is_local(self) -> bool
         ensures { result ≡ is_local self }

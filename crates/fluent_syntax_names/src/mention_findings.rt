@@ -69,7 +69,7 @@ impl FileContext<'_> {
         }
     }
 
-    /// What is found at the mention, where it stands in the pattern and comes back to it.
+    /// What is found at the mention, where it is in the pattern and comes back to it.
     pub(crate) fn cycle(
         &self,
         pattern: PatternName,

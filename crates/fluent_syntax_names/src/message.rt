@@ -1,6 +1,6 @@
 //! What is said of a finding, and of what one of two files lacks.
 ghost use Rattle.std.specs.Prelude.{◌≡◌, ◌++◌, IfOk, string_bytes};
-ghost use Rattle.fluent_syntax_names.specs.Sentences.{behind_first, difference_sentence, junk_sentence, sentence_of};
+ghost use Rattle.fluent_syntax_names.specs.Sentences.{first_on_line, difference_sentence, junk_sentence, sentence_of};
 
 use crate::differences::{Difference, Side};
 use crate::finding::Kind;
@@ -17,7 +17,7 @@ impl Kind {
         name: &str,
         first: Option<usize>,
     ) -> Result<String, AllocError>
-        ensures { IfOk result (λ said. string_bytes said ≡ sentence_of self name.now ++ behind_first first) }
+        ensures { IfOk result (λ said. string_bytes said ≡ sentence_of self name.now ++ first_on_line first) }
     {
         match first {
             None => self.short_sentence(alloc, name),

@@ -13,11 +13,11 @@ use std::alloc::{AllocError, Global};
 pub(crate) struct EntryName {
     /// Whether it is that of a term.
     pub(crate) is_term: bool,
-    /// Where it stands, without the `-` of a term.
+    /// Where it is, without the `-` of a term.
     pub(crate) name: Span,
 }
 
-/// The pattern that a name stands for: the value of an entry, or an attribute of it.
+/// The pattern that a name is of: the value of an entry, or an attribute of it.
 #[derive(Clone, Copy)]
 pub(crate) struct PatternName {
     pub(crate) entry: EntryName,
@@ -53,7 +53,7 @@ pub(crate) fn qualified_name(
     Ok(bytes)
 }
 
-/// The name of an attribute behind that of its entry and a `.`.
+/// The name of an attribute after that of its entry and a `.`.
 pub(crate) fn qualified_attribute(
     alloc: Global,
     text: &str,
@@ -68,7 +68,7 @@ pub(crate) fn qualified_attribute(
     Ok(bytes)
 }
 
-/// The name of an entry with a `=` behind it, which stands for its value.
+/// The name of an entry with a `=` after it, which is that of its value.
 pub(crate) fn qualified_value(
     alloc: Global,
     text: &str,
@@ -81,7 +81,7 @@ pub(crate) fn qualified_value(
     Ok(bytes)
 }
 
-/// The name of a variable behind that of the entry that uses it and a `$`.
+/// The name of a variable after that of the entry that uses it and a `$`.
 pub(crate) fn qualified_variable(
     alloc: Global,
     text: &str,
@@ -94,7 +94,7 @@ pub(crate) fn qualified_variable(
     variable_of(alloc, &entry, name_at(text, variable))
 }
 
-/// A variable behind the entry that uses it and a `$`.
+/// A variable after the entry that uses it and a `$`.
 pub(crate) fn variable_of(
     alloc: Global,
     entry: &[u8],
@@ -110,7 +110,7 @@ pub(crate) fn variable_of(
     Ok(bytes)
 }
 
-/// The name of an entry behind that of one that refers to it and a `>`.
+/// The name of an entry after that of one that refers to it and a `>`.
 pub(crate) fn qualified_reference(
     alloc: Global,
     text: &str,
@@ -126,7 +126,7 @@ pub(crate) fn qualified_reference(
     Ok(bytes)
 }
 
-/// The key of a variant behind the place of the first key of its select and a `[`.
+/// The key of a variant after the place of the first key of its select and a `[`.
 pub(crate) fn qualified_key(
     alloc: Global,
     text: &str,

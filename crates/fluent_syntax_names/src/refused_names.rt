@@ -10,8 +10,8 @@ use fluent_syntax_tree::spans::Span;
 use std::alloc::{AllocError, Global};
 
 /// The entries that a file has as junk, since they have a syntax error: the name with which each junk begins, a term's
-/// with its `-`, and a place of the first such junk, which is what its caller has as one. A clause tells by
-/// `refused_place` which they are.
+/// with its `-`, and a place of the first such junk, which is what its caller has as one. `refused_place` in a clause
+/// says which they are.
 #[derive(Drop)]
 pub struct RefusedNames<X> {
     places: FirstPlaces<X>,
@@ -27,7 +27,7 @@ impl<X: Copy> RefusedNames<X> {
         }
     }
 
-    /// Notes the junk that stands in this range of a text, with its place, if none before begins with its name. The
+    /// Notes the junk in this range of a text, with its place, if none before begins with its name. The
     /// name ends before the first byte that is none of a name. Junk that begins with none is noted too: no entry has
     /// the name of no bytes.
     ///
@@ -48,7 +48,7 @@ impl<X: Copy> RefusedNames<X> {
     }
 
     /// The place of the first junk that begins with the name of an entry: `text` is that of a file that defines it, and
-    /// `name` where it stands there, without the `-` of a term.
+    /// `name` where it is there, without the `-` of a term.
     pub fn place_of(&self, text: &str, name: Span) -> Option<X>
         ensures { result ≡ refused_place self.now (entry_at text.now name) }
     {
@@ -73,7 +73,7 @@ fn is_name_byte(byte: u8) -> bool
     byte.is_ascii_alphanumeric() || byte == b'-' || byte == b'_'
 }
 
-/// The range of a name with the `-` before it, where one stands there.
+/// The range of a name with the `-` before it, where there is one.
 fn with_hyphen(text: &str, name: Span) -> Span
     ensures { result ≡ with_hyphen text.now name }
 {

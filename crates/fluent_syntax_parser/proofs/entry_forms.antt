@@ -1,4 +1,5 @@
 pub mod AnyDepth
+pub mod AttributeRefusals
 pub mod CommentEntries
 pub mod EntryForms
 pub mod ExtentForms

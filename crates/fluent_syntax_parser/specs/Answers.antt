@@ -12,7 +12,7 @@ use Rattle.fluent_syntax_parser.specs.declared.fault.ParseFault.{ParseFault}
 use Rattle.fluent_syntax_parser.specs.declared.fault.ParseFault.TheVariants.{Syntax, Memory}
 
 -- A text with these tiles is answered: the tree is what their body becomes, and there are errors exactly where the
--- tiles have faults, which these tell of, in order. `text` reads the texts of the tree.
+-- tiles have faults, which these report, in order. `text` reads the texts of the tree.
 module _ {S X : Type 0} (text : S → X) (whole : BodyTree Span → BodyTree X) where
   abbrev pub Answers : List Tile → Result (Resource S) (ParseFault S) → Type 0
   Answers tiles (Ok tree) = (resource_view text tree ≡ whole (body tiles)) × (faults tiles ≡ [])

@@ -14,18 +14,18 @@ use Rattle.fluent_syntax_grammar.specs.Tokens.{identifier, token}
 pub record OpensPattern (t : List ℕ) (i j : ℕ) : Type 0 where
   pub end : ℕ
   pub sign : ℕ
-  pub behind : ℕ
+  pub beyond : ℕ
   pub name : identifier t i (Read (record { start = i; end = end }) end)
   pub blank : InlineBlank t end sign
-  pub equals : token t equals_sign sign (Read tt behind)
-  pub opening : InlineBlank t behind j
+  pub equals : token t equals_sign sign (Read tt beyond)
+  pub opening : InlineBlank t beyond j
 
--- Attributes stand from the one place to the other, within whatever depth.
+-- There are attributes from the one place to the other, within whatever depth.
 abbrev pub AttributesAtAnyDepth : Edition → List ℕ → (i j : ℕ) → Type 0
 AttributesAtAnyDepth edition t i j =
     (n : ℕ) → (found : List (AttributeTree Span)) × attributes_of edition t (within edition t n) i (Read found j)
 
--- A message stands from the one place to the other, within whatever depth.
+-- There is a message from the one place to the other, within whatever depth.
 abbrev pub MessageAtAnyDepth : Edition → List ℕ → (i j : ℕ) → Type 0
 MessageAtAnyDepth edition t i j =
     (n : ℕ) → (found : MessageTree Span) × message_of edition t (within edition t n) i (Read (message found) j)

@@ -1,4 +1,4 @@
--- The tree that an expression in a box stands for.
+-- The tree that an expression in a box represents.
 use Rattle.std.specs.Prelude.{◌≡◌, Box}
 use Rattle.std.specs.Global.{Global}
 use Rattle.fluent_syntax_tree.specs.Tree.{ExpressionTree, InlineTree, inline, inline_map}

@@ -52,7 +52,7 @@ module _ {E : Type 0} where
   leading (Some k) (run from to ∷ ps) = run k to ∷ ps
   leading (Some k) (placed e ∷ ps) = placed e ∷ ps
 
-  -- the items, with the run that waits behind them
+  -- the items, with the run that waits after them
   abbrev pub flushed : List (ItemOf E) → Option (ℕ × ℕ) → List (ItemOf E)
   flushed xs None = xs
   flushed xs (Some r) = xs ++ text r.0 r.1 ∷ []
@@ -119,7 +119,7 @@ rest_end to (lf_at p) = p + 1
 rest_end to (crlf_at p) = to
 rest_end to text_end = to
 
--- An LF ends the line where its run ends, and behind CR stands an LF.
+-- An LF ends the line where its run ends, and after CR comes an LF.
 abbrev pub EndsAt : List ℕ → (to : ℕ) → Ending → Type 0
 EndsAt t to (lf_at p) = p ≡ to
 EndsAt t to (crlf_at p) = is_nonblank (slice_range t (p + 1) (p + 2)) ≡ false

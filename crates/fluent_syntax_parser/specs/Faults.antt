@@ -1,4 +1,4 @@
--- The faults of the grammar that errors tell of.
+-- The faults of the grammar that errors report.
 use Rattle.std.specs.Prelude.{ℕ, List, Option, option_map}
 use Rattle.fluent_syntax_tree.specs.Kind.{kind_of}
 use Rattle.fluent_syntax_tree.specs.declared.errors.ParserError.{ParserError}
@@ -7,7 +7,7 @@ use Rattle.fluent_syntax_grammar.specs.Tiling.{Fault}
 use Rattle.fluent_syntax_parser.specs.declared.fault.Refusal.{Refusal}
 use Rattle.fluent_syntax_parser.specs.Outcomes.{kind_at, from_of, to_of}
 
--- the fault that an error tells of, where it tells which stretch became junk
+-- the fault that an error reports, where it says which stretch became junk
 abbrev pub fault_of : ParserError → Option Fault
 fault_of e = option_map (λ slice. record {
   kind = kind_of e.kind;

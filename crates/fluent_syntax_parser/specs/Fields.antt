@@ -1,4 +1,4 @@
--- What stands behind the name of a message or a term.
+-- What comes after the name of a message or a term.
 use Rattle.std.specs.Prelude.{ℕ, List, map, Option, option_map}
 use Rattle.fluent_syntax_tree.specs.Entry.{AttributeTree, attribute_map}
 use Rattle.fluent_syntax_tree.specs.Tree.{PatternTree, pattern_map}

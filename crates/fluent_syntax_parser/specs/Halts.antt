@@ -8,7 +8,7 @@ use Rattle.fluent_syntax_parser.specs.declared.options.Halt.TheVariants.{TooDeep
 abbrev pub HaltsWithin : (nesting left : ℕ) → Halt → Type 0
 HaltsWithin nesting left halt = halt ≡ TooDeep → nesting < left
 
--- Where nothing comes next from the place on, it nests no deeper there; and where something does, as deeply as behind
+-- Where nothing comes next from the place on, it nests no deeper there; and where something does, as deeply as after
 -- that.
 abbrev pub ComesNext : (deeper : ℕ → Type 0) → ℕ → Option Span → Type 0
 ComesNext deeper i None = deeper i → ⊥

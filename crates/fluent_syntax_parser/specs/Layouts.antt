@@ -1,4 +1,4 @@
--- Layouts and items with h of what stands for each placeable.
+-- Layouts and items with h of what represents each placeable.
 use Rattle.std.specs.Prelude.{map}
 use Rattle.fluent_syntax_tree.specs.Tree.{ExpressionTree, expression_map}
 use Rattle.fluent_syntax_tree.specs.declared.spans.Span.{Span}

@@ -18,6 +18,7 @@ pub mod OneLine
 pub mod Last
 pub mod Opened
 pub mod Parts
+pub mod Refusals
 pub mod Rest
 pub mod Selects
 pub mod Starts

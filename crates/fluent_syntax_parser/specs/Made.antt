@@ -1,4 +1,4 @@
--- What a reader gives that makes texts: the value of its construct, with what the text of each span stands for in the
+-- What a reader gives that makes texts: the value of its construct, with what the text of each span represents in the
 -- span's place.
 use Rattle.std.specs.Prelude.{◌≡◌, ℕ, List, [], ◌∷◌, ◌++◌, Result, Ok, Err}
 use Rattle.fluent_syntax_grammar.specs.Construct.{Construct, Read}
@@ -10,7 +10,7 @@ pub data IsMade {A B : Type 0} (f : A → B) (c : Construct A) (i : ℕ) (b : B)
   made : {a : A} → c i (Read a j) → b ≡ f a → IsMade f c i b j
 
 -- What a reader answers that began at i is an outcome of the construct at i, with f of its value. `view` is the value
--- that an answer stands for.
+-- that an answer represents.
 abbrev pub Parses : {A B X : Type 0} → List ℕ → (A → B) → Construct A → (X → B) → ℕ → Result (X × ℕ) ReadFault → Type 0
 Parses t f c view i (Ok x) = IsMade f c i (view x.0) x.1
 Parses t f c view i (Err e) = Fails t c i e

@@ -1,4 +1,4 @@
--- What is read of a text entry by entry, with its texts made: f is what the text of each span stands for, and v what a
+-- What is read of a text entry by entry, with its texts made: f is what the text of each span represents, and v what a
 -- text that was made does.
 use Rattle.std.specs.Prelude.{◌≡◌, ℕ, List, [], ◌∷◌, ◌++◌, map, Option, Some, None, Bool, true, false, option_to_list}
 use Rattle.fluent_syntax_tree.specs.Entry.{BodyTree, EntryTree, body_map, entry_map, junk}
@@ -31,7 +31,7 @@ ends_with_comment [] = false
 ends_with_comment (e ∷ []) = is_comment e
 ends_with_comment (e ∷ d ∷ es) = ends_with_comment (d ∷ es)
 
--- The comment is attached to the entry behind it, and both are one; or it can't, and the entry is dropped.
+-- The comment is attached to the entry after it, and both are one; or it can't, and the entry is dropped.
 abbrev pub AttachedLast : {S : Type 0} → (before : List (Entry S)) → Comment S → Entry S → (new : List (Entry S)) → Bool
     →
     Type 0
@@ -39,67 +39,67 @@ AttachedLast before c e new true = (x : Entry _) × (commented c e ≡ Some x) �
 AttachedLast before c e new false = (commented c e ≡ None) × (new ≡ before ++ entries.Comment c ∷ [])
 
 module _ {S X : Type 0} (f : Span → X) (v : S → X) where
-  -- A tile that nests no deeper than n stands from i to j, and gives that entry and that error, if there is one.
+  -- A tile that nests no deeper than n is from i to j, and gives that entry and that error, if there is one.
   pub record MappedTile (edition : Edition) (t : List ℕ) (n i j : ℕ) (e : Entry S) (error : Option ParserError) :
       Type 0 where
     pub tree : EntryTree Span
     pub yields : GivesTile edition t n i j tree error
     pub same : entry_view v e ≡ entry_map f tree
 
-  -- Behind that comment of level 1, which ends at the place, there is that entry, with it or it itself, and the rest
+  -- After that comment of level 1, which ends at the place, there is that entry, with it or it itself, and the rest
   -- from the other place on.
   abbrev pub AttachesMade : Edition → List ℕ → Comment S → ℕ → Entry S → ℕ → Type 0
   AttachesMade edition t c ptr e j =
       (content : List Span) → comment_view v c ≡ map f content →
       (tree : EntryTree Span) × Attaches edition t content ptr tree j × (entry_view v e ≡ entry_map f tree)
 
-  -- Behind the comment of level 1 that the entries end with, and that ends at the place, that entry is there in its
+  -- After the comment of level 1 that the entries end with, and that ends at the place, that entry is there in its
   -- place, with it or it itself, and the rest from the other place on.
   abbrev pub AttachesLast : Edition → List ℕ → (ptr end : ℕ) → (old new : List (Entry S)) → Type 0
   AttachesLast edition t ptr end old new =
       (before : List (Entry S)) (c : Comment S) → old ≡ before ++ entries.Comment c ∷ [] →
       (e : Entry S) × (new ≡ before ++ e ∷ []) × AttachesMade edition t c ptr e end
 
-  -- Junk stands from i to j, which is added with the error of the refusal.
+  -- There is junk from i to j, which is added with the error of the refusal.
   pub record AddsJunk (t : List ℕ) (refusal : Refusal) (i j : ℕ) (old new : List (Entry S))
-      (errors told : List ParserError) : Type 0 where
+      (errors stated : List ParserError) : Type 0 where
     pub entry : Entry S
     pub error : ParserError
     pub added : new ≡ old ++ entry ∷ []
-    pub errors_are : told ≡ errors ++ error ∷ []
+    pub errors_are : stated ≡ errors ++ error ∷ []
     pub same : entry_view v entry ≡ junk (f (record { start = i; end = j }))
     pub fault : fault_of error ≡ Some (refused_as t refusal (record { start = i; end = j }))
 
-  -- A tile that nests no deeper than n stands from i to j, and its entry is added, and its error, if there is one.
+  -- A tile that nests no deeper than n is from i to j, and its entry is added, and its error, if there is one.
   pub record AddsTile (edition : Edition) (t : List ℕ) (n i j : ℕ) (old new : List (Entry S))
-      (errors told : List ParserError) : Type 0 where
+      (errors stated : List ParserError) : Type 0 where
     pub entry : Entry S
     pub error : Option ParserError
     pub added : new ≡ old ++ entry ∷ []
-    pub errors_are : told ≡ errors ++ option_to_list error
+    pub errors_are : stated ≡ errors ++ option_to_list error
     pub tile : MappedTile edition t n i j entry error
 
-  -- An entry that comes next from i on stands from the start to j, before whatever the rest is from there on, and is
+  -- An entry that comes next from i on is there from the start to j, before whatever the rest is from there on, and is
   -- added, and its error, if there is one.
   pub record AddsEntry (comments : Comments) (edition : Edition) (t : List ℕ) (i start j : ℕ) (old new : List (Entry S))
-      (errors told : List ParserError) : Type 0 where
+      (errors stated : List ParserError) : Type 0 where
     pub entry : Entry S
     pub error : Option ParserError
     pub added : new ≡ old ++ entry ∷ []
-    pub errors_are : told ≡ errors ++ option_to_list error
+    pub errors_are : stated ≡ errors ++ option_to_list error
     pub tree : EntryTree Span
-    pub stands : EntryAt comments edition t i start j tree (faults_of error)
+    pub in_place : EntryAt comments edition t i start j tree (faults_of error)
     pub same : entry_view v entry ≡ entry_map f tree
 
-  -- What comes next from the place on is added, and stands there; or nothing is, and nothing is left.
+  -- What comes next from the place on is added, and is there; or nothing is added, and nothing is left.
   abbrev pub AddsNext : Comments → Edition → List ℕ → ℕ → (old new : List (Entry S)) →
-      (errors told : List ParserError) → Option Span → Type 0
-  AddsNext comments edition t i old new errors told None =
-      Rest comments edition t i [] [] × (new ≡ old) × (told ≡ errors)
-  AddsNext comments edition t i old new errors told (Some span) =
-      AddsEntry comments edition t i span.start span.end old new errors told
+      (errors stated : List ParserError) → Option Span → Type 0
+  AddsNext comments edition t i old new errors stated None =
+      Rest comments edition t i [] [] × (new ≡ old) × (stated ≡ errors)
+  AddsNext comments edition t i old new errors stated (Some span) =
+      AddsEntry comments edition t i span.start span.end old new errors stated
 
-  -- What comes next from the place on, or nothing where nothing is left; what is read stands from the start to the
+  -- What comes next from the place on, or nothing where nothing is left; what is read is there from the start to the
   -- other place.
   abbrev pub NextMade : Comments → Edition → List ℕ → (i start j : ℕ) → Option (Entry S × Option ParserError) →
       Type 0

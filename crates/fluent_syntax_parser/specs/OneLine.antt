@@ -21,11 +21,11 @@ abbrev pub OpensAs : Edition → List ℕ → ℕ → Option (PatternTree Span) 
 OpensAs edition t start value end =
     (n i : ℕ) → InlineBlank t i start → pattern edition t (within edition t n) i (Read value end)
 
--- No line of a pattern stands from the line's start on, and it ends at the other place.
+-- There is no line of a pattern from the line's start on, and it ends at the other place.
 abbrev pub NoLines : Edition → List ℕ → (i end : ℕ) → Type 0
 NoLines edition t i end = (n : ℕ) → more_lines t (within edition t n) i (Read [] end)
 
--- From the place on blank lines stand, and behind them no line of a pattern, which ends at the other place.
+-- From the place on there are blank lines, and after them no line of a pattern, which ends at the other place.
 pub record EndsBlank (edition : Edition) (t : List ℕ) (i end : ℕ) : Type 0 where
   pub place : ℕ
   pub block : BlankBlock t i place

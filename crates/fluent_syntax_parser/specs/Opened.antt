@@ -25,7 +25,7 @@ module _ {E : Type 0} where
   as_item (run from to) = text from to
   as_item (placed e) = placeable_item e
 
-  -- Behind each run of the pieces stands a placeable, so the elements of these pieces don't hang on what follows.
+  -- After each run of the pieces comes a placeable, so the elements of these pieces don't depend on what follows.
   pub data Settled : List (PieceOf E) → Type 0 where
     none : Settled []
     by_placeable : {e : E} {ps : List (PieceOf E)} → Settled ps → Settled (placed e ∷ ps)

@@ -21,7 +21,7 @@ module _ (t : List ℕ) where
   abbrev pub name_text : ℕ → List ℕ
   name_text i = take_while is_name_byte (drop i t)
 
-  -- the kind of a fault at a place of the text; what that tells of begins at another
+  -- the kind of a fault at a place of the text; what it is about begins at another
   abbrev pub kind_at : Fault → (from : ℕ) → ℕ → Kind
   kind_at (fault.Token b) from i = kinds.ExpectedToken b
   kind_at fault.Letter from i = kinds.ExpectedCharRange (codes "a-zA-Z")
@@ -68,7 +68,7 @@ abbrev pub IsRefusedAs : {A : Type 0} → List ℕ → Construct A → ℕ → R
 IsRefusedAs t c i r = (k : Kind) (from to : ℕ) → Shows t r k from to → c i (Refused k from to)
 
 -- What a reader answers that began at i, and takes no memory, is an outcome of the construct at i. `view` is the value
--- that an answer stands for.
+-- that an answer represents.
 abbrev pub Answers : {A X : Type 0} → List ℕ → Construct A → (X → A) → ℕ → Result (X × ℕ) Refusal → Type 0
 Answers t c view i (Ok x) = c i (Read (view x.0) x.1)
 Answers t c view i (Err r) = IsRefusedAs t c i r

@@ -1,4 +1,4 @@
--- Where the parts of a message or a term stand.
+-- Where the parts of a message or a term are.
 use Rattle.std.specs.Prelude.{◌≡◌, ℕ, List, [], ◌∷◌, Option, Some, None, option_map, Result, Ok, Err, Vec, true}
 use Rattle.std.specs.Global.{Global}
 use Rattle.fluent_syntax_tree.specs.Entry.{AttributeTree, EntryTree, Level, comment, message, term}
@@ -40,12 +40,12 @@ module _ (edition : Edition) (t : List ℕ) (R : Family) where
     pub name : ReadAt (identifier t) x.name x.name
     pub named : a.id ≡ x.name
     pub equals : ℕ
-    pub behind : InlineBlank t x.name.end equals
+    pub beyond : InlineBlank t x.name.end equals
     pub sign : token t equals_sign equals (Read tt x.value.start)
     pub value : ReadAt (pattern edition t R) (Some a.value) x.value
     pub ends : x.span.end ≡ x.value.end
 
-  -- From the one place to the other stand those attributes, one after the other, and none follows.
+  -- From the one place to the other there are those attributes, one after the other, and none follows.
   pub data HaveAttributeParts : ℕ → List AttributeRanges → List (AttributeTree Span) → ℕ → Type 0 where
     no_attribute_parts : {i from to : ℕ} {k : Kind} → attribute_of edition t R i (Refused k from to) →
         HaveAttributeParts i [] [] i
@@ -53,13 +53,13 @@ module _ (edition : Edition) (t : List ℕ) (R : Family) where
         {rest : List (AttributeTree Span)} → x.span.start ≡ i → HasAttributeParts x a →
         HaveAttributeParts x.span.end xs rest end → HaveAttributeParts i (x ∷ xs) (a ∷ rest) end
 
-  -- From the place behind a name up to the end stand the value and the attributes: an inline blank, `=`, the value,
+  -- From the place after a name up to the end there are the value and the attributes: an inline blank, `=`, the value,
   -- where there is one, a blank block, the attributes.
   pub record HaveFieldParts (i : ℕ) (value_at : Option Span) (attributes_at : List AttributeRanges)
       (f : FieldTrees Span)
       (end : ℕ) : Type 0 where
     pub equals : ℕ
-    pub behind : InlineBlank t i equals
+    pub beyond : InlineBlank t i equals
     pub place : Span
     pub sign : token t equals_sign equals (Read tt place.start)
     pub value : ReadAt (pattern edition t R) f.0 place
@@ -95,12 +95,12 @@ module _ (edition : Edition) (t : List ℕ) (R : Family) where
       (pattern_view v x.1 ≡ pattern_map f a.value)
   FindsAttribute f v i (Err e) = Fails t (attribute_of edition t R) i e
 
-  -- The attributes stand from the place on; or the fault is that of such a list.
+  -- There are the attributes from the place on; or the fault is that of such a list.
   abbrev pub FindsAttributes : ℕ → Result (Vec AttributeRanges Global × ℕ) ReadFault → Type 0
   FindsAttributes i (Ok x) = (rest : List (AttributeTree Span)) × HaveAttributeParts i x.0.items rest x.1
   FindsAttributes i (Err e) = Fails t (attributes_of edition t R) i e
 
-  -- The value and the attributes stand from the place behind a name on; or the fault is that of what stands there.
+  -- There are the value and the attributes from the place after a name on; or the fault is that of what is there.
   abbrev pub FindsFields : ℕ → Result (Option Span × Vec AttributeRanges Global × ℕ) ReadFault → Type 0
   FindsFields i (Ok x) = (f : FieldTrees Span) × HaveFieldParts i x.0 x.1.items f x.2
   FindsFields i (Err e) = Fails t (fields edition t R) i e
@@ -116,7 +116,7 @@ module _ (edition : Edition) (t : List ℕ) (R : Family) where
   FindsEntry i (Ok None) = has_byte t hash i ≡ true
   FindsEntry i (Err e) = Fails t (entry_in edition t R) i e
 
--- The parts of the message or the term that is read at the place stand there; or none is read there.
+-- There are the parts of the message or the term that is read at the place; or none is read there.
 abbrev pub HasRanges : Edition → List ℕ → ℕ → Option EntryRanges → Type 0
 HasRanges edition t i (Some x) = EntryWithParts edition t (family edition t) i x
 HasRanges edition t i None =

@@ -25,7 +25,7 @@ use Rattle.fluent_syntax_parser.specs.declared.options.Comments.TheVariants.{Kep
 abbrev pub tree_of : Entry Span → EntryTree Span
 tree_of e = entry_view (λ s. s) e
 
--- the faults that an error tells of, if there is one
+-- the faults that an error reports, if there is one
 abbrev pub faults_of : Option ParserError → List (Option Fault)
 faults_of None = []
 faults_of (Some error) = fault_of error ∷ []
@@ -40,16 +40,16 @@ abbrev pub are_dropped : Comments → Bool
 are_dropped Kept = false
 are_dropped Dropped = true
 
--- the tile that stands somewhere, with comments or without, over a family
+-- the tile between two places, with comments or without, over a family
 abbrev pub TileIn : Comments → Edition → List ℕ → Family → (i j : ℕ) → Tile → Type 0
 TileIn Kept edition t R = tiling.TileIn edition t R
 TileIn Dropped edition t R = RuntimeTileIn edition t R
 
--- A tile that nests no deeper than n stands from i to j, and gives that entry and that error, if there is one.
+-- A tile that nests no deeper than n is from i to j, and gives that entry and that error, if there is one.
 pub record GivesTile (edition : Edition) (t : List ℕ) (n i j : ℕ) (e : EntryTree Span)
     (error : Option ParserError) : Type 0 where
   pub tile : Tile
-  pub stands : tiling.TileIn edition t (within edition t n) i j tile
+  pub in_place : tiling.TileIn edition t (within edition t n) i j tile
   pub entry : alone tile ≡ e ∷ []
   pub errors : map Some (faults (tile ∷ [])) ≡ faults_of error
 
@@ -79,7 +79,7 @@ pub record RestAt (comments : Comments) (edition : Edition) (t : List ℕ) (i : 
   pub yields : body tiles ≡ entries
   pub errors_are : map Some (faults tiles) ≡ errors
 
--- Behind a comment of level 1 that ends at the place there is that entry, with it or it itself, and the rest from the
+-- After a comment of level 1 that ends at the place there is that entry, with it or it itself, and the rest from the
 -- other place on.
 abbrev pub Attaches : Edition → List ℕ → List Span → ℕ → EntryTree Span → ℕ → Type 0
 Attaches edition t content ptr e j =
@@ -88,7 +88,7 @@ Attaches edition t content ptr e j =
     (body (entry (record { start = i; end = ptr }) (comment regular content) ∷ tiles) ≡ e ∷ entries) ×
     (map Some (faults tiles) ≡ errors)
 
--- From the one place to the other stand that entry and those errors, before whatever the rest is.
+-- From the one place to the other there are that entry and those errors, before whatever the rest is.
 abbrev pub EntryTo : Comments → Edition → List ℕ → (i j : ℕ) → EntryTree Span → List (Option Fault) → Type 0
 EntryTo comments edition t i j e faults =
     (entries : BodyTree Span) (errors : List (Option Fault)) → Rest comments edition t j entries errors →
@@ -101,7 +101,7 @@ pub record EntryAt (comments : Comments) (edition : Edition) (t : List ℕ) (i s
   pub kept : are_dropped comments ≡ true → has_byte t hash start ≡ false
   pub before : (entries : BodyTree Span) (errors : List (Option Fault)) →
       RestAt comments edition t start entries errors → Rest comments edition t i entries errors
-  pub stands : (entries : BodyTree Span) (errors : List (Option Fault)) → Rest comments edition t j entries errors →
+  pub in_place : (entries : BodyTree Span) (errors : List (Option Fault)) → Rest comments edition t j entries errors →
       RestAt comments edition t start (e ∷ entries) (faults ++ errors)
 
 -- What is read from the one place to the other, and where it begins: that entry, with its error if there is one, before

@@ -1,4 +1,4 @@
--- What stands behind the selector of a select.
+-- What comes after the selector of a select.
 use Rattle.std.specs.Prelude.{ℕ, List, Option, Some, None, false}
 use Rattle.fluent_syntax_tree.specs.Kind.{Kind}
 use Rattle.fluent_syntax_tree.specs.Tree.{VariantTrees}
@@ -11,7 +11,7 @@ use Rattle.fluent_syntax_grammar.specs.Places.{Steps, after_eol}
 use Rattle.fluent_syntax_grammar.specs.Variants.{more_variants}
 use Rattle.fluent_syntax_grammar.specs.Tokens.{blank, inline_blank}
 
--- `->`, an inline blank, a line end and a blank, behind a selector. What is no selector is refused there.
+-- `->`, an inline blank, a line end and a blank, after a selector. What is no selector is refused there.
 abbrev pub select_start : List ℕ → Option Kind → Construct (Unit {0})
 select_start t (Some fault) = fails fault
 select_start t None = do

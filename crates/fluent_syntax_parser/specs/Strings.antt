@@ -8,6 +8,6 @@ use Rattle.fluent_syntax_grammar.specs.Strings.{escaped}
 abbrev pub escape : List ℕ → Construct (Unit {0})
 escape t = peek (λ i. slice_get t (i + 1)) (escaped t)
 
--- bytes that stand for themselves in a string literal: all but a quote, a backslash and LF
+-- bytes that represent themselves in a string literal: all but a quote, a backslash and LF
 abbrev pub is_plain : ℕ → Bool
 is_plain b = not (b == double_quote || b == backslash || b == lf)

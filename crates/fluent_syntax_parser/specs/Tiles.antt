@@ -1,4 +1,4 @@
--- What stands at a place of a text, as it is given.
+-- What there is at a place of a text, as it is given.
 use Rattle.std.specs.Prelude.{◌≡◌, ℕ, ◌<◌, List, [], ◌∷◌, length, map, Option, Some, None}
 use Rattle.fluent_syntax_tree.specs.declared.ast.Entry.{Entry}
 use Rattle.fluent_syntax_tree.specs.declared.edition.Edition.{Edition}
@@ -15,12 +15,12 @@ pub record Gives (tile : Tile) (e : Entry Span) (error : Option ParserError) : T
   pub entry : alone tile ≡ tree_of e ∷ []
   pub errors : map Some (faults (tile ∷ [])) ≡ faults_of error
 
--- From the one place to the other stands a blank block, and then what was found.
+-- From the one place to the other there is a blank block, and then what was found.
 pub record TileTo (edition : Edition) (t : List ℕ) (i j : ℕ) (found : SpannedTile) : Type 0 where
   pub tile : Tile
   pub blank : BlankBlock t i found.span.start
   pub inside : found.span.start < length t
-  pub stands : TileAt edition t found.span.start found.span.end tile
+  pub in_place : TileAt edition t found.span.start found.span.end tile
   pub yields : Gives tile found.entry found.error
   pub ends : j ≡ found.span.end
 

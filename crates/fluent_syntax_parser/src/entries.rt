@@ -53,9 +53,9 @@ impl<'s> Entries<'s> {
         }
     }
 
-    /// Where the entry or the junk that was read last stands, in bytes: from its first byte, which is that of the
-    /// comment that is attached to it, to its end. Blank lines directly behind a message or a term are in it, those
-    /// behind a comment are not. Junk ends where the next line begins like an entry.
+    /// Where the entry or the junk that was read last is, in bytes: from its first byte, which is that of the
+    /// comment that is attached to it, to its end. Blank lines directly after a message or a term are in it, those
+    /// after a comment are not. Junk ends where the next line begins like an entry.
     ///
     /// Before anything was read it is empty, at 0.
     pub fn span(&self) -> Span
@@ -69,7 +69,7 @@ impl<'s> Entries<'s> {
 
     /// Reads the next entry, with its error where it is junk. `None` where none is left.
     ///
-    /// Each span is an ordered range of the text, at character boundaries. After a `Halt` it stands where it stood.
+    /// Each span is an ordered range of the text, at character boundaries. After a `Halt` it is where it was.
     pub fn next_entry(
         &mut self,
         alloc: Global,
@@ -138,7 +138,7 @@ impl<'s> Entries<'s> {
     }
 
     /// Reads the next entry as `next_entry_with` does, and adds it to the entries, and its error to the errors where it
-    /// is junk; gives where it stands. `None` where none is left. A loop that clears both lists asks for no new ones.
+    /// is junk; gives where it is. `None` where none is left. A loop that clears both lists asks for no new ones.
     #[inline(always)]
     pub fn add_next_entry<M: MakeTexts>(
         &mut self,
@@ -152,7 +152,7 @@ impl<'s> Entries<'s> {
         ensures next { let t = self.old.source.bytes.now in let options = self.old.options in
             let f = M.source texts.now in IfOk result (AddsNext f M.made options.comments options.edition t
             self.old.ptr body.old.items body.new.items errors.old.items errors.new.items) }
-        ensures stands { IfOk result (λ found. IfSome found (λ span.
+        ensures in_place { IfOk result (λ found. IfSome found (λ span.
             span ≡ record { start = self.new.start; end = self.new.ptr })) }
         ensures forward { self.old.ptr ≤ self.new.ptr }
         ensures onward { IfOk result (λ found. IfSome found (λ span. self.old.ptr < self.new.ptr)) }
@@ -190,7 +190,7 @@ impl<'s> Entries<'s> {
     /// Passes over the next entry, as `next_entry` would read it: gives its error, where it is junk. `None` where no
     /// entry is left.
     ///
-    /// A message whose patterns are each one text on its line takes no memory. After a `Halt` it stands where it stood.
+    /// A message whose patterns are each one text on its line takes no memory. After a `Halt` it is where it was.
     pub fn next_error(&mut self, alloc: Global) -> Result<Option<Option<ParserError>>, Halt>
         ensures text { self.new.source ≡ self.old.source }
         ensures options { self.new.options ≡ self.old.options }

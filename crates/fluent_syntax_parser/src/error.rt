@@ -14,7 +14,7 @@ use std::ops::Range;
 
 impl Refusal {
     /// The place of the error: one byte, but where a message or a term lacks its field.
-    fn pos(&self) -> Range<usize>
+    pub(crate) fn pos(&self) -> Range<usize>
         requires { self.now.place + 1 < 2 ^ 64 }
         ensures start { result.start ≡ from_of self.now.fault self.now.from self.now.place }
         ensures end { result.end ≡ to_of self.now.fault self.now.place }
@@ -54,7 +54,11 @@ impl<'s> Source<'s> {
     }
 
     /// What was wanted, or is wrong, where a reader gave up.
-    fn error_kind(&self, alloc: Global, refusal: Refusal) -> Result<ErrorKind, AllocError>
+    pub(crate) fn error_kind(
+        &self,
+        alloc: Global,
+        refusal: Refusal,
+    ) -> Result<ErrorKind, AllocError>
         ensures { IfOk result
             (λ kind. kind_of kind ≡ kind_at self.now.bytes.now refusal.fault refusal.from refusal.place) }
     {

@@ -34,7 +34,7 @@ use fluent_syntax_tree::spans::Span;
 use std::alloc::AllocError;
 
 impl<'s> Source<'s> {
-    /// Whether `->` stands at the place.
+    /// Whether there is a `->` at the place.
     pub(crate) fn is_arrow(&self, ptr: usize) -> bool
         requires { ptr ≤ length self.now.bytes.now }
         ensures { result ≡ has_arrow self.now.bytes.now ptr }
@@ -144,7 +144,7 @@ impl<'s, 't, M: MakeTexts> Reader<'s, 't, M> {
         Ok(end)
     }
 
-    /// Reads an inline expression, and adds it: what stands at the place decides its form.
+    /// Reads an inline expression, and adds it: what is at the place decides its form.
     #[cycle(readers)]
     #[inline(always)]
     pub(crate) fn add_inline_expression(

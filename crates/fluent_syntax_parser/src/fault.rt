@@ -1,6 +1,6 @@
 //! Why a reader gives up.
 //!
-//! Each is a small value that copies, since what nests passes it on: what an error tells of the text is kept as a place
+//! Each is a small value that copies, since what nests passes it on: what an error says of the text is kept as a place
 //! of it, and its texts are made once, where the error is reported.
 ghost use Rattle.std.specs.Prelude.{◌≡◌, ◌≢◌, [], Ok, Err};
 ghost use Rattle.fluent_syntax_parser.specs.declared.fault.ParseFault.TheVariants.{Syntax};
@@ -20,7 +20,7 @@ pub(crate) enum Fault {
     LineEnd,
     /// A pattern or an attribute of the message whose name begins at the first place.
     MessageField,
-    /// A pattern of the term whose name begins at the first place, behind its `-`.
+    /// A pattern of the term whose name begins at the first place, after its `-`.
     TermField,
     Callee,
     Value,
@@ -48,7 +48,7 @@ pub(crate) enum Fault {
 #[derive(Clone, Copy, Debug)]
 pub(crate) struct Refusal {
     pub(crate) fault: Fault,
-    /// Where that begins which the fault tells of, or the place.
+    /// Where that begins which the fault is about, or the place.
     pub(crate) from: usize,
     pub(crate) place: usize,
 }

@@ -13,6 +13,7 @@ pub mod options;
 mod pattern;
 pub mod ranges;
 mod reader;
+pub mod refusals;
 mod source;
 mod spans;
 pub mod texts;

@@ -55,10 +55,10 @@ impl<'s> Source<'s> {
 
     /// Where a pattern ends whose lines from a line's start on are all blank.
     #[inline(always)]
-    fn end_behind_blank_lines(&self, edition: Edition, ptr: usize) -> Option<usize>
+    fn end_after_blank_lines(&self, edition: Edition, ptr: usize) -> Option<usize>
         requires { ptr ≤ length self.now.bytes.now }
         ensures lines { IfSome result (EndsBlank edition self.now.bytes.now ptr) }
-        ensures behind { IfSome result (λ end. BlankBlock self.now.bytes.now end end) }
+        ensures beyond { IfSome result (λ end. BlankBlock self.now.bytes.now end end) }
         ensures within { IfSome result (λ end. (ptr ≤ end) × (end ≤ length self.now.bytes.now)) }
     {
         let line = self.past_blank_lines(ptr);
@@ -74,7 +74,7 @@ impl<'s> Source<'s> {
         }
     }
 
-    /// Reads a pattern of one line without placeable, after the inline blank that opens it, if that stands there: its
+    /// Reads a pattern of one line without placeable, after the inline blank that opens it, if there is one: its
     /// text, if it holds one.
     #[inline(always)]
     pub(crate) fn one_line_text(
@@ -85,12 +85,12 @@ impl<'s> Source<'s> {
         requires { start ≤ length self.now.bytes.now }
         ensures opens { IfSome result
             (λ read. OpensAs edition self.now.bytes.now start (option_map text_pattern read.0) read.1) }
-        ensures behind { IfSome result (λ read. BlankBlock self.now.bytes.now read.1 read.1) }
+        ensures beyond { IfSome result (λ read. BlankBlock self.now.bytes.now read.1 read.1) }
         ensures within { IfSome result (λ read. (start ≤ read.1) × (read.1 ≤ length self.now.bytes.now)) }
     {
         let to = self.run_end(start);
         let (text_end, next) = self.line_ending(to)?;
-        let end = self.end_behind_blank_lines(edition, next)?;
+        let end = self.end_after_blank_lines(edition, next)?;
         if start < to {
             let value = Span {
                 start,
@@ -171,7 +171,7 @@ impl<'s, 't, M: MakeTexts> Reader<'s, 't, M> {
         }
     }
 
-    /// Reads a pattern that does not stand on one line, or that has a placeable. The inline blank that opens it ends at
+    /// Reads a pattern that is not on one line, or that has a placeable. The inline blank that opens it ends at
     /// `start`.
     #[cycle(readers)]
     #[inline(never)]
@@ -187,7 +187,7 @@ impl<'s, 't, M: MakeTexts> Reader<'s, 't, M> {
             Parses t (option_map (pattern_map (M.source self.now.texts.now)))
             (pattern self.now.edition t (within self.now.edition t nesting)) (option_map (pattern_view M.made)) ptr
             result }
-        ensures behind { IfOk result (λ read. BlankBlock self.now.source.bytes.now read.1 read.1) }
+        ensures beyond { IfOk result (λ read. BlankBlock self.now.source.bytes.now read.1 read.1) }
         ensures within { IfOk result (λ read. (ptr ≤ read.1) × (read.1 ≤ length self.now.source.bytes.now)) }
     {
         let mut elements = Vec::new(self.alloc);
@@ -202,7 +202,7 @@ impl<'s, 't, M: MakeTexts> Reader<'s, 't, M> {
         }
     }
 
-    /// Reads a pattern, if one stands there. No blank line stands behind it. That of one line without placeable is read
+    /// Reads a pattern, if there is one. No blank line comes after it. That of one line without placeable is read
     /// by itself, and takes one allocation.
     #[cycle(readers)]
     #[inline(always)]
@@ -216,7 +216,7 @@ impl<'s, 't, M: MakeTexts> Reader<'s, 't, M> {
             Parses t (option_map (pattern_map (M.source self.now.texts.now)))
             (pattern self.now.edition t (within self.now.edition t nesting)) (option_map (pattern_view M.made)) ptr
             result }
-        ensures behind { IfOk result (λ read. BlankBlock self.now.source.bytes.now read.1 read.1) }
+        ensures beyond { IfOk result (λ read. BlankBlock self.now.source.bytes.now read.1 read.1) }
         ensures within { IfOk result (λ read. (ptr ≤ read.1) × (read.1 ≤ length self.now.source.bytes.now)) }
     {
         let start = self.source.skip_blank_inline(ptr);

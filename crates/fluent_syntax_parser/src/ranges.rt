@@ -1,4 +1,4 @@
-//! Where the parts of a message or a term stand.
+//! Where the parts of a message or a term are.
 ghost use Rattle.std.specs.Prelude.{◌≡◌, ◌-◌, ◌<◌, ◌≤◌, length, option_map, IfErr, IfOk, IfSome};
 ghost use Rattle.fluent_syntax_grammar.specs.Entries.{message_of, term_of};
 ghost use Rattle.fluent_syntax_grammar.specs.Grammar.{within};
@@ -27,22 +27,22 @@ use fluent_syntax_tree::edition::Edition;
 use fluent_syntax_tree::spans::Span;
 use std::alloc::Global;
 
-/// Where an attribute and its parts stand.
+/// Where an attribute and its parts are.
 #[derive(Clone, Copy, Debug, Drop, Eq, PartialEq)]
 pub struct AttributeRanges {
     /// From the start of its line to the end of its value.
     pub span: Span,
     pub name: Span,
-    /// Its pattern: from directly behind the `=` to its end. Blank lines behind it are in it.
+    /// Its pattern: from directly after the `=` to its end. Blank lines after it are in it.
     pub value: Span,
 }
 
-/// Where the parts of a message or a term stand.
+/// Where the parts of a message or a term are.
 #[derive(Debug, Drop)]
 pub struct EntryRanges {
     /// Of a term without its `-`.
     pub name: Span,
-    /// Its pattern, if it has one: from directly behind the `=` to its end. Blank lines behind it are in it.
+    /// Its pattern, if it has one: from directly after the `=` to its end. Blank lines after it are in it.
     pub value: Option<Span>,
     pub attributes: Vec<AttributeRanges>,
 }
@@ -58,7 +58,7 @@ fn place_if<T>(value: &Option<T>, place: Span) -> Option<Span>
 }
 
 impl<'s, 't, M: MakeTexts> Reader<'s, 't, M> {
-    /// Where an attribute and its parts stand, and its value.
+    /// Where an attribute and its parts are, and its value.
     pub(crate) fn attribute_parts(
         &self,
         nesting: usize,
@@ -97,7 +97,7 @@ impl<'s, 't, M: MakeTexts> Reader<'s, 't, M> {
         }
     }
 
-    /// Where the attributes of the longest list of them stand, and where it ends.
+    /// Where the attributes of the longest list of them are, and where it ends.
     fn attribute_list_parts(
         &self,
         nesting: usize,
@@ -123,7 +123,7 @@ impl<'s, 't, M: MakeTexts> Reader<'s, 't, M> {
         }
     }
 
-    /// Where the value and the attributes behind a name stand, and where they end.
+    /// Where the value and the attributes after a name are, and where they end.
     fn field_parts(
         &self,
         nesting: usize,
@@ -187,7 +187,7 @@ impl<'s, 't, M: MakeTexts> Reader<'s, 't, M> {
         })
     }
 
-    /// Where the parts of the entry stand, by its first byte. `None` where that is a `#`.
+    /// Where the parts of the entry are, by its first byte. `None` where that is a `#`.
     fn entry_parts(&self, nesting: usize, start: usize) -> Result<Option<EntryRanges>, ReadFault>
         requires { start ≤ length self.now.source.bytes.now }
         ensures { let t = self.now.source.bytes.now in
@@ -205,7 +205,7 @@ impl<'s, 't, M: MakeTexts> Reader<'s, 't, M> {
     }
 }
 
-/// Where the parts of the message or the term stand that begins at the place, with at most `nesting` placeables and
+/// Where the parts of the message or the term are that begins at the place, with at most `nesting` placeables and
 /// argument lists open at once. `None` where none is read there.
 ///
 /// It is never `TooDeep` where as many may nest as bytes are left.

@@ -12,10 +12,10 @@ use std::marker::PhantomData;
 pub trait MakeTexts {
     type Text: Drop;
 
-    /// What a text stands for.
+    /// What a text represents.
     ghost Seen: { Type 0 };
 
-    /// What the text of a span stands for.
+    /// What the text of a span represents.
     ghost source: { Self → Span → Seen };
 
     ghost made: { Self.Text → Seen };

@@ -1,4 +1,4 @@
-//! What stands in a text, one after the other, and where.
+//! What is in a text, one after the other, and where.
 ghost use Rattle.std.specs.Prelude.{◌≡◌, ◌-◌, ◌^◌, ◌<◌, ◌≤◌, length, IfErr, IfOk, IfSome, OnErr};
 ghost use Rattle.fluent_syntax_parser.specs.Halts.{HaltsWithin};
 
@@ -17,19 +17,19 @@ use fluent_syntax_tree::errors::ParserError;
 use fluent_syntax_tree::spans::Span;
 use std::alloc::Global;
 
-/// An entry of a text, or junk with its error, and where it stands.
+/// An entry of a text, or junk with its error, and where it is.
 #[derive(Debug, Drop)]
 pub struct SpannedTile {
-    /// From its first byte to its end. Blank lines directly behind a message or a term are in it, those behind a
+    /// From its first byte to its end. Blank lines directly after a message or a term are in it, those after a
     /// comment are not. Junk ends where the next line begins like an entry.
     pub span: Span,
-    /// A comment stands by itself, also where it is attached to the entry that begins where it ends.
+    /// A comment is by itself, also where it is attached to the entry that begins where it ends.
     pub entry: Entry<Span>,
     /// The error, where it is junk.
     pub error: Option<ParserError>,
 }
 
-/// The entries and the junk of a text from a place on, read one by one: what stands between its blank lines.
+/// The entries and the junk of a text from a place on, read one by one: what is between its blank lines.
 #[derive(Clone, Copy)]
 pub struct Tiles<'s> {
     source: Source<'s>,
@@ -63,7 +63,7 @@ impl<'s> Tiles<'s> {
 
     /// Reads the next entry or junk; `None` where only blank lines are left.
     ///
-    /// After a `Halt` it stands where it stood. It is never `TooDeep` where as many may nest as bytes are left.
+    /// After a `Halt` it is where it was. It is never `TooDeep` where as many may nest as bytes are left.
     pub fn next_tile(&mut self, alloc: Global) -> Result<Option<SpannedTile>, Halt>
         ensures text { self.new.source ≡ self.old.source }
         ensures edition { self.new.edition ≡ self.old.edition }

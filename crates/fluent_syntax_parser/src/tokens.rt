@@ -33,7 +33,7 @@ impl<'s> Source<'s> {
         }
     }
 
-    /// Whether the byte stands at a place, and the place after it if it does.
+    /// Whether the byte is at a place, and the place after it if it is.
     pub(crate) fn take_byte_if(&self, byte: u8, ptr: usize) -> (bool, usize)
         requires { ptr ≤ length self.now.bytes.now }
         ensures parses { optional self.now.bytes.now byte ptr (Read result.0 result.1) }
@@ -93,12 +93,12 @@ impl<'s> Source<'s> {
         &self.bytes[start..end]
     }
 
-    /// The name that stands at a place, if one does.
+    /// The name at a place, if there is one.
     pub(crate) fn name_at(&self, start: usize) -> Option<Span>
         requires { start ≤ length self.now.bytes.now }
         ensures name { (name : Span) (end : ℕ) →
             identifier self.now.bytes.now start (Read name end) → result ≡ Some name }
-        ensures stands { IfSome result (λ name. (end : ℕ) × identifier self.now.bytes.now start (Read name end)) }
+        ensures in_place { IfSome result (λ name. (end : ℕ) × identifier self.now.bytes.now start (Read name end)) }
     {
         match self.identifier_end(start) {
             Ok(end) => Some(Span { start, end }),
@@ -119,7 +119,7 @@ impl<'s> Source<'s> {
         end
     }
 
-    /// The end of the digits that have to stand at a place.
+    /// The end of the digits that have to be at a place.
     fn digits_end(&self, ptr: usize) -> Result<usize, Refusal>
         requires { ptr ≤ length self.now.bytes.now }
         ensures parses { ParsesEnd self.now.bytes.now (digits self.now.bytes.now) ptr result }

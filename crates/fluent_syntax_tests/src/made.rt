@@ -24,7 +24,7 @@ fn reference(name: Text) -> InlineExpression<Text> {
     }
 }
 
-/// A placeable of the variable behind a `$`, or of the message behind an `@`; or a text.
+/// A placeable of the variable after a `$`, or of the message after an `@`; or a text.
 fn element(text: Text) -> PatternElement<Text> {
     let inline = if let Some(name) = text.strip_prefix('$') {
         variable(name)

@@ -1,4 +1,4 @@
--- `==` of trees is equality of the trees that they stand for.
+-- `==` of trees is equality of the trees that they represent.
 use Rattle.std.proofs.Common.{◌≡◌, List, [], ◌∷◌, map, Option, Some, None, option_map, Vec, Box, Global, Bool, true}
 use Rattle.std.proofs.Common.{false, ◌&&◌, refl, sym, ap, ◌∙◌, subst, true≢false, ℕ, zero, suc}
 use Rattle.std.specs.Bool.{Decides, beq}

@@ -146,7 +146,7 @@ pub ruleset views = (
   view-CallArguments,
 )
 
--- Two values that stand for one tree, from their parts.
+-- Two values that represent one tree, from their parts.
 module _ {S T X : Type 0} (f : S → X) (h : T → X) where
   pub same-TermReference :
       (i : Identifier S) (j : Identifier T) (o : Option (Identifier S)) (p : Option (Identifier T))

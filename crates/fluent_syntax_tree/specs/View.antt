@@ -1,4 +1,4 @@
--- The tree that a value of `ast` stands for: each text is read by `text`.
+-- The tree that a value of `ast` represents: each text is read by `text`.
 use Rattle.std.specs.Prelude.{List, map, option_map}
 use Rattle.fluent_syntax_tree.specs.Tree.{KeyTree, name_key, number_key, ExpressionTree, select, inline, InlineTree}
 use Rattle.fluent_syntax_tree.specs.Tree.{string_literal, number_literal, function_reference, message_reference}

@@ -22,7 +22,7 @@ pub struct Resource<S> {
 pub enum Entry<S> {
     Message(Message<S>),
     Term(Term<S>),
-    /// `# A comment` that stands alone. One on the line before a message or term is in that entry.
+    /// `# A comment` by itself. One on the line before a message or term is in that entry.
     Comment(Comment<S>),
     /// `## A comment of the entries after it`
     GroupComment(Comment<S>),
@@ -165,7 +165,7 @@ pub enum InlineExpression<S> {
     },
 }
 
-/// What stands in braces.
+/// What is in braces.
 #[derive(PartialEq, Debug, Drop)]
 #[cycle(tree)]
 pub enum Expression<S> {

@@ -9,10 +9,10 @@ use thiserror::Error;
 /// What the grammar wanted where a stretch was refused. Its `Display` text says so in a sentence.
 #[derive(Debug, Drop, Error, Eq, PartialEq)]
 pub enum ErrorKind {
-    /// Another character stands in the place of this one, or the text ends there.
+    /// There is another character in the place of this one, or the text ends there.
     #[error("Expected a token starting with \"{0}\"")]
     ExpectedToken(char),
-    /// None of these characters stands there: `a-zA-Z` for a name, `0-9` for a number, and the line ends LF and CRLF,
+    /// None of these characters is there: `a-zA-Z` for a name, `0-9` for a number, and the line ends LF and CRLF,
     /// themselves and with ` | ` between them, after `->`.
     #[error("Expected one of \"{range}\"")]
     ExpectedCharRange { range: String },
@@ -43,7 +43,7 @@ pub enum ErrorKind {
     /// The selector of a select is a message's attribute.
     #[error("Message attributes can't be used as a selector")]
     MessageAttributeAsSelector,
-    /// A term's attribute stands in braces and is no selector.
+    /// A term's attribute is in braces and is no selector.
     #[error("Term attributes can't be used as a selector")]
     TermAttributeAsPlaceable,
     /// A line ends within a string.
@@ -62,7 +62,7 @@ pub enum ErrorKind {
     /// An escape has too few hexadecimal digits: those read, and the character after them.
     #[error("Invalid unicode escape sequence, \"{0}\"")]
     InvalidUnicodeEscapeSequence(String),
-    /// A `}` stands in a text.
+    /// A text has a `}`.
     #[error("Unbalanced closing brace")]
     UnbalancedClosingBrace,
     /// No inline expression begins there.

@@ -23,13 +23,13 @@ pub trait CopyTexts<X, Y> {
     /// The texts that it may be asked for.
     ghost can: { Self → X → Type 0 };
 
-    /// The bytes that a text stands for.
+    /// The bytes that a text represents.
     ghost source: { Self → X → List ℕ };
 
     /// The bytes of a text that was made.
     ghost made: { Y → List ℕ };
 
-    /// Answers the text that `text` stands for, or `AllocError` where there is no memory for it.
+    /// Answers the text that `text` represents, or `AllocError` where there is no memory for it.
     fn copy(&self, alloc: Global, text: &X) -> Result<Y, AllocError>
         requires { can self.now text.now }
         ensures { IfOk result (λ copy. made copy ≡ source self.now text.now) };

@@ -1,4 +1,4 @@
--- The marks of a call's arguments, by whether one stands before them.
+-- The marks of a call's arguments, by whether one comes before them.
 use Rattle.std.proofs.Common.{◌≡◌, ℕ, List, [], ◌∷◌, ◌++◌, Bool, true, false, refl, ap, append_assoc, codes}
 use Rattle.fluent_syntax_grammar.specs.Written.{Mark, literal, joined, more_joined}
 use Rattle.fluent_syntax_grammar.specs.Writing.{separator_marks}

@@ -28,7 +28,7 @@ follows_after-last : (follows : Bool) (body : BodyTree Text) (e : EntryTree Text
 follows_after-last follows [] e = refl
 follows_after-last follows (x ∷ xs) e = follows_after-last (not (is_junk x)) xs e
 
--- the text of an entry behind others, by the state between them
+-- the text of an entry after others, by the state between them
 written-last : (with_junk : Bool) (body : BodyTree Text) (e : EntryTree Text) (last : Option ℕ) (follows : Bool)
     → last ≡ last_of None (written with_junk body) → follows ≡ follows_after false body
     → written with_junk (body ++ e ∷ []) ≡ written with_junk body ++ text_after last (entry_marks with_junk follows e)

@@ -1,9 +1,9 @@
--- Where the elements of a pattern stand, one by one.
+-- Where the elements of a pattern are, one by one.
 use Rattle.std.specs.Prelude.{ℕ, List, [], Option, Some, None, Bool, true, false, ◌&&◌, ◌||◌, not, min, if◌then◌else◌}
 use Rattle.fluent_syntax_tree.specs.Tree.{ElementTree, text_element, placeable, PatternTree}
 use Rattle.fluent_syntax_tree.specs.declared.edition.Edition.{Edition}
 use Rattle.fluent_syntax_grammar.specs.Readable as grammar
-use Rattle.fluent_syntax_grammar.specs.Readable.{is_text, may_stand_at, may_precede, is_line_start, position_after}
+use Rattle.fluent_syntax_grammar.specs.Readable.{is_text, may_occur_at, may_precede, is_line_start, position_after}
 use Rattle.fluent_syntax_grammar.specs.Canonical.{text_indents, placeable_indents}
 use Rattle.fluent_syntax_grammar.specs.PatternTexts.{is_lone_lf, begins_with_space, after_spaces}
 use Rattle.fluent_syntax_grammar.specs.Written.{Text, begins_with_mark}
@@ -18,7 +18,7 @@ position_of code.AfterLine = grammar.after_line
 position_of code.WithinLine = grammar.within_line
 position_of code.AfterPlaceable = grammar.after_placeable
 
--- where the element stands that follows this one
+-- where the element is that follows this one
 abbrev pub position_past : ElementTree Text → grammar.ElementPosition
 position_past (text_element v) = position_after v
 position_past (placeable e) = grammar.after_placeable
@@ -31,7 +31,7 @@ is_placeable (placeable e) = true
 abbrev pub is_element :
     Edition → (multiline : Bool) → grammar.ElementPosition → ElementTree Text → (rest : PatternTree Text) → Bool
 is_element edition multiline s (text_element v) rest =
-    is_text v && (may_stand_at edition multiline s v rest && may_precede v rest)
+    is_text v && (may_occur_at edition multiline s v rest && may_precede v rest)
 is_element edition multiline s (placeable e) rest = true
 
 -- one rule of one element, by those that follow it

@@ -68,7 +68,7 @@ comment_keeps EmptyComment content = has_line content
 comment_keeps BlankCommentLine content = list_all is_plain_line content
 comment_keeps _ content = true
 
--- ---- Patterns: where a text stands
+-- ---- Patterns: where a text is
 
 -- A text does not directly follow a text that ends in no LF.
 abbrev pub follows_no_text : ElementPosition → Bool

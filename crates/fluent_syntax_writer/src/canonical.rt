@@ -71,8 +71,8 @@ pub fn is_readable<'s, S: Slice<'s>>(r: &Resource<S>, edition: Edition) -> bool
 /// - `first`: the entries before it are canonical, and it breaks that rule, and none before that one.
 ///
 /// Whether a tree reads back once it is formatted is asked of its joined tree. The entries of that are those of the
-/// tree without its junk, in their order: the entry is, in the tree, the one before which so many entries stand that
-/// are no junk. The tree of a text without errors has no junk, so there both numbers are one.
+/// tree without its junk, in their order: the entry is, in the tree, the one before which there are so many entries
+/// that are no junk. The tree of a text without errors has no junk, so there both numbers are one.
 ///
 /// Takes no memory. The time is that of a walk over the tree, and of one walk more over that entry for each rule; and
 /// quadratic in the named arguments of one list.
@@ -116,7 +116,7 @@ fn first_uncanonical_by<'s, S: Slice<'s>>(
 }
 
 /// The first rule of canonical trees that the entry breaks in the edition; `None` where it breaks none. A tree is
-/// canonical where each of its entries is by itself, so this tells a caller who has one entry at a time.
+/// canonical where each of its entries is by itself, so this says a caller who has one entry at a time.
 ///
 /// Takes no memory. The time is that of a walk over the entry for each rule, and quadratic in the named arguments of
 /// one list.

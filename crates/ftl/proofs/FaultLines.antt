@@ -8,7 +8,7 @@ use Rattle.fluent_syntax_grammar.specs.Tiling.{Fault}
 use Rattle.fluent_syntax_parser.specs.Faults.{fault_of}
 use Rattle.ftl.specs.Answer.{error_fault}
 
--- ---- errors that tell of faults
+-- ---- errors that report faults
 
 fault_by : {R : Type 0} (kind : Kind) (pos : R) (junk : Option R) (start end : R → ℕ) (f : Fault) →
     option_map (λ s.
@@ -28,7 +28,7 @@ fault_by kind pos (Some s) start end f e = cc
 error_fault_is : (e : ParserError) (f : Fault) → fault_of e ≡ Some f → error_fault e ≡ f
 error_fault_is e f h = fault_by (kind_of e.kind) e.pos e.slice (λ r. r.start) (λ r. r.end) f h
 
--- errors tell of just the faults that they tell of
+-- errors report just the faults that they are of
 pub error_faults : (errors : List ParserError) (fs : List Fault) → map fault_of errors ≡ map Some fs →
     map error_fault errors ≡ fs
 error_faults [] [] h = refl
@@ -41,7 +41,7 @@ error_faults (e ∷ errors) (f ∷ fs) h =
     let rest = error_faults errors fs others in
     cc
 
--- what is made of what errors tell is what is made of the faults
+-- what is made of what errors report is what is made of the faults
 pub made_of_faults : {X : Type 0} (made : Fault → X) (errors : List ParserError) (fs : List Fault) →
     map fault_of errors ≡ map Some fs → map (λ e. made (error_fault e)) errors ≡ map made fs
 made_of_faults made errors fs h = sym (map-map made error_fault errors) ∙ ap (map made) (error_faults errors fs h)

@@ -13,11 +13,11 @@ use Rattle.fluent_syntax_grammar.specs.Tiling.{Fault, Tile, Tiled}
 use Rattle.fluent_syntax_grammar.specs.Written.{Text}
 use Rattle.fluent_syntax_parser.specs.Rest.{EntryTo, Rest, TileIn, faults_of}
 use Rattle.fluent_syntax_parser.specs.declared.options.Comments.{Comments}
-use Rattle.ftl.specs.Answer.{outcome_behind, outcome_of, outcome_with}
+use Rattle.ftl.specs.Answer.{outcome_after, outcome_of, outcome_with}
 use Rattle.ftl.specs.declared.outcome.Outcome.{Outcome}
 use Rattle.ftl.specs.declared.outcome.Outcome.TheVariants.{Clean, SyntaxErrors}
 
--- the outcome where these errors were told of
+-- the outcome where these errors were reported
 abbrev errors_outcome : List (Option Fault) → Outcome
 errors_outcome [] = Clean
 errors_outcome (f ∷ fs) = SyntaxErrors
@@ -27,7 +27,7 @@ errors_outcome-faults [] = refl
 errors_outcome-faults (f ∷ fs) = refl
 
 errors_outcome-last : (fs : List (Option Fault)) (error : Option ParserError)
-    → outcome_behind (errors_outcome fs) error ≡ errors_outcome (fs ++ faults_of error)
+    → outcome_after (errors_outcome fs) error ≡ errors_outcome (fs ++ faults_of error)
 errors_outcome-last [] None = refl
 errors_outcome-last [] (Some error) = refl
 errors_outcome-last (f ∷ fs) None = refl
@@ -70,13 +70,13 @@ module _ (comments : Comments) (edition : Edition) (t : List ℕ) where
     -- with the next entry, the text is read up to where that ends
     pub read_on : (j : ℕ) (e : EntryTree Span) (error : Option ParserError) →
         EntryTo comments edition t i j e (faults_of error) →
-        ReadTo j (tree ++ entry_map (bytes_at t) e ∷ []) (outcome_behind outcome error)
+        ReadTo j (tree ++ entry_map (bytes_at t) e ∷ []) (outcome_after outcome error)
     read_on j e error next = record {
       spans = before.spans ++ e ∷ [];
       errors = before.errors ++ faults_of error;
       tree_is = ap (λ es. es ++ entry_map (bytes_at t) e ∷ []) before.tree_is
           ∙ sym (map-append (entry_map (bytes_at t)) before.spans (e ∷ []));
-      outcome_is = ap (λ o. outcome_behind o error) before.outcome_is ∙ errors_outcome-last before.errors error;
+      outcome_is = ap (λ o. outcome_after o error) before.outcome_is ∙ errors_outcome-last before.errors error;
       rest = λ entries others rest. rw (
         append_assoc before.spans (e ∷ []) entries,
         append_assoc before.errors (faults_of error) others,

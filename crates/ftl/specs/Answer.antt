@@ -32,7 +32,7 @@ error_text line column f =
     decimal line ++ codes ":" ++ decimal column ++ codes " " ++ range_text f.pos ++ range_text f.slice ++
     kind_name f.kind ++ codes "\n"
 
--- what an error tells, with its place for the junk where it tells of none
+-- what an error reports, with its place for the junk where it has none
 abbrev pub error_fault : ParserError → Fault
 error_fault e = record {
   kind = kind_of e.kind;
@@ -62,10 +62,10 @@ abbrev pub outcome_with : List Fault → Outcome
 outcome_with [] = Clean
 outcome_with (f ∷ fs) = SyntaxErrors
 
--- the outcome of what was found so far and of an entry behind it, with the entry's error if there is one
-abbrev pub outcome_behind : Outcome → Option ParserError → Outcome
-outcome_behind outcome None = outcome
-outcome_behind outcome (Some error) = SyntaxErrors
+-- the outcome of what was found so far and of an entry after it, with the entry's error if there is one
+abbrev pub outcome_after : Outcome → Option ParserError → Outcome
+outcome_after outcome None = outcome
+outcome_after outcome (Some error) = SyntaxErrors
 
 -- the outcome of a source with these tiles
 abbrev pub outcome_of : List Tile → Outcome

@@ -11,7 +11,7 @@ abbrev pub HasErrors : Edition → List ℕ → List ParserError → Type 0
 HasErrors edition text errors =
     (tiles : List Tile) × Tiling edition text tiles × (map fault_of errors ≡ map Some (faults tiles))
 
--- the errors with one more behind them, if there is one
+-- the errors with one more after them, if there is one
 abbrev pub with_error : List ParserError → Option ParserError → List ParserError
 with_error errors None = errors
 with_error errors (Some error) = errors ++ error ∷ []

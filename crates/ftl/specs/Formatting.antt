@@ -34,7 +34,7 @@ pub record HasJson (tree : BodyTree Text) (writer : BodyWriter (String Global)) 
   pub is_empty : string_bytes start ≡ []
   pub wrote : WroteJson start tree writer
 
--- Behind the entries that had come to the writer, this one came too.
+-- After the entries that had come to the writer, this one came too.
 pub record AddsNormal (old : NormalWriter) (e : EntryTree Text) (new : NormalWriter) : Type 0 where
   pub added : {edition : Edition} {tree : BodyTree Text} → HasNormal edition tree old
       → HasNormal edition (tree ++ e ∷ []) new

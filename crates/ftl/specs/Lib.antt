@@ -9,3 +9,4 @@ pub mod Formatting
 pub mod FromJson
 pub mod Lossless
 pub mod OneByOne
+pub mod LookAlikes

@@ -162,7 +162,7 @@ fn write_range(out: &mut String, range: Span) -> Result<(), AllocError>
     write!(out, "{start}..{end} ")
 }
 
-/// The bytes that became junk, or the error's place where it tells of none.
+/// The bytes that became junk, or the error's place where it has none.
 fn junk_of(error: &ParserError) -> Span
     ensures { result ≡ (error_fault error.now).slice }
 {

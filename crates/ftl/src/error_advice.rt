@@ -5,7 +5,7 @@ use fluent_syntax::parser::ErrorKind;
 const SELECTOR: &str =
     "select by a variable, a number, a string, a function or the attribute of a term";
 
-/// A sentence on what the grammar wants where it refused a text, to be shown beside the error's own text.
+/// A sentence on what the grammar wants where it refused a text, to be shown next to the error's own text.
 pub fn advice(kind: &ErrorKind) -> &'static str {
     match kind {
         ErrorKind::ExpectedToken(token) => token_advice(*token),

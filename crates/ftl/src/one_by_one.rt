@@ -10,7 +10,7 @@ ghost use Rattle.fluent_syntax_grammar.specs.Tiling.{Tile, Tiled};
 ghost use Rattle.fluent_syntax_grammar.specs.Written.{Text};
 ghost use Rattle.fluent_syntax_parser.specs.Halts.{HaltsWithin, OnHalt};
 ghost use Rattle.fluent_syntax_parser.specs.Rest.{TileIn};
-ghost use Rattle.ftl.specs.Answer.{outcome_behind, outcome_of};
+ghost use Rattle.ftl.specs.Answer.{outcome_after, outcome_of};
 ghost use Rattle.ftl.specs.OneByOne.{WroteEntries};
 
 use crate::outcome::Outcome;
@@ -24,7 +24,7 @@ pub trait WriteEntries {
     /// The entry came to the one writer, which then is the other.
     ghost writes: { Self → EntryTree Text → Self → Type 0 };
 
-    /// Writes the entry behind those that came before.
+    /// Writes the entry after those that came before.
     fn write_next<'s>(&mut self, alloc: Global, entry: &Entry<&'s str>)
         ensures written { writes self.old (entry_view (λ s. s.now) entry.now) self.new };
 }
@@ -59,7 +59,7 @@ pub fn write_one_by_one<W: WriteEntries>(
     Ok(outcome)
 }
 
-/// Writes the entry that was read next, which stands alone in its list, and gives the outcome so far.
+/// Writes the entry that was read next, the only one in its list, and gives the outcome so far.
 #[inline(always)]
 fn write_read<W: WriteEntries>(
     alloc: Global,
@@ -71,7 +71,7 @@ fn write_read<W: WriteEntries>(
     ensures written { (e : EntryTree Text) → map (entry_view (λ s. s.now)) body.now ≡ e ∷ [] →
         W.writes writer.old e writer.new }
     ensures outcome { (error : Option ParserError) → errors.now ≡ option_to_list error →
-        result ≡ outcome_behind outcome error }
+        result ≡ outcome_after outcome error }
 {
     if let [entry] = body {
         writer.write_next(alloc, entry);

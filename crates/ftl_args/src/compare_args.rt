@@ -10,9 +10,9 @@ use std::alloc::{AllocError, Global};
 /// Files of a reference language, and of others to compare with it.
 #[derive(Debug, Drop)]
 pub struct Compare<'a> {
-    /// How a text is read, and how a difference is told.
+    /// How a text is read, and how a difference is reported.
     pub options: Options,
-    /// Kinds that are not told.
+    /// Kinds that are not reported.
     pub ignored: Vec<ReportedKind>,
     /// What is passed over in folders.
     pub excluded: Vec<&'a str>,

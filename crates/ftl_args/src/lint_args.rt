@@ -9,9 +9,9 @@ use std::alloc::{AllocError, Global};
 /// Files to search for mistakes between names.
 #[derive(Debug, Drop)]
 pub struct Lint<'a> {
-    /// How a text is read, and how a finding is told.
+    /// How a text is read, and how a finding is reported.
     pub options: Options,
-    /// Kinds that are not told.
+    /// Kinds that are not reported.
     pub ignored: Vec<ReportedKind>,
     /// What is passed over in folders.
     pub excluded: Vec<&'a str>,
@@ -46,7 +46,7 @@ Where ftl.toml has the line reference = \"locales/en\", each folder in locales i
         .arg(paths(alloc))
 }
 
-/// The option for the kinds that are not told, which are among these.
+/// The option for the kinds that are not reported, which are among these.
 pub(crate) fn ignore<'a>(alloc: Global, kinds: &'a [&'a str]) -> Arg<'a> {
     Arg::new(alloc, "ignore")
         .long("ignore")

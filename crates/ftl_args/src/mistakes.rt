@@ -25,12 +25,12 @@ pub fn mistake(alloc: Global, words: &[String], error: &Error) -> Result<String,
     let mut lines = String::new(alloc);
     let word = asked_word(words);
     if error.kind() != ErrorKind::MissingSubcommand {
-        let told = format!(in alloc; "{error}")?;
-        push_reason(&mut lines, told.as_str())?;
+        let printed_error = format!(in alloc; "{error}")?;
+        push_reason(&mut lines, printed_error.as_str())?;
         match error.kind() {
             _ if lines.as_str().contains(';') => (),
             ErrorKind::InvalidSubcommand => push_abbreviated(&mut lines, alloc, word)?,
-            ErrorKind::UnknownArgument => push_takers(&mut lines, alloc, told.as_str())?,
+            ErrorKind::UnknownArgument => push_takers(&mut lines, alloc, printed_error.as_str())?,
             _ => (),
         }
         lines.push('\n')?;
@@ -40,8 +40,8 @@ pub fn mistake(alloc: Global, words: &[String], error: &Error) -> Result<String,
 }
 
 /// Adds what is wrong, with what is missing, which values are possible, and what may have been meant.
-fn push_reason(line: &mut String, told: &str) -> Result<(), AllocError> {
-    for part in told.lines() {
+fn push_reason(line: &mut String, printed_error: &str) -> Result<(), AllocError> {
+    for part in printed_error.lines() {
         if let Some(reason) = part.strip_prefix("error: ") {
             line.push_str("ftl: ")?;
             push_as_word(line, reason)?;
@@ -95,9 +95,9 @@ fn push_abbreviated(line: &mut String, alloc: Global, short: &str) -> Result<(),
     Ok(())
 }
 
-/// Adds the words that take the option that is told to be unexpected, if there are some.
-fn push_takers(line: &mut String, alloc: Global, told: &str) -> Result<(), AllocError> {
-    let Some(option) = unexpected_argument(told) else {
+/// Adds the words that take the option that is reported as unexpected, if there are some.
+fn push_takers(line: &mut String, alloc: Global, printed_error: &str) -> Result<(), AllocError> {
+    let Some(option) = unexpected_argument(printed_error) else {
         return Ok(());
     };
     let mut is_first = true;
@@ -119,9 +119,9 @@ fn push_takers(line: &mut String, alloc: Global, told: &str) -> Result<(), Alloc
     Ok(())
 }
 
-/// The argument that is told to be unexpected.
-fn unexpected_argument(told: &str) -> Option<&str> {
-    let reason = told.lines().next()?;
+/// The argument that is reported as unexpected.
+fn unexpected_argument(printed_error: &str) -> Option<&str> {
+    let reason = printed_error.lines().next()?;
     let argument = reason.strip_prefix("error: unexpected argument '")?;
     argument.strip_suffix("' found")
 }

@@ -14,11 +14,11 @@ const DEFAULT_NESTING: usize = 2000;
 pub struct Options {
     /// The edition of the grammar.
     pub edition: Option<Edition>,
-    /// How what is found is told.
+    /// How what is found is reported.
     pub output: Option<Output>,
     /// How many placeables and argument lists may be open at once.
     pub nesting: Option<usize>,
-    /// When errors are told in colours.
+    /// When errors are reported in colours.
     pub color: Option<Color>,
 }
 
@@ -55,7 +55,7 @@ impl Options {
         }
     }
 
-    /// When errors are told in colours; on a terminal, where that is left open.
+    /// When errors are reported in colours; on a terminal, where that is left open.
     pub fn color(self) -> Color
         ensures { result ≡ unwrap_or self.color colors.Auto }
     {

@@ -26,7 +26,7 @@ pub enum Request<'a> {
 pub struct Work<'a> {
     /// What to do with each text.
     pub task: Task,
-    /// How a text is read, and how its errors are told.
+    /// How a text is read, and how its errors are reported.
     pub options: Options,
     /// Whether no line says what became of all files.
     pub is_quiet: bool,
@@ -41,7 +41,7 @@ pub struct Work<'a> {
 /// What to do with a text.
 #[derive(Clone, Copy, Debug, PartialEq, Eq)]
 pub enum Task {
-    /// Tell its syntax errors.
+    /// Report its syntax errors.
     Check,
     /// Write it in its normal form.
     Format(Change),

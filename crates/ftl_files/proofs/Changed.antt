@@ -12,7 +12,7 @@ by_test true path at came was is = inl (is.0 refl, refl)
 by_test false path at came was is = inr refl
 
 module _ (change : Change) (before : List Change) where
-  -- what stands at a path is what the change has left there, or what stood there
+  -- what is at a path is what the change has left there, or what was there
   pub newest : (path : List ℕ) → ((path ≡ string_bytes change.path)
       × (bytes_at (change ∷ before) path ≡ bytes_of change.bytes))
       ⊎ (bytes_at (change ∷ before) path ≡ bytes_at before path)

@@ -10,8 +10,8 @@ whole_path : (languages name rest below path : List ℕ) → path ≡ languages 
     below ≡ name ++ 47 ∷ rest → path ≡ (languages ++ codes "/" ++ name) ++ 47 ∷ rest
 whole_path languages name rest below path place parts = place ∙ rw parts (simp append_assoc)
 
-take_seam : (n : ℕ) (front behind : List ℕ) → n ≡ length front → take n (front ++ behind) ≡ front
-take_seam n front behind size = rw size (take-append_seam front behind)
+take_seam : (n : ℕ) (front beyond : List ℕ) → n ≡ length front → take n (front ++ beyond) ≡ front
+take_seam n front beyond size = rw size (take-append_seam front beyond)
 
 -- what is got of the first bytes of a text
 abbrev IsBegin : List ℕ → ℕ → Option (Bor (List ℕ)) → Type 0

@@ -10,7 +10,7 @@ same_items [] (y ∷ ys) same = cc
 same_items (x ∷ xs) [] same = cc
 same_items (x ∷ xs) (y ∷ ys) same =
     let others : items_of xs ≡ items_of ys = cc in
-    let behind = same_items xs ys others in
+    let beyond = same_items xs ys others in
     cc
 
 module _ {A : Type 0} (named : A → Data) where

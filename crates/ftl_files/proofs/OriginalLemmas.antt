@@ -1,4 +1,4 @@
--- Paths that lead through a folder beside another one.
+-- Paths that lead through a folder next to another one.
 use Rattle.std.proofs.Common.{◌≡◌, ◌≢◌, ◌∙◌, ℕ, List, ◌++◌, ◌∷◌, Bool, false, append_assoc, codes, drop, refl, sym}
 use Rattle.std.specs.Str.{bytes_eq}
 use Rattle.std.proofs.lemmas.Slice.Eq.{bytes_eq-Decides}
@@ -7,8 +7,8 @@ use Rattle.std.proofs.lemmas.Slice.Eq.{bytes_eq-Decides}
 pub below_folder : (above temporary below path : List ℕ) (n : ℕ) → path ≡ above ++ drop n path → temporary ≡ drop n path
     →
     temporary ≡ 47 ∷ below → path ≡ above ++ codes "/" ++ below
-below_folder above temporary below path n from behind slash =
-    from ∙ rw (sym behind, slash, append_assoc above (codes "/") below) refl
+below_folder above temporary below path n from beyond slash =
+    from ∙ rw (sym beyond, slash, append_assoc above (codes "/") below) refl
 
 -- what a test says of two names that are not the same
 pub other_name : (name own : List ℕ) (same : Bool) → same ≡ bytes_eq name own → same ≡ false → name ≢ own

@@ -8,8 +8,8 @@ use Rattle.ftl_files.specs.Store.{AllUnchanged, Becomes}
 use Rattle.ftl_files.proofs.Steps.{IsPartOf, then}
 
 -- what a call that changes nothing has left
-pub stands : (old new : Files) → GoesOn old new nowhere → AllUnchanged old.bytes_at new.bytes_at
-stands old new one path = ⊎_elim (λ same. same) (λ none. absurd none) (one.bytes path)
+pub none_changed : (old new : Files) → GoesOn old new nowhere → AllUnchanged old.bytes_at new.bytes_at
+none_changed old new one path = ⊎_elim (λ same. same) (λ none. absurd none) (one.bytes path)
 
 known : (o : Option (List ℕ)) (P : Type 0) → IfSome o (λ _. P) → (o ≡ None) ⊎ P
 known None P is = inl refl
@@ -20,13 +20,13 @@ each_known None P Q is so = tt
 each_known (Some bytes) P Q is so = so is
 
 module _ (old synced : Files) (temporary path text : List ℕ) where
-  -- what a rename brings is the text, behind the bytes that were known
+  -- what a rename brings is the text, after the bytes that were known
   pub renamed_part : ((bytes : List ℕ) → old.bytes_at temporary ≡ Some bytes → synced.bytes_at temporary ≡ Some (bytes
       ++ text)) →
       IsSynced synced temporary → IsPartOf (renamed synced temporary path) (filled old temporary path text)
   renamed_part written is_synced at left (inl same) = inl same
-  renamed_part written is_synced at left (inr (same, (bytes, is, inl stood))) =
-      inr (same, λ had known. is ∙ sym stood ∙ written had known)
+  renamed_part written is_synced at left (inr (same, (bytes, is, inl had_bytes))) =
+      inr (same, λ had known. is ∙ sym had_bytes ∙ written had known)
   renamed_part written is_synced at left (inr (same, (bytes, is, inr held))) =
       inr (same, λ had known. is ∙ ap Some (is_synced (had ++ text) (written had known) bytes held))
 
@@ -37,14 +37,14 @@ pub filling : (old written synced new : Files) (temporary path text : List ℕ) 
     IsSynced synced temporary → GoesOn old new (filled old temporary path text)
 filling old written synced new temporary path text write sync rename has_text is_synced =
     let part = renamed_part old synced temporary path text
-    (λ bytes known. stands written synced sync temporary ∙ has_text bytes known) is_synced in
+    (λ bytes known. none_changed written synced sync temporary ∙ has_text bytes known) is_synced in
     let two = then old written synced (at_path temporary) nowhere (filled old temporary path text) write sync
     (λ p left is. inl is) (λ p left none. absurd none) in
     then old synced new (filled old temporary path text)
     (renamed synced temporary path) (filled old temporary path text) two rename
     (λ p left is. is) part
 
--- the file that is filled stood nowhere, and was empty if the old one's bytes were known
+-- the file that is filled was not there before, and was empty if the old one's bytes were known
 pub filled_part : (old made : Files) (temporary path text : List ℕ) → old.bytes_at temporary ≡ None →
     IfSome (old.bytes_at path) (λ _. made.bytes_at temporary ≡ Some []) →
     IsPartOf (filled made temporary path text) (replaced old path text)
@@ -53,7 +53,7 @@ filled_part old made temporary path text free empty at left (inr (same, comes)) 
     (λ none. inl (ap old.bytes_at same ∙ none)) (λ is_empty. inr (same, comes [] is_empty))
     (known (old.bytes_at path) (made.bytes_at temporary ≡ Some []) empty)
 
--- what stood nowhere is removed
+-- a file that was not there before is removed
 pub removed_part : (old : Files) (temporary path text : List ℕ) → old.bytes_at temporary ≡ None →
     IsPartOf (at_path temporary) (replaced old path text)
 removed_part old temporary path text free at left same = inl (ap old.bytes_at same ∙ free)
@@ -84,7 +84,7 @@ durable old made mid new temporary path text empty synced last named =
     let kept = named bytes is left leaves in
     let held = ⊎_elim (λ was. was) (λ none. absurd none) (last.hold path kept.0 kept.2) in
     let is_synced = MatchOption-at_some _ _ [] is_empty synced in
-    kept.1 ∙ ap Some (is_synced bytes (sym (stands mid new last path) ∙ is) kept.0 held))
+    kept.1 ∙ ap Some (is_synced bytes (sym (none_changed mid new last path) ∙ is) kept.0 held))
 
 pub on_ok : {T E : Type 0} (r : Result T E) (P Q : Type 0) → OnOk r P → (P → Q) → OnOk r Q
 on_ok (Ok x) P Q is so = so is

@@ -1,11 +1,11 @@
--- What stands at each path at a moment, what a crash may leave there, and how a call goes on from there.
+-- What there is at each path at a moment, what a crash may leave there, and how a call goes on from there.
 use Rattle.std.specs.Prelude.{◌≡◌, ◌⊎◌, ◌≤◌, ◌++◌, ℕ, List, Option, None, Some}
 
 -- All of it. A path has no file where its bytes are `None`; of a real disk nothing is known, and they are `None` too.
 pub record Files : Type 1 where
   -- what a read gives
   pub bytes_at : List ℕ → Option (List ℕ)
-  -- what a crash now may leave in the file that stands at a path
+  -- what a crash now may leave in the file that is at a path
   pub may_hold : List ℕ → List ℕ → Type 0
   -- what a crash now may leave at a path: a file's bytes, or no file
   pub may_leave : List ℕ → Option (List ℕ) → Type 0
@@ -24,7 +24,7 @@ unknown = record {
   left_since = λ t path left. ⊥;
 }
 
--- what may come to stand at a path
+-- what may come to be at a path
 abbrev pub Changes : Type 1
 Changes = List ℕ → Option (List ℕ) → Type 0
 
@@ -50,25 +50,25 @@ nowhere path left = ⊥
 abbrev pub at_path : List ℕ → Changes
 at_path only path left = path ≡ only
 
--- anything may come to this path if nothing stood there
+-- anything may come to this path if there was nothing
 abbrev pub at_free_path : (old : Files) → List ℕ → Changes
 at_free_path old only path left = (path ≡ only) × (old.bytes_at path ≡ None)
 
--- anything may come where nothing stood
+-- anything may come where there was nothing
 abbrev pub at_free_paths : (old : Files) → Changes
 at_free_paths old path left = old.bytes_at path ≡ None
 
--- what stood at one path comes to another
+-- what was at one path comes to another
 abbrev pub renamed : (old : Files) → (from to : List ℕ) → Changes
 renamed old from to path left =
     (path ≡ from) ⊎ ((path ≡ to) × ((bytes : List ℕ) × (left ≡ Some bytes)
     × ((old.bytes_at from ≡ Some bytes) ⊎ old.may_hold from bytes)))
 
--- The text comes to the path, whole; and anything may come where nothing stood.
+-- The text comes to the path, whole; and anything may come where there was nothing.
 abbrev pub replaced : (old : Files) → (path text : List ℕ) → Changes
 replaced old only text path left = (old.bytes_at path ≡ None) ⊎ ((path ≡ only) × (left ≡ Some text))
 
--- The file is filled and takes the name: its bytes were known, and then the text behind them comes to the name.
+-- The file is filled and takes the name: its bytes were known, and then the text after them comes to the name.
 abbrev pub filled : (old : Files) → (temporary only text : List ℕ) → Changes
 filled old temporary only text path left =
     (path ≡ temporary) ⊎

@@ -1,4 +1,4 @@
--- The names of what is told of names.
+-- The names of what is reported of names.
 use Rattle.std.specs.Prelude.{ℕ, List, codes}
 use Rattle.fluent_syntax_names.specs.Differences.{difference_name}
 use Rattle.fluent_syntax_names.specs.Severities.{name_of}

@@ -17,7 +17,7 @@ use Rattle.ftl_files.specs.declared.memory.Change.{Change}
 abbrev pub bytes_of : Option (Vec ℕ Global) → Option (List ℕ)
 bytes_of bytes = option_map (λ b. b.items) bytes
 
--- what stands at a path after the changes
+-- what is at a path after the changes
 abbrev pub bytes_at : List Change → List ℕ → Option (List ℕ)
 bytes_at [] path = None
 bytes_at (change ∷ before) path =
@@ -27,8 +27,8 @@ bytes_at (change ∷ before) path =
 abbrev pub fails : Option (List ℕ) → Error → Type 0
 fails bytes error = (bytes ≡ None) ⊎ (error_kind error ≡ OutOfMemory)
 
--- Each change is done at once and for good: a crash leaves what stands there, and has left since a moment what stood
--- there after some of the changes behind it.
+-- Each change is done at once and for good: a crash leaves what is there, and has left since a moment what was
+-- there after some of the changes after it.
 abbrev pub files_of : List Change → Files
 files_of changes = record {
   bytes_at = bytes_at changes;

@@ -1,7 +1,7 @@
 -- How near two files are to one another.
 use Rattle.std.specs.Prelude.{ℕ, ◌+◌, ◌==◌, List, [], ◌∷◌, if◌then◌else◌}
 
--- how often a `/` stands in what both paths begin with
+-- how often there is a `/` in what both paths begin with
 abbrev pub shared_folders : (first second : List ℕ) → ℕ
 shared_folders [] second = 0
 shared_folders (a ∷ as') [] = 0

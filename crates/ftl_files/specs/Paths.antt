@@ -1,4 +1,4 @@
--- Which paths stand below a folder.
+-- Which paths are below a folder.
 use Rattle.std.specs.Prelude.{ℕ, List, [], ◌∷◌, Bool, false, ◌==◌, ◌&&◌, drop, length, nat_eq}
 use Rattle.std.specs.List.{starts_with}
 

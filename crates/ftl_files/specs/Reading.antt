@@ -3,7 +3,7 @@ use Rattle.std.specs.Prelude.{◌≡◌, ℕ, List, Option, IfSome, IsTrue, leng
 use Rattle.ftl_files.specs.Paths.{is_below}
 use Rattle.ftl_files.specs.declared.reading.SourceFile.{SourceFile}
 
--- It stands below the folder, and its text is what the file at its path holds, where that is known.
+-- It is below the folder, and its text is what the file at its path holds, where that is known.
 pub record IsOf (bytes_at : List ℕ → Option (List ℕ)) (folder : List ℕ) (file : SourceFile) : Type 0 where
   pub below : IsTrue (is_below folder (string_bytes file.path))
   pub text : IfSome (bytes_at (string_bytes file.path)) (λ bytes. string_bytes file.text ≡ bytes)

@@ -13,7 +13,7 @@ use Rattle.ftl_files.specs.declared.options.Color.{Color}
 use Rattle.ftl_files.specs.declared.options.Output.{Output}
 use Rattle.ftl_files.specs.declared.settings.Settings.{Settings}
 
--- keys that stand for something
+-- keys that have a meaning
 abbrev pub is_known : List ℕ → Bool
 is_known key =
     bytes_eq key (codes "reference") || bytes_eq key (codes "ignore") || bytes_eq key (codes "exclude")

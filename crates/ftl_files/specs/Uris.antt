@@ -7,11 +7,11 @@ use Rattle.std.specs.declared.string.String.{String}
 use Rattle.percent_encoding.specs.Percent.{percent_decode, percent_encode}
 use Rattle.ftl_files.specs.declared.uris.TheConstants.{ESCAPED}
 
--- what stands behind `file://`, if it begins with a `/`
+-- what comes after `file://`, if it begins with a `/`
 abbrev pub escaped_path : List ℕ → Option (List ℕ)
 escaped_path uri = if starts_with nat_eq uri (codes "file:///") then Some (drop 7 uri) else None
 
--- the path is what the escaped one stands for; there is none where that is no UTF-8
+-- the path is what the escaped one represents; there is none where that is no UTF-8
 abbrev pub IsPathIn : Option (List ℕ) → Option (String Global) → Type 0
 IsPathIn None None = Unit {0}
 IsPathIn None (Some path) = ⊥

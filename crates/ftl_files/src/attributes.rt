@@ -5,7 +5,7 @@ use std::io::{self, ErrorKind};
 use std::os::unix::fs::MetadataExt;
 use std::rt::Files;
 
-/// What the system tells of a file that may be replaced.
+/// What the system says of a file that may be replaced.
 ///
 /// `InvalidInput`: it is no regular file, or has other names, which would keep the old bytes. `PermissionDenied`:
 /// nobody may write it, which a rename would not ask.

@@ -79,7 +79,7 @@ impl<R: Files + AllocGlobal> FileSystem for Disk<'_, R> {
         match keep_attributes(self.rt, &file, path, &old) {
             Ok(()) => Ok(DiskFile { file, path: name }),
             Err(error) => {
-                // the first failure is the one to tell
+                // the first failure is the one to report
                 let _ = fs::remove_file(self.rt, path);
                 Err(error)
             }
@@ -132,7 +132,7 @@ impl<R: Files + AllocGlobal> Store for Disk<'_, R> {
 }
 
 impl<R: Files + AllocGlobal + Clone + Drop> Folders for Disk<'_, R> {
-    /// What comes behind `FOLDERS_LIMIT` folders or `FILES_LIMIT` files is left out.
+    /// What comes after `FOLDERS_LIMIT` folders or `FILES_LIMIT` files is left out.
     fn files_below(
         &self,
         _alloc: Global,

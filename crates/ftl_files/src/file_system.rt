@@ -13,7 +13,7 @@ pub trait FileSystem {
     /// A file that is being written.
     type File: Drop;
 
-    /// What stands at each path, and what a crash may leave there, at this moment and since earlier ones.
+    /// What there is at each path, and what a crash may leave there, at this moment and since earlier ones.
     ghost files: { Self → Files };
 
     /// The path that a file was made at.
@@ -32,8 +32,8 @@ pub trait FileSystem {
         ensures read { IfOk result (λ read. IfSome ((files self.old).bytes_at path.now) (λ bytes. read.items ≡ bytes)) }
         ensures same { GoesOn (files self.old) (files self.new) nowhere };
 
-    /// Makes an empty file where none stands, with the mode and the owner of a file like which it is to be. It refuses
-    /// where that one is no regular file, may not be written, or has other names.
+    /// Makes an empty file where there is none, with the mode and the owner of a file like which it is to be. It
+    /// refuses where that one is no regular file, may not be written, or has other names.
     fn create(&mut self, path: &str, like: &str) -> io::Result<Self::File>
         ensures path { IfOk result (λ file. path_of file ≡ path.now) }
         ensures free { OnOk result ((files self.old).bytes_at path.now ≡ None) }
@@ -42,7 +42,7 @@ pub trait FileSystem {
         ensures changes { GoesOn (files self.old) (files self.new) (at_free_path (files self.old) path.now) }
         ensures failed { OnErr result (AllUnchanged (files self.old).bytes_at (files self.new).bytes_at) };
 
-    /// Writes the bytes behind those that the file has.
+    /// Writes the bytes after those that the file has.
     fn write(&mut self, file: &mut Self::File, bytes: &[u8]) -> io::Result<()>
         ensures path { path_of file.new ≡ path_of file.old }
         ensures written { OnOk result (IfSome ((files self.old).bytes_at (path_of file.old))
@@ -55,7 +55,7 @@ pub trait FileSystem {
         ensures synced { OnOk result (IsSynced (files self.new) (path_of file.old)) }
         ensures same { GoesOn (files self.old) (files self.new) nowhere };
 
-    /// Gives the file at a path another path, in the place of what stands there.
+    /// Gives the file at a path another path, in the place of what is there.
     fn rename(&mut self, from: &str, to: &str) -> io::Result<()>
         ensures came { OnOk result (IfSome ((files self.old).bytes_at from.now)
             (λ bytes. (files self.new).bytes_at to.now ≡ Some bytes)) }

@@ -29,6 +29,6 @@ pub trait Folders {
             IfSome (bytes_at self.now path.now) (λ bytes. read.items ≡ bytes))) }
         ensures limit { IfOk result (λ found. IfSome found (λ read. length read.items ≤ limit)) };
 
-    /// Whether something stands at the path, which may be no file that can be read.
+    /// Whether there is something at the path, which may be no file that can be read.
     fn has(&self, path: &str) -> bool;
 }

@@ -1,4 +1,4 @@
-//! Kinds of what is told of names, by their names.
+//! Kinds of what is reported of names, by their names.
 ghost use Rattle.std.specs.Prelude.{◌≡◌, ◌≢◌, IfSome, None};
 ghost use Rattle.fluent_syntax_names.specs.Differences.{difference_name};
 ghost use Rattle.fluent_syntax_names.specs.Severities.{name_of};
@@ -9,7 +9,7 @@ ghost use Rattle.ftl_files.specs.declared.kinds.ReportedKind.{ReportedKind};
 
 use fluent_syntax_names::{Difference, Kind};
 
-/// The names of what `lint` tells.
+/// The names of what `lint` reports.
 pub const FINDING_NAMES: [&str; 8] = [
     "defined-twice",
     "attribute-twice",
@@ -21,7 +21,7 @@ pub const FINDING_NAMES: [&str; 8] = [
     "cyclic-reference",
 ];
 
-/// The names of what `compare` tells.
+/// The names of what `compare` reports.
 pub const DIFFERENCE_NAMES: [&str; 10] = [
     "missing-file",
     "missing",
@@ -35,14 +35,14 @@ pub const DIFFERENCE_NAMES: [&str; 10] = [
     "unknown-variable",
 ];
 
-/// A kind of what is told of names.
+/// A kind of what is reported of names.
 #[derive(Clone, Copy, Debug, PartialEq, Eq)]
 pub enum ReportedKind {
-    /// What `lint` tells.
+    /// What `lint` reports.
     Finding(Kind),
-    /// What `compare` tells of two files.
+    /// What `compare` reports of two files.
     Difference(Difference),
-    /// What `compare` tells of a file that is not there.
+    /// What `compare` reports of a file that is not there.
     MissingFile,
 }
 
@@ -59,7 +59,7 @@ impl ReportedKind {
     }
 }
 
-/// The kind that has the name, as `lint` or `compare` tells it. `None` where none has it.
+/// The kind that has the name, as `lint` or `compare` reports it. `None` where none has it.
 pub fn reported_kind_of_name(name: &str) -> Option<ReportedKind>
     ensures named { IfSome result (λ kind. reported_name kind ≡ name.now) }
     ensures none { result ≡ None → (kind : ReportedKind) → reported_name kind ≢ name.now }
@@ -76,7 +76,7 @@ pub fn reported_kind_of_name(name: &str) -> Option<ReportedKind>
     }
 }
 
-/// The kind of finding that has the name, as `lint` tells it. `None` where none has it.
+/// The kind of finding that has the name, as `lint` reports it. `None` where none has it.
 pub fn kind_of_name(name: &str) -> Option<Kind>
     ensures named { IfSome result (λ kind. name_of kind ≡ name.now) }
     ensures none { result ≡ None → (kind : Kind) → name_of kind ≢ name.now }
@@ -94,7 +94,7 @@ pub fn kind_of_name(name: &str) -> Option<Kind>
     }
 }
 
-/// The difference that has the name, as `compare` tells it. `None` where none has it.
+/// The difference that has the name, as `compare` reports it. `None` where none has it.
 fn difference_of_name(name: &str) -> Option<Difference>
     ensures named { IfSome result (λ difference. difference_name difference ≡ name.now) }
     ensures none { result ≡ None → (difference : Difference) → difference_name difference ≢ name.now }

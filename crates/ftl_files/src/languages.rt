@@ -1,4 +1,4 @@
-//! Which language a file is of, where each language has a folder beside that of the reference.
+//! Which language a file is of, where each language has a folder next to that of the reference.
 ghost use Rattle.std.specs.Prelude.{IfSome};
 ghost use Rattle.ftl_files.specs.Languages.{IsLanguage};
 

@@ -59,7 +59,7 @@ struct Found {
 
 /// The path itself, if it names no folder; else each file below the folder whose name ends in `.ftl`, without what is
 /// excluded. Below the folder no symlink is followed. An entry whose name is not UTF-8, or that vanishes meanwhile, is
-/// told as a fault, and the others are listed. A path that doesn't begin at the root begins in the current folder.
+/// reported as a fault, and the others are listed. A path that doesn't begin at the root begins in the current folder.
 pub fn list<R: Files + AllocGlobal + Clone + Drop>(
     rt: &R,
     current: &str,
@@ -156,7 +156,7 @@ fn list_folder<R: Files + AllocGlobal + Clone + Drop>(
     for entry in entries {
         match entry {
             Ok(entry) => list_entry(rt, &entry, folder, search, listing, folders)?,
-            // a name that is not UTF-8 is told by its folder's
+            // a name that is not UTF-8 is reported by its folder's
             Err(error) => add_fault(rt, path, error, listing)?,
         }
     }

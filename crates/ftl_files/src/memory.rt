@@ -42,7 +42,7 @@ impl Memory {
         }
     }
 
-    /// Puts a file of the bytes at the path, in the place of any that stands there.
+    /// Puts a file of the bytes at the path, in the place of any that is there.
     pub fn put(&mut self, path: &str, bytes: &[u8]) -> Result<(), AllocError>
         ensures put { OnOk result (bytes_at self.new.changes.items path.now ≡ Some bytes.now) }
     {

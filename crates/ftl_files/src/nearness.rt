@@ -2,8 +2,8 @@
 ghost use Rattle.std.specs.Prelude.{◌≡◌};
 ghost use Rattle.ftl_files.specs.Nearness.{shared_folders};
 
-/// How many folders two paths, or two URIs, have in common from their beginning on: how often a `/` stands in what both
-/// begin with.
+/// How many folders two paths, or two URIs, have in common from their beginning on: how often there is a `/` in what
+/// both begin with.
 pub fn shared_folders(first: &str, second: &str) -> usize
     ensures { result ≡ shared_folders first.now second.now }
 {

@@ -1,4 +1,4 @@
-//! What the words' options ask for: how a text is read, and how what is found is told.
+//! What the words' options ask for: how a text is read, and how what is found is reported.
 ghost use Rattle.std.specs.Prelude.{◌≡◌, ◌≢◌, IfSome, None};
 ghost use Rattle.ftl_files.specs.Options.{color_name, output_name};
 ghost use Rattle.ftl_files.specs.declared.options.Color.{Color};
@@ -15,7 +15,7 @@ pub struct Reading {
     pub nesting: usize,
 }
 
-/// How an error is told.
+/// How an error is reported.
 #[derive(Clone, Copy, Debug, PartialEq, Eq)]
 pub enum Form {
     /// `PATH:LINE:COLUMN: KIND`, on a line.
@@ -26,11 +26,11 @@ pub enum Form {
     Colored,
     /// A JSON object on a line.
     Json,
-    /// A line that GitHub shows beside the source.
+    /// A line that GitHub shows next to the source.
     Github,
 }
 
-/// How what is found is told, by the names that a command line has for it.
+/// How what is found is reported, by the names that a command line has for it.
 #[derive(Clone, Copy, Debug, PartialEq, Eq)]
 pub enum Output {
     /// With its place, and its kind, on a line.
@@ -39,11 +39,11 @@ pub enum Output {
     Full,
     /// As a JSON object on a line.
     Json,
-    /// As a line that GitHub shows beside the source.
+    /// As a line that GitHub shows next to the source.
     Github,
 }
 
-/// When errors are told in colours.
+/// When errors are reported in colours.
 #[derive(Clone, Copy, Debug, PartialEq, Eq)]
 pub enum Color {
     /// On a terminal, where nobody asked for none.

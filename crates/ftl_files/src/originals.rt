@@ -5,8 +5,8 @@ ghost use Rattle.ftl_files.specs.Originals.{IsOriginal};
 use std::alloc::{AllocError, Global};
 
 /// The path of the original of the file at the path. The reference language has its files in `own`, a folder or a file
-/// of the folder `above`, and the other languages have theirs beside it: of `en` in `/app` the original of
-/// `/app/de/menu.ftl` is `/app/en/menu.ftl`. None where the path stands elsewhere, or is the reference's.
+/// of the folder `above`, and the other languages have theirs next to it: of `en` in `/app` the original of
+/// `/app/de/menu.ftl` is `/app/en/menu.ftl`. None where the path is elsewhere, or is the reference's.
 ///
 /// `AllocError` where a growth was refused.
 pub fn original_of(
@@ -35,7 +35,7 @@ pub fn original_of(
     Ok(Some(original))
 }
 
-/// The path of the original of a file that stands beside the reference itself, by its name there.
+/// The path of the original of a file that is next to the reference itself, by its name there.
 fn lone_original(
     alloc: Global,
     above: &str,

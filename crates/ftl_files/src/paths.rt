@@ -1,4 +1,4 @@
-//! Which paths stand below a folder, and which are the same.
+//! Which paths are below a folder, and which are the same.
 ghost use Rattle.std.specs.Prelude.{◌≡◌};
 ghost use Rattle.ftl_files.specs.Paths.{is_below, is_name};
 
@@ -14,10 +14,10 @@ pub fn is_below(folder: &str, path: &str) -> bool
 }
 
 /// Whether these are a `/` and something more.
-fn is_name(behind: &[u8]) -> bool
-    ensures { result ≡ is_name behind.now }
+fn is_name(after_slash: &[u8]) -> bool
+    ensures { result ≡ is_name after_slash.now }
 {
-    match behind {
+    match after_slash {
         [first, _, ..] => *first == b'/',
         _ => false,
     }

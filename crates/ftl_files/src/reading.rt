@@ -25,7 +25,7 @@ pub struct SourceFiles {
 }
 
 /// The files below the folder whose names end in `.ftl`, each as it is now, in the order of their paths. Left out is
-/// what is excluded, can't be read or is no UTF-8, a file of more than `FILE_LIMIT` bytes, and what comes behind
+/// what is excluded, can't be read or is no UTF-8, a file of more than `FILE_LIMIT` bytes, and what comes after
 /// `FILES_LIMIT` files or would pass `BYTES_LIMIT` bytes. `AllocError` where a growth was refused.
 pub fn read_files<F: Folders>(
     alloc: Global,

@@ -1,4 +1,4 @@
-//! How a file's bytes are replaced, so that whenever a crash comes the old ones or the new ones stand, each whole.
+//! How a file's bytes are replaced, so that whenever a crash comes the old ones or the new ones are there, each whole.
 ghost use Rattle.std.specs.Prelude.{◌≡◌, ◌⊎◌, ◌++◌, [], ℕ, List, None, Some, IfOk, IfSome, OnErr, OnOk, string_bytes};
 ghost use Rattle.ftl_files.specs.Files.{GoesOn, IsDurable, IsSynced, at_free_paths, filled, replaced};
 ghost use Rattle.ftl_files.specs.Store.{AllUnchanged, Becomes, OthersUnchanged};
@@ -8,14 +8,14 @@ use std::alloc::Global;
 use std::io::{self, ErrorKind};
 use std::path::Path;
 
-/// How many names are tried for the file beside: one stays behind where a run is killed before the rename.
+/// How many names are tried for the other file: one is left where a run is killed before the rename.
 const NAME_ATTEMPTS: u8 = 100;
 
 /// Puts the text in the place of the bytes of the file at a path.
 ///
-/// The text is written to a file beside, with the mode and the owner of the old one, which then takes the old one's
-/// name in one step. At any failure before that step the file beside is removed, and the old bytes stand. At a failure
-/// behind it the text stands, and a crash may still bring the old bytes back.
+/// The text is written to another file, with the mode and the owner of the old one, which then takes the old one's
+/// name in one step. At any failure before that step the other file is removed, and the old bytes remain. At a failure
+/// after it the text is there, and a crash may still bring the old bytes back.
 pub fn replace_file<F: FileSystem>(
     alloc: Global,
     system: &mut F,
@@ -36,7 +36,7 @@ pub fn replace_file<F: FileSystem>(
     match fill_and_rename(system, file, temporary.as_str(), path, text) {
         Ok(()) => system.sync_name(path),
         Err(error) => {
-            // the first failure is the one to tell
+            // the first failure is the one to report
             let _ = system.remove(temporary.as_str());
             Err(error)
         }
@@ -72,7 +72,7 @@ fn create_temporary<F: FileSystem>(
     Err(io::Error::from(ErrorKind::AlreadyExists))
 }
 
-/// Writes the text to the file beside, and gives it the name.
+/// Writes the text to the other file, and gives it the name.
 fn fill_and_rename<F: FileSystem>(
     system: &mut F,
     mut file: F::File,

@@ -30,17 +30,17 @@ const GREATEST_NESTING: i64 = 4_294_967_295;
 pub struct Settings {
     /// `reference`: the file or the folder of the reference language.
     pub reference: Option<String>,
-    /// `ignore`: the kinds that are not told, in the order of the text.
+    /// `ignore`: the kinds that are not reported, in the order of the text.
     pub ignored: Vec<ReportedKind>,
     /// `exclude`: what is passed over where a folder is listed, in the order of the text.
     pub excluded: Vec<String>,
     /// `edition`: that of the grammar.
     pub edition: Option<Edition>,
-    /// `output`: how what is found is told.
+    /// `output`: how what is found is reported.
     pub output: Option<Output>,
     /// `nesting`: how many placeables and argument lists may be open at once.
     pub nesting: Option<usize>,
-    /// `color`: when errors are told in colours.
+    /// `color`: when errors are reported in colours.
     pub color: Option<Color>,
 }
 
@@ -63,7 +63,7 @@ impl Settings {
 
 /// What the text of an `ftl.toml` says.
 ///
-/// `Memory`: a growth was refused. `Toml`: the text is no TOML document. `Key`: it has a key that stands for nothing.
+/// `Memory`: a growth was refused. `Toml`: the text is no TOML document. `Key`: it has a key that has no meaning.
 /// `Reference`, `Ignore`, `Exclude`, `Edition`, `Output`, `Nesting`, `Color`: the value of that key is of another kind,
 /// or is none of those that the key may have. `Kind`: that of `ignore` has a text that names no kind.
 pub fn settings_of(alloc: Global, text: &str) -> Result<Settings, SettingsFault>
@@ -105,7 +105,7 @@ fn message_of(alloc: Global, error: &toml::de::Error) -> Result<String, AllocErr
     }
 }
 
-/// Refuses a key that stands for nothing.
+/// Refuses a key that has no meaning.
 fn check_keys(alloc: Global, table: &Table) -> Result<(), SettingsFault>
     ensures known { IfOk result (λ _. are_known (table_view table.now) ≡ true) }
     ensures refused { IfErr result (λ fault. fault ≢ SettingsFault.Memory → are_known (table_view table.now) ≡ false) }

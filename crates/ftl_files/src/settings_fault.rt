@@ -11,7 +11,7 @@ pub enum SettingsFault {
     Memory,
     /// The text is no TOML: what is wrong, and where, in words.
     Toml(String),
-    /// A key that stands for nothing.
+    /// A key that has no meaning.
     Key(String),
     /// The value of `reference` is no text.
     Reference,
@@ -75,7 +75,7 @@ impl fmt::Display for SettingsFault {
     }
 }
 
-/// The names, with a comma behind each but the last.
+/// The names, with a comma after each but the last.
 fn write_names<W: fmt::Write>(f: &mut fmt::Formatter<W>, names: &[&str]) -> fmt::Result {
     for (number, name) in names.iter().enumerate() {
         if number != 0 {

@@ -21,9 +21,9 @@ pub trait Store {
     fn read(&mut self, path: &str) -> io::Result<Vec<u8>>
         ensures read { IfOk result (λ read. IfSome (bytes_at self.old path.now) (λ bytes. read.items ≡ bytes)) }
         ensures failed { IfErr result (fails (bytes_at self.old path.now)) }
-        ensures stand { AllUnchanged (bytes_at self.old) (bytes_at self.new) };
+        ensures untouched { AllUnchanged (bytes_at self.old) (bytes_at self.new) };
 
-    /// Puts the text in the place of the file's bytes. After a failure the old bytes stand, or the text does.
+    /// Puts the text in the place of the file's bytes. After a failure the old bytes are there, or the text is.
     fn replace(&mut self, path: &str, text: &[u8]) -> io::Result<()>
         ensures replaced { OnOk result (Becomes (bytes_at self.old path.now) (bytes_at self.new path.now) text.now) }
         ensures failed { IfErr result (fails (bytes_at self.old path.now)) }

@@ -31,7 +31,7 @@ pub fn path_of_uri(alloc: Global, uri: &str) -> Result<Option<String>, AllocErro
     }
 }
 
-/// What stands behind `file://`, if that is the path of a file of this machine.
+/// What comes after `file://`, if that is the path of a file of this machine.
 fn escaped_path(uri: &[u8]) -> Option<&[u8]>
     ensures { MatchOption result (escaped_path uri.now ≡ None) (λ e. escaped_path uri.now ≡ Some e.now) }
 {

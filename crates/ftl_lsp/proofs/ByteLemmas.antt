@@ -6,7 +6,7 @@ use Rattle.fluent_syntax_grammar.specs.Bytes.{lf, cr}
 use Rattle.ftl_lsp.specs.Positions.{ends_line, utf16_units, next_line, next_character, line_at, character_at}
 use Rattle.ftl_lsp.specs.Positions.{position_at}
 use Rattle.ftl_lsp.specs.Offsets.{BeginsLine, is_break, is_reached, stops_at, IsByteOf, IsInLine}
-use Rattle.ftl_lsp.specs.Offsets.{IsBehindAll}
+use Rattle.ftl_lsp.specs.Offsets.{IsPastLastLine}
 use Rattle.ftl_lsp.specs.declared.positions.Position.{Position}
 
 -- The place is not passed before the byte.
@@ -72,26 +72,26 @@ module _ (t : List ℕ) (position : Position) (at : ℕ) where
           there = inl (record { line = line; column = ahead.column line; reached = inr h.1 });
         }
 
-    -- where it is not reached before a byte, it is not passed behind it
+    -- where it is not reached before a byte, it is not passed after it
     module _ (goes_on : is_reached (slice_index t at) (position_at t at) position ≡ false) where
       not_stopped : line_at t at ≡ position.line →
           stops_at (slice_index t at) (character_at t at) position.character ≡ false
       not_stopped e = grind (arith, goes_on, e)
 
-      behind : (ends : Bool) → ends_line t at ≡ ends →
+      beyond : (ends : Bool) → ends_line t at ≡ ends →
           (next_line ends (line_at t at) ≤ position.line) × (next_line ends (line_at t at) ≡ position.line →
           next_character ends (utf16_units (slice_index t at)) (character_at t at) ≤ position.character)
-      behind true e =
+      beyond true e =
           let low : line_at t at ≤ position.line = ahead.line in
           let other : line_at t at ≡ position.line → ⊥ = λ same.
           stop_false (slice_index t at) (character_at t at) position.character (not_stopped same) (ends_at_break e) in
           (grind (arith, low, other), λ same. omega arith)
-      behind false e =
+      beyond false e =
           (ahead.line, λ same. fits (slice_index t at) (character_at t at) position.character (not_stopped same))
 
       pub still_ahead : IsAhead t position (at + 1)
       still_ahead =
-          let h = behind (ends_line t at) refl in
+          let h = beyond (ends_line t at) refl in
           let next : suc at ≡ at + 1 = omega arith in
           subst (IsAhead t position) next (record { line = h.0; column = h.1 })
 
@@ -103,7 +103,7 @@ at_the_end t position ahead = record {
 }
   where
     by_line : (b : Bool) → nat_le position.line (line_at t (length t)) ≡ b →
-        IsInLine t position (length t) ⊎ IsBehindAll t position (length t)
+        IsInLine t position (length t) ⊎ IsPastLastLine t position (length t)
     by_line true e =
         let low : line_at t (length t) ≤ position.line = ahead.line in
         let line : line_at t (length t) ≡ position.line = grind (arith, e, low) in

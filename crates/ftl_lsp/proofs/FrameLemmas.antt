@@ -3,7 +3,7 @@ use Rattle.std.proofs.Common.{◌≡◌, ℕ, ◌+◌, ◌<◌, ◌≤◌, List,
 use Rattle.std.proofs.Common.{None, sym, ap, ◌∙◌, subst}
 use Rattle.ftl_lsp.specs.HeaderEnds.{IsLineEnd}
 use Rattle.ftl_lsp.specs.Fields.{HasLength, NamesLength, number_of}
-use Rattle.ftl_lsp.specs.Fields.HasLength.{in_line, behind_line, nowhere}
+use Rattle.ftl_lsp.specs.Fields.HasLength.{in_line, below_line, nowhere}
 
 pub length_in_line : (t line : List ℕ) (at : ℕ) (n : Option ℕ) → IsLineEnd t at → line ≡ take at t → NamesLength line →
     n ≡ number_of (drop 15 line) → HasLength t n
@@ -11,10 +11,10 @@ length_in_line t line at n ends same names is =
     subst (HasLength t) (sym (is ∙ ap (λ l. number_of (drop 15 l)) same))
     (in_line t at ends (subst NamesLength same names))
 
-pub length_behind : (t line rest : List ℕ) (at : ℕ) (n : Option ℕ) → IsLineEnd t at → line ≡ take at t →
+pub length_below_line : (t line rest : List ℕ) (at : ℕ) (n : Option ℕ) → IsLineEnd t at → line ≡ take at t →
     ¬ (NamesLength line) → at + 2 ≤ length t → rest ≡ drop (at + 2) t → HasLength rest n → HasLength t n
-length_behind t line rest at n ends same other room is has =
-    behind_line t at n ends (λ names. other (subst NamesLength (sym same) names)) room
+length_below_line t line rest at n ends same other room is has =
+    below_line t at n ends (λ names. other (subst NamesLength (sym same) names)) room
     (subst (λ u. HasLength u n) is has)
 
 pub no_length : (t line : List ℕ) (at : ℕ) → IsLineEnd t at → line ≡ take at t → ¬ (NamesLength line) →

@@ -1,4 +1,4 @@
--- More bytes behind a frame change nothing of it.
+-- More bytes after a frame change nothing of it.
 use Rattle.std.proofs.Common.{◌≡◌, ◌≢◌, ℕ, ◌+◌, ◌-◌, ◌<◌, ◌≤◌, List, ◌∷◌, ◌++◌, length, take, drop, get_or, Option}
 use Rattle.std.proofs.Common.{Some, None, refl, sym, ap, ◌∙◌, subst, arith, append_assoc, codes}
 use Rattle.std.proofs.lemmas.List.{take-append-drop, length-append, length-drop, length-take-le, drop_more, drop-drop}
@@ -58,13 +58,13 @@ module _ (t more : List ℕ) where
 
 -- ---- the parts of a frame
 
--- one byte, and what stands behind it
+-- one byte, and what is after it
 byte_and_rest : (t : List ℕ) (at next byte : ℕ) → at < length t → at + 1 ≡ next → get_or t at 0 ≡ byte →
     drop at t ≡ byte ∷ drop next t
 byte_and_rest t at next byte l there is =
     drop_more t at 0 l ∙ ap (λ k. get_or t at 0 ∷ drop k t) there ∙ ap (λ x. x ∷ drop next t) is
 
--- an empty line, and what stands behind it
+-- an empty line, and what is after it
 empty_line : (t : List ℕ) (at : ℕ) → HeaderOf t at → drop at t ≡ codes "\r\n\r\n" ++ drop (at + 4) t
 empty_line t at h =
     let within : at + 4 ≤ length t = h.within in
@@ -77,7 +77,7 @@ empty_line t at h =
     ∙ ap (λ l. 13 ∷ 10 ∷ 13 ∷ l)
     (byte_and_rest t (at + 3) (at + 4) 10 (omega arith) (omega arith) (ap (λ k. get_or t k 0) three ∙ empty.1))
 
--- a body, and what stands behind it
+-- a body, and what is after it
 body_and_rest : (t : List ℕ) (at n : ℕ) → drop at t ≡ slice_range t at (at + n) ++ drop (at + n) t
 body_and_rest t at n =
     let size : n ≡ at + n - at = omega arith in
@@ -96,7 +96,7 @@ whole_frame t at n h =
     ∙ ap (λ l. front ++ l) (empty_line t at h ∙ ap (λ l. empty ++ l) (body_and_rest t (at + 4) n))
     ∙ sym (append_assoc front empty (body ++ rest)) ∙ sym (append_assoc (front ++ empty) body rest)
 
--- where a frame lies, there are its header, its body and what comes behind it
+-- where a frame lies, there are its header, its body and what comes after it
 pub frame_there : (t : List ℕ) (start end : ℕ) → IsFraming t (Frame start end) →
     IsFrame t (slice_range t start end) (drop end t)
 frame_there t start end (frame at n h has small within) =

@@ -11,7 +11,7 @@ use Rattle.ftl_lsp.specs.declared.frames.FrameFault.{FrameFault}
 use Rattle.ftl_lsp.specs.declared.frames.Framing.TheVariants.{Frame, Refused}
 use Rattle.ftl_lsp.proofs.FramesMore.{framing_more, frame_there, header_more}
 
--- a frame with more bytes behind it
+-- a frame with more bytes after it
 frame_more : (t body rest more : List ℕ) → IsFrame t body rest → IsFrame (t ++ more) body (rest ++ more)
 frame_more t body rest more f =
     let sizes = simp length-append at (ap length f.whole) in
@@ -41,7 +41,7 @@ takes_frame (Some bytes) (Some more) s t pending body start end same is framing 
     (subst (λ x. IsFrame t (slice_range t start end) x) (sym rest) there) in
     subst (λ x. IsFrame x body (pending ++ more)) same (frame_more t body pending more named)
 
--- pending bytes that are no frame are none with what is left behind them
+-- pending bytes that are no frame are none with what is left after them
 pub refuses : (old left : Option (List ℕ)) (s t : List ℕ) (fault : FrameFault) → Keeps old (prepend_known t left) →
     s ≡ t → IsFraming s (Refused fault) → IfSome old (λ bytes. IsFraming bytes (Refused fault))
 refuses None left s t fault same is framing = tt

@@ -49,7 +49,7 @@ range_more t start n h l =
     ∙ ap (λ b. sum_by utf16_units (slice_range t start n) + utf16_units b)
     (get_or-drop start t (n - start) 0 ∙ ap (λ m. get_or t m 0) there)
 
--- the place behind a byte, by whether a line ends with it
+-- the place after a byte, by whether a line ends with it
 one_more : (t : List ℕ) (n : ℕ) (ends : Bool) → n < length t → ends_line t n ≡ ends → IsPosition t n (position_at t n) →
     IsPosition t (suc n)
     (record {

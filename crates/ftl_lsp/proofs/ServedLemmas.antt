@@ -75,27 +75,27 @@ ends_by_no_input phase is = true≢false (sym (is_exit_of phase) ∙ ap is_exit 
 
 -- ---- What is sent unasked
 
--- behind what changes nothing of the session a step is one of the session
-pub takes_behind : {X Y : Type 0} (r : Result X Y) (old mid now : Session)
+-- after what changes nothing of the session a step is one of the session
+pub takes_then : {X Y : Type 0} (r : Result X Y) (old mid now : Session)
     (left after written sent_on : Option (List ℕ)) → mid ≡ old →
     OnOk r (TakesStep mid now left after written sent_on) → OnOk r (GoesOn old now left after written sent_on)
-takes_behind (Ok x) old mid now left after written sent_on same step =
+takes_then (Ok x) old mid now left after written sent_on same step =
     takes (subst (λ (s : Session). TakesStep s now left after written sent_on) same step)
-takes_behind (Err e) old mid now left after written sent_on same step = step
+takes_then (Err e) old mid now left after written sent_on same step = step
 
 -- what was sent unasked
-pub unasked_behind : {X Y : Type 0} (r : Result X Y) (old mid : Session) (left written sent_on : Option (List ℕ))
+pub unasked_then : {X Y : Type 0} (r : Result X Y) (old mid : Session) (left written sent_on : Option (List ℕ))
     (value : Data) → mid ≡ old → Unasked old value → OnOk r (Sends written sent_on (Some value)) →
     OnOk r (GoesOn old mid left left written sent_on)
-unasked_behind (Ok x) old mid left written sent_on value same unasked sends =
+unasked_then (Ok x) old mid left written sent_on value same unasked sends =
     sends_unasked value unasked same refl sends
-unasked_behind (Err e) old mid left written sent_on value same unasked sends = sends
+unasked_then (Err e) old mid left written sent_on value same unasked sends = sends
 
--- why a session stops behind what changes nothing of it
-pub stops_behind : {X : Type 0} (r : Result X Ending) (old mid : Session) (left written now : Option (List ℕ)) →
+-- why a session stops after what changes nothing of it
+pub stops_then : {X : Type 0} (r : Result X Ending) (old mid : Session) (left written now : Option (List ℕ)) →
     mid ≡ old → IfErr r (λ ending. Stops mid left written ending now) →
     IfErr r (λ ending. Stops old left written ending now)
-stops_behind r old mid left written now same stopped =
+stops_then r old mid left written now same stopped =
     subst (λ (s : Session). IfErr r (λ ending. Stops s left written ending now)) same stopped
 
 -- what is unasked could not be sent

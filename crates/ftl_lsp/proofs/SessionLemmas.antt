@@ -49,7 +49,7 @@ sent_as reply value sent same is = subst (λ (d : Data). IsSent reply (Some d)) 
 abbrev pub in_phase : Phase → Session → Session
 in_phase phase session = record { phase = phase; texts = session.texts }
 
--- the session behind a request that was answered
+-- the session after a request that was answered
 pub answered_in : (phase : Phase) (before old : Session) (method : Option Method) →
     phase ≡ after_request before.phase method → before ≡ old →
     in_phase phase before ≡ in_phase (after_request old.phase method) old
@@ -96,11 +96,11 @@ unreadable texts d none = ap (λ o. names_open texts d && is_some o) none ∙ an
 pub edits_of_changes : (d : Data) (slice values : List Value) (edits : Option (List Edit)) →
     changes_in d ≡ Some (items_view values) → slice ≡ values → edits ≡ edits_in (items_view slice) →
     option_and_then edits_in (changes_in d) ≡ edits
-edits_of_changes d slice values edits told same is_read =
-    ap (option_and_then edits_in) told
+edits_of_changes d slice values edits stated same is_read =
+    ap (option_and_then edits_in) stated
     ∙ ap (λ (vs : List Value). edits_in (items_view vs)) (sym same) ∙ sym is_read
 
--- what is told of a document that is not open, and of one that is
+-- what is reported of a document that is not open, and of one that is
 pub unpublished : (old mid : Session) (uri : List ℕ) → mid ≡ old → None ≡ mid.texts uri →
     IsSent (published uri (old.texts uri)) None
 unpublished old mid uri same none =
@@ -115,16 +115,16 @@ is_published old mid uri found value list same open' is publishes_all =
     let sent = sent_as (diagnosed uri found.text) value _ is (sends_diagnostics uri found.text list publishes_all) in
     subst at same (subst (λ (o : Option OpenText). IsSent (published uri o) (Some value)) open' sent)
 
--- what is told of a document: its errors, and then what is told beside
+-- what is reported of a document: its errors, and then what is reported with them
 pub publishes_document : (t : List ℕ) (errors : List Diagnostic) (values others all : List Value) →
     ∥ DiagnosesText t (map shown errors) ∥₁ → map view values ≡ map error_form errors →
     All IsLintDiagnostic (map view others) → all ≡ values ++ others → PublishesDiagnostics t (map view all)
-publishes_document t errors values others all diagnoses told lint_diagnostics is = record {
+publishes_document t errors values others all diagnoses stated lint_diagnostics is = record {
   errors = errors;
   diagnoses = diagnoses;
   others = map view others;
   lint_diagnostics = lint_diagnostics;
-  publishes_each = ap (map view) is ∙ map-append view values others ∙ ap (λ l. l ++ map view others) told;
+  publishes_each = ap (map view) is ∙ map-append view values others ∙ ap (λ l. l ++ map view others) stated;
 }
 
 -- that there are none any more
@@ -133,7 +133,7 @@ pub is_withdrawn : (uri : List ℕ) (value : Data) (list : List Data) → value 
 is_withdrawn uri value list is none =
     sent_as (withdrawn uri) value _ (is ∙ ap (diagnostics_form uri) none) (sends_withdrawal uri)
 
--- the diagnostics of a document that is open are told, behind what was done before
+-- the diagnostics of a document that is open are reported, after what was done before
 pub republishes : {Y : Type 0} (r : Result (Option Value) Y) (old : List ℕ → Option OpenText) (d : Data)
     (method : Option Method) (uri : List ℕ) (found : OpenText) (mid new : Session) → mid.texts uri ≡ Some found →
     ((texts : List ℕ → Option OpenText) → texts ≡ mid.texts
@@ -155,12 +155,12 @@ pub publishes_opened : {Y : Type 0} (r : Result (Option Value) Y) (d : Data) (ur
     Sets old.texts uri (Some (record { text = text; version = version })) mid.texts → OnOk r (new ≡ mid) →
     IfOk r (λ sent. IsSent (published uri (mid.texts uri)) (option_map view sent)) →
     IfOk r (λ sent. AnswersRunning old.texts d (Some DidOpen) (option_map view sent) new.texts)
-publishes_opened r d uri text version old mid new named told numbered sets same sent =
+publishes_opened r d uri text version old mid new named stated numbered sets same sent =
     let made = subst
     (λ (n : Option ℤ). Sets old.texts uri (Some (record { text = text; version = n })) mid.texts) numbered sets in
     republishes r old.texts d (Some DidOpen) uri (record { text = text; version = version }) mid new
     (is_open old.texts mid.texts uri _ sets)
-    (λ now e. opens uri text now named told
+    (λ now e. opens uri text now named stated
     (subst
     (λ (t : List ℕ → Option OpenText). Sets old.texts uri (Some (record { text = text; version = version_in d })) t)
     (sym e) made))
@@ -173,14 +173,14 @@ pub publishes_changed : {Y : Type 0} (r : Result (Option Value) Y) (d : Data) (u
     is_some (old.texts uri) ≡ true → SetsMade old.texts uri version edits found mid.texts → OnOk r (new ≡ mid) →
     IfOk r (λ sent. IsSent (published uri (mid.texts uri)) (option_map view sent)) →
     IfOk r (λ sent. AnswersRunning old.texts d (Some DidChange) (option_map view sent) new.texts)
-publishes_changed r d uri items edits version true old mid new named told is_read numbered open'
+publishes_changed r d uri items edits version true old mid new named stated is_read numbered open'
     (before, after, was, makes, sets) same sent =
     republishes r old.texts d (Some DidChange) uri after mid new (is_open old.texts mid.texts uri after sets)
-    (λ now e. changes uri items edits before after now named told is_read was
+    (λ now e. changes uri items edits before after now named stated is_read was
     (subst (λ (n : Option ℤ). MakesOpen before n edits after) numbered makes)
     (subst (λ (t : List ℕ → Option OpenText). Sets old.texts uri (Some after) t) (sym e) sets))
     same sent
-publishes_changed r d uri items edits version false old mid new named told is_read numbered open' h same sent =
+publishes_changed r d uri items edits version false old mid new named stated is_read numbered open' h same sent =
     absurd (true≢false (sym open' ∙ ap is_some h.0))
 
 -- a document that is saved
@@ -215,7 +215,7 @@ pub refuses_for : (method : Option Method) (fitting : Bool) (found : Result Valu
 refuses_for method fitting found code refuses is =
     subst (λ (r : Result Value ErrorCode). IfErr r (RefusesFor method fitting)) is refuses
 
--- a request that was taken behind something that changes nothing of the session
+-- a request that was taken after something that changes nothing of the session
 pub takes_request : {Y : Type 0} (r : Result (Option Value) Y) (old mid new : Session) (body : List ℕ)
     (d id same_id : Data) (name : List ℕ) (method : Option Method) → read body ≡ Some d →
     message_in d ≡ request id name → same_id ≡ id → IsMethod name method → mid ≡ old →
@@ -281,17 +281,17 @@ followed old mid d method sent phase last new is_running same kept after (reply,
       (after ∙ ap (λ (p : Phase). after_notification p method) (kept ∙ ap (λ (s : Session). s.phase) same)),
 )
 
--- the same, where nothing of the session is changed behind it
-pub notified_running : (old mid behind noted : Session) (d : Data) (method : Option Method) (sent : Option Data)
-    (last : Phase) → old.phase ≡ Running → mid ≡ old → behind.phase ≡ mid.phase → noted ≡ behind →
-    last ≡ after_notification noted.phase method → AnswersRunning mid.texts d method sent behind.texts →
+-- the same, where nothing of the session is changed after it
+pub notified_running : (old mid beyond noted : Session) (d : Data) (method : Option Method) (sent : Option Data)
+    (last : Phase) → old.phase ≡ Running → mid ≡ old → beyond.phase ≡ mid.phase → noted ≡ beyond →
+    last ≡ after_notification noted.phase method → AnswersRunning mid.texts d method sent beyond.texts →
     AnswersNotification old d method sent (record { phase = last; texts = noted.texts })
-notified_running old mid behind noted d method sent last is_running same kept same_noted after answers =
+notified_running old mid beyond noted d method sent last is_running same kept same_noted after answers =
     subst
     (λ (s : Session). last ≡ after_notification s.phase method →
     AnswersNotification old d method sent (record { phase = last; texts = s.texts }))
     (sym same_noted)
-    (λ e. followed old mid d method sent behind.phase last behind.texts is_running same kept e answers) after
+    (λ e. followed old mid d method sent beyond.phase last beyond.texts is_running same kept e answers) after
 
 -- ---- What is published again
 
@@ -302,7 +302,7 @@ published_if_open session uri (Some found) value running open' sent =
     record { runs = running; uri = uri; found = found; is_open = open'; diagnostics = sent }
 published_if_open session uri None value running open' sent = elim sent [ ]
 
--- what is published of a document is told of one that is open
+-- what is published of a document is reported of one that is open
 pub publishes_open : {Y : Type 0} (r : Result (Option Value) Y) (session : Session) (uri : List ℕ) →
     session.phase ≡ Running → IfOk r (λ sent. IsSent (published uri (session.texts uri)) (option_map view sent)) →
     IfOk r (λ sent. IfSome sent (λ value. Republishes session (view value)))

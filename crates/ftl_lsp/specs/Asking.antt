@@ -1,4 +1,4 @@
--- What a request asks of, and what stands in its answer.
+-- What a request asks of, and what its answer has.
 use Rattle.std.specs.Prelude.{◌≡◌, ◌&&◌, ℕ, List, ⊤, Bool, Option, Some, None, is_some, option_and_then}
 use Rattle.serde_json.specs.Data.{Data, null}
 use Rattle.ftl_lsp.specs.Edits.{position_param_in}
@@ -16,7 +16,7 @@ names_open texts d = is_some (option_and_then texts (uri_in d))
 abbrev pub names_position : (texts : List ℕ → Option OpenText) → Data → Bool
 names_position texts d = names_open texts d && is_some (position_param_in d)
 
--- and another name for what stands there
+-- and another name for what is there
 abbrev pub renames_position : (texts : List ℕ → Option OpenText) → Data → Bool
 renames_position texts d = names_position texts d && is_some (new_name_in d)
 
@@ -25,7 +25,7 @@ abbrev pub IsFormattingOf : (document : Option OpenText) → (result : Data) →
 IsFormattingOf (Some found) result = FormatsText found.text result
 IsFormattingOf None result = ⊤
 
--- It is what stands in the answer to a request of the method. Of methods that aren't named here nothing is said.
+-- It is what the answer to a request of the method has. Of methods that aren't named here nothing is said.
 abbrev pub IsResult : (texts : List ℕ → Option OpenText) → Data → Option Method → (result : Data) → Type 0
 IsResult texts d (Some Formatting) result = IsFormattingOf (option_and_then texts (uri_in d)) result
 IsResult texts d (Some Shutdown) result = result ≡ null

@@ -8,7 +8,7 @@ use Rattle.ftl_lsp.specs.declared.positions.Position.{Position}
 abbrev pub text_after : List ℕ → (from to : ℕ) → List ℕ → List ℕ
 text_after t from to new = take from t ++ (new ++ drop to t)
 
--- The text is the old one with the new bytes in place of what stands between the places, in whichever order they come.
+-- The text is the old one with the new bytes in place of what is between the places, in whichever order they come.
 pub record ChangesBetween (t : List ℕ) (start end : Position) (new made : List ℕ) : Type 0 where
   pub first : ℕ
   pub last : ℕ

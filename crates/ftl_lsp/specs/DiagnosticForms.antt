@@ -1,4 +1,4 @@
--- What is told of a document, as JSON values.
+-- What is reported of a document, as JSON values.
 use Rattle.std.specs.Prelude.{◌≡◌, ℕ, List, ◌++◌, map, codes, string_bytes, All}
 use Rattle.serde_json.specs.Data.{Data, number, unsigned, string, object, member, no_members}
 use Rattle.fluent_syntax_names.specs.Differences.{difference_name, difference_severity}
@@ -27,7 +27,7 @@ diagnostic_form range severity code message =
 abbrev pub error_form : Diagnostic → Data
 error_form d = diagnostic_form (record { start = d.start; end = d.end }) Error d.code.now (string_bytes d.message)
 
--- ---- beside the errors
+-- ---- besides the errors
 
 abbrev pub severity_of : LintDiagnosticKind → Severity
 severity_of (Finding kind) = finding.severity_of kind
@@ -53,7 +53,7 @@ pub data IsLintDiagnostic : Data → Type 0 where
   with_related : (range : PositionRange) (kind : LintDiagnosticKind) (message : List ℕ) (positions : Data) →
       IsLintDiagnostic (diagnostic_with_related range (severity_of kind) (code_of kind) message positions)
 
--- The list has a diagnostic for each error of the text, in order, and behind them those of findings and differences.
+-- The list has a diagnostic for each error of the text, in order, and after them those of findings and differences.
 pub record PublishesDiagnostics (t : List ℕ) (list : List Data) : Type 0 where
   pub errors : List Diagnostic
   pub diagnoses : ∥ DiagnosesText t (map shown errors) ∥₁

@@ -1,4 +1,4 @@
--- The changes of a document that JSON values tell of.
+-- The changes of a document that JSON values give.
 use Rattle.std.specs.Prelude.{ℕ, List, [], ◌∷◌, codes, Option, Some, None, option_and_then, option_map}
 use Rattle.serde_json.specs.Data.{Data, null, Items, no_items, item}
 use Rattle.serde_json.specs.Find.{get, as_number, as_str, as_u64, pointer}
@@ -18,7 +18,7 @@ edit_of (Between start end text) = between start end text.now
 abbrev pub number_at : (key : List ℕ) → Data → Option ℕ
 number_at key d = option_and_then (λ v. option_and_then as_u64 (as_number v)) (get key d)
 
--- the place that a value tells of
+-- the place that a value gives
 abbrev pub position_in : Data → Option Position
 position_in d =
     option_and_then
@@ -28,7 +28,7 @@ position_in d =
 abbrev pub end_of_range : Data → Option Position
 end_of_range d = option_and_then position_in (get (codes "end") d)
 
--- the change of what stands in a range
+-- the change of what is in a range
 abbrev pub between_in : (range : Data) → (text : List ℕ) → Option Edit
 between_in range text =
     option_and_then
@@ -41,11 +41,11 @@ edit_in_range None text = Some (whole text)
 edit_in_range (Some null) text = Some (whole text)
 edit_in_range (Some range) text = between_in range text
 
--- the change that a value tells of
+-- the change that a value gives
 abbrev pub edit_in : Data → Option Edit
 edit_in d = option_and_then (edit_in_range (get (codes "range") d)) (option_and_then as_str (get (codes "text") d))
 
--- the changes that the values tell of, in order, if each of them tells of one
+-- the changes that the values give, in order, if each of them gives one
 abbrev pub edits_in : Items → Option (List Edit)
 edits_in no_items = Some []
 edits_in (item d ds) = option_and_then (λ edit. option_map (λ edits. edit ∷ edits) (edits_in ds)) (edit_in d)

@@ -21,7 +21,7 @@ is_digit b = nat_le 48 b && nat_le b 57
 abbrev pub with_digit : ℕ → ℕ → ℕ
 with_digit n b = min (n * 10 + (b - 48)) (BODY_LIMIT + 1)
 
--- the number of further digits behind a number, with blanks behind them
+-- the number of further digits after a number, with blanks after them
 abbrev pub digits_after : ℕ → List ℕ → Option ℕ
 digits_after n [] = Some n
 digits_after n (b ∷ bs) =
@@ -41,7 +41,7 @@ number_of (b ∷ bs) = if is_blank b then number_of bs else digits_of (b ∷ bs)
 pub data HasLength : List ℕ → Option ℕ → Type 0 where
   in_line : (header : List ℕ) (at : ℕ) → IsLineEnd header at → NamesLength (take at header) →
       HasLength header (number_of (drop 15 (take at header)))
-  behind_line : (header : List ℕ) (at : ℕ) (n : Option ℕ) → IsLineEnd header at → ¬ (NamesLength (take at header)) →
+  below_line : (header : List ℕ) (at : ℕ) (n : Option ℕ) → IsLineEnd header at → ¬ (NamesLength (take at header)) →
       at + 2 ≤ length header → HasLength (drop (at + 2) header) n → HasLength header n
   nowhere : (header : List ℕ) (at : ℕ) → IsLineEnd header at → ¬ (NamesLength (take at header)) →
       length header < at + 2 → HasLength header None

@@ -7,11 +7,11 @@ use Rattle.ftl_lsp.specs.declared.frames.FrameFault.TheVariants.{LongHeader, NoL
 use Rattle.ftl_lsp.specs.declared.frames.Framing.{Framing}
 use Rattle.ftl_lsp.specs.declared.frames.Framing.TheVariants.{Frame, Partial, Refused}
 
--- The bytes are a frame and what comes behind it: a header that says how long the body is, an empty line, and the body.
+-- The bytes are a frame and what comes after it: a header that says how long the body is, an empty line, and the body.
 pub record IsFrame (bytes body rest : List ℕ) : Type 0 where
   pub header : List ℕ
   pub whole : bytes ≡ header ++ codes "\r\n\r\n" ++ body ++ rest
-  -- no empty line stands in the header
+  -- there is no empty line in the header
   pub first : IsHeaderEnd bytes (length header)
   pub short : length header + 4 ≤ HEADER_LIMIT
   -- and it says how long the body is

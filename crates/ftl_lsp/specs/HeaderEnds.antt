@@ -3,7 +3,7 @@ use Rattle.std.specs.Prelude.{◌≡◌, ◌+◌, ◌<◌, ◌≤◌, ℕ, List,
 use Rattle.fluent_syntax_grammar.specs.Bytes.{lf, cr}
 use Rattle.ftl_lsp.specs.declared.limits.TheConstants.{HEADER_LIMIT}
 
--- a CRLF stands there
+-- there is a CRLF
 abbrev pub IsCrlfAt : List ℕ → ℕ → Type 0
 IsCrlfAt t at = (slice_index t at ≡ cr) × (slice_index t (at + 1) ≡ lf)
 

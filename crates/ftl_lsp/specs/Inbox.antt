@@ -24,7 +24,7 @@ EndsAs left Closed = IfSome left (λ bytes. bytes ≡ [])
 EndsAs left Cut = IfSome left (λ bytes. (bytes ≢ []) × IsFraming bytes Partial)
 EndsAs left (Refused fault) = IfSome left (λ bytes. IsFraming bytes (framing.Refused fault))
 
--- Why no more bytes were read behind the pending ones.
+-- Why no more bytes were read after the pending ones.
 abbrev pub Stops : (pending : List ℕ) → (left : Option (List ℕ)) → Ending → Type 0
 Stops pending left Exited = ⊥
 Stops pending left Left = ⊥

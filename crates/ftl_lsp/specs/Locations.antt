@@ -1,4 +1,4 @@
--- Places in documents as the protocol tells them, as JSON values.
+-- Places in documents as the protocol gives them, as JSON values.
 use Rattle.std.specs.Prelude.{ℕ, List, length, min, codes}
 use Rattle.serde_json.specs.Data.{Data, number, unsigned, string, object, member, no_members}
 use Rattle.fluent_syntax_tree.specs.declared.spans.Span.{Span}

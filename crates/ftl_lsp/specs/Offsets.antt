@@ -10,7 +10,7 @@ use Rattle.ftl_lsp.specs.declared.positions.Position.{Position}
 abbrev pub is_break : ℕ → Bool
 is_break b = (b == lf) || (b == cr)
 
--- whether the column is reached before the byte, behind that many units of the line: the line's text ends there, or
+-- whether the column is reached before the byte, after that many units of the line: the line's text ends there, or
 -- what begins with the byte reaches beyond the column
 abbrev pub stops_at : (byte character column : ℕ) → Bool
 stops_at byte character column = is_break byte || nat_le (column + 1) (character + utf16_units byte)
@@ -25,14 +25,14 @@ pub record BeginsLine (t : List ℕ) (number at : ℕ) : Type 0 where
   pub line : line_at t at ≡ number
   pub character : character_at t at ≡ 0
 
--- The byte stands in the place's line, not behind the column; and the text ends there, or the place is reached.
+-- The byte is in the place's line, not after the column; and the text ends there, or the place is reached.
 pub record IsInLine (t : List ℕ) (position : Position) (byte : ℕ) : Type 0 where
   pub line : line_at t byte ≡ position.line
   pub column : character_at t byte ≤ position.character
   pub reached : (byte ≡ length t) ⊎ (stops_at (slice_index t byte) (character_at t byte) position.character ≡ true)
 
 -- It is the text's end, and the text has no such line.
-pub record IsBehindAll (t : List ℕ) (position : Position) (byte : ℕ) : Type 0 where
+pub record IsPastLastLine (t : List ℕ) (position : Position) (byte : ℕ) : Type 0 where
   pub line : line_at t byte < position.line
   pub end : byte ≡ length t
 
@@ -40,4 +40,4 @@ pub record IsBehindAll (t : List ℕ) (position : Position) (byte : ℕ) : Type 
 -- line's text; or the text's end, where the text has fewer lines.
 pub record IsByteOf (t : List ℕ) (position : Position) (byte : ℕ) : Type 0 where
   pub boundary : IsCharBoundary t byte
-  pub there : IsInLine t position byte ⊎ IsBehindAll t position byte
+  pub there : IsInLine t position byte ⊎ IsPastLastLine t position byte

@@ -25,7 +25,7 @@ texts_of documents name = option_map open_text (get_by_text documents name)
 abbrev pub texts : Documents → (name : List ℕ) → Option OpenText
 texts documents name = texts_of documents.by_name name
 
--- Under the name stands that document now, or none, and under each other what stood there.
+-- Under the name there is that document now, or none, and under each other what was there.
 abbrev pub Sets : (old : List ℕ → Option OpenText) → (name : List ℕ) → Option OpenText →
     (new : List ℕ → Option OpenText) → Type 0
 Sets old name found new = (other : List ℕ) → new other ≡ update bytes_eq old name found other

@@ -5,7 +5,7 @@ use Rattle.std.specs.Io.KnownBytes.{Appends}
 use Rattle.serde_json.specs.Data.{Data, depth}
 use Rattle.serde_json.specs.Read.{read, max_depth}
 
--- the header of a body of so many bytes, with the empty line behind it
+-- the header of a body of so many bytes, with the empty line after it
 abbrev pub frame_header : ℕ → List ℕ
 frame_header n = codes "Content-Length: " ++ decimal n ++ codes "\r\n\r\n"
 

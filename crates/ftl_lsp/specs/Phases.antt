@@ -48,34 +48,34 @@ abbrev pub refusal_before : Option Method → Option ErrorCode
 refusal_before (Some Initialize) = None
 refusal_before _ = Some NotInitialized
 
--- what is refused behind it: that again, and what is no request that is known
-abbrev pub refusal_behind : Option Method → Option ErrorCode
-refusal_behind (Some Initialize) = Some InvalidRequest
-refusal_behind (Some Shutdown) = None
-refusal_behind (Some DocumentSymbol) = None
-refusal_behind (Some Formatting) = None
-refusal_behind (Some FoldingRange) = None
-refusal_behind (Some Definition) = None
-refusal_behind (Some References) = None
-refusal_behind (Some DocumentHighlight) = None
-refusal_behind (Some Hover) = None
-refusal_behind (Some methods.Rename) = None
-refusal_behind (Some Completion) = None
-refusal_behind (Some WorkspaceSymbol) = None
-refusal_behind (Some SemanticTokens) = None
-refusal_behind (Some DidOpen) = Some MethodNotFound
-refusal_behind (Some DidChange) = Some MethodNotFound
-refusal_behind (Some DidClose) = Some MethodNotFound
-refusal_behind (Some DidSave) = Some MethodNotFound
-refusal_behind (Some Exit) = Some MethodNotFound
-refusal_behind (Some Initialized) = Some MethodNotFound
-refusal_behind (Some DidChangeWatchedFiles) = Some MethodNotFound
-refusal_behind None = Some MethodNotFound
+-- what is refused after it: that again, and what is no request that is known
+abbrev pub refusal_after : Option Method → Option ErrorCode
+refusal_after (Some Initialize) = Some InvalidRequest
+refusal_after (Some Shutdown) = None
+refusal_after (Some DocumentSymbol) = None
+refusal_after (Some Formatting) = None
+refusal_after (Some FoldingRange) = None
+refusal_after (Some Definition) = None
+refusal_after (Some References) = None
+refusal_after (Some DocumentHighlight) = None
+refusal_after (Some Hover) = None
+refusal_after (Some methods.Rename) = None
+refusal_after (Some Completion) = None
+refusal_after (Some WorkspaceSymbol) = None
+refusal_after (Some SemanticTokens) = None
+refusal_after (Some DidOpen) = Some MethodNotFound
+refusal_after (Some DidChange) = Some MethodNotFound
+refusal_after (Some DidClose) = Some MethodNotFound
+refusal_after (Some DidSave) = Some MethodNotFound
+refusal_after (Some Exit) = Some MethodNotFound
+refusal_after (Some Initialized) = Some MethodNotFound
+refusal_after (Some DidChangeWatchedFiles) = Some MethodNotFound
+refusal_after None = Some MethodNotFound
 
--- behind `shutdown` every request is refused
+-- after `shutdown` every request is refused
 abbrev pub refusal_of : Phase → Option Method → Option ErrorCode
 refusal_of Fresh method = refusal_before method
-refusal_of Running method = refusal_behind method
+refusal_of Running method = refusal_after method
 refusal_of ShutDown method = Some InvalidRequest
 refusal_of Exited method = Some InvalidRequest
 refusal_of Left method = Some InvalidRequest

@@ -24,7 +24,7 @@ abbrev pub next_line : (ends : Bool) → ℕ → ℕ
 next_line true line = line + 1
 next_line false line = line
 
--- the column behind that many units more, or the next line's first, if a line ends
+-- the column after that many units more, or the next line's first, if a line ends
 abbrev pub next_character : (ends : Bool) → (units character : ℕ) → ℕ
 next_character true units character = 0
 next_character false units character = character + units
@@ -42,7 +42,7 @@ character_at t (suc n) = next_character (ends_line t n) (utf16_units (slice_inde
 abbrev pub position_at : List ℕ → ℕ → Position
 position_at t byte = record { line = line_at t byte; character = character_at t byte }
 
--- The place of a byte: its line begins at `start`, and in it stand that many UTF-16 units before the byte.
+-- The place of a byte: its line begins at `start`, and in it are that many UTF-16 units before the byte.
 pub record IsPosition (t : List ℕ) (byte : ℕ) (position : Position) : Type 0 where
   pub start : ℕ
   pub before : start ≤ byte

@@ -45,7 +45,7 @@ diagnostics_form uri diagnostics =
     (member (codes "uri") (string uri) no_members)))
     no_members)))
 
--- the request to be told of something, by what it asks for
+-- the request to be notified of something, by what it asks for
 abbrev pub register_form : (params : Data) → Data
 register_form params =
     object (member (codes "id") (string (codes "ftl-watch"))

@@ -34,14 +34,14 @@ pub data GoesOn (before now : Session) (left after written sent_on : Option (Lis
   sends_unasked : (value : Data) → Unasked before value → now ≡ before → after ≡ left →
       Sends written sent_on (Some value) → GoesOn before now left after written sent_on
 
--- What is left of the input and what stands on the output, behind a session's steps from the first on.
+-- What is left of the input and what is on the output, after a session's steps from the first on.
 pub data Serves (input output : Option (List ℕ)) : (now : Session) → (left written : Option (List ℕ)) → Type 0 where
   begins : (session : Session) → IsFresh session → Serves input output session input output
   goes_on : (before now : Session) (left after written sent_on : Option (List ℕ)) →
       Serves input output before left written → ending_of before.phase ≡ None →
       GoesOn before now left after written sent_on → Serves input output now after sent_on
 
--- Why a body is not answered, and what stands on the output then: memory was refused, and nothing was written; or what
+-- Why a body is not answered, and what is on the output then: memory was refused, and nothing was written; or what
 -- was to be sent could not be written.
 pub data IsUnsent (before : Session) (body : List ℕ) (written : Option (List ℕ)) : Ending → (now : Option (List ℕ)) →
     Type 0 where
@@ -49,7 +49,7 @@ pub data IsUnsent (before : Session) (body : List ℕ) (written : Option (List �
   is_not_written : (now : Option (List ℕ)) (value : Data) (next : Session) → Answers before body (Some value) next →
       IsUnsent before body written Output now
 
--- Why nothing is sent unasked, and what stands on the output then: likewise.
+-- Why nothing is sent unasked, and what is on the output then: likewise.
 pub data IsUnpublished (before : Session) (written : Option (List ℕ)) : Ending → (now : Option (List ℕ)) → Type 0 where
   has_no_memory_to_publish : (now : Option (List ℕ)) → now ≡ written → IsUnpublished before written Memory now
   publishes_unwritten : (now : Option (List ℕ)) (value : Data) → Unasked before value →

@@ -59,7 +59,7 @@ HasResponse (Some Rename) fitting found = ⊤
 HasResponse _ fitting found = found ≡ fitting
 
 -- Why a request that its phase allows is refused: its parameters don't fit; or, of a renaming whose parameters do, what
--- stands at the place can't have the new name.
+-- is at the place can't have the new name.
 abbrev pub RefusesFor : Option Method → (fitting : Bool) → ErrorCode → Type 0
 RefusesFor method false code = code ≡ InvalidParams
 RefusesFor (Some Rename) true (errors.Rename fault) = ⊤
@@ -84,7 +84,7 @@ pub data TakesRequest (old : Session) (id d : Data) (method : Option Method) :
       new ≡ record { phase = after_request old.phase method; texts = old.texts } →
       TakesRequest old id d method (answered id result) new
 
--- whether a notification changes a document, or has its diagnostics told, while the session runs
+-- whether a notification changes a document, or has its diagnostics reported, while the session runs
 abbrev pub concerns : (texts : List ℕ → Option OpenText) → Data → Option Method → Bool
 concerns texts d (Some DidOpen) = is_some (uri_in d) && is_some (opened_text_in d)
 concerns texts d (Some DidChange) = names_open texts d && is_some (option_and_then edits_in (changes_in d))

@@ -4,7 +4,7 @@ ghost use Rattle.ftl_lsp.specs.HeaderEnds.{IsCrlfAt, HeaderOf, IsLineEnd, NoHead
 
 use crate::limits::HEADER_LIMIT;
 
-/// Whether a CRLF stands at the place.
+/// Whether there is a CRLF at the place.
 fn is_break(bytes: &[u8], at: usize) -> bool
     requires { at < length bytes.now }
     ensures { IsTrue result ↔ IsCrlfAt bytes.now at }

@@ -1,4 +1,4 @@
-//! A change of a document, as the protocol tells of it.
+//! A change of a document, as the protocol gives it.
 ghost use Rattle.std.specs.Prelude.{◌≡◌, map, option_and_then, option_map, string_bytes, IfOk};
 ghost use Rattle.serde_json.specs.Find.{as_number, as_u64};
 ghost use Rattle.serde_json.specs.View.{items_view, view};
@@ -22,7 +22,7 @@ pub enum Change<'m> {
     },
 }
 
-/// The change that a value tells of. None where it tells of none.
+/// The change that a value gives. None where it gives none.
 pub fn change_of(value: &Value) -> Option<Change<'_>>
     ensures { option_map edit_of result ≡ edit_in (view value.now) }
 {
@@ -37,7 +37,7 @@ pub fn change_of(value: &Value) -> Option<Change<'_>>
     }
 }
 
-/// The changes that the values tell of, in order. None where one of them tells of none. `AllocError` where a growth was
+/// The changes that the values give, in order. None where one of them gives none. `AllocError` where a growth was
 /// refused.
 pub fn changes_of(alloc: Global, values: &[Value]) -> Result<Option<Vec<Change<'_>>>, AllocError>
     ensures { IfOk result
@@ -53,7 +53,7 @@ pub fn changes_of(alloc: Global, values: &[Value]) -> Result<Option<Vec<Change<'
     Ok(Some(changes))
 }
 
-/// The place that a value tells of. None where it tells of none.
+/// The place that a value gives. None where it gives none.
 pub fn position_of(value: &Value) -> Option<Position>
     ensures { result ≡ position_in (view value.now) }
 {
@@ -85,7 +85,7 @@ impl Change<'_> {
     }
 }
 
-/// The text with another in place of what stands between two places, in whichever order they come.
+/// The text with another in place of what is between two places, in whichever order they come.
 fn text_after_range(
     alloc: Global,
     text: &str,

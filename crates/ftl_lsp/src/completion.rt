@@ -1,4 +1,4 @@
-//! The names that may stand at a place.
+//! The names that may be at a place.
 
 use crate::occurrences::{NameKind, Occurrence, is_name_byte, name_of};
 use crate::replies::item_form;
@@ -7,13 +7,13 @@ use serde_json::Value;
 use std::alloc::{AllocError, Global};
 use std::collections::BTreeMap;
 
-/// Which names may stand at a place.
+/// Which names may be at a place.
 #[derive(Clone, Copy)]
 enum Expected<'t> {
     Variables,
     Terms,
     MessagesAndTerms,
-    /// The attributes of a message or term, whose name is told with the `-` of a term.
+    /// The attributes of a message or term, whose name is given with the `-` of a term.
     AttributesOf(&'t str),
     Nothing,
 }
@@ -40,7 +40,7 @@ fn is_in_placeable(text: &[u8], end: usize) -> bool {
     false
 }
 
-/// What may stand behind the byte's name.
+/// What may come after the byte's name.
 fn expected_at(text: &str, byte: usize) -> Expected<'_> {
     let bytes = text.as_bytes();
     let begin = begin_of_name(bytes, byte);
@@ -62,7 +62,7 @@ fn expected_at(text: &str, byte: usize) -> Expected<'_> {
     }
 }
 
-/// The name as it is written where it is referred to, if it may stand there.
+/// The name as it is written where it is referred to, if it may be there.
 fn label_of(
     alloc: Global,
     text: &str,
@@ -91,7 +91,7 @@ fn label_of(
     }
 }
 
-/// The names that may stand at the place, each once, in the order of their bytes.
+/// The names that may be at the place, each once, in the order of their bytes.
 pub fn completion(alloc: Global, context: &RequestContext<'_>) -> Result<Value, AllocError> {
     let mut list = Vec::new(alloc);
     let Some(here) = context.here() else {

@@ -13,7 +13,7 @@ use ftl_files::ReportedKind;
 use serde_json::{Value, json};
 use std::alloc::{AllocError, Global};
 
-/// What is told of a document beside its errors.
+/// What is reported of a document besides its errors.
 #[derive(Drop)]
 pub struct LintDiagnostic<'u> {
     pub range: PositionRange,
@@ -95,8 +95,8 @@ fn error_form(alloc: Global, error: &Diagnostic) -> Result<Value, AllocError>
     )
 }
 
-/// What is told beside the errors, in order: each with the other place, if the editor takes one. `AllocError` where a
-/// growth was refused.
+/// What is reported besides the errors, in order: each with the other place, if the editor takes one. `AllocError`
+/// where a growth was refused.
 pub fn lint_diagnostic_list(
     alloc: Global,
     all: &[LintDiagnostic<'_>],

@@ -62,7 +62,7 @@ pub fn extra_message(
     }
 }
 
-/// A place of the original, as it is told: `path` is the original's as it is shown. `AllocError` where a growth was
+/// A place of the original, as it is reported: `path` is the original's as it is shown. `AllocError` where a growth was
 /// refused.
 pub fn place_text(alloc: Global, path: &str, position: Position) -> Result<String, AllocError> {
     let line = position.line.saturating_add(1);

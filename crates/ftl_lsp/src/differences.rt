@@ -14,7 +14,7 @@ use std::alloc::{AllocError, Global};
 use std::collections::BTreeMap;
 
 /// What the original has and the document lacks, in the order of the original, and then what the document has and the
-/// original lacks, in the order of the document. `shown` is the path of the original, as it is told.
+/// original lacks, in the order of the document. `shown` is the path of the original, as it is reported.
 ///
 /// `AllocError` where a growth was refused.
 pub fn differences_of<'u>(
@@ -28,8 +28,8 @@ pub fn differences_of<'u>(
     Ok(diagnostics)
 }
 
-/// What is told of that which the document lacks: at the entry that lacks it, or at the name with which the first junk
-/// begins that is the entry; at the document's begin, where neither is.
+/// What is reported of that which the document lacks: at the entry that lacks it, or at the name with which the first
+/// junk begins that is the entry; at the document's begin, where neither is.
 fn missing_of<'u>(
     alloc: Global,
     document: &NameIndex<'_>,
@@ -58,7 +58,7 @@ fn missing_of<'u>(
     Ok(diagnostics)
 }
 
-/// What is told of that which the original lacks, or has as junk.
+/// What is reported of that which the original lacks, or has as junk.
 fn extra_of<'u>(
     alloc: Global,
     document: &NameIndex<'_>,
@@ -88,7 +88,7 @@ fn extra_of<'u>(
     Ok(diagnostics)
 }
 
-/// A place in the original, beside what is told of the document.
+/// A place in the original, with what is reported of the document.
 fn related_in<'u>(original: &Original<'u>, range: PositionRange) -> Related<'u> {
     Related {
         uri: original.uri,

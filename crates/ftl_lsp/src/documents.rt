@@ -11,7 +11,7 @@ use fluent_syntax::spans::{Span, parse_spans_within};
 use fluent_syntax_names::{NameIndex, name_index_of};
 use std::alloc::{AllocError, Global};
 
-/// A text with what was read of it. Behind each change it is made anew.
+/// A text with what was read of it. After each change it is made anew.
 #[derive(Drop)]
 pub struct Document {
     text: String,
@@ -97,7 +97,7 @@ impl Document {
         name_index_of(alloc, self.text.as_str(), &self.body)
     }
 
-    /// The message or term in which the byte stands, with its comment. None where none is.
+    /// The message or term in which the byte is, with its comment. None where there is none.
     pub fn entry_at(&self, byte: usize) -> Option<&str> {
         let Span { start, end } = entry_range_at(self.text.as_str(), &self.body, byte)?;
         self.text.get(start..end)

@@ -17,7 +17,7 @@ pub enum Ending {
     Memory,
     /// The output could not be written.
     Output,
-    /// The input ended behind a frame, without `exit`.
+    /// The input ended after a frame, without `exit`.
     Closed,
     /// The input ended inside a frame.
     Cut,

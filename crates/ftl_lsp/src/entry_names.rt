@@ -8,7 +8,7 @@ use std::alloc::{AllocError, Global};
 /// The messages and terms that a text defines, in its order.
 #[derive(Drop)]
 pub struct EntryNames<'t> {
-    /// Where each name begins behind the `-` of a term, and the name with it.
+    /// Where each name begins after the `-` of a term, and the name with it.
     names: Vec<(usize, &'t str)>,
 }
 
@@ -26,8 +26,8 @@ impl<'t> EntryNames<'t> {
 
     /// The name of the message or term in which the byte is, if it is in one.
     pub fn name_at(&self, byte: usize) -> Option<&'t str> {
-        let behind = self.names.partition_point(|(start, _)| *start <= byte);
-        match self.names.get(behind.checked_sub(1)?) {
+        let beyond = self.names.partition_point(|(start, _)| *start <= byte);
+        match self.names.get(beyond.checked_sub(1)?) {
             Some((_, name)) => Some(*name),
             None => None,
         }
@@ -42,7 +42,7 @@ pub fn entry_name(mention: &Mention<Span>) -> Option<Span> {
     }
 }
 
-/// The name at a range of the text, with the `-` before it where one stands there.
+/// The name at a range of the text, with the `-` before it where there is one.
 pub fn name_with_hyphen(text: &str, name: Span) -> &str {
     let start = name.start.saturating_sub(1);
     match text.get(start..name.end) {

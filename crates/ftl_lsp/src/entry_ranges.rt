@@ -1,4 +1,4 @@
-//! Where the entries of a document stand, with their comments.
+//! Where the entries of a document are, with their comments.
 
 use fluent_syntax::ast::{Comment, Entry};
 use fluent_syntax::spans::Span;
@@ -30,7 +30,7 @@ fn start_of_comment(text: &str, comment: &Comment<Span>) -> usize {
     }
 }
 
-/// Where the line begins in which the byte stands.
+/// Where the line begins in which the byte is.
 fn start_of_line(text: &[u8], byte: usize) -> usize {
     for at in (0..byte.min(text.len())).rev() {
         if text[at] == b'\n' {
@@ -50,7 +50,7 @@ fn trimmed_end(text: &[u8], end: usize) -> usize {
     0
 }
 
-/// Where the entry of that number stands, with its comment and without blanks behind it: nothing else stands between it
+/// Where the entry of that number is, with its comment and without blanks after it: nothing else is between it
 /// and the next one.
 pub fn entry_range_of(text: &str, body: &[Entry<Span>], number: usize) -> Option<Span> {
     let start = start_of(text, body.get(number)?);
@@ -64,8 +64,8 @@ pub fn entry_range_of(text: &str, body: &[Entry<Span>], number: usize) -> Option
     })
 }
 
-/// Where the entry stands that is the last to begin before the byte or there. None where none does.
+/// Where the entry is that is the last to begin before the byte or there. None where none does.
 pub fn entry_range_at(text: &str, body: &[Entry<Span>], byte: usize) -> Option<Span> {
-    let behind = body.partition_point(|entry| start_of(text, entry) <= byte);
-    entry_range_of(text, body, behind.checked_sub(1)?)
+    let beyond = body.partition_point(|entry| start_of(text, entry) <= byte);
+    entry_range_of(text, body, beyond.checked_sub(1)?)
 }

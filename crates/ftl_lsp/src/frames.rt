@@ -28,7 +28,7 @@ pub enum Framing {
     Refused(FrameFault),
 }
 
-/// What the bytes begin with: a frame where its header is sound and all of its body is there. More bytes behind them
+/// What the bytes begin with: a frame where its header is sound and all of its body is there. More bytes after them
 /// change nothing unless the answer is `Partial`.
 pub fn first_frame(bytes: &[u8]) -> Framing
     ensures { IsFraming bytes.now result }

@@ -49,20 +49,20 @@ fn length_field_value(line: &[u8]) -> Option<usize>
     None
 }
 
-/// The number of digits, of which there is at least one, with spaces and tabs behind them.
+/// The number of digits, of which there is at least one, with spaces and tabs after them.
 fn digits(text: &[u8]) -> Option<usize>
     ensures { result ≡ digits_of text.now }
 {
     let (first, others) = text.split_first()?;
     if is_ten_digit(*first) {
-        digits_behind(usize::from(*first - b'0'), others)
+        number_with_digits(usize::from(*first - b'0'), others)
     } else {
         None
     }
 }
 
-/// The number of further digits behind a number, with spaces and tabs behind them.
-fn digits_behind(number: usize, text: &[u8]) -> Option<usize>
+/// The number of further digits after a number, with spaces and tabs after them.
+fn number_with_digits(number: usize, text: &[u8]) -> Option<usize>
     requires { number ≤ BODY_LIMIT + 1 }
     ensures { result ≡ digits_after number text.now }
 {

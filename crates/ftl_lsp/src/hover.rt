@@ -1,4 +1,4 @@
-//! What is shown of a name: the entries that define it, as they stand in the text.
+//! What is shown of a name: the entries that define it, as they are in the text.
 
 use crate::index::IndexedDocument;
 use crate::occurrences::Name;
@@ -92,7 +92,7 @@ fn text_of(alloc: Global, quotes: &[Quote<'_>]) -> Result<String, AllocError> {
     Ok(text)
 }
 
-/// Adds whose the entries are, behind an empty line if it isn't the first line.
+/// Adds whose the entries are, after an empty line if it isn't the first line.
 fn push_label(text: &mut String, quote: &Quote<'_>) -> Result<(), AllocError> {
     if !text.is_empty() {
         text.push('\n')?;

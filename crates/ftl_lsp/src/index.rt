@@ -165,7 +165,7 @@ impl IndexedDocument<'_> {
         found
     }
 
-    /// Where the name stands, in order. `AllocError` where a growth was refused.
+    /// Where the name is, in order. `AllocError` where a growth was refused.
     pub fn ranges_of(
         &self,
         alloc: Global,
@@ -188,7 +188,7 @@ impl IndexedDocument<'_> {
             .any(|found| found.defines && is_named(self.text, found, name))
     }
 
-    /// The messages and terms that define the name, in order, as they stand in the text with their comments.
+    /// The messages and terms that define the name, in order, as they are in the text with their comments.
     /// `AllocError` where a growth was refused.
     pub fn definitions_of(&self, alloc: Global, name: Name<'_>) -> Result<Vec<String>, AllocError> {
         let spans = self.ranges_of(alloc, name, OccurrenceFilter::Definitions)?;

@@ -1,4 +1,4 @@
-//! What is told of the findings of a document.
+//! What is reported of the findings of a document.
 
 use crate::diagnostic_forms::{LintDiagnostic, LintDiagnosticKind, Related};
 use crate::occurrences::bytes_of;
@@ -7,7 +7,7 @@ use fluent_syntax::spans::Span;
 use fluent_syntax_names::Finding;
 use std::alloc::{AllocError, Global};
 
-/// What is told of each finding that has a place, in their order, which is that of the text. `AllocError` where a
+/// What is reported of each finding that has a place, in their order, which is that of the text. `AllocError` where a
 /// growth was refused.
 pub fn finding_diagnostics<'u>(
     alloc: Global,

@@ -1,4 +1,4 @@
-//! What is shown to the user beside answers and diagnostics.
+//! What is shown to the user besides answers and diagnostics.
 ghost use Rattle.std.specs.Prelude.{◌≡◌, string_bytes, IfOk, IfSome, OnOk};
 ghost use Rattle.serde_json.specs.View.{view};
 ghost use Rattle.ftl_lsp.specs.Replies.{notice_form};

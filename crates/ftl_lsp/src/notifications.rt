@@ -50,7 +50,7 @@ impl Server {
         Ok(None)
     }
 
-    /// Opens a document, and tells of its diagnostics.
+    /// Opens a document, and reports its diagnostics.
     fn open(&mut self, message: &Value) -> Result<Option<Value>, AllocError>
         ensures phase { OnOk result (self.new.phase ≡ self.old.phase) }
         ensures follows { let old = texts self.old.documents in
@@ -70,7 +70,7 @@ impl Server {
         self.publish(uri)
     }
 
-    /// Makes the changes of an open document, in order, and tells of its diagnostics. Nothing is changed where one of
+    /// Makes the changes of an open document, in order, and reports its diagnostics. Nothing is changed where one of
     /// them is none.
     fn change(&mut self, message: &Value) -> Result<Option<Value>, AllocError>
         ensures phase { OnOk result (self.new.phase ≡ self.old.phase) }
@@ -96,7 +96,7 @@ impl Server {
         self.publish(uri)
     }
 
-    /// Tells of the diagnostics of an open document.
+    /// Reports the diagnostics of an open document.
     fn save(&mut self, message: &Value) -> Result<Option<Value>, AllocError>
         ensures phase { OnOk result (self.new.phase ≡ self.old.phase) }
         ensures follows { let old = texts self.old.documents in

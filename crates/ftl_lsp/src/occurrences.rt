@@ -1,4 +1,4 @@
-//! The names in a text, each where it stands.
+//! The names in a text, each where it is.
 
 use fluent_syntax::spans::Span;
 use fluent_syntax_names::Mention;
@@ -36,7 +36,7 @@ impl Occurrence {
         }
     }
 
-    /// Where it stands.
+    /// Where it is.
     pub fn span(&self) -> Span {
         match self.attribute {
             None => self.name,
@@ -44,19 +44,19 @@ impl Occurrence {
         }
     }
 
-    /// Whether it stands at the byte or ends there.
+    /// Whether it is at the byte or ends there.
     pub fn is_at(&self, byte: usize) -> bool {
         let span = self.span();
         span.start <= byte && byte <= span.end
     }
 }
 
-/// Whether a name may have the byte behind its first letter.
+/// Whether a name may have the byte after its first letter.
 pub fn is_name_byte(byte: u8) -> bool {
     byte.is_ascii_alphanumeric() || byte == b'-' || byte == b'_'
 }
 
-/// What a name is one of, and its text: where these are the same, the names stand for the same.
+/// What a name is one of, and its text: where these are the same, the names mean the same.
 #[derive(Clone, Copy, PartialEq, Eq)]
 pub struct Name<'t> {
     pub kind: NameKind,
@@ -99,7 +99,7 @@ pub fn occurrences_of(
     Ok(found)
 }
 
-/// Adds the names of a mention behind the message or term whose attributes may follow; gives the one whose may follow
+/// Adds the names of a mention after the message or term whose attributes may follow; gives the one whose may follow
 /// then.
 fn add_mention(
     found: &mut Vec<Occurrence>,

@@ -3,7 +3,7 @@ ghost use Rattle.std.specs.Prelude.{◌≡◌, ◌-◌, ◌^◌, ◌<◌, length
 ghost use Rattle.ftl_lsp.specs.Offsets.{BeginsLine, is_break, is_reached, IsByteOf, stops_at};
 ghost use Rattle.ftl_lsp.specs.Positions.{line_at};
 
-use crate::positions::{Position, is_line_end, position_behind, units};
+use crate::positions::{Position, is_line_end, next_position, units};
 
 /// Whether a line's text ends before the byte: an LF or a CR.
 fn is_break(byte: u8) -> bool
@@ -12,7 +12,7 @@ fn is_break(byte: u8) -> bool
     byte == b'\n' || byte == b'\r'
 }
 
-/// Whether the column is reached before the byte, behind so many UTF-16 units of the line: the line's text ends there,
+/// Whether the column is reached before the byte, after so many UTF-16 units of the line: the line's text ends there,
 /// or what begins with the byte reaches beyond the column.
 fn stops_at(byte: u8, character: usize, column: usize) -> bool
     requires { character < 2 ^ 64 - 2 }
@@ -66,7 +66,7 @@ pub fn byte_of(text: &str, position: Position) -> usize
         if is_reached(bytes[at], here, position) {
             return at;
         }
-        here = position_behind(bytes, at, here);
+        here = next_position(bytes, at, here);
     }
     bytes.len()
 }

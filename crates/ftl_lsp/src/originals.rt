@@ -7,10 +7,10 @@ use ftl_files::original_of;
 use std::alloc::{AllocError, Global};
 use std::collections::BTreeMap;
 
-/// Where the reference language has its files: a folder or a file. The other languages have theirs beside it.
+/// Where the reference language has its files: a folder or a file. The other languages have theirs next to it.
 #[derive(Drop)]
 pub struct Reference {
-    /// The folder that it stands in.
+    /// The folder that it is in.
     above: String,
     /// Its name there.
     own: String,

@@ -1,4 +1,4 @@
-//! What is defined and said beside a document, in the files of its set.
+//! What the other files of a document's set define and say.
 
 use crate::file_sets::FileSet;
 use crate::limits::FINDINGS_LIMIT;

@@ -33,7 +33,7 @@ fn frame_of(alloc: Global, message: &Value) -> Result<String, AllocError>
     Ok(frame)
 }
 
-/// The header of a body of so many bytes, with the empty line behind it.
+/// The header of a body of so many bytes, with the empty line after it.
 fn header_of(alloc: Global, length: usize) -> Result<String, AllocError>
     ensures { IfOk result (λ header. string_bytes header ≡ frame_header length) }
 {

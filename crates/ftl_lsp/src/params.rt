@@ -36,7 +36,7 @@ pub fn opened_text(message: &Value) -> Option<&str>
         .and_then(Value::as_str)
 }
 
-/// The changes that a message tells of.
+/// The changes that a message gives.
 pub fn changes_in(message: &Value) -> Option<&Vec<Value>>
     ensures { option_map (λ changes. items_view changes.now.items) result ≡ changes_in (view message.now) }
 {

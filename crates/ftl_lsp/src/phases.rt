@@ -33,14 +33,14 @@ pub enum ErrorCode {
     InvalidParams,
     /// `initialize` has not come.
     NotInitialized,
-    /// What stands at the place can't have the new name.
+    /// What is at the place can't have the new name.
     Rename(RenameFault),
 }
 
 /// Why a name can't have another.
 #[derive(Clone, Copy, PartialEq, Eq)]
 pub enum RenameFault {
-    /// No name stands at the place.
+    /// There is no name at the place.
     NoName,
     /// The name there is that of a variable or a function, which nothing defines.
     VariableOrFunction,
@@ -126,7 +126,7 @@ impl Phase {
         }
     }
 
-    /// The phase behind a request.
+    /// The phase after a request.
     pub fn after_request(&self, method: Option<Method>) -> Phase
         ensures { result ≡ after_request self.now method }
     {
@@ -137,7 +137,7 @@ impl Phase {
         }
     }
 
-    /// The phase behind a notification.
+    /// The phase after a notification.
     pub fn after_notification(&self, method: Option<Method>) -> Phase
         ensures { result ≡ after_notification self.now method }
     {

@@ -70,7 +70,7 @@ impl<'t> Positions<'t> {
             (self.here, self.byte)
         };
         for at in from..byte {
-            here = position_behind(self.text, at, here);
+            here = next_position(self.text, at, here);
         }
         *self = Positions {
             text: self.text,
@@ -100,8 +100,8 @@ impl Positions<'_> {
     }
 }
 
-/// Where the line begins in which a byte stands: its place and its byte. It is read back from a byte behind that one,
-/// or from that one itself, which stands in the line of the number.
+/// Where the line begins in which a byte is: its place and its byte. It is read back from a byte after that one,
+/// or from that one itself, which is in the line of the number.
 fn line_start_before(text: &[u8], byte: usize, from: usize, line: usize) -> (Position, usize)
     requires order { byte ≤ from }
     requires within { from ≤ length text.now }
@@ -127,8 +127,8 @@ fn begins_line(text: &[u8], at: usize) -> bool
     at == 0 || is_line_end(text, at - 1)
 }
 
-/// The place behind a byte of the text that has this one.
-pub(crate) fn position_behind(text: &[u8], at: usize, here: Position) -> Position
+/// The place after a byte of the text that has this one.
+pub(crate) fn next_position(text: &[u8], at: usize, here: Position) -> Position
     requires byte { at < length text.now }
     requires small { length text.now < 2 ^ 63 }
     requires position { here ≡ position_at text.now at }

@@ -1,4 +1,4 @@
-//! What is told of a document.
+//! What is reported of a document.
 ghost use Rattle.std.specs.Prelude.{◌≡◌, map, option_map, All, IfOk, OnOk};
 ghost use Rattle.serde_json.specs.View.{view};
 ghost use Rattle.ftl_lsp.specs.OpenDocuments.{texts};
@@ -41,7 +41,7 @@ impl Server {
         Ok(Some(diagnostics_notification(self.alloc, uri, list)?))
     }
 
-    /// Looks up what is defined beside a document, if its findings are sought there.
+    /// Looks up what is defined next to a document, if its findings are sought there.
     fn look_up_names(&mut self, uri: &str) -> Result<(), AllocError>
         ensures same { OnOk result (session_of self.new ≡ session_of self.old) }
     {
@@ -58,8 +58,8 @@ impl Server {
         Ok(())
     }
 
-    /// What is told of a document beside its errors: what is found in it, and then how it differs from its original.
-    /// Nothing of one that is too long or nests too deeply.
+    /// What is reported of a document besides its errors: what is found in it, and then how it differs from its
+    /// original. Nothing of one that is too long or nests too deeply.
     fn lint_diagnostics(&self, uri: &str, open: &OpenDocument) -> Result<Vec<Value>, AllocError>
         ensures { IfOk result (λ list. All IsLintDiagnostic (map view list.items)) }
     {
@@ -69,12 +69,12 @@ impl Server {
         let name_index = open.document.name_index(self.alloc)?;
         let ignored = self.ignored_of(open)?;
         let mut differences = self.differences(open, &name_index)?;
-        differences.retain(|told| !ignored.contains(&told.kind.reported_kind()));
+        differences.retain(|differing| !ignored.contains(&differing.kind.reported_kind()));
         let findings = self.reported_findings(uri, name_index, &ignored)?;
         let diagnostics = finding_diagnostics(self.alloc, uri, open.document.text(), &findings)?;
         let mut list = lint_diagnostic_list(self.alloc, &diagnostics, self.related)?;
-        let mut behind = lint_diagnostic_list(self.alloc, &differences, self.related)?;
-        list.append(&mut behind)?;
+        let mut difference_list = lint_diagnostic_list(self.alloc, &differences, self.related)?;
+        list.append(&mut difference_list)?;
         Ok(list)
     }
 
@@ -103,7 +103,7 @@ impl Server {
         differences_of(self.alloc, name_index, &original, shown)
     }
 
-    /// The kinds that are not told of a document.
+    /// The kinds that are not reported of a document.
     fn ignored_of(&self, open: &OpenDocument) -> Result<Vec<ReportedKind>, AllocError> {
         match &open.path {
             Some(path) => self.workspace.ignored_at(self.alloc, path.as_str()),
@@ -125,7 +125,7 @@ impl Server {
             .collect(self.alloc)
     }
 
-    /// What is found in a document: by itself; where all others of its set are known, among them, or beside them where
+    /// What is found in a document: by itself; where all others of its set are known, among them, or next to them where
     /// they are long.
     fn findings(&self, uri: &str, name_index: NameIndex<'_>) -> Result<Vec<Finding>, AllocError> {
         let (alloc, workspace) = (self.alloc, &self.workspace);

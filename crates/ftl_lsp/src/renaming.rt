@@ -1,4 +1,4 @@
-//! Another name for what a name stands for, in the documents and files of a set.
+//! Another name for what a name means, in the documents and files of a set.
 
 use crate::index::{IndexedDocument, OccurrenceFilter};
 use crate::occurrences::{Name, NameKind, is_name_byte};
@@ -85,7 +85,7 @@ pub fn rename_edits(
     Ok(Ok(json!(in alloc; {"documentChanges": changes})?))
 }
 
-/// The edits of each document and file in which the name stands.
+/// The edits of each document and file in which the name is.
 fn document_changes(
     alloc: Global,
     documents: &[IndexedDocument<'_>],

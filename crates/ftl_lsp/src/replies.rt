@@ -57,7 +57,7 @@ fn provider_capabilities(alloc: Global) -> Result<Value, AllocError> {
     })
 }
 
-/// Which changes of a document the server is told.
+/// Of which changes of a document the server is notified.
 fn document_sync(alloc: Global) -> Result<Value, AllocError> {
     json!(in alloc; {"openClose": true, "change": 2, "save": true})
 }
@@ -98,7 +98,7 @@ fn text_list(alloc: Global, texts: &[&str]) -> Result<Value, AllocError> {
     Ok(Value::Array(list))
 }
 
-/// The request to be told of something, by what it asks for.
+/// The request to be notified of something, by what it asks for.
 pub fn register_request(alloc: Global, params: Value) -> Result<Value, AllocError>
     ensures { IfOk result (λ value. view value ≡ register_form (view params)) }
 {
@@ -110,7 +110,7 @@ pub fn register_request(alloc: Global, params: Value) -> Result<Value, AllocErro
     })
 }
 
-/// What asks to be told of changes of the files in the editor's folders.
+/// What asks to be notified of changes of the files in the editor's folders.
 pub fn watch_params(alloc: Global) -> Result<Value, AllocError> {
     let texts = json!(in alloc; {"globPattern": "**/*.ftl"})?;
     let settings = json!(in alloc; {"globPattern": "**/ftl.toml"})?;

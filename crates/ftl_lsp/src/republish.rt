@@ -12,7 +12,7 @@ use serde_json::Value;
 use std::alloc::AllocError;
 
 impl Server {
-    /// Notes which documents are stale behind a notification of the method, since other findings may be in them now:
+    /// Notes which documents are stale after a notification of the method, since other findings may be in them now:
     /// all that are open in the workspace, but for the one that it names.
     pub(crate) fn mark_stale(
         &mut self,

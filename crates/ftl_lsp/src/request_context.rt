@@ -35,7 +35,7 @@ impl RequestContext<'_> {
         self.here()?.name_at(self.byte)
     }
 
-    /// Where the name at the place stands in the documents and files of the set; null where there is no name.
+    /// Where the name at the place is in the documents and files of the set; null where there is no name.
     /// `AllocError` where a growth was refused.
     pub fn locations(&self, alloc: Global, filter: OccurrenceFilter) -> Result<Value, AllocError> {
         let Some(name) = self.name() else {
@@ -93,7 +93,7 @@ impl RequestContext<'_> {
         Ok(nearest)
     }
 
-    /// Where the name at the place stands in its document; null where there is none. `AllocError` where a growth was
+    /// Where the name at the place is in its document; null where there is none. `AllocError` where a growth was
     /// refused.
     pub fn highlights(&self, alloc: Global) -> Result<Value, AllocError> {
         let Some(here) = self.here() else {

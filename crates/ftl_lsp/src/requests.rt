@@ -68,7 +68,7 @@ impl Server {
         }
     }
 
-    /// Where the name at the place stands in the documents and files of the set.
+    /// Where the name at the place is in the documents and files of the set.
     pub(crate) fn references(&self, message: &Value) -> Result<Option<Value>, AllocError>
         ensures { IfOk result
             (λ found. is_some found ≡ names_position (texts self.now.documents) (view message.now)) }
@@ -79,7 +79,7 @@ impl Server {
         }
     }
 
-    /// Where the name at the place stands in the document.
+    /// Where the name at the place is in the document.
     pub(crate) fn document_highlights(&self, message: &Value) -> Result<Option<Value>, AllocError>
         ensures { IfOk result
             (λ found. is_some found ≡ names_position (texts self.now.documents) (view message.now)) }
@@ -101,7 +101,7 @@ impl Server {
         }
     }
 
-    /// The names that may stand at the place.
+    /// The names that may be at the place.
     pub(crate) fn completions(&self, message: &Value) -> Result<Option<Value>, AllocError>
         ensures { IfOk result
             (λ found. is_some found ≡ names_position (texts self.now.documents) (view message.now)) }

@@ -50,7 +50,7 @@ impl Server {
     }
 
     /// What a request of the method, which is no renaming, asks for. None where its parameters name no open document,
-    /// or not what the method wants beside it.
+    /// or not what the method wants besides it.
     fn requested_value(
         &mut self,
         method: Option<Method>,

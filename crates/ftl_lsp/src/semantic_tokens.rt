@@ -59,14 +59,14 @@ pub fn encoded_tokens(
     Ok(list)
 }
 
-/// Adds the numbers of a highlight behind one that begins at `before`.
+/// Adds the numbers of a highlight after one that begins at `before`.
 fn add_row(
     list: &mut Vec<usize>,
     before: Position,
     highlight: SemanticToken,
 ) -> Result<(), AllocError> {
     list.push(highlight.start.line.saturating_sub(before.line))?;
-    list.push(columns_behind(before, highlight.start))?;
+    list.push(columns_between(before, highlight.start))?;
     list.push(highlight.length)?;
     list.push(type_number(highlight.kind))?;
     list.push(modifier_bits(highlight.kind))?;
@@ -74,7 +74,7 @@ fn add_row(
 }
 
 /// The column of a place, from that of one before it where they are in the same line.
-fn columns_behind(before: Position, position: Position) -> usize {
+fn columns_between(before: Position, position: Position) -> usize {
     if before.line == position.line {
         position.character.saturating_sub(before.character)
     } else {

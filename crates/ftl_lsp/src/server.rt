@@ -66,7 +66,7 @@ impl Server {
     }
 
     /// Takes a message, and gives the one to send for it. None where there is none. Closed files are read where it
-    /// tells that they may be others now, and before a renaming.
+    /// says that they may be others now, and before a renaming.
     ///
     /// `AllocError` where a growth was refused.
     pub fn take<F: Folders>(&mut self, body: &[u8], files: &F) -> Result<Option<Value>, AllocError>
@@ -167,7 +167,7 @@ impl Server {
     }
 }
 
-/// Whether the files of the workspace may be others behind a notification.
+/// Whether the files of the workspace may be others after a notification.
 fn changes_files(method: Option<Method>) -> bool {
     matches!(
         method,

@@ -7,7 +7,7 @@ use fluent_syntax::ast::{Attribute, Comment, Entry};
 use fluent_syntax::spans::Span;
 use std::alloc::{AllocError, Global};
 
-/// What a symbol stands for.
+/// What a symbol is of.
 #[derive(Clone, Copy)]
 pub enum SymbolKind {
     Message,
@@ -19,7 +19,7 @@ pub enum SymbolKind {
 #[derive(Drop)]
 pub struct Symbol {
     pub kind: SymbolKind,
-    /// The entry with its comment, without blanks behind it.
+    /// The entry with its comment, without blanks after it.
     pub whole: Span,
     /// With the `-` of a term.
     pub name: Span,

@@ -1,4 +1,4 @@
-//! What an editor can highlight: a stretch of the text, and what stands there.
+//! What an editor can highlight: a stretch of the text, and what is there.
 
 use fluent_syntax::spans::Span;
 

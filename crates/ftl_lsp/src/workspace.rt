@@ -39,7 +39,7 @@ impl Workspace {
         }
     }
 
-    /// The workspace of which an editor tells in its `initialize`. No file was read.
+    /// The workspace that an editor names in its `initialize`. No file was read.
     pub fn from_initialize(alloc: Global, message: &Value) -> Result<Self, AllocError> {
         let mut folders = Vec::new(alloc);
         for uri in folder_uris(alloc, message)?.iter() {
@@ -69,7 +69,7 @@ impl Workspace {
         self.can_watch && !self.folders.is_empty()
     }
 
-    /// Reads the files anew. What is said of one whose text is the same is kept. The notices tell which settings are
+    /// Reads the files anew. What is said of one whose text is the same is kept. The notices say which settings are
     /// wrong by now.
     ///
     /// `AllocError` where a growth was refused.
@@ -105,18 +105,18 @@ impl Workspace {
         Ok(notices)
     }
 
-    /// Whether all files are known that may define what a file at the path refers to: it stands below one of the
+    /// Whether all files are known that may define what a file at the path refers to: it is below one of the
     /// folders, and no file of them was left out.
     pub fn is_complete_for(&self, path: &str) -> bool {
         self.is_whole && self.covers(path)
     }
 
-    /// Whether files are looked for where the path stands, below one of the folders.
+    /// Whether files are looked for where the path is, below one of the folders.
     pub fn covers(&self, path: &str) -> bool {
         self.folders.iter().any(|folder| folder.covers(path))
     }
 
-    /// Whether the path stands below one of the folders, and is passed over there.
+    /// Whether the path is below one of the folders, and is passed over there.
     fn is_passed_over(&self, path: &str) -> bool {
         self.folders.iter().any(|folder| folder.has(path)) && !self.covers(path)
     }
@@ -157,7 +157,7 @@ impl Workspace {
         Ok(files)
     }
 
-    /// The kinds that are not told of a file at the path: those that a folder leaves out below which it stands.
+    /// The kinds that are not reported of a file at the path: those that a folder leaves out below which it is.
     /// `AllocError` where a growth was refused.
     pub fn ignored_at(&self, alloc: Global, path: &str) -> Result<Vec<ReportedKind>, AllocError> {
         let mut ignored = Vec::new(alloc);
@@ -186,7 +186,7 @@ impl Workspace {
         Ok(None)
     }
 
-    /// The path as it is shown: without the folder below which it stands.
+    /// The path as it is shown: without the folder below which it is.
     pub fn display_path<'p>(&self, path: &'p str) -> &'p str {
         for folder in &self.folders {
             if folder.has(path) {
@@ -250,7 +250,7 @@ fn is_open(documents: &BTreeMap<String, OpenDocument>, path: &str) -> bool {
         .any(|open| open.path.as_deref() == Some(path))
 }
 
-/// The URIs of the folders of which an editor tells, or of its one folder.
+/// The URIs of the folders that an editor names, or of its one folder.
 fn folder_uris(alloc: Global, message: &Value) -> Result<Vec<&str>, AllocError> {
     let mut uris = Vec::new(alloc);
     match message

@@ -13,7 +13,7 @@ use std::alloc::{AllocError, Global};
 pub struct WorkspaceFolder {
     /// Its path, which doesn't end in a `/`.
     pub path: String,
-    /// The kinds that are not told of its files.
+    /// The kinds that are not reported of its files.
     pub ignored: Vec<ReportedKind>,
     /// What is passed over below it.
     pub excluded: Excluded,
@@ -38,12 +38,12 @@ impl WorkspaceFolder {
         })
     }
 
-    /// Whether the path stands below it.
+    /// Whether the path is below it.
     pub fn has(&self, path: &str) -> bool {
         is_below(self.path.as_str(), path)
     }
 
-    /// Whether files are looked for where the path stands.
+    /// Whether files are looked for where the path is.
     pub fn covers(&self, path: &str) -> bool {
         self.has(path) && !self.excluded.hides(self.path.as_str(), path)
     }
@@ -69,12 +69,12 @@ impl WorkspaceFolder {
             Err(fault) => (None, Some(fault)),
         };
         self.take_settings(alloc, settings)?;
-        let told = match &fault {
+        let new_fault = match &fault {
             Some(sentence) if self.fault != fault => Some(sentence.clone()?),
             _ => None,
         };
         self.fault = fault;
-        Ok(told)
+        Ok(new_fault)
     }
 
     /// Notes what the settings say.

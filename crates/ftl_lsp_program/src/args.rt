@@ -16,7 +16,7 @@ pub(crate) enum Request {
     Help,
 }
 
-/// What the words ask for; or the exit status, once it is told that they are wrong, or that memory was refused.
+/// What the words ask for; or the exit status, once it is reported that they are wrong, or that memory was refused.
 pub(crate) fn request_of<R: Env + Eprint + AllocGlobal>(rt: &R) -> Result<Request, u8> {
     let words = all_args(rt)?;
     match words.as_slice() {

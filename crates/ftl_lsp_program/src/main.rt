@@ -37,7 +37,7 @@ where
     serve(rt.alloc(), &mut reader, &mut writer, &Disk::new(rt))
 }
 
-/// Tells how a session ended, where that was no exit, and gives the exit status.
+/// Reports how a session ended, where that was no exit, and gives the exit status.
 fn end<R: Eprint>(rt: &R, ending: Ending) -> u8 {
     if !ending.line().is_empty() {
         let _ = rt.eprintln(ending.line());

@@ -1,4 +1,4 @@
-//! Whether errors are told in colours.
+//! Whether errors are reported in colours.
 
 use ftl_args::Options;
 use ftl_files::Color;
@@ -7,7 +7,7 @@ use std::env;
 use std::io::IsTerminal;
 use std::rt::Env;
 
-/// The form in which errors are told over paths: the full one where none was asked for, in colours where these are
+/// The form in which errors are reported over paths: the full one where none was asked for, in colours where these are
 /// wanted.
 pub(crate) fn form_over_paths(rt: &HostRuntime, options: Options) -> Form {
     match options.form().unwrap_or(Form::Full) {

@@ -54,7 +54,7 @@ fn sides<'a>(settings: &'a Settings, paths: &'a [&'a str]) -> Option<(&'a str, &
     }
 }
 
-/// The kinds that are not told.
+/// The kinds that are not reported.
 fn ignored_of(
     rt: &HostRuntime,
     compare: &Compare<'_>,
@@ -71,13 +71,13 @@ struct Comparison<'p> {
     rt: &'p HostRuntime,
     project: &'p Project,
     options: Options,
-    /// Kinds that are not told.
+    /// Kinds that are not reported.
     ignored: &'p [ReportedKind],
 }
 
 impl Comparison<'_> {
     /// Compares each of the others, once, with the reference. What can't be listed, and a file where the reference is a
-    /// folder, or the other way round, is told, and the others are compared.
+    /// folder, or the other way round, is reported, and the others are compared.
     fn compare_all(
         &self,
         reference: &str,
@@ -120,7 +120,7 @@ impl Comparison<'_> {
         self.compare_pairs(other, &pairs, tally)
     }
 
-    /// Compares the pairs of one language, and tells how much of it is there.
+    /// Compares the pairs of one language, and reports how much of it is there.
     fn compare_pairs(
         &self,
         other: &str,
@@ -161,7 +161,7 @@ impl Comparison<'_> {
     }
 }
 
-/// Tells that one of the two is a file and the other one a folder.
+/// Reports that one of the two is a file and the other one a folder.
 fn report_other_kind(
     rt: &HostRuntime,
     reference: &str,

@@ -14,7 +14,7 @@ use std::alloc::{AllocError, Global};
 use std::{fs, io};
 
 /// Searches all files that the paths name, each language as a set of its own; the exit status. Kinds that the project
-/// ignores are not told.
+/// ignores are not reported.
 pub(crate) fn lint_paths(rt: &HostRuntime, lint: &Lint<'_>) -> u8 {
     if lint.paths.contains(&"-") {
         return refuse_input(rt, "lint");
@@ -52,7 +52,7 @@ fn lint_all(
     Ok(())
 }
 
-/// Tells that the project's reference is not there, if it is not: then no folder is that of languages.
+/// Reports that the project's reference is not there, if it is not: then no folder is that of languages.
 fn report_no_reference(
     rt: &HostRuntime,
     project: &Project,
@@ -89,7 +89,7 @@ fn lint_set(
     )
 }
 
-/// The kinds of findings that are not told.
+/// The kinds of findings that are not reported.
 fn ignored_of(
     rt: &HostRuntime,
     lint: &Lint<'_>,
@@ -104,7 +104,7 @@ fn ignored_of(
     Ok(ignored)
 }
 
-/// The files that the paths name, each once, by language. What can't be listed is told.
+/// The files that the paths name, each once, by language. What can't be listed is reported.
 fn sets_of(
     rt: &HostRuntime,
     lint: &Lint<'_>,

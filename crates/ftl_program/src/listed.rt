@@ -23,7 +23,7 @@ impl<'p> NamedFiles<'p> {
         }
     }
 
-    /// The files that the path names, without those that an earlier one named. What can't be listed is told.
+    /// The files that the path names, without those that an earlier one named. What can't be listed is reported.
     pub(crate) fn files_at(
         &mut self,
         rt: &HostRuntime,
@@ -62,7 +62,7 @@ pub(crate) struct Named {
     pub(crate) has_failed: bool,
 }
 
-/// What the path names. What can't be listed is told.
+/// What the path names. What can't be listed is reported.
 pub(crate) fn listing_at(
     rt: &HostRuntime,
     project: &Project,
@@ -84,7 +84,7 @@ pub(crate) fn listing_at(
     })
 }
 
-/// Tells why what has the path was not answered, and counts it.
+/// Reports why what has the path was not answered, and counts it.
 pub(crate) fn report_listing_fault(
     rt: &HostRuntime,
     path: &str,

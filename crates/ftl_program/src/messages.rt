@@ -1,4 +1,4 @@
-//! What the program tells by itself.
+//! What the program says by itself.
 
 use clap::Error;
 use ftl::RunFault;
@@ -15,12 +15,12 @@ pub(crate) fn refuse<R: Eprint>(rt: &R, line: &str, status: u8) -> u8 {
     status
 }
 
-/// Tells why a run stopped, and gives its exit status.
+/// Reports why a run stopped, and gives its exit status.
 pub(crate) fn refuse_run<R: Eprint>(rt: &R, fault: RunFault) -> u8 {
     refuse(rt, fault.line(), fault.status())
 }
 
-/// The exit status of a run; where it stopped, why is told.
+/// The exit status of a run; where it stopped, the reason is reported.
 pub(crate) fn run_status<R: Eprint>(rt: &R, ended: Result<u8, RunFault>) -> u8 {
     match ended {
         Ok(status) => status,
@@ -28,10 +28,10 @@ pub(crate) fn run_status<R: Eprint>(rt: &R, ended: Result<u8, RunFault>) -> u8 {
     }
 }
 
-/// Tells what a run met, on a line, and gives the exit status.
+/// Reports what a run met, on a line, and gives the exit status.
 pub(crate) fn end_run<R: Eprint>(rt: &R, tally: &Tally, summary: Result<String, AllocError>) -> u8 {
     match summary {
-        // where no file was answered, it was told why
+        // where no file was answered, the reason was reported
         Ok(_) if tally.files == 0 && tally.fault != 0 => tally.status(),
         Ok(line) => {
             let _ = rt.eprint(line.as_str());
@@ -49,7 +49,7 @@ pub(crate) fn print_page<R: Print + Eprint>(rt: &R, page: &str) -> u8 {
     }
 }
 
-/// Writes the help of a word that was asked for; or tells what is wrong with the words. The exit status.
+/// Writes the help of a word that was asked for; or reports what is wrong with the words. The exit status.
 pub(crate) fn refuse_args<R: Print + Eprint + AllocGlobal>(
     rt: &R,
     words: &[String],
@@ -68,7 +68,7 @@ pub(crate) fn refuse_args<R: Print + Eprint + AllocGlobal>(
     }
 }
 
-/// Tells what is wrong with the words, and how the word is called, or which words there are.
+/// Reports what is wrong with the words, and how the word is called, or which words there are.
 pub(crate) fn refuse_words<R: Eprint + AllocGlobal>(rt: &R, line: &str, word: &str) -> u8 {
     let _ = rt.eprintln(line);
     match usage_of(rt.alloc(), word) {
@@ -77,7 +77,7 @@ pub(crate) fn refuse_words<R: Eprint + AllocGlobal>(rt: &R, line: &str, word: &s
     }
 }
 
-/// Tells that there is nothing to compare with the reference.
+/// Reports that there is nothing to compare with the reference.
 pub(crate) fn report_nothing_to_compare<R: Eprint + AllocGlobal>(rt: &R) -> u8 {
     let line =
         "ftl: compare wants a reference, and what to compare with it: `ftl compare en de`; or in a file ftl.toml \
@@ -85,7 +85,7 @@ pub(crate) fn report_nothing_to_compare<R: Eprint + AllocGlobal>(rt: &R) -> u8 {
     refuse_words(rt, line, "compare")
 }
 
-/// Tells that the word, which names or compares files, reads no standard input.
+/// Reports that the word, which names or compares files, reads no standard input.
 pub(crate) fn refuse_input<R: Eprint + AllocGlobal>(rt: &R, word: &str) -> u8 {
     match format!(in rt.alloc(); "ftl: {word} takes files and folders, and not standard input") {
         Ok(line) => refuse_words(rt, line.as_str(), word),
@@ -93,14 +93,14 @@ pub(crate) fn refuse_input<R: Eprint + AllocGlobal>(rt: &R, word: &str) -> u8 {
     }
 }
 
-/// Tells that the language server is another program.
+/// Reports that the language server is another program.
 pub(crate) fn refuse_serving<R: Eprint + AllocGlobal>(rt: &R) -> u8 {
     let line =
         "ftl: the language server is the program ftl-lsp, which a checkout installs by: ./ftl install FOLDER lsp";
     refuse_words(rt, line, "")
 }
 
-/// Tells that standard input is no file to be written or named.
+/// Reports that standard input is no file to be written or named.
 pub(crate) fn report_unwritable_input<R: Eprint + AllocGlobal>(rt: &R) -> u8 {
     refuse_words(
         rt,

@@ -31,7 +31,7 @@ impl Met {
         }
     }
 
-    /// Tells what was met, and gives the exit status.
+    /// Reports what was met, and gives the exit status.
     fn end(&self, rt: &HostRuntime, work: &Work<'_>) -> u8 {
         let Met { tally, counts } = self;
         let alloc = rt.alloc();

@@ -26,8 +26,8 @@ pub(crate) struct Project {
 }
 
 /// The settings of the file `ftl.toml` of this folder, or of the nearest one above, where there is one; else no
-/// settings. `excluded` is what the words exclude. Where the file can't be gone by, that is told, and the exit status
-/// is given.
+/// settings. `excluded` is what the words exclude. Where the file can't be gone by, that is reported, and the exit
+/// status is given.
 pub(crate) fn project_of(rt: &HostRuntime, excluded: &[&str]) -> Result<Project, u8> {
     match project_of_file(rt, excluded) {
         Ok(project) => Ok(project),
@@ -36,7 +36,8 @@ pub(crate) fn project_of(rt: &HostRuntime, excluded: &[&str]) -> Result<Project,
     }
 }
 
-/// No settings, whatever the folders above say. Where memory is refused, that is told, and the exit status is given.
+/// No settings, whatever the folders above say. Where memory is refused, that is reported, and the exit status is
+/// given.
 pub(crate) fn no_project(rt: &HostRuntime) -> Result<Project, u8> {
     match current_folder(rt) {
         Ok(current) => Ok(Project {
@@ -134,7 +135,7 @@ fn settings_in(rt: &HostRuntime, folder: &str) -> Result<Option<Settings>, Refus
     }
 }
 
-/// Tells why the file was not read.
+/// Reports why the file was not read.
 fn refuse_file(rt: &HostRuntime, path: &str, fault: &Fault) -> Refusal {
     refuse_settings(rt, path, fault, fault.status())
 }

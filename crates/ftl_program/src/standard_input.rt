@@ -61,7 +61,7 @@ fn answer_reader<R: Print + Eprint + AllocGlobal, I: Read + Drop>(
     }
 }
 
-/// Formats standard input, and tells where the text would not read back.
+/// Formats standard input, and reports where the text would not read back.
 fn format_input<R: Input + Print + Eprint + AllocGlobal>(rt: &R, work: &Work<'_>) -> u8 {
     let input = match all_input(rt) {
         Ok(input) => input,
@@ -95,7 +95,7 @@ fn put_formatted<R: Print + Eprint + AllocGlobal>(
     formatted.outcome.status()
 }
 
-/// Tells that entries with errors were left out, if some were. Of memory it says nothing: the text was written.
+/// Reports that entries with errors were left out, if some were. Of memory it says nothing: the text was written.
 fn warn_of_errors<R: Eprint + AllocGlobal>(rt: &R, work: &Work<'_>, outcome: Outcome) {
     if outcome == Outcome::SyntaxErrors {
         if let Ok(line) = note_line(rt.alloc(), work.stdin_name, &"has syntax errors") {
@@ -114,7 +114,8 @@ pub(crate) fn all_input<R: Input + AllocGlobal>(rt: &R) -> Result<Vec<u8>, RunFa
     }
 }
 
-/// Tells by which entry the text would not read back, if it would not. Of memory it says nothing: the text was written.
+/// Reports by which entry the text would not read back, if it would not. Of memory it says nothing: the text was
+/// written.
 fn warn_of_lossy_entry<R: Eprint + AllocGlobal>(rt: &R, text: &str, work: &Work<'_>) {
     if let Ok(note) = lossy_note(rt.alloc(), work.stdin_name, text, work.options.reading()) {
         let _ = rt.eprint(note.as_str());

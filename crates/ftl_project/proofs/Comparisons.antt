@@ -19,9 +19,9 @@ use Rattle.ftl_project.specs.declared.fault.Fault.{Fault}
 use Rattle.ftl_files.specs.declared.options.Reading.{Reading}
 use Rattle.ftl_project.specs.declared.tally.Tally.{Tally}
 
--- Files that all stand are the same files.
+-- Files that all are unchanged are the same files.
 pub same_files : (at here : List ℕ → Option (List ℕ)) → AllUnchanged at here → here ≡ at
-same_files at here stand = fun_ext stand
+same_files at here untouched = fun_ext untouched
 
 -- What was read of a file, under the names that a caller has for its path and its text.
 pub of_text : (at : List ℕ → Option (List ℕ)) (path own text said : List ℕ) → path ≡ own → text ≡ said →
@@ -43,13 +43,13 @@ module _ (CallFails : Failing) (reading : Reading) (options : CompareOptions) (a
         that.2,
       )
 
-  pub beside : (text more : List ℕ) (errors : ℕ) (share : Share) (report_text : List ℕ) → pair.is_there ≡ true →
+  pub with_other : (text more : List ℕ) (errors : ℕ) (share : Share) (report_text : List ℕ) → pair.is_there ≡ true →
       IsRead (at (string_bytes pair.reference)) text →
       IsRead (at (string_bytes pair.other)) more →
       ((reference : NameIndex) × IsNameIndex reading.edition text reference × (other : NameIndex)
       × IsNameIndex reading.edition more other × IsPairCompared options pair reference other errors share report_text) →
       IsComparison CallFails reading options at pair.is_there pair errors share report_text
-  beside text more errors share report_text there same alike that =
+  with_other text more errors share report_text there same alike that =
       subst (λ is_there. IsComparison CallFails reading options at is_there pair errors share report_text) (sym there) (
         that.0,
         (text, same, that.1),
@@ -64,7 +64,7 @@ module _ (CallFails : Failing) (reading : Reading) (options : CompareOptions) (a
   of_side side fault (inl why) = inl why.1
   of_side side fault (inr why) = inr (why.1, why.2)
 
-  -- A fault of the pair that was told was counted, and nothing was written of the pair.
+  -- A fault of the pair that was reported was counted, and nothing was written of the pair.
   pub Compares-report_text : {E : Type 0} (result : Result (Unit {0}) E) (fault : Fault) (old new : Tally)
       (share : Share)
       (before after : Option (List ℕ)) → IsPairFault CallFails reading options at pair fault →

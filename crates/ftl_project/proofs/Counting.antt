@@ -12,7 +12,7 @@ use Rattle.ftl_project.specs.Tally.{Processed, counted, failed}
 use Rattle.ftl_project.specs.declared.fault.Fault.{Fault}
 use Rattle.ftl_project.specs.declared.tally.Tally.{Tally}
 
--- What is left at an index is the file there, and what is left behind it.
+-- What is left at an index is the file there, and what is left after it.
 pub suffix_at : {A : Type 0} (files : List A) (index : ℕ) (file : A) → index < length files →
     file ≡ get_or files index file → drop index files ≡ file ∷ drop (index + 1) files
 suffix_at files index file below is =
@@ -38,7 +38,7 @@ pub on_ok_then : {A E P Q : Type 0} (result : Result A E) → (P → Q) → OnOk
 on_ok_then (Ok value) then holds = then holds
 on_ok_then (Err error) then holds = tt
 
--- A fault that was told was counted, and nothing was written of the file.
+-- A fault that was reported was counted, and nothing was written of the file.
 pub Writes-report_text : {E : Type 0} (Is : Processed → List ℕ → Type 0) (Why : Fault → Type 0)
     (result : Result (Unit {0}) E)
     (fault : Fault) (old new : Tally) (before after : Option (List ℕ)) →
@@ -65,17 +65,17 @@ module _ (Is : (path : List ℕ) → Option (List ℕ) → Processed → List �
       WritesEach Processes (drop index files) now new between after → WritesEach Processes files old new before after
 
   pub WritesSo-more : (here : List ℕ → Option (List ℕ)) (index : ℕ) (file : String Global) (path : List ℕ)
-      (old now next : Tally) (before between behind : Option (List ℕ)) → index < length files →
+      (old now next : Tally) (before between beyond : Option (List ℕ)) → index < length files →
       file ≡ get_or files index file → path ≡ string_bytes file → here path ≡ at path →
-      WritesSo index old now before between → Writes (Is path (here path)) now next between behind →
-      WritesSo (index + 1) old next before behind
-  WritesSo-more here index file path old now next before between behind below is same stands so writes =
+      WritesSo index old now before between → Writes (Is path (here path)) now next between beyond →
+      WritesSo (index + 1) old next before beyond
+  WritesSo-more here index file path old now next before between beyond below is same in_place so writes =
       λ new after rest.
-      let at_path = subst (λ bytes. Writes (Is path bytes) now next between behind) stands writes in
-      let at_file = subst (λ p. Writes (Is p (at p)) now next between behind) same at_path in
+      let at_path = subst (λ bytes. Writes (Is path bytes) now next between beyond) in_place writes in
+      let at_file = subst (λ p. Writes (Is p (at p)) now next between beyond) same at_path in
       so new after (subst (λ left. WritesEach Processes left now new between after)
       (sym (suffix_at files index file below is))
-      (next, behind, at_file, rest))
+      (next, beyond, at_file, rest))
 
   pub WritesSo-all : (index : ℕ) (old now : Tally) (before between : Option (List ℕ)) → length files ≤ index →
       WritesSo index old now before between → WritesEach Processes files old now before between

@@ -1,4 +1,4 @@
--- What is told of diagnostics that are alike.
+-- What is reported of diagnostics that are alike.
 use Rattle.std.proofs.Common.{◌≡◌, ℕ, List, Option, Result, Ok, Err, string_bytes, subst}
 use Rattle.std.specs.Global.{Global}
 use Rattle.std.specs.Prelude.{IfOk, String, slice_get}
@@ -30,7 +30,7 @@ report_as (Ok report_text) form path own place kind name message words same_path
     diagnostic
 report_as (Err error) form path own place kind name message words same_path same_kind same_message diagnostic = tt
 
--- What is told of a finding in the file that has it.
+-- What is reported of a finding in the file that has it.
 pub IsFindingReport-as : (form : Form) (sources : List Source) (name_indexes : List NameIndex) (finding : Finding)
     (path text report_text : List ℕ) → path ≡ path_of (slice_get sources finding.file) →
     text ≡ text_of (slice_get name_indexes finding.file) →

@@ -17,13 +17,13 @@ module _ (CallFails : Failing) (reading : Reading) (files : List (String Global)
       FormatsEach CallFails reading files old new before after
 
   pub FormatsSo-more : (index : ℕ) (file : String Global) (old now next : List ℕ → Option (List ℕ))
-      (before between behind : Tally) → index < length files → file ≡ get_or files index file →
-      FormatsSo index old now before between → Formats CallFails reading (string_bytes file) now next between behind →
-      FormatsSo (index + 1) old next before behind
-  FormatsSo-more index file old now next before between behind below is so formats = λ new after rest.
+      (before between beyond : Tally) → index < length files → file ≡ get_or files index file →
+      FormatsSo index old now before between → Formats CallFails reading (string_bytes file) now next between beyond →
+      FormatsSo (index + 1) old next before beyond
+  FormatsSo-more index file old now next before between beyond below is so formats = λ new after rest.
       so new after (subst (λ left. FormatsEach CallFails reading left now new between after)
       (sym (suffix_at files index file below is))
-      (next, behind, formats, rest))
+      (next, beyond, formats, rest))
 
   pub FormatsSo-all : (index : ℕ) (old now : List ℕ → Option (List ℕ)) (before between : Tally) →
       length files ≤ index → FormatsSo index old now before between →

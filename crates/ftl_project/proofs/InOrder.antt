@@ -8,7 +8,7 @@ use Rattle.ftl_project.specs.Comparing.{Compares, ComparesEach, pair_more}
 use Rattle.ftl_project.specs.Faults.{Failing}
 use Rattle.ftl_project.specs.Linting.{NameIndexesEach, NameIndexesSource, Reads, ReadsSource, name_index_more}
 use Rattle.ftl_project.specs.Linting.{read_more}
-use Rattle.ftl_project.specs.Diagnostics.{ReportsEach, behind}
+use Rattle.ftl_project.specs.Diagnostics.{ReportsEach, then_report}
 use Rattle.ftl_project.specs.declared.comparing.CompareOptions.{CompareOptions}
 use Rattle.ftl_project.specs.declared.comparing.Pair.{Pair}
 use Rattle.ftl_project.specs.declared.comparing.Share.{Share}
@@ -16,12 +16,12 @@ use Rattle.ftl_project.specs.declared.findings.Source.{Source}
 use Rattle.ftl_files.specs.declared.options.Reading.{Reading}
 use Rattle.ftl_project.specs.declared.tally.Tally.{Tally}
 
--- What was told of the first ones, and of one more.
+-- What was reported of the first ones, and of one more.
 pub ReportsEach-more : {A : Type 0} (Is : A → List ℕ → Type 0) (items : List A) (index : ℕ) (d : A)
     (report_text text all : List ℕ) → index < length items → ReportsEach Is (take index items) report_text →
     Is (get_or items index d) text → all ≡ report_text ++ text → ReportsEach Is (take (index + 1) items) all
 ReportsEach-more Is items index d report_text text all below reports that whole =
-    rw (take_more items index d below, whole) (behind (get_or items index d) text reports that)
+    rw (take_more items index d below, whole) (then_report (get_or items index d) text reports that)
 
 -- The pairs that were compared first, and one more.
 pub ComparesEach-more : (CallFails : Failing) (reading : Reading) (options : CompareOptions)

@@ -14,9 +14,9 @@ module _ {X : Type 0} where
   first_none None = refl
   first_none (Some x) = refl
 
-  first_behind : (a b c : Option X) → first_of (first_of a b) c ≡ first_of a (first_of b c)
-  first_behind None b c = refl
-  first_behind (Some x) b c = refl
+  first_of_assoc : (a b c : Option X) → first_of (first_of a b) c ≡ first_of a (first_of b c)
+  first_of_assoc None b c = refl
+  first_of_assoc (Some x) b c = refl
 
   map_first : (f : Span → X) (a b : Option Span) →
       option_map f (first_of a b) ≡ first_of (option_map f a) (option_map f b)
@@ -35,10 +35,10 @@ module _ {X : Type 0} (f : Span → X) (text : List ℕ) (ms : Mentions Span) wh
   junk_next now next i m d within is left noted = λ entry.
       let cut : drop i ms ≡ m ∷ drop (i + 1) ms = drop_more ms i d within ∙ ap (λ y. y ∷ drop (i + 1) ms) (sym is) in
       let here = junk_named text m entry in
-      let behind = refused_in text (drop (i + 1) ms) entry in
-      ap (λ o. first_of o (option_map f behind)) (noted entry)
-      ∙ first_behind (now entry) (option_map f here) (option_map f behind)
-      ∙ ap (λ o. first_of (now entry) o) (sym (map_first f here behind))
+      let beyond = refused_in text (drop (i + 1) ms) entry in
+      ap (λ o. first_of o (option_map f beyond)) (noted entry)
+      ∙ first_of_assoc (now entry) (option_map f here) (option_map f beyond)
+      ∙ ap (λ o. first_of (now entry) o) (sym (map_first f here beyond))
       ∙ ap (λ l. first_of (now entry) (option_map f (refused_in text l entry))) (sym cut)
       ∙ left entry
 

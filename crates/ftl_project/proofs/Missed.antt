@@ -1,4 +1,4 @@
--- What is told of a part that the other file lacks.
+-- What is reported of a part that the other file lacks.
 use Rattle.std.proofs.Common.{◌≡◌, List, Option, Some, refl, string_bytes, subst, sym, ℕ}
 use Rattle.fluent_syntax_names.specs.Differences.{difference_name, side_difference}
 use Rattle.fluent_syntax_names.specs.declared.differences.Difference.{Difference}
@@ -26,7 +26,7 @@ in_lines Github path kind message report_text place own same diagnostic = tt
 
 module _ (form : Form) (pair : Pair) (text : List ℕ) (other : NameIndex) (missing : MissingPart)
     (difference : Difference) where
-  -- A diagnostic at the place of what is junk is what is told of the difference.
+  -- A diagnostic at the place of what is junk is what is reported of the difference.
   pub missing_report_as : (path kind message report_text : List ℕ) (place : Option SourceLocation) →
       path ≡ string_bytes pair.other → kind ≡ difference_name difference →
       (form ≡ Lines → place ≡ missing_part_junk text other missing) →

@@ -16,7 +16,7 @@ use Rattle.ftl.specs.Answer.{normal_text, outcome_with}
 use Rattle.ftl.specs.Lossless.{is_lossless}
 use Rattle.ftl.specs.declared.outcome.Outcome.TheVariants.{Clean}
 use Rattle.ftl_project.proofs.Statuses.{status_least}
-use Rattle.ftl_project.proofs.Reaching.{AllReach-rewrites, AllReach-stand, AllReach-trans, becomes_rewriting}
+use Rattle.ftl_project.proofs.Reaching.{AllReach-rewrites, AllReach-untouched, AllReach-trans, becomes_rewriting}
 use Rattle.ftl_project.specs.Errors.{IsRefused}
 use Rattle.ftl_project.specs.Faults.{Failing, IsRead}
 use Rattle.ftl_project.specs.Formatting.{AllNormal, FormatsEach, IsProcessed, IsNormal}
@@ -92,7 +92,7 @@ module _ (edition : Edition) (bytes t : Text) (a : IsRewriting edition bytes t) 
   reaches_normal old new (goes {now = now} more step) is =
       becomes_normal now new (inr (reaches_normal old now more is)) step
 
-  -- what was read of the file is those bytes, where they stand there
+  -- what was read of the file is those bytes, where they are there
   same_read : (now : Option (List ℕ)) (read : List ℕ) → IsRead now read → now ≡ Some bytes → read ≡ bytes
   same_read now read is e = subst (λ o. IsRead o read) e is
 
@@ -105,20 +105,21 @@ rewrites_normal CallFails reading path old new (replacement.Text text) bytes t a
     let edition = reading.edition in
     becomes_normal edition bytes t a (old path) (new path) is
     (becomes_rewriting edition (old path) (new path) read (string_bytes text) is_read that.0 puts.0)
-rewrites_normal CallFails reading path old new replacement.Same bytes t a (read, is_read, that, stand) is =
+rewrites_normal CallFails reading path old new replacement.Same bytes t a (read, is_read, that, untouched) is =
     let edition = reading.edition in
-    stand path ∙ ⊎_elim
+    untouched path ∙ ⊎_elim
     (λ e. e ∙ ap Some (one_rewriting edition bytes t bytes a (subst (λ b. IsRewriting edition b b)
     (same_read edition bytes t a (old path) read is_read e) that))) (λ e. e) is
-rewrites_normal CallFails reading path old new (replacement.Errors refused) bytes t a (read, is_read, that, stand) is =
+rewrites_normal CallFails reading path old new (replacement.Errors refused) bytes t a
+    (read, is_read, that, untouched) is =
     let edition = reading.edition in
-    stand path ∙ ⊎_elim
+    untouched path ∙ ⊎_elim
     (λ e. absurd (not_refused edition bytes t refused.errors.items a (subst
     (λ b. IsRefused edition b refused.errors.items) (same_read edition bytes t a (old path) read is_read e) that)))
     (λ e. e) is
-rewrites_normal CallFails reading path old new (replacement.Lossy entry) bytes t a (read, is_read, that, stand) is =
+rewrites_normal CallFails reading path old new (replacement.Lossy entry) bytes t a (read, is_read, that, untouched) is =
     let edition = reading.edition in
-    stand path ∙ ⊎_elim
+    untouched path ∙ ⊎_elim
     (λ e. absurd (not_lossy edition bytes t entry a (subst (λ b. IsLossy edition b entry)
     (same_read edition bytes t a (old path) read is_read e) that))) (λ e. e) is
 
@@ -153,7 +154,7 @@ faultless CallFails reading (file ∷ files) old new before after (now, between,
 AllReach-each : (CallFails : Failing) (reading : Reading) (files : List (String Global)) (old new : List ℕ → Option
     (List ℕ))
     (before after : Tally) → FormatsEach CallFails reading files old new before after → AllReach reading.edition old new
-AllReach-each CallFails reading [] old new before after each = AllReach-stand reading.edition old new each.0
+AllReach-each CallFails reading [] old new before after each = AllReach-untouched reading.edition old new each.0
 AllReach-each CallFails reading (file ∷ files) old new before after (now, between, formats, rest) =
     AllReach-trans reading.edition old now new
     (AllReach-rewrites CallFails reading (string_bytes file) old now formats.0 formats.1)
@@ -178,11 +179,11 @@ AllNormal-each CallFails reading (file ∷ files) start old new before after rea
     let here = faultless CallFails reading files now new between after rest none in
     let ok = processed_ok formats.0 before formats.2 formats.3 (sym (ap (λ (t : Tally). t.fault) formats.4) ∙ here) in
     let rewrites = subst (λ r. Rewrites CallFails reading path old now r) ok.1 formats.1 in
-    let behind = AllReach-each CallFails reading files now new between after rest in
+    let beyond = AllReach-each CallFails reading files now new between after rest in
     let step = AllReach-rewrites CallFails reading path old now formats.0 formats.1 in
     All-cons (λ file. IsNormal edition (start (string_bytes file)) (new (string_bytes file))) file files
     (IsNormal-at edition (start path) (new path) (λ bytes t e a. reaches_normal edition bytes t a (now path) (new path)
-    (behind path) (rewrites_normal CallFails reading path old now ok.0 bytes t a rewrites
+    (beyond path) (rewrites_normal CallFails reading path old now ok.0 bytes t a rewrites
     (reaches_one edition bytes t a (start path) (old path) (reach path) (inl e)))))
     (AllNormal-each CallFails reading files start now new between after (AllReach-trans edition start old now reach
     step) rest

@@ -19,8 +19,8 @@ module _ (edition : Edition) where
   further first stays = first
   further first (goes more step) = goes (further first more) step
 
-  pub AllReach-stand : (old new : List ℕ → Option (List ℕ)) → AllUnchanged old new → AllReach edition old new
-  AllReach-stand old new stand = λ path. same (old path) (new path) (stand path)
+  pub AllReach-untouched : (old new : List ℕ → Option (List ℕ)) → AllUnchanged old new → AllReach edition old new
+  AllReach-untouched old new untouched = λ path. same (old path) (new path) (untouched path)
 
   pub AllReach-trans : (old now new : List ℕ → Option (List ℕ)) → AllReach edition old now → AllReach edition now new →
       AllReach edition old new
@@ -39,7 +39,7 @@ module _ (edition : Edition) where
   one_path old new path reach others = λ other. ⊎_elim (same (old other) (new other))
       (⊎_elim (at_path old new path other reach) (came (old other) (new other))) (others other)
 
--- The text that stands now is a rewriting of the bytes that were known.
+-- The text that is there now is a rewriting of the bytes that were known.
 pub becomes_rewriting : (edition : Edition) (old new : Option (List ℕ)) (read text : List ℕ) → IsRead old read →
     IsRewriting edition read text → Becomes old new text → BecomesRewriting edition old new
 becomes_rewriting edition None new read text is rewrites becomes = tt
@@ -54,10 +54,10 @@ AllReach-rewrites CallFails reading path old new (Ok (replacement.Text text)) (r
     one_path reading.edition old new path (goes stays (becomes_rewriting reading.edition (old path) (new path) read
     (string_bytes text) is that.0 puts.0)) puts.1
 AllReach-rewrites CallFails reading path old new (Ok replacement.Same) done =
-    AllReach-stand reading.edition old new done.3
+    AllReach-untouched reading.edition old new done.3
 AllReach-rewrites CallFails reading path old new (Ok (replacement.Errors refused)) done =
-    AllReach-stand reading.edition old new done.3
+    AllReach-untouched reading.edition old new done.3
 AllReach-rewrites CallFails reading path old new (Ok (replacement.Lossy entry)) done =
-    AllReach-stand reading.edition old new done.3
+    AllReach-untouched reading.edition old new done.3
 AllReach-rewrites CallFails reading path old new (Err fault) done = one_path reading.edition old new path
     (⊎_elim (same reading.edition (old path) (new path)) (λ becomes. goes stays becomes) done.0) done.1

@@ -12,7 +12,7 @@ use Rattle.ftl_project.specs.Runs.{Answers}
 use Rattle.ftl_files.specs.declared.options.Form.{Form}
 use Rattle.ftl_files.specs.declared.options.Reading.{Reading}
 
--- of one that is checked: as many errors as it has, and what is told of them
+-- of one that is checked: as many errors as it has, and what is reported of them
 abbrev pub IsChecked : Reading → Form → Answers
 IsChecked reading form path text errors has_problems report_text =
     (found : List ParserError) × HasErrors reading.edition text found × Reports form path text found report_text

@@ -28,14 +28,14 @@ use Rattle.ftl_project.specs.declared.tally.Tally.{Tally}
 
 -- ---- what is said of a part that one file has and the other one lacks
 
--- This is told of a difference in the file; of no difference nothing is told. What the message says is for people.
+-- This is reported of a difference in the file; of no difference nothing is. What the message says is for people.
 abbrev pub IsDifferenceReport : Form → (path : List ℕ) → Option SourceLocation → Option Difference →
     (report_text : List ℕ) → Type 0
 IsDifferenceReport form path place None report_text = report_text ≡ []
 IsDifferenceReport form path place (Some difference) report_text =
     (message : List ℕ) × IsDiagnostic form path place (difference_name difference) message report_text
 
--- This is told of what the reference's text has and the other file lacks: where that has the entry as junk, at the
+-- This is reported of what the reference's text has and the other file lacks: where that has the entry as junk, at the
 -- first such junk.
 abbrev pub IsMissingReport : Form → Pair → (text : List ℕ) → (other : NameIndex) → MissingPart → (report_text : List ℕ)
     → Type 0
@@ -43,13 +43,14 @@ IsMissingReport form pair text other missing report_text =
     IsDifferenceReport form (string_bytes pair.other) (missing_part_junk text other missing)
     (side_difference Reference missing.part) report_text
 
--- This is told of what the other file's text has and the reference lacks.
+-- This is reported of what the other file's text has and the reference lacks.
 abbrev pub IsExtraReport : Form → Pair → (text : List ℕ) → MissingPart → (report_text : List ℕ) → Type 0
 IsExtraReport form pair text missing report_text =
     IsDifferenceReport form (string_bytes pair.other) (Some (location_at text missing.name))
     (side_difference Other missing.part) report_text
 
--- This is told of what the text of a side has and the other one lacks. `other` is the file that is not the reference.
+-- This is reported of what the text of a side has and the other one lacks. `other` is the file that is not the
+-- reference.
 abbrev pub IsMissingPartReport : Side → Form → Pair → (text : List ℕ) → (other : NameIndex) → MissingPart
     → (report_text : List ℕ) → Type 0
 IsMissingPartReport Reference form pair text other = IsMissingReport form pair text other
@@ -65,7 +66,7 @@ is_entry_part _ = false
 abbrev pub missing_entries : List MissingPart → ℕ
 missing_entries missing_parts = count_by (λ (missing : MissingPart). is_entry_part missing.part) missing_parts
 
--- how many of what this file has and the other one lacks are told as errors
+-- how many of what this file has and the other one lacks are reported as errors
 abbrev pub errors_of : Side → List MissingPart → ℕ
 errors_of side missing_parts = count_by (λ (missing : MissingPart). counts_as_error side missing.part) missing_parts
 
@@ -79,21 +80,21 @@ with_share share (Some part) = record {
 
 -- ---- a pair
 
--- This is told of a file that is not there, if that is told.
+-- This is reported of a file that is not there, if that is reported.
 abbrev pub IsFileReport : Form → Pair → (is_reported : Bool) → (report_text : List ℕ) → Type 0
 IsFileReport form pair false report_text = report_text ≡ []
 IsFileReport form pair true report_text =
     IsDiagnostic form (string_bytes pair.other) None (codes "missing-file")
     (codes "there is no such file; the reference has " ++ string_bytes pair.reference) report_text
 
--- The other file is not there: that is the one error, if it is told, and all of the reference is missing.
+-- The other file is not there: that is the one error, if it is reported, and all of the reference is missing.
 pub record IsFileMissing (options : CompareOptions) (pair : Pair) (reference : NameIndex) (errors : ℕ) (share : Share)
     (text : List ℕ) : Type 0 where
   pub report_is : IsFileReport options.form pair (is_reported options.ignored.now (codes "missing-file")) text
   pub errors_are : errors ≡ (if is_reported options.ignored.now (codes "missing-file") then 1 else 0)
   pub share_is : share ≡ record { wanted = entry_count reference; missing = entry_count reference }
 
--- what is told of that which the reference has and the other lacks, and the other way round
+-- what is reported of that which the reference has and the other lacks, and the other way round
 abbrev pub reported_missing : CompareOptions → (reference other : NameIndex) → List MissingPart
 reported_missing options reference other =
     reported_parts options.ignored.now Reference (all_missing_parts reference other)
@@ -101,7 +102,7 @@ reported_missing options reference other =
 abbrev pub reported_extra : CompareOptions → (reference other : NameIndex) → List MissingPart
 reported_extra options reference other = reported_parts options.ignored.now Other (all_missing_parts other reference)
 
--- What the reference has and the other lacks is told, in the order of the reference, and behind it what the other has
+-- What the reference has and the other lacks is reported, in the order of the reference, and after it what the other
 -- and the reference lacks, in the order of the other. All that is missing counts for the share.
 pub record IsPairCompared (options : CompareOptions) (pair : Pair) (reference other : NameIndex) (errors : ℕ)
     (share : Share) (text : List ℕ) : Type 0 where
@@ -146,20 +147,20 @@ module _ (CallFails : Failing) (reading : Reading) (options : CompareOptions) (a
   IsSideFault pair side fault = ((side ≡ Reference) × IsFileFault (string_bytes pair.reference) fault)
       ⊎ ((side ≡ Other) × (pair.is_there ≡ true) × IsFileFault (string_bytes pair.other) fault)
 
-  -- how a pair is met, with how much of it is there, and what is told of it
+  -- how a pair is met, with how much of it is there, and what is reported of it
   abbrev pub IsCompared : Pair → Processed → Option Share → (text : List ℕ) → Type 0
   IsCompared pair (answered errors has_problems) share text =
       (part : Share) × (share ≡ Some part) × IsComparison pair.is_there pair errors part text
       × (has_problems ≡ not (errors == 0))
   IsCompared pair (failed status) share text = Fails (IsPairFault pair) status × (share ≡ None) × (text ≡ [])
 
-  -- It was counted and its share added, and the text was written behind what was written before.
+  -- It was counted and its share added, and the text was written after what was written before.
   abbrev pub Compares : Pair → (old new : Tally) → (had has : Share) → (before after : Option (List ℕ)) → Type 0
   Compares pair old new had has before after =
       (processed : Processed) × (part : Option Share) × (text : List ℕ) × IsCompared pair processed part text
       × (new ≡ counted old processed) × (has ≡ with_share had part) × Appends before after text
 
-  -- So was each of the pairs, one behind another.
+  -- So was each of the pairs, one after another.
   pub data ComparesEach : List Pair → (old new : Tally) → (had has : Share) → (before after : Option (List ℕ)) →
       Type 0 where
     no_pairs : {tally : Tally} {share : Share} {written : Option (List ℕ)} →

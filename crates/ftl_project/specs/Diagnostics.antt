@@ -1,4 +1,4 @@
--- What is told of what is found in a file.
+-- What is reported of what is found in a file.
 use Rattle.std.specs.Prelude.{◌≡◌, ◌⊎◌, ◌+◌, ◌≤◌, ◌++◌, ℕ, List, [], ◌∷◌, Option, None, Some, codes}
 use Rattle.std.specs.Prelude.{length, min, slice_range}
 use Rattle.std.specs.Fmt.{decimal}
@@ -35,23 +35,23 @@ place_or_path path None = shown_text path
 place_or_path path (Some location) = place_of path location.line location.column
 
 -- the message, where there is no place
-abbrev pub message_behind : Option SourceLocation → (message : List ℕ) → List ℕ
-message_behind None message = codes ": " ++ shown_text message
-message_behind (Some location) message = []
+abbrev pub message_part : Option SourceLocation → (message : List ℕ) → List ℕ
+message_part None message = codes ": " ++ shown_text message
+message_part (Some location) message = []
 
 -- the line of a diagnostic
 abbrev pub diagnostic_line : (path : List ℕ) → Option SourceLocation → (kind message : List ℕ) → List ℕ
 diagnostic_line path place kind message =
-    place_or_path path place ++ (codes ": " ++ (kind ++ (message_behind place message ++ codes "\n")))
+    place_or_path path place ++ (codes ": " ++ (kind ++ (message_part place message ++ codes "\n")))
 
--- This is told of what was found in a file, in the form of lines. The other forms are for people, or for other tools.
+-- This is reported of what was found in a file, in the form of lines. The other forms are for people or other tools.
 abbrev pub IsDiagnostic : Form → (path : List ℕ) → Option SourceLocation → (kind message report_text : List ℕ) → Type 0
 IsDiagnostic Lines path place kind message report_text = report_text ≡ diagnostic_line path place kind message
 IsDiagnostic _ path place kind message report_text = Unit {0}
 
--- Of each this is told, one behind another.
+-- Of each this is reported, one after another.
 pub data ReportsEach {A : Type 0} (Is : A → List ℕ → Type 0) : List A → (report_text : List ℕ) → Type 0 where
   nothing : ReportsEach Is [] []
-  behind : {items : List A} {report_text : List ℕ} → (item : A) (text : List ℕ) → ReportsEach Is items report_text
+  then_report : {items : List A} {report_text : List ℕ} → (item : A) (text : List ℕ) → ReportsEach Is items report_text
       → Is item text →
       ReportsEach Is (items ++ (item ∷ [])) (report_text ++ text)

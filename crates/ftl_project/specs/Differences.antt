@@ -1,4 +1,4 @@
--- What is told of differences, and whether it is an error.
+-- What is reported of differences, and whether it is an error.
 use Rattle.std.specs.Prelude.{ℕ, Bool, true, false, not, List, Option, None, Some, filter}
 use Rattle.std.specs.List.{list_any}
 use Rattle.std.specs.Str.{bytes_eq}
@@ -21,7 +21,7 @@ abbrev pub is_error_difference : Option Difference → Bool
 is_error_difference None = false
 is_error_difference (Some difference) = is_error_severity (difference_severity difference)
 
--- whether a part that this file has and the other one lacks is told as an error
+-- whether a part that this file has and the other one lacks is reported as an error
 abbrev pub counts_as_error : Side → Part → Bool
 counts_as_error side part = is_error_difference (side_difference side part)
 
@@ -33,11 +33,11 @@ abbrev pub is_difference_reported : (ignored : List ReportedKind) → Option Dif
 is_difference_reported ignored None = true
 is_difference_reported ignored (Some difference) = is_reported ignored (difference_name difference)
 
--- whether a part that this file has and the other one lacks is told
+-- whether a part that this file has and the other one lacks is reported
 abbrev pub is_part_reported : (ignored : List ReportedKind) → Side → Part → Bool
 is_part_reported ignored side part = is_difference_reported ignored (side_difference side part)
 
--- those of the parts that are told
+-- those of the parts that are reported
 abbrev pub reported_parts : (ignored : List ReportedKind) → Side → List MissingPart → List MissingPart
 reported_parts ignored side missing_parts =
     filter (λ (missing : MissingPart). is_part_reported ignored side missing.part) missing_parts

@@ -1,9 +1,11 @@
 -- The two lines that show a place of a source: its line, cut to a window around the place, and a caret below the place.
 use Rattle.std.specs.Prelude.{ℕ, ◌-◌, ◌<◌, ◌≤◌, ◌≡◌, List, [], ◌∷◌, ◌++◌, Bool, ◌==◌, ◌||◌, ◌&&◌, false, not, nat_lt}
-use Rattle.std.specs.Prelude.{if◌then◌else◌, chars, codes, drop, encode_utf8, length, replicate, take, unwrap_or}
+use Rattle.std.specs.Prelude.{if◌then◌else◌, true, chars, codes, drop, encode_utf8, length, replicate, take, unwrap_or}
+use Rattle.std.specs.Fmt.{radix_digits}
 use Rattle.std.specs.List.{flat_map, suffix_len, before_first}
 use Rattle.std.specs.Str.{IsCharBoundary}
 use Rattle.std.specs.Str.Lines.{strip_carriage_return}
+use Rattle.ftl.specs.LookAlikes.{is_unseen}
 use Rattle.unicode_width.specs.Width.{char_width}
 
 -- ---- the line
@@ -23,24 +25,24 @@ abbrev pub begins_with_line_feed : List ℕ → Bool
 begins_with_line_feed [] = false
 begins_with_line_feed (b ∷ rest) = is_line_feed b
 
--- What stands on the line before a place. Where the place is that of a line feed, a carriage return before it belongs
+-- What is on the line before a place. Where the place is that of a line feed, a carriage return before it belongs
 -- to the line's end.
 abbrev pub front : (t : List ℕ) (cut : ℕ) → List ℕ
 front t cut =
     if begins_with_line_feed (drop cut t) then strip_carriage_return (last_line (take cut t))
     else last_line (take cut t)
 
--- what stands on it from the place on, without the line's end
+-- what it has from the place on, without the line's end
 abbrev pub back : (t : List ℕ) (cut : ℕ) → List ℕ
 back t cut = strip_carriage_return (before_first is_line_feed (drop cut t))
 
 -- ---- the window
 
--- how many characters are shown of what stands before the place, and of what stands from there on
+-- how many characters are shown of what is before the place, and of what is from there on
 abbrev pub window : ℕ
 window = 100
 
--- where the characters begin that are shown of what stands before the place
+-- where the characters begin that are shown of what is before the place
 abbrev pub window_start : List ℕ → ℕ
 window_start t = length (chars t) - window
 
@@ -62,14 +64,21 @@ below_ellipsis left_out = if left_out then 32 ∷ [] else []
 abbrev pub is_hidden : ℕ → Bool
 is_hidden c = nat_lt c 32 || (nat_lt 126 c && nat_lt c 160)
 
--- how a character is shown: U+FFFD in place of what is hidden
-abbrev pub shown_char : ℕ → List ℕ
-shown_char c = if c == 9 then 9 ∷ [] else if is_hidden c then encode_utf8 0xFFFD else encode_utf8 c
+-- the number of a character that can't be seen, as `<U+00A0>`
+abbrev pub shown_number : ℕ → List ℕ
+shown_number c = codes "<U+" ++ ((if c == 0xA0 then codes "00" else []) ++ (radix_digits 16 true c ++ codes ">"))
 
--- what stands below it: a tab below a tab, else as many spaces as the columns that it takes
+-- how a character is shown: U+FFFD in place of what is hidden, and its number in place of what can't be seen
+abbrev pub shown_char : ℕ → List ℕ
+shown_char c =
+    if c == 9 then 9 ∷ [] else if is_hidden c then encode_utf8 0xFFFD else if is_unseen c then shown_number c
+    else encode_utf8 c
+
+-- what is below it: a tab below a tab, else as many spaces as the columns that it takes
 abbrev pub below_char : ℕ → List ℕ
 below_char c =
-    if c == 9 then 9 ∷ [] else if is_hidden c then 32 ∷ [] else replicate (unwrap_or (char_width false c) 0) 32
+    if c == 9 then 9 ∷ [] else if is_hidden c then 32 ∷ [] else if is_unseen c then replicate 8 32
+    else replicate (unwrap_or (char_width false c) 0) 32
 
 -- a whole text, as it is shown
 abbrev pub shown_text : List ℕ → List ℕ
@@ -92,7 +101,7 @@ shown_front t = ellipsis (nat_lt 0 (window_start t)) ++ shown (window_start t) t
 abbrev pub shown_back : List ℕ → List ℕ
 shown_back t = shown 0 t ++ ellipsis (nat_lt window (length (chars t)))
 
--- what stands below what is shown before the place
+-- what is below what is shown before the place
 abbrev pub below_front : List ℕ → List ℕ
 below_front t = below_ellipsis (nat_lt 0 (window_start t)) ++ below (window_start t) t
 

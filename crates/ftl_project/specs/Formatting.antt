@@ -65,7 +65,7 @@ abbrev pub is_not_normal : Replacement → Bool
 is_not_normal Same = false
 is_not_normal _ = true
 
--- its path, on a line, where another text is to stand
+-- its path, on a line, where it is to get another text
 abbrev pub name_of : (path : List ℕ) → Replacement → List ℕ
 name_of path (Text text) = shown_text path ++ codes "\n"
 name_of path _ = []

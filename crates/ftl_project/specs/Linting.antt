@@ -1,4 +1,4 @@
--- How files are searched, and what is counted and told.
+-- How files are searched, and what is counted and reported.
 use Rattle.std.specs.Io.KnownBytes.{Appends}
 use Rattle.std.specs.Prelude.{◌≡◌, ◌≤◌, ◌⊎◌, ◌+◌, ◌-◌, ◌^◌, ◌++◌, ◌&&◌, ℕ, min, Bool, not, List, [], ◌∷◌}
 use Rattle.std.specs.Prelude.{length, nat_eq}
@@ -109,7 +109,7 @@ is_error finding = is_error_severity (severity_of finding.kind)
 abbrev pub is_warning : Finding → Bool
 is_warning finding = not (is_error finding)
 
--- how many files have an error, of findings in the order of their files, beside the last one that was counted
+-- how many files have an error, of findings in the order of their files, besides the last one that was counted
 abbrev pub with_problems_after : (last : Option ℕ) → List Finding → ℕ
 with_problems_after last [] = 0
 with_problems_after last (finding ∷ findings) =
@@ -128,7 +128,7 @@ searched tally files findings = record {
   fault = tally.fault;
 }
 
--- ---- what is told
+-- ---- what is reported
 
 abbrev pub path_of : Option Source → List ℕ
 path_of None = []
@@ -142,14 +142,14 @@ abbrev pub location_in : (text : List ℕ) → Option Span → Option SourceLoca
 location_in text None = None
 location_in text (Some name) = Some (location_at text name)
 
--- This is told of the finding, in its file.
+-- This is reported of the finding, in its file.
 abbrev pub IsFindingReport : Form → List Source → List NameIndex → Finding → (report_text : List ℕ) → Type 0
 IsFindingReport form sources name_indexes finding report_text =
     (message : List ℕ) × IsDiagnostic form (path_of (slice_get sources finding.file))
     (location_in (text_of (slice_get name_indexes finding.file)) finding.place)
     (name_of finding.kind) message report_text
 
--- The texts were searched as one set: what is found in what they say was told, in order, behind what was written
+-- The texts were searched as one set: what is found in what they say was reported, in order, after what was written
 -- before, and counted.
 pub record Searches (reading : Reading) (form : Form) (ignored : List Kind) (sources : List Source) (old new : Tally)
     (before after : Option (List ℕ)) : Type 0 where

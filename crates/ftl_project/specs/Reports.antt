@@ -1,4 +1,4 @@
--- What is told of the errors of a text.
+-- What is reported of the errors of a text.
 use Rattle.std.specs.Prelude.{ℕ, List}
 use Rattle.fluent_syntax_tree.specs.Kind.{kind_name, kind_of}
 use Rattle.fluent_syntax_tree.specs.declared.errors.ParserError.{ParserError}
@@ -11,12 +11,12 @@ use Rattle.ftl_files.specs.declared.options.Form.{Form}
 abbrev pub error_span : ParserError → Span
 error_span error = record { start = error.pos.start; end = error.pos.end }
 
--- This is told of the error, in the file's text.
+-- This is reported of the error, in the file's text.
 abbrev pub IsErrorReport : Form → (path text : List ℕ) → ParserError → (report_text : List ℕ) → Type 0
 IsErrorReport form path text error report_text = (message : List ℕ)
     × IsDiagnostic form path (Some (location_at text (error_span error)))
     (kind_name (kind_of error.kind)) message report_text
 
--- So is told of each error, in order.
+-- This is reported of each error, in order.
 abbrev pub Reports : Form → (path text : List ℕ) → List ParserError → (report_text : List ℕ) → Type 0
 Reports form path text errors report_text = ReportsEach (IsErrorReport form path text) errors report_text

@@ -45,7 +45,7 @@ place_of_entry (Some entry) = named_at entry
 abbrev pub entry_place : (text : Text) → List (EntryTree Span) → (number : ℕ) → ℕ
 entry_place text entries number = min (place_of_entry (slice_get entries number)) (length text)
 
--- It stands where the text has the entry, and breaks the rule.
+-- It is where the text has the entry, and breaks the rule.
 abbrev pub IsEntryAt : Edition → Text → Uncanonical → LossyEntry → Type 0
 IsEntryAt edition text broken entry = (tiles : List Tile) × Tiling edition text tiles
     × (entry ≡ record {
@@ -63,7 +63,7 @@ pub record IsLossy (edition : Edition) (bytes : Text) (entry : LossyEntry) : Typ
   pub first : IsFirstBroken edition (reread_tree edition tree) broken
   pub entry_is : IsEntryAt edition bytes broken entry
 
--- ---- what is to stand in the place of a text
+-- ---- what is to come in the place of a text
 
 abbrev pub IsReplacement : Edition → List ℕ → Replacement → Type 0
 IsReplacement edition bytes Same = IsRewriting edition bytes bytes
@@ -83,19 +83,19 @@ FindsLossy edition bytes found =
 
 -- ---- a file
 
--- where the bytes were known, a rewriting of them stands now
+-- where the bytes were known, a rewriting of them is there now
 abbrev pub BecomesRewriting : Edition → (old new : Option (List ℕ)) → Type 0
 BecomesRewriting edition None new = Unit {0}
 BecomesRewriting edition (Some bytes) new = (text : List ℕ) × IsRewriting edition bytes text × (new ≡ Some text)
 
--- A text has come in the file's place, and no other file was touched; or all files stand.
+-- A text has come in the file's place, and no other file was touched; or all files are as they were.
 abbrev pub Puts : Replacement → (path : List ℕ) → (old new : List ℕ → Option (List ℕ)) → Type 0
 Puts (replacement.Text text) path old new = Becomes (old path) (new path) (string_bytes text)
     × OthersUnchanged old new path
 Puts _ path old new = AllUnchanged old new
 
--- The replacement of what was read of the file was put in its place; after a fault the old bytes stand, or a rewriting
--- of them.
+-- The replacement of what was read of the file was put in its place; after a fault the old bytes are there, or a
+-- rewriting of them.
 abbrev pub Rewrites : Failing → Reading → (path : List ℕ) → (old new : List ℕ → Option (List ℕ)) →
     Result Replacement Fault → Type 0
 Rewrites CallFails reading path old new (Ok replacement) = (read : List ℕ) × IsRead (old path) read
@@ -105,7 +105,7 @@ Rewrites CallFails reading path old new (Err fault) =
     × (IsFault CallFails (old path) (λ text. IsUnparsed (IsTooDeep reading text)) fault
     ⊎ IsUnwritten CallFails (old path) fault)
 
--- A file stands as it was, or has become a rewriting of what it was, once or more often where a run came to it so.
+-- A file is as it was, or has become a rewriting of what it was, once or more often where a run came to it so.
 pub data Reaches (edition : Edition) : (old new : Option (List ℕ)) → Type 0 where
   stays : {bytes : Option (List ℕ)} → Reaches edition bytes bytes
   goes : {old now new : Option (List ℕ)} → Reaches edition old now → BecomesRewriting edition now new →

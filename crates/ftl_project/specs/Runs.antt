@@ -7,13 +7,13 @@ use Rattle.ftl_project.specs.Tally.{Processed, answered, counted, failed}
 use Rattle.ftl_project.specs.declared.fault.Fault.{Fault}
 use Rattle.ftl_project.specs.declared.tally.Tally.{Tally}
 
--- A file was met so, with a text for it: it was counted, and the text was written behind what was written before.
+-- A file was met so, with a text for it: it was counted, and the text was written after what was written before.
 abbrev pub Writes : (Processed → List ℕ → Type 0) → (old new : Tally) → (before after : Option (List ℕ)) → Type 0
 Writes Is old new before after =
     (processed : Processed) × (text : List ℕ) × Is processed text × (new ≡ counted old processed)
     × Appends before after text
 
--- So was each of the files, one behind another.
+-- So was each of the files, one after another.
 abbrev pub WritesEach : {A : Type 0} → (A → Processed → List ℕ → Type 0) → List A → (old new : Tally) →
     (before after : Option (List ℕ)) → Type 0
 WritesEach Processes [] old new before after = (new ≡ old) × Appends before after []
@@ -31,7 +31,7 @@ module _ (CallFails : Failing) (Is : Answers) (OfText : List ℕ → Fault → T
       (read : List ℕ) × IsRead bytes read × Is path read errors has_problems written
   ProcessesFile path bytes (failed status) written = Fails (IsFault CallFails bytes OfText) status × (written ≡ [])
 
-  -- So are all of the files, one behind another.
+  -- So are all of the files, one after another.
   abbrev pub AnswersEach : (at : List ℕ → Option (List ℕ)) → List (String Global) → (old new : Tally) →
       (before after : Option (List ℕ)) → Type 0
   AnswersEach at = WritesEach (λ file. ProcessesFile (string_bytes file) (at (string_bytes file)))

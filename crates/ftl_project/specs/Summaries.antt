@@ -1,4 +1,4 @@
--- Lines that are told.
+-- Lines that are reported.
 use Rattle.std.specs.Prelude.{ℕ, ◌-◌, ◌==◌, List, [], ◌++◌, Option, None, Some, codes, if◌then◌else◌}
 use Rattle.std.specs.Fmt.{decimal}
 use Rattle.ftl_project.specs.Excerpt.{shown_text}
@@ -24,14 +24,14 @@ errors_in_files tally =
     file_count_of tally.files
 
 -- how many warnings there are, if there are some
-abbrev pub warnings_behind : ℕ → List ℕ
-warnings_behind warnings =
+abbrev pub warnings_part : ℕ → List ℕ
+warnings_part warnings =
     if warnings == 0 then []
     else (if warnings == 1 then codes ", 1 warning" else codes ", " ++ decimal warnings ++ codes " warnings")
 
 -- the errors with the files, and the warnings
 abbrev pub check_summary_of : Tally → List ℕ
-check_summary_of tally = errors_in_files tally ++ warnings_behind tally.warnings ++ codes "\n"
+check_summary_of tally = errors_in_files tally ++ warnings_part tally.warnings ++ codes "\n"
 
 -- how many files are not in normal form, if there are some, and how many files
 abbrev pub format_summary_of : Tally → List ℕ

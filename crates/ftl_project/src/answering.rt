@@ -45,7 +45,7 @@ pub(crate) trait FileTask {
         ensures fault { IfErr result (refuses self.now (string_bytes text)) };
 }
 
-/// Reads each of the files, writes what is said of it, and counts it. One of which nothing is said is told, and the
+/// Reads each of the files, writes what is said of it, and counts it. One of which nothing is said is reported, and the
 /// others are answered. No file is changed.
 pub(crate) fn answer_files<A: FileTask, S: Store, O: Write, E: Write>(
     alloc: Global,
@@ -55,7 +55,7 @@ pub(crate) fn answer_files<A: FileTask, S: Store, O: Write, E: Write>(
     tally: &mut Tally,
     streams: &mut Streams<'_, O, E>,
 ) -> Result<(), RunFault>
-    ensures stand { AllUnchanged (S.bytes_at store.old) (S.bytes_at store.new) }
+    ensures untouched { AllUnchanged (S.bytes_at store.old) (S.bytes_at store.new) }
     ensures each { OnOk result (AnswersEach S.fails (A.answers answering.now) (A.refuses answering.now)
         (S.bytes_at store.old) files.now tally.old tally.new (O.contents (inner_of streams.old.out.now))
         (O.contents (inner_of streams.new.out.now))) }
@@ -77,7 +77,7 @@ fn answer_file<A: FileTask, S: Store, O: Write, E: Write>(
     tally: &mut Tally,
     streams: &mut Streams<'_, O, E>,
 ) -> Result<(), RunFault>
-    ensures stand { AllUnchanged (S.bytes_at store.old) (S.bytes_at store.new) }
+    ensures untouched { AllUnchanged (S.bytes_at store.old) (S.bytes_at store.new) }
     ensures counted { OnOk result (Writes (ProcessesFile S.fails (A.answers answering.now) (A.refuses answering.now)
         path.now (S.bytes_at store.old path.now)) tally.old tally.new (O.contents (inner_of streams.old.out.now))
         (O.contents (inner_of streams.new.out.now))) }
@@ -96,7 +96,7 @@ fn read_and_answer<A: FileTask, S: Store>(
     store: &mut S,
     path: &str,
 ) -> Result<Answer, Fault>
-    ensures stand { AllUnchanged (S.bytes_at store.old) (S.bytes_at store.new) }
+    ensures untouched { AllUnchanged (S.bytes_at store.old) (S.bytes_at store.new) }
     ensures answer { IfOk result (λ answer. (read : List ℕ) × IsRead (S.bytes_at store.old path.now) read
         × A.answers answering.now path.now read answer.errors answer.has_problems (string_bytes answer.text)) }
     ensures fault { IfErr result (IsFault S.fails (S.bytes_at store.old path.now) (A.refuses answering.now)) }

@@ -19,7 +19,7 @@ use ftl_files::{Form, Reading, Store};
 use std::alloc::Global;
 use std::io::Write;
 
-/// Checks the files, and tells their errors in the form. No file is changed, and each is counted, with as many errors
+/// Checks the files, and reports their errors in the form. No file is changed, and each is counted, with as many errors
 /// as it has.
 ///
 /// `Err` where the run stopped: `Memory`, or `Output`.
@@ -32,7 +32,7 @@ pub fn check_files<S: Store, O: Write, E: Write>(
     tally: &mut Tally,
     streams: &mut Streams<'_, O, E>,
 ) -> Result<(), RunFault>
-    ensures stand { AllUnchanged (S.bytes_at store.old) (S.bytes_at store.new) }
+    ensures untouched { AllUnchanged (S.bytes_at store.old) (S.bytes_at store.new) }
     ensures each { OnOk result (AnswersEach S.fails
         (IsChecked reading form) (λ text. IsUnparsed (IsTooDeep reading text))
         (S.bytes_at store.old) files.now tally.old tally.new (O.contents (inner_of streams.old.out.now))
@@ -49,7 +49,7 @@ pub fn check_files<S: Store, O: Write, E: Write>(
     answer_files(alloc, &checking, store, files, tally, streams)
 }
 
-/// How files are checked, and how their errors are told.
+/// How files are checked, and how their errors are reported.
 #[derive(Clone, Copy)]
 struct CheckTask {
     alloc: Global,
@@ -66,7 +66,10 @@ impl FileTask for CheckTask {
         let refused = errors_of(self.alloc, text, self.reading)?;
         let errors = refused.errors.len();
         let text = report(self.alloc, path, &refused, self.form)?;
-        let note = byte_order_mark_note(self.alloc, path, refused.text.as_str())?;
+        let note = match self.form {
+            Form::Lines => byte_order_mark_note(self.alloc, path, refused.text.as_str())?,
+            _ => String::new(self.alloc),
+        };
         Ok(Answer {
             errors,
             has_problems: errors != 0,
@@ -83,7 +86,11 @@ fn errors_of(alloc: Global, text: String, reading: Reading) -> Result<TextWithEr
     ensures fault { IfErr result (IsUnparsed (IsTooDeep reading (string_bytes text))) }
 {
     match errors_within(alloc, text.as_str(), reading.edition, reading.nesting) {
-        Ok(errors) => Ok(TextWithErrors { text, errors }),
+        Ok(errors) => Ok(TextWithErrors {
+            text,
+            errors,
+            reading,
+        }),
         Err(Halt::TooDeep) => Err(Fault::TooDeep),
         Err(Halt::Memory) => Err(Fault::Memory),
     }

@@ -46,11 +46,11 @@ impl Pair {
     }
 }
 
-/// How differences are told.
+/// How differences are reported.
 #[derive(Clone, Copy, Debug)]
 pub struct CompareOptions<'a> {
     pub form: Form,
-    /// Kinds that are not told, nor counted as errors.
+    /// Kinds that are not reported, nor counted as errors.
     pub ignored: &'a [ReportedKind],
 }
 
@@ -73,7 +73,7 @@ impl Share {
     }
 }
 
-/// What is told of a pair, how many errors it has, and how much of it is there.
+/// What is reported of a pair, how many errors it has, and how much of it is there.
 #[derive(Drop)]
 struct PairComparison {
     report_text: String,
@@ -95,7 +95,7 @@ impl From<AllocError> for PairFault {
 
     ghost from_gives = { λ _ fault. fault ≡ record { side = Reference; fault = Memory } };
 
-    /// Told of the reference, which each pair has.
+    /// Reported of the reference, which each pair has.
     fn from(_error: AllocError) -> Self {
         PairFault {
             side: Side::Reference,
@@ -104,8 +104,8 @@ impl From<AllocError> for PairFault {
     }
 }
 
-/// Tells what the other files lack of the reference's, and what is obsolete there, pair by pair. No file is changed,
-/// and each pair is counted. A file that can't be read is told, and the other pairs are compared.
+/// Reports what the other files lack of the reference's, and what is obsolete there, pair by pair. No file is changed,
+/// and each pair is counted. A file that can't be read is reported, and the other pairs are compared.
 ///
 /// `Err` where the run stopped: `Memory`, or `Output`.
 pub fn compare_files<S: Store, O: Write, E: Write>(
@@ -118,7 +118,7 @@ pub fn compare_files<S: Store, O: Write, E: Write>(
     share: &mut Share,
     streams: &mut Streams<'_, O, E>,
 ) -> Result<(), RunFault>
-    ensures stand { AllUnchanged (S.bytes_at store.old) (S.bytes_at store.new) }
+    ensures untouched { AllUnchanged (S.bytes_at store.old) (S.bytes_at store.new) }
     ensures each { OnOk result (ComparesEach S.fails reading options.entry (S.bytes_at store.old) pairs.now tally.old
         tally.new share.old share.new (O.contents (inner_of streams.old.out.now))
         (O.contents (inner_of streams.new.out.now))) }
@@ -137,7 +137,7 @@ pub fn compare_files<S: Store, O: Write, E: Write>(
     Ok(())
 }
 
-/// How pairs are compared, and how what they lack is told.
+/// How pairs are compared, and how what they lack is reported.
 #[derive(Clone, Copy)]
 struct Comparing<'a> {
     alloc: Global,
@@ -146,7 +146,7 @@ struct Comparing<'a> {
 }
 
 impl Comparing<'_> {
-    /// Compares a pair, tells what came of it, and counts it.
+    /// Compares a pair, reports what came of it, and counts it.
     fn report_pair<S: Store, O: Write, E: Write>(
         &self,
         store: &mut S,
@@ -155,7 +155,7 @@ impl Comparing<'_> {
         share: &mut Share,
         streams: &mut Streams<'_, O, E>,
     ) -> Result<(), RunFault>
-        ensures stand { AllUnchanged (S.bytes_at store.old) (S.bytes_at store.new) }
+        ensures untouched { AllUnchanged (S.bytes_at store.old) (S.bytes_at store.new) }
         ensures counted { OnOk result (Compares S.fails self.now.reading self.now.options (S.bytes_at store.old)
             pair.now tally.old tally.new share.old share.new (O.contents (inner_of streams.old.out.now))
             (O.contents (inner_of streams.new.out.now))) }
@@ -181,7 +181,7 @@ impl Comparing<'_> {
         store: &mut S,
         pair: &Pair,
     ) -> Result<PairComparison, PairFault>
-        ensures stand { AllUnchanged (S.bytes_at store.old) (S.bytes_at store.new) }
+        ensures untouched { AllUnchanged (S.bytes_at store.old) (S.bytes_at store.new) }
         ensures compared { IfOk result (λ compared. IsComparison S.fails self.now.reading self.now.options
             (S.bytes_at store.old) pair.now.is_there pair.now compared.errors compared.share
             (string_bytes compared.report_text)) }
@@ -223,7 +223,7 @@ impl Comparing<'_> {
         })
     }
 
-    /// What is told of a pair whose other file is not there, if that is told.
+    /// What is reported of a pair whose other file is not there, if that is reported.
     fn no_file(&self, pair: &Pair, is_reported: bool) -> Result<String, AllocError>
         ensures { IfOk result (λ report_text. IsFileReport self.now.options.form pair.now is_reported
             (string_bytes report_text)) }
@@ -316,8 +316,8 @@ impl Comparing<'_> {
         let extra = missing_parts(self.alloc, other, reference)?;
         let extra = reported_parts(self.alloc, self.options.ignored, Side::Other, &extra)?;
         let own_names = EntryNames::new(self.alloc, other)?;
-        let behind = pair_reporter.report_of(Side::Other, other.text, &own_names, &extra)?;
-        report_text.push_str(behind.as_str())?;
+        let other_report = pair_reporter.report_of(Side::Other, other.text, &own_names, &extra)?;
+        report_text.push_str(other_report.as_str())?;
         let missed = errors_of(Side::Reference, &reported);
         let unknown = errors_of(Side::Other, &extra);
         Ok(PairComparison {
@@ -336,7 +336,7 @@ fn side_text<S: Store>(store: &mut S, side: Side, path: &str) -> Result<String, 
     ensures text { IfOk result (λ text. IsRead (S.bytes_at store.old path.now) (string_bytes text)) }
     ensures fault { IfErr result (λ fault. (fault.side ≡ side)
         × IsUnread S.fails (S.bytes_at store.old path.now) fault.fault) }
-    ensures stand { AllUnchanged (S.bytes_at store.old) (S.bytes_at store.new) }
+    ensures untouched { AllUnchanged (S.bytes_at store.old) (S.bytes_at store.new) }
 {
     match read_text(store, path) {
         Ok(text) => Ok(text),
@@ -344,7 +344,7 @@ fn side_text<S: Store>(store: &mut S, side: Side, path: &str) -> Result<String, 
     }
 }
 
-/// How many of the parts that this file has and the other one lacks are told as errors.
+/// How many of the parts that this file has and the other one lacks are reported as errors.
 fn errors_of(side: Side, missing_parts: &[MissingPart]) -> usize
     ensures { result ≡ errors_of side missing_parts.now }
 {

@@ -1,4 +1,4 @@
-//! What is told of what one file of a pair has and the other one lacks.
+//! What is reported of what one file of a pair has and the other one lacks.
 ghost use Rattle.std.specs.Prelude.{◌≡◌, ◌+◌, ◌<◌, ◌^◌, IfOk, length, string_bytes};
 ghost use Rattle.ftl_project.specs.Comparing.{IsMissingPartReport, IsMissingReport, IsExtraReport};
 ghost use Rattle.ftl_project.specs.Diagnostics.{ReportsEach};
@@ -15,7 +15,7 @@ use fluent_syntax_names::{Difference, MissingPart, Part, RefusedNames, Side};
 use ftl_files::Form;
 use std::alloc::{AllocError, Global};
 
-/// A pair of which is told what each file lacks: what the other file says, what the reference has as junk, and the
+/// A pair of which is reported what each file lacks: what the other file says, what the reference has as junk, and the
 /// form.
 #[derive(Clone, Copy)]
 pub(crate) struct PairReporter<'a, 't> {
@@ -27,7 +27,7 @@ pub(crate) struct PairReporter<'a, 't> {
 }
 
 impl PairReporter<'_, '_> {
-    /// What is told of the parts that the file of this side has and the other one lacks. The names are those of the
+    /// What is reported of the parts that the file of this side has and the other one lacks. The names are those of the
     /// entries that the file defines.
     pub(crate) fn report_of(
         &self,
@@ -195,7 +195,7 @@ impl PairReporter<'_, '_> {
         }
     }
 
-    /// A place of the reference, as it is told.
+    /// A place of the reference, as it is reported.
     fn place_text(&self, location: SourceLocation) -> Result<String, AllocError> {
         let path = self.pair.reference.as_str();
         let (line, column) = (location.line, location.column);
@@ -203,7 +203,7 @@ impl PairReporter<'_, '_> {
     }
 }
 
-/// What is told of the part: its name, that of the entry that it is in, and the other place.
+/// What is reported of the part: its name, that of the entry that it is in, and the other place.
 fn subject_of<'s>(
     text: &'s str,
     names: &EntryNames,
@@ -222,7 +222,7 @@ fn subject_of<'s>(
     }
 }
 
-/// The place of junk, or else of the entry. A line that has a place tells no more of what is missing, so there the
+/// The place of junk, or else of the entry. A line that has a place says no more of what is missing, so there the
 /// entry's is left out.
 fn shown_place(
     form: Form,

@@ -20,7 +20,7 @@ use std::alloc::{AllocError, Global};
 use std::io::Write;
 
 /// Writes the text of the tree that each file spells as JSON, in the order of the files. A tree that would not read
-/// back is written, and told. A file that spells none is told, and the others are written. No file is changed, and
+/// back is written, and reported. A file that spells none is reported, and the others are written. No file is changed,
 /// each is counted.
 ///
 /// `Err` where the run stopped: `Memory`, or `Output`.
@@ -31,7 +31,7 @@ pub fn convert_files<S: Store, O: Write, E: Write>(
     tally: &mut Tally,
     streams: &mut Streams<'_, O, E>,
 ) -> Result<(), RunFault>
-    ensures stand { AllUnchanged (S.bytes_at store.old) (S.bytes_at store.new) }
+    ensures untouched { AllUnchanged (S.bytes_at store.old) (S.bytes_at store.new) }
     ensures each { OnOk result (AnswersEach S.fails IsConverted IsMisspelled
         (S.bytes_at store.old) files.now tally.old tally.new (O.contents (inner_of streams.old.out.now))
         (O.contents (inner_of streams.new.out.now))) }
@@ -67,7 +67,7 @@ impl FileTask for ConvertTask {
     }
 }
 
-/// What is told of a tree whose text would not read back: by which entry, counted from 1.
+/// What is reported of a tree whose text would not read back: by which entry, counted from 1.
 fn lossy_entry_note(
     alloc: Global,
     path: &str,

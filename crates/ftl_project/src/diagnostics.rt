@@ -1,8 +1,8 @@
-//! What is told of a place in a file, for people or for tools.
+//! What is reported of a place in a file, for people or for tools.
 ghost use Rattle.std.specs.Prelude.{◌≡◌, ◌++◌, IfOk, OnOk, string_bytes};
 ghost use Rattle.ftl_project.specs.Diagnostics.{IsName, IsDiagnostic, place_or_path, diagnostic_line, location_at};
 
-use crate::error_advice::{push_advice, push_advice_members};
+use crate::error_lead::{KnownPlace, error_sentence, push_lead, push_lead_members};
 use crate::excerpt::push_excerpt;
 use crate::github::{push_data, push_property};
 use crate::json::{push_json_text, push_junk, push_payload};
@@ -10,11 +10,12 @@ use crate::paint::{COLORED, PLAIN, Paint};
 use crate::terminal_text::push_shown_text;
 use fluent_syntax::parser::ParserError;
 use fluent_syntax::spans::{Lines, Span};
+use ftl::Lead;
 use ftl_files::Form;
 use std::alloc::{AllocError, Global};
 use std::fmt::Write;
 
-/// What is told of a file, and of a place there if it has one.
+/// What is reported of a file, and of a place there if it has one.
 #[derive(Drop)]
 pub(crate) struct Diagnostic<'a> {
     pub(crate) path: &'a str,
@@ -23,20 +24,27 @@ pub(crate) struct Diagnostic<'a> {
     pub(crate) kind: &'static str,
     pub(crate) severity: &'static str,
     pub(crate) message: String,
-    /// The syntax error that it tells of.
-    pub(crate) error: Option<&'a ParserError>,
-    /// The name that it tells of.
+    /// The syntax error that it is about.
+    pub(crate) error: Option<ReportedError<'a>>,
+    /// The name that it is about.
     pub(crate) subject: Option<Subject<'a>>,
 }
 
-/// What a diagnostic tells of a name.
+/// A syntax error, and what leads from it to the mistake.
+#[derive(Drop)]
+pub(crate) struct ReportedError<'a> {
+    pub(crate) error: &'a ParserError,
+    pub(crate) lead: Lead,
+}
+
+/// What a diagnostic says of a name.
 #[derive(Clone, Copy)]
 pub(crate) struct Subject<'a> {
     /// The name, a term's with its `-`.
     pub(crate) name: &'a str,
     /// The name of the message or term that it is in, if that is another and is known.
     pub(crate) entry: Option<&'a str>,
-    /// Where the name stands first, or in the reference.
+    /// Where the name comes first, or in the reference.
     pub(crate) other: Option<OtherPlace<'a>>,
 }
 
@@ -78,7 +86,7 @@ pub(crate) fn name_in(text: &str, name: Span) -> &str
     text.get(name.start..name.end).unwrap_or("")
 }
 
-/// What is told of the diagnostic in the form.
+/// What is reported of the diagnostic in the form.
 pub(crate) fn diagnostic_text(
     alloc: Global,
     diagnostic: &Diagnostic<'_>,
@@ -135,22 +143,32 @@ fn push_in_full(
     let Paint {
         before_place,
         before_kind,
-        behind,
+        reset,
         caret,
     } = *paint;
     out.push_str(before_place)?;
     push_place(out, diagnostic)?;
     let (severity, kind) = (diagnostic.severity, diagnostic.kind);
-    write!(out, "{behind}: {before_kind}{severity}[{kind}]{behind}: ")?;
+    write!(out, "{reset}: {before_kind}{severity}[{kind}]{reset}: ")?;
     push_shown_text(out, diagnostic.message.as_str())?;
     out.push('\n')?;
     if let Some(location) = diagnostic.place {
         push_excerpt(out, diagnostic.text, location.start, caret)?;
     }
-    match diagnostic.error {
-        Some(error) => push_advice(out, diagnostic.text, error, caret),
-        None => Ok(()),
+    match (&diagnostic.error, known_place(diagnostic)) {
+        (Some(error), Some(known)) => push_lead(out, &known, error, paint),
+        _ => Ok(()),
     }
+}
+
+/// The place of the diagnostic in its text, if it has one.
+fn known_place<'a>(diagnostic: &Diagnostic<'a>) -> Option<KnownPlace<'a>> {
+    let location = diagnostic.place?;
+    Some(KnownPlace {
+        path: diagnostic.path,
+        text: diagnostic.text,
+        location,
+    })
 }
 
 /// An object. Its places are in bytes, counted from 0; the column too is in bytes, and counted from 1.
@@ -160,12 +178,12 @@ fn push_json(out: &mut String, diagnostic: &Diagnostic<'_>) -> Result<(), AllocE
     if let Some(location) = diagnostic.place {
         push_location(out, location)?;
     }
-    if let Some(error) = diagnostic.error {
-        push_junk(out, error)?;
+    if let Some(error) = &diagnostic.error {
+        push_junk(out, error.error)?;
     }
     write!(out, ",\"kind\":\"{}\"", diagnostic.kind)?;
-    match diagnostic.error {
-        Some(error) => push_payload(out, &error.kind)?,
+    match &diagnostic.error {
+        Some(error) => push_payload(out, &error.error.kind)?,
         None => write!(out, ",\"severity\":\"{}\"", diagnostic.severity)?,
     }
     if let Some(subject) = &diagnostic.subject {
@@ -173,8 +191,8 @@ fn push_json(out: &mut String, diagnostic: &Diagnostic<'_>) -> Result<(), AllocE
     }
     out.push_str(",\"message\":")?;
     push_json_text(out, diagnostic.message.as_str())?;
-    if let (Some(error), Some(location)) = (diagnostic.error, diagnostic.place) {
-        push_advice_members(out, diagnostic.text, error, location)?;
+    if let (Some(error), Some(known)) = (&diagnostic.error, known_place(diagnostic)) {
+        push_lead_members(out, &known, error)?;
     }
     out.push_str("}\n")
 }
@@ -216,5 +234,9 @@ fn push_github(out: &mut String, diagnostic: &Diagnostic<'_>) -> Result<(), Allo
     }
     write!(out, ",title={}::", diagnostic.kind)?;
     push_data(out, diagnostic.message.as_str())?;
+    if let Some(error) = &diagnostic.error {
+        out.push_str(": ")?;
+        push_data(out, error_sentence(error))?;
+    }
     out.push('\n')
 }

@@ -1,4 +1,4 @@
-//! What is told of a part that one of two files lacks, and whether it is an error.
+//! What is reported of a part that one of two files lacks, and whether it is an error.
 ghost use Rattle.std.specs.Prelude.{◌≡◌, IfOk};
 ghost use Rattle.ftl_project.specs.Differences.{counts_as_error, is_error_severity, is_part_reported, is_reported};
 ghost use Rattle.ftl_project.specs.Differences.{reported_parts};
@@ -7,7 +7,7 @@ use fluent_syntax_names::{MissingPart, Part, Severity, Side};
 use ftl_files::ReportedKind;
 use std::alloc::{AllocError, Global};
 
-/// Whether a part that the file of this side has and the other one lacks is told as an error.
+/// Whether a part that the file of this side has and the other one lacks is reported as an error.
 pub(crate) fn counts_as_error(side: Side, part: Part) -> bool
     ensures { result ≡ counts_as_error side part }
 {
@@ -17,7 +17,7 @@ pub(crate) fn counts_as_error(side: Side, part: Part) -> bool
     }
 }
 
-/// Those of the parts that are told, where these kinds are not.
+/// Those of the parts that are reported, where these kinds are not.
 pub(crate) fn reported_parts(
     alloc: Global,
     ignored: &[ReportedKind],
@@ -33,7 +33,7 @@ pub(crate) fn reported_parts(
         .collect(alloc)
 }
 
-/// Whether a part that the file of this side has and the other one lacks is told, where these kinds are not.
+/// Whether a part that the file of this side has and the other one lacks is reported, where these kinds are not.
 fn is_part_reported(ignored: &[ReportedKind], side: Side, part: Part) -> bool
     ensures { result ≡ is_part_reported ignored.now side part }
 {
@@ -43,7 +43,7 @@ fn is_part_reported(ignored: &[ReportedKind], side: Side, part: Part) -> bool
     }
 }
 
-/// Whether the kind of that name is told, where these are not.
+/// Whether the kind of that name is reported, where these are not.
 pub(crate) fn is_reported(ignored: &[ReportedKind], name: &str) -> bool
     ensures { result ≡ is_reported ignored.now name.now }
 {

@@ -29,7 +29,7 @@ pub fn diff_files<S: Store, O: Write, E: Write>(
     tally: &mut Tally,
     streams: &mut Streams<'_, O, E>,
 ) -> Result<(), RunFault>
-    ensures stand { AllUnchanged (S.bytes_at store.old) (S.bytes_at store.new) }
+    ensures untouched { AllUnchanged (S.bytes_at store.old) (S.bytes_at store.new) }
     ensures each { OnOk result (AnswersEach S.fails (IsShown reading) (λ text. IsUnparsed (IsTooDeep reading text))
         (S.bytes_at store.old) files.now tally.old tally.new (O.contents (inner_of streams.old.out.now))
         (O.contents (inner_of streams.new.out.now))) }
@@ -71,7 +71,7 @@ impl FileTask for DiffTask {
     }
 }
 
-/// The difference between the text and the one that is to stand in its place, if there is one.
+/// The difference between the text and the one that is to come in its place, if there is one.
 fn shown_difference(
     alloc: Global,
     path: &str,

@@ -1,4 +1,4 @@
-//! The names of entries, as they are told.
+//! The names of entries, as they are reported.
 
 use crate::diagnostics::name_in;
 use fluent_syntax::spans::Span;
@@ -8,7 +8,7 @@ use std::alloc::{AllocError, Global};
 /// The messages and terms that a file defines, in their order.
 #[derive(Drop)]
 pub(crate) struct EntryNames {
-    /// Where each name stands, without the `-` of a term.
+    /// Where each name is, without the `-` of a term.
     names: Vec<Span>,
 }
 
@@ -27,12 +27,12 @@ impl EntryNames {
 
     /// The name of the entry that the place is in, which may be that of the name itself.
     pub(crate) fn entry_of(&self, place: usize) -> Option<Span> {
-        let behind = self.names.partition_point(|name| name.start <= place);
-        self.names.get(behind.checked_sub(1)?).copied()
+        let beyond = self.names.partition_point(|name| name.start <= place);
+        self.names.get(beyond.checked_sub(1)?).copied()
     }
 }
 
-/// The name at a range of the text, with the `-` before it where one stands there.
+/// The name at a range of the text, with the `-` before it where there is one.
 pub(crate) fn name_with_hyphen(text: &str, name: Span) -> &str {
     let start = name.start.saturating_sub(1);
     match text.get(start..name.end) {

@@ -9,10 +9,11 @@ use std::alloc::AllocError;
 
 /// Adds two lines: the text's line that has the place, and the caret below the character of that place.
 ///
-/// The place is a byte of the text, counted from 0. One behind the line's last character has its caret there. Of a line
+/// The place is a byte of the text, counted from 0. One after the line's last character has its caret there. Of a line
 /// that is longer, the 100 characters before the place and the 100 from there on are shown, with `…` for the others. A
-/// tab stays a tab, and stands in the caret's line too. Any other control character is shown as U+FFFD. No line end
-/// but the two that are added is written. The caret is `^`, or what a terminal shows as one, and is added as it is.
+/// tab stays a tab, and is in the caret's line too. Any other control character is shown as U+FFFD, and a
+/// character that looks like a space, or like nothing, by its number, as `<U+00A0>`. No line end but the two that are
+/// added is written. The caret is `^`, or what a terminal shows as one, and is added as it is.
 ///
 /// `AllocError`: a growth was refused; what was added until then stays.
 pub fn push_excerpt(
@@ -62,7 +63,7 @@ fn push_from_place(out: &mut String, back: &str) -> Result<(), AllocError>
     Ok(())
 }
 
-/// Adds what stands below what is shown before the place.
+/// Adds what is below what is shown before the place.
 fn push_below_front(out: &mut String, front: &str) -> Result<(), AllocError>
     ensures { OnOk result (string_bytes out.new ≡ string_bytes out.old ++ below_front front.now) }
 {

@@ -16,7 +16,7 @@ pub enum Fault {
     NotText(usize),
     /// A growth was refused.
     Memory,
-    /// It could not be written: its old bytes stand, or the new ones.
+    /// It could not be written: its old bytes are there, or the new ones.
     Write(io::Error),
     /// It nests deeper than it may.
     TooDeep,

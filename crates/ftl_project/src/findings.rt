@@ -1,4 +1,4 @@
-//! The findings of a set of files, told for people or for tools.
+//! The findings of a set of files, reported for people or for tools.
 ghost use Rattle.std.specs.Prelude.{◌≡◌, All, IfOk, List, length, string_bytes, ◌+◌, ◌<◌, ◌^◌, slice_get, ℕ};
 ghost use Rattle.ftl_project.specs.Linting.{IsFindingReport, path_of, text_of, location_in};
 ghost use Rattle.ftl_project.specs.NameIndexes.{IsShort};
@@ -22,7 +22,7 @@ pub(crate) struct Source {
     pub(crate) text: String,
 }
 
-/// What is told of the findings in the files, which say this of names.
+/// What is reported of the findings in the files, which say this of names.
 pub(crate) fn report_findings(
     alloc: Global,
     sources: &[Source],
@@ -112,7 +112,7 @@ fn line_starts_in(
     }
 }
 
-/// A file whose findings are told: its path and its text, where its lines begin, and the form.
+/// A file whose findings are reported: its path and its text, where its lines begin, and the form.
 #[derive(Clone, Copy)]
 struct FileReporter<'a> {
     alloc: Global,
@@ -123,7 +123,7 @@ struct FileReporter<'a> {
 }
 
 impl FileReporter<'_> {
-    /// What is told of a finding in the file.
+    /// What is reported of a finding in the file.
     fn finding_report<'t>(
         &self,
         lines: &mut Lines<'t>,

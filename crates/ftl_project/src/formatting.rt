@@ -16,7 +16,7 @@ use crate::replacement::{Replacement, replacement_for};
 use crate::reporting::report;
 use crate::rewrite_counts::RewriteCounts;
 use crate::rewriting::rewrite;
-use crate::streams::{Streams, byte_order_mark_note, report_fault};
+use crate::streams::{Streams, report_fault};
 use crate::tally::Tally;
 use crate::terminal_text::push_shown_text;
 use ftl::{RunFault, write_all};
@@ -25,9 +25,9 @@ use std::alloc::{AllocError, Global};
 use std::io::Write;
 
 /// Puts the normal form in the place of each file that has no syntax error and whose normal form reads back. However
-/// the run ends, each file stands as it was, or is its normal form.
+/// the run ends, each file is as it was, or is its normal form.
 ///
-/// - `reaches`: so they stand.
+/// - `reaches`: so they are.
 /// - `each`: a run that ends in `Ok` came to each file, in order, and counted it by what became of it.
 /// - `normal`: where the tally has no fault then, each file that has such a normal form is that.
 ///
@@ -95,7 +95,7 @@ pub fn name_files<S: Store, O: Write, E: Write>(
     tally: &mut Tally,
     streams: &mut Streams<'_, O, E>,
 ) -> Result<(), RunFault>
-    ensures stand { AllUnchanged (S.bytes_at store.old) (S.bytes_at store.new) }
+    ensures untouched { AllUnchanged (S.bytes_at store.old) (S.bytes_at store.new) }
     ensures each { OnOk result (AnswersEach S.fails (IsNamed reading) (λ text. IsUnparsed (IsTooDeep reading text))
         (S.bytes_at store.old) files.now tally.old tally.new (O.contents (inner_of streams.old.out.now))
         (O.contents (inner_of streams.new.out.now))) }
@@ -160,26 +160,21 @@ pub(crate) fn is_not_normal(replacement: &Replacement) -> bool
     !matches!(replacement, Replacement::Same)
 }
 
-/// What is told of a file that is left as it is: its errors, and a byte order mark; or by which entry its normal form
-/// would not read back.
+/// What is reported of a file that is left as it is: its errors; or by which entry its normal
+/// form would not read back.
 pub(crate) fn unchanged_note(
     alloc: Global,
     path: &str,
     replacement: &Replacement,
 ) -> Result<String, AllocError> {
     match replacement {
-        Replacement::Errors(refused) => {
-            let mut note = report(alloc, path, refused, Form::Full)?;
-            let mark = byte_order_mark_note(alloc, path, refused.text.as_str())?;
-            note.push_str(mark.as_str())?;
-            Ok(note)
-        }
+        Replacement::Errors(refused) => report(alloc, path, refused, Form::Full),
         Replacement::Lossy(entry) => lossy_entry_line(alloc, path, *entry, "left as it is"),
         _ => Ok(String::new(alloc)),
     }
 }
 
-/// The path on a line, where another text is to stand.
+/// The path on a line, where it is to get another text.
 fn name_of(alloc: Global, path: &str, replacement: &Replacement) -> Result<String, AllocError>
     ensures { IfOk result (λ line. string_bytes line ≡ name_of path.now replacement.now) }
 {

@@ -1,8 +1,8 @@
-//! Text of a line that GitHub shows beside the source: `::error file=PATH,line=LINE,col=COLUMN,title=KIND::MESSAGE`.
+//! Text of a line that GitHub shows next to the source: `::error file=PATH,line=LINE,col=COLUMN,title=KIND::MESSAGE`.
 
 use std::alloc::AllocError;
 
-/// Adds what stands behind the second `::`, where `%` and line ends would be read otherwise.
+/// Adds what comes after the second `::`, where `%` and line ends would be read otherwise.
 pub(crate) fn push_data(out: &mut String, text: &str) -> Result<(), AllocError> {
     for c in text.chars() {
         push_data_char(out, c)?;

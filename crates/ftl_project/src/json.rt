@@ -16,7 +16,7 @@ pub(crate) fn push_junk(out: &mut String, error: &ParserError) -> Result<(), All
     }
 }
 
-/// Adds the member for what the kind tells of the text, where it tells of something.
+/// Adds the member for what the kind says of the text, where it says something.
 pub(crate) fn push_payload(out: &mut String, kind: &ErrorKind) -> Result<(), AllocError> {
     match kind {
         ErrorKind::ExpectedToken(token) => {

@@ -5,29 +5,29 @@ ghost use Rattle.std.specs.Str.{IsCharBoundary};
 ghost use Rattle.std.specs.Str.Lines.{strip_carriage_return};
 ghost use Rattle.ftl_project.specs.Excerpt.{back, front, is_in_line, last_line};
 
-/// What of the line stands before the place.
+/// What the line has before the place.
 pub(crate) fn front(text: &str, cut: usize) -> &str
     requires { IsCharBoundary text.now cut }
     ensures { result.now ≡ front text.now cut }
 {
-    let (before, behind) = text.split_at(cut);
+    let (before, beyond) = text.split_at(cut);
     let line = last_line(before);
-    if behind.starts_with('\n') {
+    if beyond.starts_with('\n') {
         strip_carriage_return(line)
     } else {
         line
     }
 }
 
-/// What of the line stands from the place on, without the line's end.
+/// What the line has from the place on, without the line's end.
 pub(crate) fn back(text: &str, cut: usize) -> &str
     requires { IsCharBoundary text.now cut }
     ensures { result.now ≡ back text.now cut }
 {
-    let (_, behind) = text.split_at(cut);
-    let line = match behind.split_once('\n') {
+    let (_, beyond) = text.split_at(cut);
+    let line = match beyond.split_once('\n') {
         Some((line, _)) => line,
-        None => behind,
+        None => beyond,
     };
     strip_carriage_return(line)
 }

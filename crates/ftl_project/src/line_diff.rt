@@ -32,8 +32,8 @@ struct LineNumbers {
 }
 
 impl LineNumbers {
-    /// Those behind the lines.
-    fn behind(self, lines: &[Line<'_>]) -> LineNumbers {
+    /// Those after the lines.
+    fn beyond(self, lines: &[Line<'_>]) -> LineNumbers {
         let added = lines
             .iter()
             .filter(|line| matches!(line, Line::Added(_)))
@@ -49,7 +49,7 @@ impl LineNumbers {
     }
 }
 
-/// What differs between a file's text and the one that is to stand in its place, in the form of a unified diff. Where
+/// What differs between a file's text and the one that is to come in its place, in the form of a unified diff. Where
 /// the texts have no line in common for long, what is shown is not the least.
 pub(crate) fn line_diff(
     alloc: Global,
@@ -124,11 +124,11 @@ fn push_hunks(out: &mut String, lines: &[Line<'_>]) -> Result<(), AllocError> {
             break;
         };
         let (passed, from) = rest.split_at(first.saturating_sub(CONTEXT_LINES).min(rest.len()));
-        let (hunk, behind) = from.split_at(hunk_length(from).min(from.len()));
-        before = before.behind(passed);
+        let (hunk, beyond) = from.split_at(hunk_length(from).min(from.len()));
+        before = before.beyond(passed);
         push_hunk(out, before, hunk)?;
-        before = before.behind(hunk);
-        start = lines.len().saturating_sub(behind.len());
+        before = before.beyond(hunk);
+        start = lines.len().saturating_sub(beyond.len());
     }
     Ok(())
 }
@@ -147,11 +147,11 @@ fn hunk_length(lines: &[Line<'_>]) -> usize {
 }
 
 fn push_hunk(out: &mut String, before: LineNumbers, hunk: &[Line<'_>]) -> Result<(), AllocError> {
-    let behind = before.behind(hunk);
+    let beyond = before.beyond(hunk);
     out.push_str("@@ -")?;
-    push_range(out, before.old, behind.old)?;
+    push_range(out, before.old, beyond.old)?;
     out.push_str(" +")?;
-    push_range(out, before.new, behind.new)?;
+    push_range(out, before.new, beyond.new)?;
     out.push_str(" @@\n")?;
     for line in hunk {
         let (mark, text) = match line {
@@ -166,8 +166,8 @@ fn push_hunk(out: &mut String, before: LineNumbers, hunk: &[Line<'_>]) -> Result
 }
 
 /// Adds the number of the first line and how many there are; of none the number of the line before.
-fn push_range(out: &mut String, before: usize, behind: usize) -> Result<(), AllocError> {
-    let count = behind.saturating_sub(before);
+fn push_range(out: &mut String, before: usize, beyond: usize) -> Result<(), AllocError> {
+    let count = beyond.saturating_sub(before);
     let first = if count == 0 {
         before
     } else {
@@ -176,7 +176,7 @@ fn push_range(out: &mut String, before: usize, behind: usize) -> Result<(), Allo
     write!(out, "{first},{count}")
 }
 
-/// Adds the line, with what tells that a text ends without a line end.
+/// Adds the line, with what says that a text ends without a line end.
 fn push_line(out: &mut String, text: &str) -> Result<(), AllocError> {
     out.push_str(text)?;
     if text.ends_with('\n') {

@@ -23,17 +23,17 @@ use std::alloc::{AllocError, Global};
 use std::fmt::Write as _;
 use std::io::Write;
 
-/// How findings are told.
+/// How findings are reported.
 #[derive(Clone, Copy, Debug)]
 pub struct LintOptions<'a> {
     pub form: Form,
-    /// Kinds that are not told, nor counted.
+    /// Kinds that are not reported, nor counted.
     pub ignored: &'a [Kind],
 }
 
-/// Tells what is found in the files, which are one set, in the order of the files; then, on the other stream, how many
-/// findings there are of each kind. No file is changed. A file that can't be read is told, and the others are searched.
-///
+/// Reports what is found in the files, which are one set, in the order of the files; then, on the other stream, how
+/// many findings there are of each kind. No file is changed. A file that can't be read is reported, and the others are
+/// searched.
 /// `Err` where the run stopped: `Memory`, or `Output`.
 pub fn lint_files<S: Store, O: Write, E: Write>(
     alloc: Global,
@@ -44,7 +44,7 @@ pub fn lint_files<S: Store, O: Write, E: Write>(
     tally: &mut Tally,
     streams: &mut Streams<'_, O, E>,
 ) -> Result<(), RunFault>
-    ensures stand { AllUnchanged (S.bytes_at store.old) (S.bytes_at store.new) }
+    ensures untouched { AllUnchanged (S.bytes_at store.old) (S.bytes_at store.new) }
     ensures counted { OnOk result (CountsRead (length files.now) tally.old tally.new) }
     ensures searched { OnOk result (SearchesFiles S.fails reading lint_options.entry.form lint_options.entry.ignored.now
         (S.bytes_at store.old) files.now tally.old tally.new (O.contents (inner_of streams.old.out.now))
@@ -65,7 +65,7 @@ fn read_sources<S: Store, O: Write, E: Write>(
     tally: &mut Tally,
     streams: &mut Streams<'_, O, E>,
 ) -> Result<Vec<Source>, RunFault>
-    ensures stand { AllUnchanged (S.bytes_at store.old) (S.bytes_at store.new) }
+    ensures untouched { AllUnchanged (S.bytes_at store.old) (S.bytes_at store.new) }
     ensures read { IfOk result (λ sources. HasRead (length files.now) (vec_len sources) tally.old tally.new) }
     ensures sources { IfOk result (λ sources.
         Reads S.fails (S.bytes_at store.old) files.now sources.items tally.old tally.new) }
@@ -80,7 +80,7 @@ fn read_sources<S: Store, O: Write, E: Write>(
     Ok(sources)
 }
 
-/// Adds the text of a file that can be read, and tells one that can't.
+/// Adds the text of a file that can be read, and reports one that can't.
 fn read_source<S: Store, O: Write, E: Write>(
     alloc: Global,
     store: &mut S,
@@ -89,7 +89,7 @@ fn read_source<S: Store, O: Write, E: Write>(
     tally: &mut Tally,
     streams: &mut Streams<'_, O, E>,
 ) -> Result<(), RunFault>
-    ensures stand { AllUnchanged (S.bytes_at store.old) (S.bytes_at store.new) }
+    ensures untouched { AllUnchanged (S.bytes_at store.old) (S.bytes_at store.new) }
     ensures read { OnOk result (ReadsOne (vec_len sources.old) (vec_len sources.new) tally.old tally.new) }
     ensures source { OnOk result (ReadsSource S.fails (S.bytes_at store.old) path.now sources.old.items
         sources.new.items tally.old tally.new) }
@@ -152,7 +152,7 @@ fn lint_sources<O: Write, E: Write>(
     }
 }
 
-/// What each file says of names; nothing where it nests too deep, which is told.
+/// What each file says of names; nothing where it nests too deep, which is reported.
 fn name_indexes<'a, O: Write, E: Write>(
     alloc: Global,
     sources: &'a [Source],
@@ -189,7 +189,7 @@ fn add_name_index<'a>(
     Ok(())
 }
 
-/// What the file says of names; nothing where it nests too deep, which is told.
+/// What the file says of names; nothing where it nests too deep, which is reported.
 fn source_name_index<'a, O: Write, E: Write>(
     alloc: Global,
     source: &'a Source,

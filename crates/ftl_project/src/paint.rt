@@ -1,11 +1,11 @@
 //! How the parts of an error are set off on a terminal.
 
-/// What stands around the parts of an error.
+/// What is around the parts of an error.
 pub(crate) struct Paint {
     pub(crate) before_place: &'static str,
     pub(crate) before_kind: &'static str,
-    /// Behind each of the two.
-    pub(crate) behind: &'static str,
+    /// After each of the two.
+    pub(crate) reset: &'static str,
     pub(crate) caret: &'static str,
 }
 
@@ -13,7 +13,7 @@ pub(crate) struct Paint {
 pub(crate) const PLAIN: Paint = Paint {
     before_place: "",
     before_kind: "",
-    behind: "",
+    reset: "",
     caret: "^",
 };
 
@@ -21,6 +21,6 @@ pub(crate) const PLAIN: Paint = Paint {
 pub(crate) const COLORED: Paint = Paint {
     before_place: "\u{1B}[1m",
     before_kind: "\u{1B}[1;31m",
-    behind: "\u{1B}[0m",
+    reset: "\u{1B}[0m",
     caret: "\u{1B}[1;31m^\u{1B}[0m",
 };

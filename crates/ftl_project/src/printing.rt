@@ -21,7 +21,7 @@ use std::alloc::{AllocError, Global};
 use std::io::Write;
 
 /// Writes the command's text of each file, in the order of the files. A file that has errors, or whose normal form does
-/// not read back, is told, and one that was not answered; the others are answered. No file is changed, and each is
+/// not read back, is reported, and one that was not answered; the others are answered. No file is changed, and each is
 /// counted.
 ///
 /// `Err` where the run stopped: `Memory`, or `Output`.
@@ -34,7 +34,7 @@ pub fn print_files<S: Store, O: Write, E: Write>(
     tally: &mut Tally,
     streams: &mut Streams<'_, O, E>,
 ) -> Result<(), RunFault>
-    ensures stand { AllUnchanged (S.bytes_at store.old) (S.bytes_at store.new) }
+    ensures untouched { AllUnchanged (S.bytes_at store.old) (S.bytes_at store.new) }
     ensures each { OnOk result (AnswersEach S.fails
         (IsPrinted command) (λ text. IsUnparsed (ReadsDeeper command text nesting))
         (S.bytes_at store.old) files.now tally.old tally.new (O.contents (inner_of streams.old.out.now))
@@ -136,7 +136,7 @@ impl PrintTask {
         }
     }
 
-    /// What is told of a file: that it has errors, or by which entry what is written does not read back.
+    /// What is reported of a file: that it has errors, or by which entry what is written does not read back.
     fn note(&self, path: &str, text: &str, printed: &Printed) -> Result<String, AllocError> {
         if printed.outcome == Outcome::SyntaxErrors {
             let mut note = note_line(self.alloc, path, &"has syntax errors")?;

@@ -1,4 +1,4 @@
-//! What is to stand in the place of a file's text.
+//! What is to come in the place of a file's text.
 ghost use Rattle.std.specs.Prelude.{◌≡◌, ◌+◌, ◌<◌, ◌^◌, IfErr, IfOk, length, string_bytes};
 ghost use Rattle.fluent_syntax_grammar.specs.RoundTrip.{ReadsAs};
 ghost use Rattle.fluent_syntax_tree.specs.View.{resource_view};
@@ -17,7 +17,7 @@ use ftl::laws::formatting_is_idempotent;
 use ftl_files::Reading;
 use std::alloc::Global;
 
-/// What is to stand in the place of a file's text.
+/// What is to come in the place of a file's text.
 #[derive(Debug, Drop)]
 pub enum Replacement {
     /// The text itself.
@@ -30,7 +30,7 @@ pub enum Replacement {
     Lossy(LossyEntry),
 }
 
-/// What is to stand in the place of the text: its normal form, where it has no error and reads back.
+/// What is to come in the place of the text: its normal form, where it has no error and reads back.
 ///
 /// `Memory`: a growth was refused, or the text is as long as the greatest `usize`. `TooDeep`: it nests deeper than it
 /// may.
@@ -47,10 +47,14 @@ pub fn replacement_for(alloc: Global, text: String, reading: Reading) -> Result<
         Ok(Err(ParseFault::Memory)) => return Err(Fault::Memory),
         Err(_) => return Err(Fault::TooDeep),
     };
-    Ok(Replacement::Errors(TextWithErrors { text, errors }))
+    Ok(Replacement::Errors(TextWithErrors {
+        text,
+        errors,
+        reading,
+    }))
 }
 
-/// What is to stand in the place of the text that was read as the tree, without errors.
+/// What is to come in the place of the text that was read as the tree, without errors.
 fn replacement_of(
     alloc: Global,
     text: &str,

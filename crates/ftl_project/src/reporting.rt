@@ -1,16 +1,17 @@
-//! The errors of a text, told for people or for tools.
+//! The errors of a text, reported for people or for tools.
 ghost use Rattle.std.specs.Prelude.{◌≡◌, IfOk, string_bytes};
 ghost use Rattle.ftl_project.specs.Reports.{IsErrorReport, Reports};
 
-use crate::diagnostics::{Diagnostic, diagnostic_text, location_of};
+use crate::diagnostics::{Diagnostic, ReportedError, diagnostic_text, location_of};
 use crate::terminal_text::push_escaped;
 use crate::text_with_errors::TextWithErrors;
 use fluent_syntax::parser::ParserError;
 use fluent_syntax::spans::{Lines, Span};
-use ftl_files::Form;
+use ftl::{Lead, lead_of};
+use ftl_files::{Form, Reading};
 use std::alloc::{AllocError, Global};
 
-/// What is told of the errors of a file's text: something of each, in the order of the errors.
+/// What is reported of the errors of a file's text: something of each, in the order of the errors.
 ///
 /// `AllocError`: a growth was refused.
 pub fn report(
@@ -26,17 +27,26 @@ pub fn report(
     let mut out = String::new(alloc);
     let mut lines = Lines::new(text);
     for error in &refused.errors {
-        let report_text = error_report(alloc, path, text, &mut lines, error, form)?;
+        let report_text = error_report(
+            alloc,
+            path,
+            text,
+            refused.reading,
+            &mut lines,
+            error,
+            form,
+        )?;
         out.push_str(report_text.as_str())?;
     }
     Ok(out)
 }
 
-/// What is told of an error in the file's text.
+/// What is reported of an error in the file's text.
 fn error_report<'s, 't>(
     alloc: Global,
     path: &'s str,
     text: &'s str,
+    reading: Reading,
     lines: &mut Lines<'t>,
     error: &'s ParserError,
     form: Form,
@@ -57,10 +67,30 @@ fn error_report<'s, 't>(
         kind: error.kind.name(),
         severity: "error",
         message: message_of(alloc, error)?,
-        error: Some(error),
+        error: Some(ReportedError {
+            error,
+            lead: lead_in(alloc, text, reading, error, form)?,
+        }),
         subject: None,
     };
     diagnostic_text(alloc, &diagnostic, form)
+}
+
+/// What leads from the error to the mistake. The form of lines does not say it.
+fn lead_in(
+    alloc: Global,
+    text: &str,
+    reading: Reading,
+    error: &ParserError,
+    form: Form,
+) -> Result<Lead, AllocError> {
+    match form {
+        Form::Lines => Ok(Lead {
+            cause: None,
+            opened: None,
+        }),
+        _ => lead_of(alloc, text, reading.edition, reading.nesting, error),
+    }
 }
 
 /// What is wrong, with its control characters escaped.

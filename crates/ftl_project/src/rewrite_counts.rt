@@ -8,7 +8,7 @@ use std::fmt::Write;
 /// What became of files that were to be rewritten.
 #[derive(Clone, Copy, Debug, PartialEq, Eq)]
 pub struct RewriteCounts {
-    /// Files that stand in their normal form now, and did not before.
+    /// Files that are in their normal form now, and were not before.
     pub rewritten: usize,
     /// Files that were left, since they have errors.
     pub with_errors: usize,

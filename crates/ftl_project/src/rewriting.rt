@@ -10,7 +10,7 @@ use ftl_files::{Reading, Store};
 use std::alloc::Global;
 
 /// Puts the file's normal form in its place, if it has no syntax error and the normal form reads back. After a fault
-/// the old bytes stand, or the normal form does.
+/// the old bytes are there, or the normal form is.
 pub fn rewrite<S: Store>(
     alloc: Global,
     store: &mut S,
@@ -33,7 +33,7 @@ pub fn rewrite<S: Store>(
 pub(crate) fn read_text<S: Store>(store: &mut S, path: &str) -> Result<String, Fault>
     ensures text { IfOk result (λ text. IsRead (S.bytes_at store.old path.now) (string_bytes text)) }
     ensures fault { IfErr result (IsUnread S.fails (S.bytes_at store.old path.now)) }
-    ensures stand { AllUnchanged (S.bytes_at store.old) (S.bytes_at store.new) }
+    ensures untouched { AllUnchanged (S.bytes_at store.old) (S.bytes_at store.new) }
 {
     let bytes = match store.read(path) {
         Ok(bytes) => bytes,

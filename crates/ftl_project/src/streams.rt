@@ -21,7 +21,7 @@ pub struct Streams<'w, O, E> {
     pub err: &'w mut Watched<E>,
 }
 
-/// Tells why a file was not answered, and counts it.
+/// Reports why a file was not answered, and counts it.
 ///
 /// `Err` where the run stops: `Memory`, or `Output`.
 pub fn report_fault<O: Write, E: Write>(
@@ -55,7 +55,7 @@ pub fn note_line<D: Display>(alloc: Global, path: &str, note: &D) -> Result<Stri
     Ok(line)
 }
 
-/// What is told of a file whose text begins with a byte order mark; else nothing.
+/// What is reported of a file whose text begins with a byte order mark; else nothing.
 pub(crate) fn byte_order_mark_note(
     alloc: Global,
     path: &str,

@@ -1,7 +1,7 @@
 //! What a run met.
 ghost use Rattle.std.specs.Prelude.{◌≡◌, IfOk, string_bytes};
 ghost use Rattle.ftl_project.specs.Summaries.{check_summary_of, error_count_of, errors_in_files, file_count_of};
-ghost use Rattle.ftl_project.specs.Summaries.{format_summary_of, warnings_behind};
+ghost use Rattle.ftl_project.specs.Summaries.{format_summary_of, warnings_part};
 ghost use Rattle.ftl_project.specs.Tally.{answered, counted, failed, status_of};
 
 use std::alloc::{AllocError, Global};
@@ -73,7 +73,7 @@ pub fn check_summary(alloc: Global, tally: &Tally) -> Result<String, AllocError>
     ensures { IfOk result (λ line. string_bytes line ≡ check_summary_of tally.now) }
 {
     let errors = errors_in_files(alloc, tally)?;
-    let warnings = warnings_behind(alloc, tally.warnings)?;
+    let warnings = warnings_part(alloc, tally.warnings)?;
     format!(in alloc; "{errors}{warnings}\n")
 }
 
@@ -99,8 +99,8 @@ fn errors_in_files(alloc: Global, tally: &Tally) -> Result<String, AllocError>
 }
 
 /// `, 1 warning`, or `, 3 warnings`; nothing of none.
-fn warnings_behind(alloc: Global, warnings: usize) -> Result<String, AllocError>
-    ensures { IfOk result (λ text. string_bytes text ≡ warnings_behind warnings) }
+fn warnings_part(alloc: Global, warnings: usize) -> Result<String, AllocError>
+    ensures { IfOk result (λ text. string_bytes text ≡ warnings_part warnings) }
 {
     match warnings {
         0 => Ok(String::new(alloc)),

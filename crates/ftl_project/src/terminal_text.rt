@@ -1,16 +1,17 @@
-//! How a text is shown in a terminal, and what stands below it.
+//! How a text is shown in a terminal, and what is below it.
 ghost use Rattle.std.specs.Prelude.{◌≡◌, ◌++◌, ◌≤◌, OnOk, chars, length, replicate, string_bytes};
 ghost use Rattle.ftl_project.specs.Excerpt.{below, below_char, is_hidden, shown, shown_char, shown_text, window};
-ghost use Rattle.ftl_project.specs.Excerpt.{window_start};
+ghost use Rattle.ftl_project.specs.Excerpt.{shown_number, window_start};
 
+use ftl::is_unseen;
 use std::alloc::AllocError;
 use std::fmt::Write;
 use unicode_width::UnicodeWidthChar;
 
-/// How many characters are shown of what stands before a place, and of what stands from there on.
+/// How many characters are shown of what is before a place, and of what is from there on.
 pub(crate) const WINDOW: usize = 100;
 
-/// Which character is the first that is shown of what stands before a place, counted from 0.
+/// Which character is the first that is shown of what is before a place, counted from 0.
 pub(crate) fn window_start(front: &str) -> usize
     ensures { result ≡ window_start front.now }
 {
@@ -46,8 +47,17 @@ fn push_shown_char(out: &mut String, c: char) -> Result<(), AllocError>
     match c {
         '\t' => out.push('\t'),
         c if is_hidden(c) => out.push('\u{FFFD}'),
+        c if is_unseen(c) => push_number(out, c),
         c => out.push(c),
     }
+}
+
+/// Adds the number of a character that can't be seen, as `<U+00A0>`.
+fn push_number(out: &mut String, c: char) -> Result<(), AllocError>
+    ensures { OnOk result (string_bytes out.new ≡ string_bytes out.old ++ shown_number c) }
+{
+    let zeros = if c == '\u{A0}' { "00" } else { "" };
+    write!(out, "<U+{zeros}{:X}>", c as u32)
 }
 
 /// Adds the text, with an escape for each control character: `\n` for a line end.
@@ -64,7 +74,7 @@ pub(crate) fn push_escaped(out: &mut String, text: &str) -> Result<(), AllocErro
     Ok(())
 }
 
-/// Adds what stands below that window: tabs below tabs, and spaces for the columns that the others take.
+/// Adds what is below that window: tabs below tabs, and spaces for the columns that the others take.
 pub(crate) fn push_below(out: &mut String, text: &str, start: usize) -> Result<(), AllocError>
     ensures { OnOk result (string_bytes out.new ≡ string_bytes out.old ++ below start text.now) }
 {
@@ -80,6 +90,7 @@ fn push_below_char(out: &mut String, c: char) -> Result<(), AllocError>
     match c {
         '\t' => out.push('\t'),
         c if is_hidden(c) => out.push(' '),
+        c if is_unseen(c) => push_spaces(out, 8),
         c => push_spaces(out, c.width().unwrap_or(0)),
     }
 }

@@ -37,7 +37,7 @@ impl<'o, 't> Translation<'o, 't> {
         })
     }
 
-    /// Where it defines the entry first whose name stands there in the text.
+    /// Where it first defines the entry whose name is there in the text.
     pub(crate) fn place_of(&self, text: &str, name: Span) -> Option<SourceLocation> {
         self.defined.get(name_with_hyphen(text, name)).copied()
     }

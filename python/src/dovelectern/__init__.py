@@ -18,15 +18,15 @@ from ._calls import check, check_file, compare, format, format_file, is_canonica
 from ._calls import serialize_entry
 from ._edits import insert, remove, replace, set_value
 from ._library import NESTING, Text
-from .errors import Error, Finding, FluentError, NoTree, NotFound, NotOneEntry, Place, ReadsOtherwise, SyntaxErrors
-from .errors import TooDeep
+from .errors import Cause, Error, Finding, FluentError, NoTree, NotFound, NotOneEntry, Place, ReadsOtherwise
+from .errors import SyntaxErrors, TooDeep
 from .visitor import Transformer, Visitor, joined
 
 __version__ = "2.4.0"
 
 __all__ = [
-    "Error", "Finding", "FluentError", "NESTING", "NoTree", "NotFound", "NotOneEntry", "Place", "ReadsOtherwise",
-    "SyntaxErrors", "Text", "TooDeep", "Transformer", "Visitor", "ast", "check", "check_file", "compare", "format",
-    "format_file", "insert", "is_canonical", "joined", "lint", "parse", "parse_file", "remove", "replace", "serialize",
-    "serialize_entry", "set_value",
+    "Cause", "Error", "Finding", "FluentError", "NESTING", "NoTree", "NotFound", "NotOneEntry", "Place",
+    "ReadsOtherwise", "SyntaxErrors", "Text", "TooDeep", "Transformer", "Visitor", "ast", "check", "check_file",
+    "compare", "format", "format_file", "insert", "is_canonical", "joined", "lint", "parse", "parse_file", "remove",
+    "replace", "serialize", "serialize_entry", "set_value",
 ]

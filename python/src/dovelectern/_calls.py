@@ -2,13 +2,13 @@
 import os
 from functools import lru_cache
 from itertools import chain
-from typing import Callable, Iterable, Iterator, List, Tuple, TypeVar, Union
+from typing import Callable, Dict, Iterable, Iterator, List, Optional, Tuple, TypeVar, Union
 
 from . import _findings, _library, _places, _reading, _reading_back, _writing, ast
 from ._collection import no_collection
 from ._library import NESTING, Text
 from .ast import Span
-from .errors import Error, Finding, NoTree, ReadsOtherwise, SyntaxErrors, TooDeep
+from .errors import Cause, Error, Finding, NoTree, ReadsOtherwise, SyntaxErrors, TooDeep
 
 Answer = TypeVar("Answer")
 Path = Union[str, "os.PathLike[str]", bytes, "os.PathLike[bytes]"]
@@ -27,7 +27,7 @@ def parse(text: Text, *, nesting: int = NESTING, with_spans: bool = True) -> ast
         with no_collection():
             tree = _reading.resource(written)
             if has_errors:
-                _annotate(tree, _errors(data, 1, depth), with_spans)
+                _annotate(tree, _errors(data, 1, depth, with_causes=False), with_spans)
             if with_spans:
                 _place(tree, data, depth)
             return tree
@@ -200,16 +200,31 @@ def as_edition(edition: int) -> int:
 _kind_name = lru_cache(maxsize=None)(_library.kind_name)
 
 
-def _errors(data: bytes, edition: int, nesting: int) -> List[Error]:
+def _errors(data: bytes, edition: int, nesting: int, with_causes: bool = True) -> List[Error]:
     rows = _library.errors(data, edition, nesting)
     if not rows:
         return []
     messages = _library.messages(data, edition, nesting)
     at = _places.in_characters(data, (place for row in rows for place in row[4:8]))
-    return [_error(row, message, (Span(at[row.start], at[row.end]), Span(at[row.junk_start], at[row.junk_end])))
-            for row, message in zip(rows, messages)]
+    causes = _causes(data, edition, nesting) if with_causes else [None] * len(rows)
+    return [_error(row, message, (Span(at[row.start], at[row.end]), Span(at[row.junk_start], at[row.junk_end])), cause)
+            for row, message, cause in zip(rows, messages, causes)]
 
 
-def _error(row: _library.ErrorRow, message: str, spans: Tuple[Span, Span]) -> Error:
+def _error(row: _library.ErrorRow, message: str, spans: Tuple[Span, Span], cause: Optional[Cause]) -> Error:
     columns = row.column_characters, row.column_utf16, row.column
-    return Error(_kind_name(row.kind), message, row.line, *columns, *spans)
+    return Error(_kind_name(row.kind), message, row.line, *columns, *spans, cause)
+
+
+def _causes(data: bytes, edition: int, nesting: int) -> List[Optional[Cause]]:
+    """The cause of each syntax error; the library gives them in the order of the errors."""
+    rows = _library.causes(data, edition, nesting)
+    messages = _library.cause_messages(data, edition, nesting)
+    at = _places.in_characters(data, (place for row in rows for place in row[4:6]))
+    return [_cause(row, message, at) if row.line else None for row, message in zip(rows, messages)]
+
+
+def _cause(row: _library.CauseRow, message: str, at: Dict[int, int]) -> Cause:
+    columns = row.column_characters, row.column_utf16, row.column
+    kind = _kind_name(row.kind) if row.kind else None
+    return Cause(kind, message, row.line, *columns, Span(at[row.start], at[row.end]))

@@ -33,6 +33,18 @@ class ErrorRow(NamedTuple):
     kind: int
 
 
+class CauseRow(NamedTuple):
+    """A cause's places, in bytes; its column also in UTF-16 units and in characters. Where none is known all are 0."""
+
+    line: int
+    column: int
+    column_utf16: int
+    column_characters: int
+    start: int
+    end: int
+    kind: int
+
+
 class FindingRow(NamedTuple):
     """What is found at a name, and its places, in bytes; its column also in UTF-16 units and in characters."""
 
@@ -50,9 +62,10 @@ class FindingRow(NamedTuple):
     severity: int
 
 
-# struct ftl_error, ftl_name, ftl_value and ftl_finding: numbers of type size_t, up to two of 32 bits, and what is added
-# for the next row
+# struct ftl_error, ftl_cause, ftl_name, ftl_value and ftl_finding: numbers of type size_t, up to two of 32 bits, and
+# what is added for the next row
 ROW = struct.Struct("@8NI0N")
+CAUSE_ROW = struct.Struct("@6NI0N")
 NAME_ROW = struct.Struct("@9NI0N")
 VALUE_ROW = struct.Struct("@2N")
 FINDING_ROW = struct.Struct("@10N2I0N")
@@ -77,6 +90,7 @@ def _load() -> ctypes.CDLL:
     calls: List[Tuple[str, List[Any]]] = [
         ("ftl_answer", [size, *text]), ("ftl_errors", [size, *text]), ("ftl_names", [size, *text]),
         ("ftl_values", [size, *text]), ("ftl_error_messages", [size, *text]),
+        ("ftl_causes", [size, *text]), ("ftl_cause_messages", [size, *text]),
         ("ftl_findings", [size, ctypes.POINTER(_Text), size]), ("ftl_comparison", [size, *text, *text]),
         ("ftl_kind_name", []), ("ftl_finding_kind_name", []), ("ftl_remove", [size, *text, *text]),
         *((name, [size, *text, *text, *text]) for name in ("ftl_set_value", "ftl_replace", "ftl_insert")),
@@ -178,7 +192,23 @@ def errors(text: bytes, edition: int, nesting: int) -> List[ErrorRow]:
 
 def messages(text: bytes, edition: int, nesting: int) -> List[str]:
     """The messages of the syntax errors of the text, in order."""
-    out, _ = _items("ftl_error_messages", edition, nesting, [text], 1, 1024)
+    return _lines("ftl_error_messages", text, edition, nesting)
+
+
+def causes(text: bytes, edition: int, nesting: int) -> List[CauseRow]:
+    """The causes of the syntax errors of the text, in the order of these."""
+    rows, _ = _items("ftl_causes", edition, nesting, [text], CAUSE_ROW.size, 8)
+    return [CauseRow(*numbers) for numbers in CAUSE_ROW.iter_unpack(rows)]
+
+
+def cause_messages(text: bytes, edition: int, nesting: int) -> List[str]:
+    """What the causes of the syntax errors of the text are, in order; empty where none is known."""
+    return _lines("ftl_cause_messages", text, edition, nesting)
+
+
+def _lines(call: str, text: bytes, edition: int, nesting: int) -> List[str]:
+    """The lines that a call wrote for the text."""
+    out, _ = _items(call, edition, nesting, [text], 1, 1024)
     return str(out, "utf-8").split("\n")[:-1]
 
 

@@ -6,6 +6,28 @@ from .ast import Span
 
 
 @dataclass(frozen=True)
+class Cause:
+    """A mistake from which an error comes. Lines and columns count from 1; spans count characters from 0."""
+
+    kind: Optional[str]
+    """What the grammar wanted in an attribute that is refused: a name as of an `Error`; `None` for all other causes."""
+    message: str
+    """What the mistake is, and perhaps what to do."""
+    line: int
+    column: int
+    """The column in characters."""
+    column_utf16: int
+    """The column in UTF-16 units, as editors count."""
+    column_bytes: int
+    """The column in bytes of UTF-8."""
+    span: Span
+    """The place."""
+
+    def __str__(self) -> str:
+        return f"{self.line}:{self.column}: {self.message}"
+
+
+@dataclass(frozen=True)
 class Error:
     """A syntax error of a text. Lines and columns count from 1; spans count characters from 0, as indices of a str."""
 
@@ -24,6 +46,8 @@ class Error:
     """The place."""
     junk: Span
     """The stretch that was refused for it."""
+    cause: Optional[Cause] = None
+    """The mistake from which it comes; `None` where none is known."""
 
     def __str__(self) -> str:
         return f"{self.line}:{self.column}: {self.message}"

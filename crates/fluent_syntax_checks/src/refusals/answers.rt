@@ -7,12 +7,12 @@ use fluent_syntax_json::ValueFault;
 use ftl::{Outcome, RunFault};
 use std::alloc::AllocError;
 
-/// An answer of a call, beside the one that it gives with ample memory.
+/// An answer of a call, next to the one that it gives with ample memory.
 pub trait Answer {
     /// Whether it is the answer with ample memory.
     fn is_same(&self, ample: &Self) -> bool;
 
-    /// Whether it is want of memory in the call's own form, and left behind no more than it may.
+    /// Whether it is want of memory in the call's own form, and left no more than it may.
     fn is_want_of_memory(&self, ample: &Self) -> bool;
 }
 

@@ -6,7 +6,7 @@ use std::alloc::Global;
 const REFUSE: usize = 1 << 62;
 
 /// Refuse none from now on; the library grants it where it had refused one.
-const TELL: usize = 1 << 61;
+const REPORT: usize = 1 << 61;
 
 /// Has the n-th request from now on refused, counting from 1.
 pub(crate) fn refuse(alloc: Global, n: u32) {
@@ -15,5 +15,5 @@ pub(crate) fn refuse(alloc: Global, n: u32) {
 
 /// Whether the request was refused; from now on none is.
 pub(crate) fn was_refused(alloc: Global) -> bool {
-    Vec::<u8>::with_capacity(alloc, TELL).is_ok()
+    Vec::<u8>::with_capacity(alloc, REPORT).is_ok()
 }

@@ -1,10 +1,10 @@
-//! Texts, and what they stand for.
+//! Texts, and what they represent.
 
 use crate::tables::no_row;
 use fluent_syntax::unicode::{unescape_unicode, unescape_unicode_to_string};
 use std::alloc::Global;
 
-/// What the text stands for, where both calls agree.
+/// What the text represents, where both calls agree.
 pub(crate) fn answer(alloc: Global, fields: &[String]) -> anyhow::Result<String> {
     let [text, _] = fields else {
         return no_row(alloc);

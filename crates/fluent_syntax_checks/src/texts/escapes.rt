@@ -10,7 +10,7 @@ pub(crate) fn text_of(alloc: Global, line: &str) -> Result<String, AllocError> {
     }
 }
 
-/// The field with `\\`, `\n`, `\r`, `\t` and `\u{feff}` as what they stand for.
+/// The field with `\\`, `\n`, `\r`, `\t` and `\u{feff}` as what they represent.
 pub(crate) fn unescaped_field(alloc: Global, field: &str) -> Result<String, AllocError> {
     let mut out = String::new(alloc);
     let mut escaped = false;

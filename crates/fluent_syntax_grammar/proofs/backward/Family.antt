@@ -167,7 +167,7 @@ module _ (t : List ℕ) (Joins : Type 0) where
 
 module _ (t : List ℕ) (bare : HasNoBareCr t) (Joins : Type 0) (crs : (i : ℕ) → has_byte t cr i ≡ true → Joins)
     (R : Family) (h : ObeysJoinedFamily t Joins R) where
-  -- the pieces, behind one that was read
+  -- the pieces, after one that was read
   abbrev AddsPiece : ℕ → More Piece (Unit {0}) → ℕ → Type 0
   AddsPiece i no_item j = PiecesAt t Joins i [] j
   AddsPiece i (item p u) j = (ps : List Piece) (k : ℕ) → PiecesAt t Joins j ps k → PiecesAt t Joins i (p ∷ ps) k
@@ -209,7 +209,7 @@ module _ (t : List ℕ) (bare : HasNoBareCr t) (Joins : Type 0) (crs : (i : ℕ)
         start = refl;
         spaces = refl;
         leading = v;
-        stands = subst (λ k. slice_get t k ≡ Some b) same e;
+        in_place = subst (λ k. slice_get t k ≡ Some b) same e;
         own = subst (λ k. belongs t (nat_lt i k) k ≡ true) same f;
         pieces = p;
         ending = q;
@@ -230,7 +230,7 @@ module _ (t : List ℕ) (bare : HasNoBareCr t) (Joins : Type 0) (crs : (i : ℕ)
       (subst (λ j. LineAt t Joins i (record { start = i; spaces = start - i; pieces = ps; ending = e' }) j) value.1
       made)
 
-  -- the lines, behind one that was read
+  -- the lines, after one that was read
   abbrev AddsLine : ℕ → More Line (Unit {0}) → ℕ → Type 0
   AddsLine i no_item j = LinesAt t Joins i []
   AddsLine i (item l u) j = (ls : List Line) → LinesAt t Joins j ls → LinesAt t Joins i (l ∷ ls)

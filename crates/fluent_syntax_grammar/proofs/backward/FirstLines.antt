@@ -27,7 +27,7 @@ use Rattle.fluent_syntax_grammar.proofs.backward.Layouts.{LineText, HeadAt, head
 use Rattle.fluent_syntax_grammar.proofs.JoinedLines.{multiline_same}
 use Rattle.fluent_syntax_grammar.proofs.Tests.{or_cases, or_left, or_right}
 
--- ---- the cut keeps what stands before an item that stays
+-- ---- the cut keeps what is before an item that stays
 
 pub record Cons (xs : List Item) : Type 0 where
   pub head : Item
@@ -171,7 +171,7 @@ module _ (t : List ℕ) (bare : HasNoBareCr t) (Joins : Type 0) (crs : (i : ℕ)
   line_ends_here n e j l ls (lf_ends h) x = tt
   line_ends_here n e j l ls (crlf_ends c h) x = tt
   line_ends_here n e j l ls (text_ends h) (a_line x y) =
-      no_line_at_end t bare Joins crs m j x.first x.byte h x.leading x.stands
+      no_line_at_end t bare Joins crs m j x.first x.byte h x.leading x.in_place
 
   counted_more : (n : ℕ) (e : Ending) (j : ℕ) (ls : List Line) (k : ℕ) (ks : List ℕ) → EndingAt t Joins n e j →
       LinesAt t Joins j ls → flat_map (counted One) ls ≡ k ∷ ks → IsLine e

@@ -218,16 +218,16 @@ module _ (t : List ℕ) (bare : HasNoBareCr t) (Joins : Type 0) (crs : (i : ℕ)
   lf_eol : (i : ℕ) → has_byte t lf i ≡ true → has_eol t i ≡ true
   lf_eol i e = rw e refl
 
-  -- how the spaces of a line and its first byte stand
+  -- where the spaces of a line and its first byte are
   pub record HeadAt (kept first byte : ℕ) : Type 0 where
     pub on : kept ≤ first
     pub leading : (k : ℕ) → kept ≤ k → k < first → has t is_space k ≡ true
-    pub stands : slice_get t first ≡ Some byte
+    pub in_place : slice_get t first ≡ Some byte
     pub shown : is_space byte ≡ false
 
   pub run_text : (kept first byte to : ℕ) → HeadAt kept first byte → first < to → LongestRun (is_run_place t) first to →
       LineText t bare kept first to byte
-  run_text kept first byte to h l w = line_text t bare kept first to byte h.on l h.leading w h.stands h.shown
+  run_text kept first byte to h l w = line_text t bare kept first to byte h.on l h.leading w h.in_place h.shown
 
   -- a later line
   later_shape : (kept first byte : ℕ) (ps : List Piece) (n : ℕ) (e : Ending) (j : ℕ) (rest : List Item) →
@@ -249,7 +249,7 @@ module _ (t : List ℕ) (bare : HasNoBareCr t) (Joins : Type 0) (crs : (i : ℕ)
   later_shape kept first byte (placed z ∷ ps) n e j rest h o (a_placeable {m = k} g x) y a at =
       more (places g) (placed_then k ps n e j rest x y a)
 
-  -- the first line, where nothing stands on the line above it
+  -- the first line, where there is nothing on the line above it
   first_shape : (kept first byte : ℕ) (ps : List Piece) (n : ℕ) (e : Ending) (j : ℕ) (rest : List Item) →
       HeadAt kept first byte → has_eol t first ≡ false →
       ((from to : ℕ) (qs : List Piece) → ps ≡ run from to ∷ qs → (m ≡ true) ⊎ (kept ≡ first)) →
@@ -257,7 +257,7 @@ module _ (t : List ℕ) (bare : HasNoBareCr t) (Joins : Type 0) (crs : (i : ℕ)
       (at : ℕ) → Shape t Joins m opening (items_from One kept at ps e ++ rest)
   first_shape kept first byte [] n e j rest h o s (no_piece x) (lf_ends y) a at = differs (lf_eol n y) o
   first_shape kept first byte [] n e j rest h o s (no_piece x) (crlf_ends c y) a at = differs (eol_of t bare n c y) o
-  first_shape kept first byte [] n e j rest h o s (no_piece x) (text_ends y) a at = let f = h.stands in absurd cc
+  first_shape kept first byte [] n e j rest h o s (no_piece x) (text_ends y) a at = let f = h.in_place in absurd cc
   first_shape kept first byte (run from to ∷ ps) n e j rest h o s (a_run l w g) y a at =
       let x = run_text kept first byte to h l w in
       let on = h.on in
@@ -269,7 +269,7 @@ module _ (t : List ℕ) (bare : HasNoBareCr t) (Joins : Type 0) (crs : (i : ℕ)
       begins kept first byte to h l (inl e) = inl e
       begins kept first byte to h l (inr e) =
           inr (ap (λ k. begins_with_space (slice_range t k to)) e
-          ∙ (ap begins_with_space (range_first t first to byte l h.stands) ∙ h.shown))
+          ∙ (ap begins_with_space (range_first t first to byte l h.in_place) ∙ h.shown))
   first_shape kept first byte (placed z ∷ ps) n e j rest h o s (a_placeable {m = k} g x) y a at =
       more (places g) (placed_then k ps n e j rest x y a)
 
@@ -291,7 +291,7 @@ module _ (t : List ℕ) (bare : HasNoBareCr t) (Joins : Type 0) (crs : (i : ℕ)
   after_of common n e j ls (crlf_ends c y) x s = s
   after_of common n e j [] (text_ends y) x s = refl
   after_of common n e j (l ∷ ls) (text_ends y) (a_line x z) s =
-      absurd (no_line_at_end j x.first x.byte y x.leading x.stands)
+      absurd (no_line_at_end j x.first x.byte y x.leading x.in_place)
 
   kept_between : (common : Option ℕ) (l : Line) (i first : ℕ) → l.start ≡ i → l.spaces ≡ first - i → i ≤ first →
       (i ≤ common_indent_end common l) × (common_indent_end common l ≤ first)
@@ -307,8 +307,8 @@ module _ (t : List ℕ) (bare : HasNoBareCr t) (Joins : Type 0) (crs : (i : ℕ)
       record {
         on = k.1;
         leading = λ n a b. w.each n (omega arith) b;
-        stands = x.stands;
-        shown = no_space x.first x.byte x.stands w.longest;
+        in_place = x.in_place;
+        shown = no_space x.first x.byte x.in_place w.longest;
       }
     where
       no_space : (i b : ℕ) → slice_get t i ≡ Some b → has t is_space i ≡ false → is_space b ≡ false
@@ -321,7 +321,7 @@ module _ (t : List ℕ) (bare : HasNoBareCr t) (Joins : Type 0) (crs : (i : ℕ)
       let rest = flat_map (line_items One common) ls in
       let a = after_of common x.end l.ending j ls x.ending h (lines_shape common j ls h) in
       later_shape (common_indent_end common l) x.first x.byte l.pieces x.end l.ending j rest (head_at common i j l x)
-      (λ e. own_mark t bare (nat_lt i x.first) x.first x.byte x.own e x.stands) x.pieces x.ending a
+      (λ e. own_mark t bare (nat_lt i x.first) x.first x.byte x.own e x.in_place) x.pieces x.ending a
       (l.start + l.spaces)
 
   -- The first of the lines below may keep spaces only where the pattern spans lines.
@@ -351,7 +351,7 @@ module _ (t : List ℕ) (bare : HasNoBareCr t) (Joins : Type 0) (crs : (i : ℕ)
       let b = byte_found is_plain (slice_get t i) (run_plain t bare i (w.each i (omega arith) l)) in
       let shown : is_space b.0 ≡ false = ap (holds is_space) (sym b.1) ∙ f in
       let h : HeadAt i i b.0 =
-      record { on = omega arith; leading = λ k x y. absurd (omega arith); stands = b.1; shown = shown } in
+      record { on = omega arith; leading = λ k x y. absurd (omega arith); in_place = b.1; shown = shown } in
       let x' = run_text i i b.0 to h l w in
       run_first opening i i to ps n e j rest (omega arith) x'.plain x'.some
       (x'.shown, inr (ap begins_with_space (range_first t i to b.0 l b.1) ∙ shown)) w.longest x y a

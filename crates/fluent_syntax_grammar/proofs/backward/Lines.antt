@@ -117,7 +117,7 @@ module _ (t : List ℕ) (Joins : Type 0) where
     pub start : l.start ≡ i
     pub spaces : l.spaces ≡ first - i
     pub leading : InlineBlank t i first
-    pub stands : slice_get t first ≡ Some byte
+    pub in_place : slice_get t first ≡ Some byte
     pub own : belongs t (nat_lt i first) first ≡ true
     pub pieces : PiecesAt first l.pieces end
     pub ending : EndingAt end l.ending j
@@ -126,7 +126,7 @@ module _ (t : List ℕ) (Joins : Type 0) where
     no_line : {i : ℕ} → LinesAt i []
     a_line : {i j : ℕ} {l : Line} {ls : List Line} → LineAt i l j → LinesAt j ls → LinesAt i (l ∷ ls)
 
-  -- a pattern's source: on its first line, or from the next on, where a line that is not blank stands first
+  -- a pattern's source: on its first line, or from the next on, where a line that is not blank is first
   pub data LayoutAt : Layout → Type 0 where
     on_line : {i m j : ℕ} {ps : List Piece} {e : Ending} {ls : List Line} → has t is_space i ≡ false →
         has_eol t i ≡ false → PiecesAt i ps m → EndingAt m e j → LinesAt j ls →

@@ -92,7 +92,7 @@ ensures_branch_on {Good = Good} {test = test} {c = c} {d = d} g h =
     record { on_read = branch_on_read Good test c d g h }
 
 module _ {A S B : Type 0} (next : S → Construct (More A S)) (add : A → B → B) (none : B) (Good : S → B → Type 0) where
-  -- what is asked of an item: added to what is good behind it, it is good
+  -- what is asked of an item: added to what is good after it, it is good
   abbrev pub Adds : S → More A S → Type 0
   Adds s no_item = Good s none
   Adds s (item a r) = (b : B) → Good r b → Good s (add a b)

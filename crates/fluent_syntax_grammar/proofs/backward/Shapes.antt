@@ -1,4 +1,4 @@
--- The items of a pattern that was read have a shape, by where each stands; items of this shape spell, once they are
+-- The items of a pattern that was read have a shape, by where each is; items of this shape spell, once they are
 -- cut, trimmed and joined, the elements of a readable pattern.
 use Rattle.std.proofs.Common.{◌≡◌, ℕ, List, [], ◌∷◌, ◌++◌, Bool, true, false, refl, sym, ◌∙◌, subst, ap}
 use Rattle.std.specs.Prelude.{◌&&◌, not, if◌then◌else◌, slice_range}
@@ -16,7 +16,7 @@ use Rattle.fluent_syntax_grammar.specs.Elements.{spelled}
 use Rattle.fluent_syntax_grammar.specs.Written.{Text}
 use Rattle.fluent_syntax_grammar.specs.Rules.{expression_obeys, elements_obey}
 use Rattle.fluent_syntax_grammar.specs.Readable.{is_text, ElementPosition, opening, after_line}
-use Rattle.fluent_syntax_grammar.specs.Readable.{within_line, after_placeable, position_after, may_stand_at}
+use Rattle.fluent_syntax_grammar.specs.Readable.{within_line, after_placeable, position_after, may_occur_at}
 use Rattle.fluent_syntax_grammar.specs.Readable.{may_precede}
 use Rattle.fluent_syntax_grammar.specs.Readable.{are_elements, readable_rules}
 use Rattle.fluent_syntax_grammar.specs.Joined.{is_joined, joined_expression, joined_pattern, joined_after}
@@ -25,7 +25,7 @@ use Rattle.fluent_syntax_grammar.proofs.Tests.{both}
 use Rattle.fluent_syntax_grammar.proofs.backward.Texts.{is_plain, line_end, line_not_empty, plain_is_text, line_ends}
 use Rattle.fluent_syntax_grammar.proofs.backward.Texts.{plain_ends_not, shows, plain_nonblank, trimmed_of}
 use Rattle.fluent_syntax_grammar.proofs.backward.Texts.{trimmed_range, Begins, begins_kept, begin_holds, blank_holds}
-use Rattle.fluent_syntax_grammar.proofs.backward.Texts.{stands_any}
+use Rattle.fluent_syntax_grammar.proofs.backward.Texts.{occurs_before_any}
 
 -- ---- expressions that were read
 
@@ -37,7 +37,7 @@ pub record IsRead (t : List ℕ) (Joins : Type 0) (e : ExpressionTree Span) : Ty
 -- ---- shapes
 
 module _ (t : List ℕ) (Joins : Type 0) (m : Bool) where
-  -- An item stands where the one before it leaves off. After a run that no LF ends stands, if it is a text, the lone LF
+  -- An item is where the one before it leaves off. After a run that no LF ends comes, if it is a text, the lone LF
   -- of a CRLF.
   pub data Step : ElementPosition → Item → ElementPosition → Type 0 where
     places : {s : ElementPosition} {e : ExpressionTree Span} → IsRead t Joins e →
@@ -141,10 +141,10 @@ tree_more t w (placeable_item e) xs = refl
 -- ---- the elements are well
 
 text_well : (m : Bool) (s : ElementPosition) (v : Text) (p : PatternTree Text) → is_text v ≡ true →
-    may_stand_at One m s v no_elements ≡ true → may_precede v p ≡ true → are_elements One m (position_after v) p ≡ true
+    may_occur_at One m s v no_elements ≡ true → may_precede v p ≡ true → are_elements One m (position_after v) p ≡ true
     →
     are_elements One m s (elements (text_element v) p) ≡ true
-text_well m s v p a b c d = both a (both (stands_any m s v p no_elements ∙ b) (both c d))
+text_well m s v p a b c d = both a (both (occurs_before_any m s v p no_elements ∙ b) (both c d))
 
 pub record Well (m : Bool) (s : ElementPosition) (p : PatternTree Text) : Type 0 where
   pub position : are_elements One m s p ≡ true
@@ -152,7 +152,7 @@ pub record Well (m : Bool) (s : ElementPosition) (p : PatternTree Text) : Type 0
 
 -- a line's text and what follows it
 line_well : (m : Bool) (s : ElementPosition) (u w : Text) (q : PatternTree Text) → w ≡ u ++ line_end true →
-    list_all is_plain u ≡ true → may_stand_at One m s (u ++ line_end true) no_elements ≡ true →
+    list_all is_plain u ≡ true → may_occur_at One m s (u ++ line_end true) no_elements ≡ true →
     may_precede (u ++ line_end true) (joined_pattern q) ≡ true →
     Well m after_line (joined_pattern q) → Well m s (joined_after w q)
 line_well m s u w q e p b c h =
@@ -221,10 +221,10 @@ module _ (t : List ℕ) (Joins : Type 0) (m : Bool) where
       subst (λ v. is_text v ≡ true) bare
       (plain_is_text r.kept false r.plain
       (subst (λ v. is_empty v ≡ false) (sym bare) (shown_not_empty r.kept r.shown))) in
-      let stands : may_stand_at One m s r.kept no_elements ≡ true =
-      subst (λ v. may_stand_at One m s v no_elements ≡ true) bare (begin_holds m s r.kept false r.plain begins) in
+      let in_place : may_occur_at One m s r.kept no_elements ≡ true =
+      subst (λ v. may_occur_at One m s v no_elements ≡ true) bare (begin_holds m s r.kept false r.plain begins) in
       subst (λ v. Well m s (elements (text_element v) no_elements)) (sym same)
-      (record { position = text_well m s r.kept no_elements is stands r.ends refl; obey = refl })
+      (record { position = text_well m s r.kept no_elements is in_place r.ends refl; obey = refl })
 
   -- a run's text before a placeable
   run_well : (s : ElementPosition) (u w : Text) (e : ExpressionTree Span) (xs : List Item) → w ≡ u
@@ -235,11 +235,11 @@ module _ (t : List ℕ) (Joins : Type 0) (m : Bool) where
       let bare : u ++ line_end false ≡ u = append_nothing u in
       let is : is_text u ≡ true =
       subst (λ v. is_text v ≡ true) bare (plain_is_text u false p (subst (λ v. is_empty v ≡ false) (sym bare) n)) in
-      let stands : may_stand_at One m s u no_elements ≡ true =
-      subst (λ v. may_stand_at One m s v no_elements ≡ true) bare (begin_holds m s u false p b) in
+      let in_place : may_occur_at One m s u no_elements ≡ true =
+      subst (λ v. may_occur_at One m s v no_elements ≡ true) bare (begin_holds m s u false p b) in
       let rest = joined_pattern (tree t (placeable_item e ∷ xs)) in
       subst (λ w. Well m s (joined_after w (tree t (placeable_item e ∷ xs)))) (sym f)
-      (record { position = text_well m s u rest is stands refl h.position; obey = both g.obeys h.obey })
+      (record { position = text_well m s u rest is in_place refl h.position; obey = both g.obeys h.obey })
 
   -- a run's text with the lone LF that is joined to it
   join_well : (s : ElementPosition) (u w v : Text) (q : PatternTree Text) → w ≡ u → v ≡ lf ∷ []

@@ -86,7 +86,7 @@ module _ (t : List ℕ) where
   unsigned_number [] e = cc
   unsigned_number (b ∷ bs) e = or_right _ (is_unsigned (b ∷ bs)) e
 
-  -- a number's bytes are a number, and without `-` they are one where a digit stands
+  -- a number's bytes are a number, and without `-` they are one where there is a digit
   pub record IsNumber (i : ℕ) (s : Span) : Type 0 where
     pub number : is_number (bytes_at t s) ≡ true
     pub unsigned : has t is_digit i ≡ true → is_unsigned (bytes_at t s) ≡ true

@@ -48,7 +48,7 @@ abbrev pub gap_bytes : Bool → Text → Text
 gap_bytes true tail = lf ∷ tail
 gap_bytes false tail = tail
 
--- The text is the entries one after the other. Before a free comment stands a line end or not.
+-- The text is the entries one after the other. Before a free comment there is a line end or none.
 pub data IsWritten : BodyTree Text → Text → Type 0 where
   nothing : IsWritten [] []
   a_message : (m : MessageTree Text) (es : BodyTree Text) (tail : Text) → IsWritten es tail →

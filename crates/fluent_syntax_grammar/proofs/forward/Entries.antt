@@ -42,7 +42,7 @@ entry_stops (b ∷ bs) (begins c cs e) =
         not (b == space || b == lf || b == cr || b == 123) ≡ true
     column_of b e f g h = rw (e, f, g, h) refl
 
--- a byte that begins no entry does not stand there
+-- there is no byte that begins an entry
 pub entry_other : (c : ℕ) (rest : List ℕ) → EntryStart rest → is_entry_byte c ≡ false →
     holds (λ b. b == c) (first rest) ≡ false
 entry_other c [] no_entry e = refl
@@ -56,7 +56,7 @@ pub record Tiles (edition : Edition) (t : List ℕ) (i : ℕ) (b : BodyTree Text
   pub same : tree_of t tiles ≡ b
 
 module _ (edition : Edition) (t : List ℕ) where
-  -- no blank line stands there
+  -- there is no blank line
   pub no_block : (i : ℕ) (rest : List ℕ) → EntryStart rest → SuffixAt t i rest → BlankBlock t i i
   no_block i rest e l =
       no_line (no_spaces edition t (entry_other space rest e refl) l)
@@ -66,7 +66,7 @@ module _ (edition : Edition) (t : List ℕ) where
       token t c i (Refused (ExpectedToken c) i (i + 1))
   no_token i c rest e l = goes_on (chosen (second (suffix_has (λ b. b == c) l ∙ e) given)) (second refl (failed refl))
 
-  -- no attribute stands there
+  -- there is no attribute
   pub no_attributes : (i : ℕ) (rest : List ℕ) → EntryStart rest → SuffixAt t i rest → attributes edition t i (Read [] i)
   no_attributes i rest e l =
       no_more (goes_on (passed (no_spaces edition t (entry_other space rest e refl) l))

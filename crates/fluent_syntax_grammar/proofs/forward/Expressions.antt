@@ -1,4 +1,4 @@
--- Expressions and placeables are read back, if the inline expressions in them are. Selects stand in a file of their
+-- Expressions and placeables are read back, if the inline expressions in them are. Selects are in a file of their
 -- own.
 use Rattle.std.proofs.Common.{◌≡◌, ℕ, List, [], ◌∷◌, ◌++◌, Some, None, Bool, true, false, refl, sym, ◌∙◌, ap}
 use Rattle.std.specs.Prelude.{◌==◌, if◌then◌else◌}

@@ -97,7 +97,7 @@ module _ (edition : Edition) (t : List ℕ) where
           map (attribute_map (bytes_at t)) bs ≡ more → map (attribute_map (bytes_at t)) (b ∷ bs) ≡ a ∷ more
       same_list b bs f g = rw (f, g) refl
 
-  -- no blank line stands there
+  -- there is no blank line
   no_block_before : (more : List (AttributeTree Text)) (i : ℕ) (tail rest : List ℕ) → EntryStart rest →
       SuffixAt t i (before more tail rest) → BlankBlock t i i
   no_block_before [] i tail rest s l = no_block edition t i rest s l

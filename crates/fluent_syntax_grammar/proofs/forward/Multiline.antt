@@ -14,7 +14,7 @@ use Rattle.fluent_syntax_grammar.specs.Bytes.{lf, cr, space, is_space}
 use Rattle.fluent_syntax_grammar.specs.Places.{holds}
 use Rattle.fluent_syntax_grammar.specs.Written.{Text, is_last, last_of, indent, begins_with_mark}
 use Rattle.fluent_syntax_grammar.specs.Readable.{ElementPosition, after_line, within_line, after_placeable}
-use Rattle.fluent_syntax_grammar.specs.Readable.{may_precede, is_text, are_elements, may_stand_at}
+use Rattle.fluent_syntax_grammar.specs.Readable.{may_precede, is_text, are_elements, may_occur_at}
 use Rattle.fluent_syntax_grammar.specs.Readable.{position_after, indents}
 use Rattle.fluent_syntax_grammar.specs.Canonical.{line_indents, are_lone, text_indents, placeable_indents}
 use Rattle.fluent_syntax_grammar.specs.Elements.{is_nonblank}
@@ -316,7 +316,7 @@ not_mark b e f = marks (b == 46) (b == 91) (b == 42) (b == 125) (b == lf) (b == 
 
 no_mark_there : (edition : Edition) (v : Text) (es : PatternTree Text) (gap : List ℕ) (b : ℕ) (bs : List ℕ) →
     v ≡ gap ++ (b ∷ bs) → list_all is_space gap ≡ true → is_space b ≡ false →
-    may_stand_at edition true after_line v es ≡ true → begins_with_mark (b ∷ []) ≡ false
+    may_occur_at edition true after_line v es ≡ true → begins_with_mark (b ∷ []) ≡ false
 no_mark_there edition v es gap b bs is a e g =
     sym (ap begins_with_mark (ap after_spaces is ∙ after_of gap b bs a e))
     ∙ not_true (begins_with_mark (after_spaces v)) (right_true (not (is_spaces v) || indents edition v es) _ g)
@@ -442,7 +442,7 @@ spaces_number v e = rw (spaces_blank_text v e, e) refl
 spaces_starts :
     (edition : Edition) (t : List ℕ) (level : ℕ) (common : Option ℕ) (tail rest : List ℕ) (v : Text)
     (es : PatternTree Text) → is_text v ≡ true → list_all is_run_byte v ≡ true → list_all is_space v ≡ true →
-    may_stand_at edition true after_line v es ≡ true →
+    may_occur_at edition true after_line v es ≡ true →
     Fit edition (length (indent level)) common after_line (elements (text_element v) es) →
     ((i : ℕ) → SuffixAt t i (elements_bytes level false es (lf ∷ tail)) →
     ReadsMidLine edition t common es (map (λ n. length (indent level) + n) (line_indents edition after_placeable es)) i
@@ -516,25 +516,25 @@ module _ (edition : Edition) (t : List ℕ) (level : ℕ) (common : Option ℕ) 
   text_is s v es g = left_true (is_text v) _ g
 
   pub text_holds : (s : ElementPosition) (v : Text) (es : PatternTree Text) →
-      are_elements edition true s (elements (text_element v) es) ≡ true → may_stand_at edition true s v es ≡ true
-  text_holds s v es g = left_true (may_stand_at edition true s v es) _ (right_true (is_text v) _ g)
+      are_elements edition true s (elements (text_element v) es) ≡ true → may_occur_at edition true s v es ≡ true
+  text_holds s v es g = left_true (may_occur_at edition true s v es) _ (right_true (is_text v) _ g)
 
   pub text_ends_well : (s : ElementPosition) (v : Text) (es : PatternTree Text) →
       are_elements edition true s (elements (text_element v) es) ≡ true → may_precede v es ≡ true
   text_ends_well s v es g =
-      left_true (may_precede v es) _ (right_true (may_stand_at edition true s v es) _ (right_true (is_text v) _ g))
+      left_true (may_precede v es) _ (right_true (may_occur_at edition true s v es) _ (right_true (is_text v) _ g))
 
   pub text_more : (s : ElementPosition) (v : Text) (es : PatternTree Text) →
       are_elements edition true s (elements (text_element v) es) ≡ true →
       are_elements edition true (position_after v) es ≡ true
   text_more s v es g =
-      right_true (may_precede v es) _ (right_true (may_stand_at edition true s v es) _ (right_true (is_text v) _ g))
+      right_true (may_precede v es) _ (right_true (may_occur_at edition true s v es) _ (right_true (is_text v) _ g))
 
   -- a text without LF is followed by no text
   pub no_text_after : (v w : Text) (es : PatternTree Text) → ends_in_lf v ≡ false →
       are_elements edition true (position_after v) (elements (text_element w) es) ≡ true → ⊥
   no_text_after v w es e g =
-      false≢true (sym (ap (λ s. may_stand_at edition true s w es) (ap (λ b. if b then after_line else within_line) e))
+      false≢true (sym (ap (λ s. may_occur_at edition true s w es) (ap (λ b. if b then after_line else within_line) e))
       ∙ text_holds (position_after v) w es g)
 
   after_lf : (v : Text) (es : PatternTree Text) → ends_in_lf v ≡ true →

@@ -23,7 +23,7 @@ use Rattle.fluent_syntax_grammar.specs.Grammar.{family}
 use Rattle.fluent_syntax_grammar.specs.Grammar as grammar
 use Rattle.fluent_syntax_grammar.specs.Written.{Text, is_last, last_of, has_lf}
 use Rattle.fluent_syntax_grammar.specs.Readable.{ElementPosition, after_line, within_line, after_placeable}
-use Rattle.fluent_syntax_grammar.specs.Readable.{is_text, are_elements, may_stand_at}
+use Rattle.fluent_syntax_grammar.specs.Readable.{is_text, are_elements, may_occur_at}
 use Rattle.fluent_syntax_grammar.specs.Readable.{position_after}
 use Rattle.fluent_syntax_grammar.proofs.Facts.{left_true, right_true}
 use Rattle.fluent_syntax_grammar.proofs.SuffixAt.{SuffixAt, suffix_as, first, suffix_byte_run, suffix_no_eol_after}
@@ -127,10 +127,10 @@ module _ (edition : Edition) (t : List ℕ) (level : ℕ) (common : Option ℕ) 
         mid_run edition t common (b ∷ bs) (elements (placeable e) es) [] (123 ∷ x.rest) rest i r m
 
     pub text_after_text : (v w : Text) (es : PatternTree Text) → has_lf v ≡ false →
-        may_stand_at edition false (position_after v) w es ≡ true → ⊥
+        may_occur_at edition false (position_after v) w es ≡ true → ⊥
     text_after_text v w es e f =
         false≢true (sym
-        (ap (λ s. may_stand_at edition false s w es) (ap (λ b. if b then after_line else within_line)
+        (ap (λ s. may_occur_at edition false s w es) (ap (λ b. if b then after_line else within_line)
         (no_lf_end v e)))
         ∙ f)
 
@@ -148,25 +148,25 @@ module _ (edition : Edition) (t : List ℕ) (level : ℕ) (common : Option ℕ) 
     line_reads_back (elements (text_element v) no_elements) s i h g f l =
         text_ends v i (left_true (is_text v) _ g) (not_true (has_lf v) (left_true (not (has_lf v)) true f))
         (left_true (ends_plainly v)
-        _ (right_true (may_stand_at edition false s v no_elements) _ (right_true (is_text v) _ g))) l
+        _ (right_true (may_occur_at edition false s v no_elements) _ (right_true (is_text v) _ g))) l
     line_reads_back (elements (text_element v) (elements (placeable e) es)) s i h g f l =
         text_before v e es i (left_true (is_text v) _ g) (not_true (has_lf v) (left_true (not (has_lf v)) _ f))
         (suffix_as (ap (λ b. v ++
         (line_indent level b ++ element_bytes level (placeable e) (elements_bytes level false es (lf ∷ tail))))
         (no_lf_end v (not_true (has_lf v) (left_true (not (has_lf v)) _ f)))) l)
         (λ j m. line_reads_back (elements (placeable e) es) (position_after v) j h
-        (right_true (may_stand_at edition false s v (elements (placeable e) es)) _ (right_true (is_text v) _ g))
+        (right_true (may_occur_at edition false s v (elements (placeable e) es)) _ (right_true (is_text v) _ g))
         (right_true (not (has_lf v)) _ f) m)
     line_reads_back (elements (text_element v) (elements (text_element w) es)) s i h g f l =
         absurd (text_after_text v w es (not_true (has_lf v) (left_true (not (has_lf v)) _ f))
-        (left_true (may_stand_at edition false (position_after v) w es)
+        (left_true (may_occur_at edition false (position_after v) w es)
         _ (right_true (is_text w)
-        _ (right_true (may_stand_at edition false s v (elements (text_element w) es))
+        _ (right_true (may_occur_at edition false s v (elements (text_element w) es))
         _ (right_true (is_text v) _ g)))))
 
 -- ---- the pattern
 
--- a place where a pattern may open within its line: no space stands there, and no line end begins
+-- a place where a pattern may open within its line: there is no space, and no line end begins
 pub record OpensAt (t : List ℕ) (i : ℕ) (bs : List ℕ) : Type 0 where
   pub no_space : holds is_space (first bs) ≡ false
   pub no_eol : after_eol t i ≡ None

@@ -10,7 +10,7 @@ use Rattle.fluent_syntax_grammar.proofs.forward.Reading.{Reads}
 use Rattle.fluent_syntax_tree.specs.declared.edition.Edition.{Edition}
 use Rattle.fluent_syntax_grammar.specs.Bytes.{lf, cr, space, is_space}
 use Rattle.fluent_syntax_grammar.specs.Written.{Text, is_last, last_of, has_lf, is_multiline}
-use Rattle.fluent_syntax_grammar.specs.Readable.{opening, is_text, are_elements, may_stand_at, may_be_first}
+use Rattle.fluent_syntax_grammar.specs.Readable.{opening, is_text, are_elements, may_occur_at, may_be_first}
 use Rattle.fluent_syntax_grammar.specs.Readable.{is_pattern, position_after}
 use Rattle.fluent_syntax_grammar.specs.Elements.{is_nonblank}
 use Rattle.fluent_syntax_grammar.proofs.Facts.{left_true, right_true}
@@ -80,7 +80,7 @@ module _ (edition : Edition) (t : List ℕ) (level : ℕ) (tail rest : List ℕ)
   opens (elements (text_element (b ∷ bs)) (elements (text_element w) es)) i e g l n =
       absurd (text_after_text edition t level None tail rest ends (b ∷ bs) w es
       (neither_left (has_lf (b ∷ bs)) (is_multiline (elements (text_element w) es)) e)
-      (left_true (may_stand_at edition false (position_after (b ∷ bs)) w es)
+      (left_true (may_occur_at edition false (position_after (b ∷ bs)) w es)
       _ (right_true (is_text w)
       _ (right_true (may_be_first edition false (b ∷ bs) (elements (text_element w) es))
       _ (right_true (is_text (b ∷ bs)) _ g)))))

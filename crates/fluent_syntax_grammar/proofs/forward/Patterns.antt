@@ -132,7 +132,7 @@ at_line : (edition : Edition) (e : ElementTree Text) (es : PatternTree Text) →
 at_line edition (placeable x) es a b g = g
 at_line edition (text_element v) es a b g =
     both (left_true (is_text v) _ g)
-    (both (stands_at v (is_spaces v) refl (left_true (may_be_first edition true v es) _ (right_true (is_text v) _ g))
+    (both (occurs_at v (is_spaces v) refl (left_true (may_be_first edition true v es) _ (right_true (is_text v) _ g))
     (no_mark v a b)) (right_true (may_be_first edition true v es) _ (right_true (is_text v) _ g)))
   where
     no_mark : (v : Text) → (begins_with_space v && begins_with_mark (after_spaces v)) ≡ false →
@@ -146,11 +146,11 @@ at_line edition (text_element v) es a b g =
         no_mark_at c v true e a b = right_false (is_space c) (begins_with_mark (after_spaces (c ∷ v))) a e
         no_mark_at c v false e a b = rw e b
 
-    stands_at : (v : Text) (x : Bool) → is_spaces v ≡ x → (is_nonblank v || indents edition v es) ≡ true →
+    occurs_at : (v : Text) (x : Bool) → is_spaces v ≡ x → (is_nonblank v || indents edition v es) ≡ true →
         begins_with_mark (after_spaces v) ≡ false →
         ((not (is_spaces v) || indents edition v es) && not (begins_with_mark (after_spaces v))) ≡ true
-    stands_at v false e f m = rw (e, m) refl
-    stands_at v true e f m =
+    occurs_at v false e f m = rw (e, m) refl
+    occurs_at v true e f m =
         rw (e, m) (both (sym (ap (λ b. b || indents edition v es) (spaces_blank_text v e)) ∙ f) refl)
 
 flush_at : (edition : Edition) (e : ElementTree Text) (es : PatternTree Text) (o : Option ℕ) →

@@ -76,7 +76,7 @@ variants_stop level (variants (variant key value true) vs) close more a =
 variants_stop level (variants (variant key value false) vs) close more a =
     stops_gap (indent level) 91 _ (spaces_of (4 * level)) refl refl
 
--- The rest of a list of variants is read back; the flag says whether a default stood before.
+-- The rest of a list of variants is read back; the flag says whether there was a default before.
 pub record VariantsReadBack (edition : Edition) (t : List ℕ) (level : ℕ) (starred : Bool) (vs : VariantTrees Text) :
     Type 0 where
   pub back : (i : ℕ) (close more : List ℕ) → list_all is_space close ≡ true →
@@ -104,7 +104,7 @@ module _ (edition : Edition) (t : List ℕ) where
   abbrev said : More (VariantTree Span) Bool → More (VariantTree Text) Bool
   said = more_map (variant_map (bytes_at t)) (λ b. b)
 
-  -- the rest of the list, behind an item
+  -- the rest of the list, after an item
   after_item : (level : ℕ) (starred : Bool) (vs : VariantTrees Text) (q : Bool) → q ≡ starred →
       VariantsReadBack edition t level starred vs → VariantsReadBack edition t level q vs
   after_item level starred vs q e h = subst (λ b. VariantsReadBack edition t level b vs) (sym e) h

@@ -42,7 +42,7 @@ use Rattle.fluent_syntax_grammar.proofs.marks.Entries.{message_then, term_then, 
 use Rattle.fluent_syntax_grammar.proofs.marks.Entries.{term_starts, free_starts}
 use Rattle.fluent_syntax_grammar.proofs.Tests.{not_true}
 
--- ---- marks that give the same text, whatever stands before and after them
+-- ---- marks that give the same text, whatever comes before and after them
 
 abbrev pub SameText : (xs ys : List Mark) → Type 0
 SameText xs ys = (last : Option ℕ) (ms : List Mark) → text_after last (xs ++ ms) ≡ text_after last (ys ++ ms)

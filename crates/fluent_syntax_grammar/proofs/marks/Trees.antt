@@ -27,7 +27,7 @@ use Rattle.fluent_syntax_grammar.specs.Rules.{named_obeys, expression_obeys, var
 use Rattle.fluent_syntax_grammar.specs.Rules.{option_obeys, elements_obey, pattern_obeys}
 use Rattle.fluent_syntax_grammar.specs.Readable.{ElementPosition, opening, position_after, after_placeable}
 use Rattle.fluent_syntax_grammar.specs.Readable.{are_named_well}
-use Rattle.fluent_syntax_grammar.specs.Readable.{may_precede, is_pattern, is_text, may_stand_at}
+use Rattle.fluent_syntax_grammar.specs.Readable.{may_precede, is_pattern, is_text, may_occur_at}
 use Rattle.fluent_syntax_grammar.specs.Readable.{are_elements}
 use Rattle.fluent_syntax_grammar.specs.Canonical.{canonical_rules, is_flush}
 use Rattle.fluent_syntax_grammar.proofs.Obeys.{inline_part, select_parts}
@@ -364,7 +364,7 @@ module _ (edition : Edition) where
       are_elements edition multiline s (elements (text_element (b ∷ bs)) es) ≡ true → (may_precede (b ∷ bs) es ≡ true) ×
       (are_elements edition multiline (position_after (b ∷ bs)) es ≡ true)
   elements_rest multiline s b bs es g =
-      let m = right_true (may_stand_at edition multiline s (b ∷ bs) es) _ (right_true (is_text (b ∷ bs)) _ g) in
+      let m = right_true (may_occur_at edition multiline s (b ∷ bs) es) _ (right_true (is_text (b ∷ bs)) _ g) in
       (left_true (may_precede (b ∷ bs) es) _ m, right_true (may_precede (b ∷ bs) es) _ m)
 
   mutual

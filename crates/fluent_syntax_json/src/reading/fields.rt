@@ -9,14 +9,14 @@ use crate::fault::ValueFault;
 use serde_json::Value;
 use std::alloc::Global;
 
-/// What stands at a key, which has to be there.
+/// What is at a key, which has to be there.
 pub fn field<'v>(v: &'v Value, key: &str) -> Result<&'v Value, ValueFault>
     ensures { Answers (λ f. view f.now) (get key.now (view v.now)) result }
 {
     v.get(key).ok_or(ValueFault::Shape)
 }
 
-/// What stands at a key that may be absent or null.
+/// What is at a key that may be absent or null.
 pub fn optional<'v>(v: &'v Value, key: &str) -> Option<&'v Value>
     ensures { option_map (λ f. view f.now) result ≡ present key.now (view v.now) }
 {

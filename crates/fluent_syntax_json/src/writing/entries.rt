@@ -19,10 +19,10 @@ use fluent_syntax_tree::ast::*;
 use fluent_syntax_tree::slice::Slice;
 use fluent_syntax_tree::texts::{BySlice, ReadTexts};
 
-/// What stands before the first entry.
+/// What comes before the first entry.
 pub const OPENING: &str = "{\"body\":[";
 
-/// What stands behind the last entry.
+/// What comes after the last entry.
 pub const CLOSING: &str = "]}";
 
 /// Writes the text that `serde_json` writes of the tree's JSON form to the sink. Takes no memory of its own, since no

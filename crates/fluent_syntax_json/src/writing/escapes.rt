@@ -1,4 +1,4 @@
-//! What stands in a JSON string for the bytes of a text.
+//! What is in a JSON string for the bytes of a text.
 ghost use Rattle.std.specs.Prelude.{◌≡◌, ◌+◌, ◌<◌, ◌≤◌, ◌∷◌, ◌++◌, [], ◌/◌, length, IfSome, MatchOption, false};
 ghost use Rattle.std.specs.Bool.{OnTrue};
 ghost use Rattle.std.specs.Char.{digit_char};
@@ -12,7 +12,7 @@ use std::simd::prelude::*;
 /// How many bytes are looked at at once.
 const BLOCK: usize = 8;
 
-/// Whether the block of bytes from this place on stands for itself.
+/// Whether the block of bytes from this place on represents itself.
 #[inline(always)]
 fn is_plain_block(bytes: &[u8], start: usize) -> bool
     requires { start + 8 ≤ length bytes.now }
@@ -25,7 +25,7 @@ fn is_plain_block(bytes: &[u8], start: usize) -> bool
         == 0
 }
 
-/// The end of the whole blocks that the bytes begin with and that stand for themselves.
+/// The end of the whole blocks that the bytes begin with and that represent themselves.
 #[inline(always)]
 fn plain_blocks_end(bytes: &[u8]) -> usize
     ensures within { result ≤ length bytes.now }
@@ -38,7 +38,7 @@ fn plain_blocks_end(bytes: &[u8]) -> usize
     end
 }
 
-/// Whether the byte stands for itself.
+/// Whether the byte represents itself.
 #[inline(always)]
 fn is_plain(byte: u8) -> bool
     ensures { result ≡ is_plain byte }
@@ -46,8 +46,8 @@ fn is_plain(byte: u8) -> bool
     !(byte == b'"' || byte == b'\\' || byte < b' ')
 }
 
-/// The text before the first byte that is escaped, that byte, and the text after it; or `None` where every byte stands
-/// for itself.
+/// The text before the first byte that is escaped, that byte, and the text after it; or `None` where every byte
+/// represents itself.
 pub fn split_at_escape(text: &str) -> Option<(&str, u8, &str)>
     ensures parts { MatchOption result (escape text.now ≡ text.now)
         (λ parts. escape text.now ≡ parts.0.now ++ (escape_byte parts.1 ++ escape parts.2.now)) }

@@ -35,8 +35,8 @@ module _ (m c : ℕ) where
   pub closed_before : (i : ℕ) → i < m → closed_at (state.Open i) ≡ state.Open i
   closed_before i h = ap (λ (b : Bool). cond b (state.Open i) (state.Done c)) (below_true i m h)
 
-  pub closed_behind : (i : ℕ) → m ≤ i → closed_at (state.Open i) ≡ state.Done c
-  closed_behind i h = ap (λ (b : Bool). cond b (state.Open i) (state.Done c)) (below_false i m h)
+  pub closed_after : (i : ℕ) → m ≤ i → closed_at (state.Open i) ≡ state.Done c
+  closed_after i h = ap (λ (b : Bool). cond b (state.Open i) (state.Done c)) (below_false i m h)
 
   -- what is open was open
   pub open_still : (s : State) (i : ℕ) → closed_at s ≡ state.Open i → (s ≡ state.Open i) × (i < m)
@@ -46,7 +46,7 @@ module _ (m c : ℕ) where
         let same : state.Open j ≡ state.Open i = sym (closed_before j w) ∙ e in
         let is : j ≡ i = cc in
         (same, omega (arith, w))
-    | inr w ↦ let never : state.Done c ≡ state.Open i = sym (closed_behind j w) ∙ e in absurd (cc)
+    | inr w ↦ let never : state.Done c ≡ state.Open i = sym (closed_after j w) ∙ e in absurd (cc)
   ]
   open_still (state.Done d) i e = absurd (cc)
 
@@ -57,7 +57,7 @@ module _ (m c : ℕ) where
   done_still (state.Open j) d e = elim (cases_lt j m) [
     | inl w ↦ let never : state.Open j ≡ state.Done d = sym (closed_before j w) ∙ e in absurd (cc)
     | inr w ↦
-        let same : state.Done c ≡ state.Done d = sym (closed_behind j w) ∙ e in
+        let same : state.Done c ≡ state.Done d = sym (closed_after j w) ∙ e in
         let is : d ≡ c = cc in
         inr (j, refl, w, is)
   ]
@@ -81,7 +81,7 @@ module _ (g : Graph) (states : List State) (stack starts : List ℕ) (pending : 
     | inl w ↦ closed_before (n + 1) done i (omega (arith, w)) ∙ sym (closed_before n done i w)
     | inr w ↦ elim (cases_eq i n) [
       | inl same ↦ absurd (other (sym (sound.placed u i e).1 ∙ ap (at stack) same))
-      | inr more ↦ closed_behind (n + 1) done i (omega (arith, w, more)) ∙ sym (closed_behind n done i w)
+      | inr more ↦ closed_after (n + 1) done i (omega (arith, w, more)) ∙ sym (closed_after n done i w)
     ]
   ]
   one_closed n within u other (state.Done d) e = refl
@@ -136,7 +136,7 @@ module _ (g : Graph) (states : List State) (stack starts : List ℕ) (pending : 
       | inl w ↦
           w.1
           ∙ sym (ap (closed_at place done) (ap (State_of states) w.0 ∙ was_open_there)
-          ∙ closed_behind place done place (omega arith))
+          ∙ closed_after place done place (omega arith))
       | inr w ↦
           let other : u ≡ at stack place → ⊥ = λ e. w.0 (e ∙ node_is) in
           w.1
@@ -178,7 +178,7 @@ module _ (g : Graph) (states : List State) (stack starts : List ℕ) (pending : 
     now_done u c e = now_of u (state.Done c) e
 
     now_closed : (u i : ℕ) → State_of states u ≡ state.Open i → start ≤ i → State_of now u ≡ state.Done done
-    now_closed u i e h = now_of u (state.Open i) e ∙ closed_behind start done i h
+    now_closed u i e h = now_of u (state.Open i) e ∙ closed_after start done i h
 
     now_open : (u i : ℕ) → State_of states u ≡ state.Open i → i < start → State_of now u ≡ state.Open i
     now_open u i e h = now_of u (state.Open i) e ∙ closed_before start done i h
@@ -190,13 +190,13 @@ module _ (g : Graph) (states : List State) (stack starts : List ℕ) (pending : 
         ⊎ ((i : ℕ) × (State_of states u ≡ state.Open i) × (start ≤ i) × (c ≡ done))
     was_done u c e = done_still start done (State_of states u) c (sym (now_is u) ∙ e)
 
-    -- no segment starts behind the last one
+    -- no segment starts after the last one
     starts_before : (k : ℕ) → k < length starts → at starts k ≤ start
     starts_before k h =
         let below : k ≤ m = omega arith in
         omega (arith, never_down starts sound.ascending k m below (omega arith))
 
-    -- what is behind the last start stays there
+    -- what is after the last start stays there
     in_segment : (i j : ℕ) → start ≤ i → SameOrLaterSegment starts i j → start ≤ j
     in_segment i j h back = elim (cases_lt 0 (length starts)) [
       | inl some ↦

@@ -17,7 +17,7 @@ module _ (g : Graph) (states : List State) (stack starts : List ℕ) (pending : 
 
   module _ (p j : ℕ) (p_in : p < length stack) (j_in : j < length stack)
       (before : (k : ℕ) → k < length starts → at starts k ≤ p) (leads : HasEdge g (at stack p) (at stack j))
-      (m : ℕ) (fewer : m ≤ length starts) (behind : (k : ℕ) → m ≤ k → k < length starts → j < at starts k) where
+      (m : ℕ) (fewer : m ≤ length starts) (beyond : (k : ℕ) → m ≤ k → k < length starts → j < at starts k) where
     abbrev fewer_starts : List ℕ
     fewer_starts = take m starts
 
@@ -48,7 +48,7 @@ module _ (g : Graph) (states : List State) (stack starts : List ℕ) (pending : 
               let is = at_short k w in
               let k_in : k < length fewer_starts = omega (arith, short, w) in
               omega (arith, is, back k k_in (omega (arith, is)))
-          | inr w ↦ absurd (omega (arith, behind k w h))
+          | inr w ↦ absurd (omega (arith, beyond k w h))
         ] in
         elim (cases_lt i j) [
           | inl w ↦ sound.reach i l i_in l_in (λ k h le. kept k h (omega (arith, w)) le)
@@ -84,7 +84,7 @@ module _ (g : Graph) (states : List State) (stack starts : List ℕ) (pending : 
       room = sound.room;
     }
 
-    -- the target stands in the last segment now
+    -- the target is in the last segment now
     pub back_to_target : (0 < m → at starts (m - 1) ≤ j) → SameOrLaterSegment fewer_starts p j
     back_to_target last = λ k h le.
         let k_in : k < m = omega (arith, short) in

@@ -4,7 +4,7 @@ use Rattle.std.specs.declared.alloc.Global.{Global}
 use Rattle.std.proofs.lemmas.Bool.{cases_lt}
 use Rattle.std.proofs.lemmas.List.{get_or_past, get_or-map, length-map}
 use Rattle.fluent_syntax_names.specs.Graph.{Graph, HasEdge, Reaches, edges, target, targets_of}
-use Rattle.fluent_syntax_names.specs.Search.{SearchInvariant, State_of, at, pending_at, IsBehind}
+use Rattle.fluent_syntax_names.specs.Search.{SearchInvariant, State_of, at, pending_at, IsPastStarts}
 use Rattle.fluent_syntax_names.specs.declared.graph.search.Pending.{Pending}
 use Rattle.fluent_syntax_names.specs.declared.graph.search.State.{State}
 use Rattle.fluent_syntax_names.specs.declared.graph.search.State.TheVariants as state
@@ -32,10 +32,10 @@ module _ (g : Graph) (states : List State) (stack starts : List ℕ) (pending : 
       omega (arith, ap (λ (x : Pending). x.place) is, sound.pending_within (length pending - 1) (omega arith))
 
   -- all open nodes reach what an edge of the last segment leads to
-  pub all_reach : (p v : ℕ) → p < length stack → IsBehind starts p → HasEdge g (at stack p) v
+  pub all_reach : (p v : ℕ) → p < length stack → IsPastStarts starts p → HasEdge g (at stack p) v
       → (i : ℕ) → i < length stack → Reaches g (at stack i) v
-  all_reach p v p_in behind leads i i_in =
-      reaches_next g (at stack i) (at stack p) v (sound.reach i p i_in p_in (λ k h le. behind k h)) leads
+  all_reach p v p_in beyond leads i i_in =
+      reaches_next g (at stack i) (at stack p) v (sound.reach i p i_in p_in (λ k h le. beyond k h)) leads
 
 -- ---- Edges, as they are read
 

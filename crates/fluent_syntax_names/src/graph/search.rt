@@ -4,7 +4,7 @@ ghost use Rattle.std.specs.Prelude.{get_or, Option, Some, None, vec_len, take};
 ghost use Rattle.fluent_syntax_names.specs.Graph.{IsGraph, HasEdge, edges, targets_of};
 ghost use Rattle.fluent_syntax_names.specs.Search.{HasSearchInvariant, Fresh, NoneNewer, State_of, news, last_of, at};
 ghost use Rattle.fluent_syntax_names.specs.Search.{pending_at};
-ghost use Rattle.fluent_syntax_names.specs.Search.{IsBehind, IsLastPending, IsSeen, number_of};
+ghost use Rattle.fluent_syntax_names.specs.Search.{IsPastStarts, IsLastPending, IsSeen, number_of};
 
 use std::alloc::{AllocError, Global};
 
@@ -13,7 +13,7 @@ use std::alloc::{AllocError, Global};
 pub(crate) enum State {
     /// It was not met yet.
     New,
-    /// It was met, and its component may still grow. It stands at this place among the open nodes.
+    /// It was met, and its component may still grow. It is at this place among the open nodes.
     Open { place: usize },
     /// Its component has this number.
     Done { component: usize },
@@ -22,7 +22,7 @@ pub(crate) enum State {
 /// An open node with edges that were not looked at.
 #[derive(Clone, Copy)]
 pub(crate) struct Pending {
-    /// Where it stands among the open nodes.
+    /// Where it is among the open nodes.
     pub(crate) place: usize,
     /// The first of these edges.
     pub(crate) next: usize,
@@ -32,7 +32,7 @@ pub(crate) struct Pending {
 #[derive(Drop)]
 pub(crate) struct Search {
     states: Vec<State>,
-    /// The open nodes, in the order in which they were met. Each reaches those behind it.
+    /// The open nodes, in the order in which they were met. Each reaches those after it.
     stack: Vec<usize>,
     /// Where the segments of open nodes start: all nodes of a segment reach one another.
     starts: Vec<usize>,
@@ -136,7 +136,7 @@ impl Search {
         }
     }
 
-    /// The last pending node, if it stands in the last segment, which starts there.
+    /// The last pending node, if it is in the last segment, which starts there.
     fn pending_from(&self, start: usize) -> Option<Pending>
         ensures { MatchOption result
             (0 < length self.now.pending.items
@@ -184,12 +184,12 @@ impl Search {
     fn see(&mut self, graph: &[Vec<usize>], from: usize, target: usize)
         requires sound { HasSearchInvariant (targets_of graph.now) self.old }
         requires from { from < length self.old.stack.items }
-        requires before { IsBehind self.old.starts.items from }
+        requires before { IsPastStarts self.old.starts.items from }
         requires leads { HasEdge (targets_of graph.now) (at self.old.stack.items from) target }
         requires target { target < length graph.now }
         requires known { State_of self.old.states.items target ≡ State.New → ⊥ }
         ensures sound { HasSearchInvariant (targets_of graph.now) self.new }
-        ensures before { IsBehind self.new.starts.items from }
+        ensures before { IsPastStarts self.new.starts.items from }
         ensures seen { IsSeen self.new from target }
         ensures states { self.new.states ≡ self.old.states }
         ensures stack { self.new.stack ≡ self.old.stack }
@@ -206,7 +206,7 @@ impl Search {
     fn merge(&mut self, place: usize)
         ensures starts { self.new.starts.items ≡ take (vec_len self.new.starts) self.old.starts.items }
         ensures fewer { vec_len self.new.starts ≤ vec_len self.old.starts }
-        ensures behind { (k : ℕ) → vec_len self.new.starts ≤ k → k < vec_len self.old.starts
+        ensures beyond { (k : ℕ) → vec_len self.new.starts ≤ k → k < vec_len self.old.starts
             → place < at self.old.starts.items k }
         ensures before { 0 < vec_len self.new.starts
             → at self.old.starts.items (vec_len self.new.starts - 1) ≤ place }

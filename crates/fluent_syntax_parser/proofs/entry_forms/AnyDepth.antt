@@ -14,18 +14,18 @@ use Rattle.fluent_syntax_parser.specs.AnyDepth.{AttributesAtAnyDepth, MessageAtA
 use Rattle.fluent_syntax_parser.specs.OneLine.{OpensAs}
 
 module _ (edition : Edition) (t : List ℕ) where
-  pub attribute_stands : (i dot start opening j : ℕ) (value : PatternTree Span) → InlineBlank t i dot →
+  pub attribute_there : (i dot start opening j : ℕ) (value : PatternTree Span) → InlineBlank t i dot →
       token t full_stop dot (Read tt start) → OpensPattern t start opening →
       OpensAs edition t opening (Some value) j →
       (n : ℕ) → (a : AttributeTree Span) × attribute_of edition t (within edition t n) i (Read a j)
-  attribute_stands i dot start opening j value blank mark field opens n = (
+  attribute_there i dot start opening j value blank mark field opens n = (
     record { id = record { start = start; end = field.end }; value = value },
     goes_on (passed blank)
         (goes_on mark
         (goes_on field.name
         (goes_on (passed field.blank)
         (goes_on field.equals
-        (goes_on (opens n field.behind field.opening)
+        (goes_on (opens n field.beyond field.opening)
         given))))),
   )
 
@@ -51,7 +51,7 @@ module _ (edition : Edition) (t : List ℕ) where
         (goes_on field.name
         (goes_on (passed field.blank)
         (goes_on field.equals
-        (goes_on (opens n field.behind field.opening)
+        (goes_on (opens n field.beyond field.opening)
         (goes_on (passed block)
         (goes_on (attributes n).1
         last))))))

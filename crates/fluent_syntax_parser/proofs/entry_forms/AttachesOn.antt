@@ -1,4 +1,4 @@
--- A comment and what stands behind it.
+-- A comment and what comes after it.
 use Rattle.std.proofs.Common.{◌≡◌, ℕ, ◌<◌, Bool, true, false, List, ◌∷◌, length, Option, Some, None, refl, sym, ◌∙◌, ap}
 use Rattle.std.proofs.Common.{subst}
 use Rattle.std.specs.Prelude.{◌==◌, if◌then◌else◌}
@@ -59,8 +59,8 @@ module _ (edition : Edition) (t : List ℕ) (content : List Span) (ptr : ℕ) wh
 
   -- ---- where it is not attached
 
-  pub behind_blank : (start : ℕ) → BlankBlock t ptr start → (start ≡ ptr → ⊥) → AttachesNot
-  behind_blank start block other = λ none e j read. absurd (other (single_block.same ptr start ptr block none))
+  pub beyond_blank : (start : ℕ) → BlankBlock t ptr start → (start ≡ ptr → ⊥) → AttachesNot
+  beyond_blank start block other = λ none e j read. absurd (other (single_block.same ptr start ptr block none))
 
   pub other_entry : (e : EntryTree Span) (j : ℕ) → entry_at edition t ptr (Read e j) → attached content e ≡ None
       → AttachesNot

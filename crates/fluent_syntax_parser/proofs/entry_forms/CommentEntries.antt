@@ -20,7 +20,7 @@ pub comment_made : (t : List ℕ) (i j count : ℕ) {X : Type 0} {f : Span → X
 comment_made t i j count made_lines hashed h level same =
     rw (← same) (on_made h (λ a read e. made (chosen (rw hashed read)) e))
 
--- The lines so far: what those from here on add, the comment has behind them. What was made stands for them.
+-- The lines so far: what those from here on add, the comment has after them. What was made represents them.
 pub record MadeLines {S X : Type 0} (t : List ℕ) (level : ℕ) (f : Span → X) (v : S → X) (i : ℕ) (content : List S)
     (j : ℕ) : Type 0 where
   pub lines : List Span

@@ -1,4 +1,4 @@
--- Where the parts of an entry stand, there the entry is read.
+-- Where the parts of an entry are, the entry is read.
 use Rattle.std.proofs.Common.{◌≡◌, ℕ, true, false, List, [], ◌∷◌, ◌++◌, append_assoc, Option, Some, None, refl}
 use Rattle.std.proofs.Common.{sym, subst}
 use Rattle.std.specs.Prelude.{Ok, option_map, is_some, slice_get}
@@ -40,12 +40,12 @@ module _ (edition : Edition) (t : List ℕ) (R : Family) where
   attributes_there (more_attribute_parts {x = x} {a = a} begins s more) =
       one_more (subst (λ i. attribute_of edition t R i (Read a x.span.end)) begins s.whole) (attributes_there more)
 
-  -- what stands behind a name, from the place to the end
+  -- what comes after a name, from the place to the end
   module _ (i end : ℕ) (xs : List AttributeRanges) where
     pub fields_there : (o : Option Span) (f : FieldTrees Span) → HaveFieldParts edition t R i o xs f end →
         fields edition t R i (Read f end)
     fields_there o f s =
-        goes_on (passed s.behind)
+        goes_on (passed s.beyond)
         (goes_on s.sign
         (goes_on s.value
         (goes_on (passed s.blank)
@@ -83,36 +83,36 @@ module _ (edition : Edition) (t : List ℕ) (R : Family) where
 
   -- ---- a list that a loop gathers
 
-  -- What stands from the one place to the other is what was gathered: before what follows it, it stands with that.
+  -- What there is from the one place to the other is what was gathered: before what follows it, it is there with that.
   pub record GathersRanges (i : ℕ) (xs : List AttributeRanges) (j : ℕ) : Type 0 where
     pub items : List (AttributeTree Span)
-    pub stand : (more : List AttributeRanges) (rest : List (AttributeTree Span)) (end : ℕ) →
+    pub parts_hold : (more : List AttributeRanges) (rest : List (AttributeTree Span)) (end : ℕ) →
         HaveAttributeParts edition t R j more rest end
         → HaveAttributeParts edition t R i (xs ++ more) (items ++ rest) end
 
   pub no_ranges : (i : ℕ) → GathersRanges i [] i
-  no_ranges i = record { items = []; stand = λ more rest end h. h }
+  no_ranges i = record { items = []; parts_hold = λ more rest end h. h }
 
   pub one_extent : (i : ℕ) (xs ys : List AttributeRanges) (j : ℕ) (x : AttributeRanges) → ys ≡ xs ++ x ∷ [] →
       GathersRanges i xs j → (a : AttributeTree Span) → HasAttributeParts edition t R x a → x.span.start ≡ j →
       GathersRanges i ys x.span.end
   one_extent i xs ys j x all g a s begins = record {
     items = g.items ++ a ∷ [];
-    stand = λ more rest end h.
+    parts_hold = λ more rest end h.
         rw (all, append_assoc xs (x ∷ []) more, append_assoc g.items (a ∷ []) rest)
-        (g.stand (x ∷ more) (a ∷ rest) end (more_attribute_parts begins s h));
+        (g.parts_hold (x ∷ more) (a ∷ rest) end (more_attribute_parts begins s h));
   }
 
   pub all_ranges : (i : ℕ) (xs : List AttributeRanges) (j : ℕ) → (g : GathersRanges i xs j) → {from to : ℕ} →
       {k : Kind} → attribute_of edition t R j (Refused k from to) →
       HaveAttributeParts edition t R i xs g.items j
   all_ranges i xs j g none =
-      rw (← append_nothing xs, ← append_nothing g.items) (g.stand [] [] j (no_attribute_parts none))
+      rw (← append_nothing xs, ← append_nothing g.items) (g.parts_hold [] [] j (no_attribute_parts none))
 
 -- ---- within a family that is included in another
 
 module _ (edition : Edition) (t : List ℕ) (R S : Family) (h : IsIncludedFamily R S) where
-  included_attribute : IsIncluded (attribute_of edition t R) (attribute_of edition t S)
+  pub included_attribute : IsIncluded (attribute_of edition t R) (attribute_of edition t S)
   included_attribute = search (inclusions, included_pattern) depth 30
 
   attribute_included : {x : AttributeRanges} {a : AttributeTree Span} → HasAttributeParts edition t R x a →
@@ -125,7 +125,7 @@ module _ (edition : Edition) (t : List ℕ) (R S : Family) (h : IsIncludedFamily
     name = s.name;
     named = s.named;
     equals = s.equals;
-    behind = s.behind;
+    beyond = s.beyond;
     sign = s.sign;
     value = (included_pattern edition t R S h).part _ _ s.value;
     ends = s.ends;
@@ -141,7 +141,7 @@ module _ (edition : Edition) (t : List ℕ) (R S : Family) (h : IsIncludedFamily
       HaveFieldParts edition t R i o xs f end → HaveFieldParts edition t S i o xs f end
   fields_included s = record {
     equals = s.equals;
-    behind = s.behind;
+    beyond = s.beyond;
     place = s.place;
     sign = s.sign;
     value = (included_pattern edition t R S h).part _ _ s.value;

@@ -43,30 +43,30 @@ if_any good place (Some s) None e g = cc
 if_any good place (Some s) (Some v) e g = let same : s ≡ place = cc in subst good (sym same) g
 
 module _ (edition : Edition) (t : List ℕ) (P : ℕ → Type 0) (cuts : AreBoundaries t P) where
-  behind : {A : Type 0} {Good : A → Type 0} {c : Construct A} {i j : ℕ} {a : A} → Sound t P i c Good → P i →
+  beyond : {A : Type 0} {Good : A → Type 0} {c : Construct A} {i j : ℕ} {a : A} → Sound t P i c Good → P i →
       c i (Read a j) → Ended P i Good a j
-  behind {i = i} {j = j} {a = a} s p x = s.holds.on_read i j a (record { late = omega arith; place = p }) x
+  beyond {i = i} {j = j} {a = a} s p x = s.holds.on_read i j a (record { late = omega arith; place = p }) x
 
   name_range : (name : Span) → ReadAt (identifier t) name name → IsSpan P name
   name_range name read =
       let there = implies is_letter is_name_byte (slice_get t name.start) letter_name (letter_there t _ _ _ read) in
       let begins = cuts.before name.start (ascii_has t is_name_byte name.start ascii_name there) in
-      (behind (sound_identifier t P cuts) begins read).good
+      (beyond (sound_identifier t P cuts) begins read).good
 
   value_range : (i equals : ℕ) (place : Span) (v : Option (PatternTree Span)) → P i → InlineBlank t i equals →
       token t equals_sign equals (Read tt place.start) → ReadAt (pattern edition t) v place → IsSpan P place
   value_range i equals place v p blank sign value =
-      let a = behind (sound_inline_blank t P cuts) p (passed blank) in
-      let b = behind (sound_token t P cuts 61 refl) a.place sign in
-      let c = behind (sound_pattern edition t P cuts) b.place value in
+      let a = beyond (sound_inline_blank t P cuts) p (passed blank) in
+      let b = beyond (sound_token t P cuts 61 refl) a.place sign in
+      let c = beyond (sound_pattern edition t P cuts) b.place value in
       (c.late, b.place, c.place)
 
   attribute_in_text : (x : AttributeRanges) (a : AttributeTree Span) →
       HasAttributeParts edition t (family edition t) x a → P x.span.start → each_attribute_range (IsSpan P) x
   attribute_in_text x a s p =
-      let whole = behind (sound_attribute edition t P cuts) p s.whole in
+      let whole = beyond (sound_attribute edition t P cuts) p s.whole in
       let name = name_range x.name s.name in
-      ((whole.late, p, whole.place), name, value_range _ _ x.value _ name.2 s.behind s.sign s.value)
+      ((whole.late, p, whole.place), name, value_range _ _ x.value _ name.2 s.beyond s.sign s.value)
 
   attributes_in_text : {i end : ℕ} {xs : List AttributeRanges} {rest : List (AttributeTree Span)} →
       HaveAttributeParts edition t (family edition t) i xs rest end → P i
@@ -79,8 +79,8 @@ module _ (edition : Edition) (t : List ℕ) (P : ℕ → Type 0) (cuts : AreBoun
       HaveFieldParts edition t (family edition t) x.name.end x.value x.attributes.items f end → each_range (IsSpan P) x
   fields_in_text x f end name s =
       let n = name_range x.name name in
-      let v = value_range _ _ s.place _ n.2 s.behind s.sign s.value in
-      let line = behind (sound_blank_block t P cuts) v.2 (passed s.blank) in
+      let v = value_range _ _ s.place _ n.2 s.beyond s.sign s.value in
+      let line = beyond (sound_blank_block t P cuts) v.2 (passed s.blank) in
       (n, if_any (IsSpan P) s.place x.value f.0 s.there v, attributes_in_text s.attributes line.place)
 
   entry_in_text : (i end : ℕ) (x : EntryRanges) (e : EntryTree Span) →

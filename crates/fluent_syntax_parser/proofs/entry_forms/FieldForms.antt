@@ -1,4 +1,4 @@
--- Messages and terms, by what stands behind their names.
+-- Messages and terms, by what comes after their names.
 use Rattle.std.proofs.Common.{◌≡◌, ℕ, true, false, List, [], ◌∷◌, Option, Some, None, map, ap, refl, length, arith}
 use Rattle.std.specs.Prelude.{option_map, is_some, ◌==◌}
 use Rattle.std.proofs.lemmas.Bool.Decides.{nat_tests}
@@ -22,9 +22,9 @@ use Rattle.fluent_syntax_parser.specs.Fields.{FieldTrees, fields}
 
 module _ (edition : Edition) (t : List ℕ) (R : Family)
     (last : Option (PatternTree Span) → List (AttributeTree Span) → Construct (EntryTree Span)) where
-  -- an entry behind its name
-  abbrev pub BehindName : Construct (EntryTree Span)
-  BehindName = do
+  -- an entry after its name
+  abbrev pub EntryAfterName : Construct (EntryTree Span)
+  EntryAfterName = do
     inline_blank t
     token t equals_sign
     value ← pattern edition t R
@@ -33,12 +33,12 @@ module _ (edition : Edition) (t : List ℕ) (R : Family)
     last value rest
 
   pub fields_then : (i j : ℕ) (f : FieldTrees Span) (o : Outcome (EntryTree Span)) → fields edition t R i (Read f j) →
-      last f.0 f.1 j o → BehindName i o
+      last f.0 f.1 j o → EntryAfterName i o
   fields_then i j f o (goes_on blank (goes_on equals (goes_on value (goes_on block (goes_on rest given))))) end =
       goes_on blank (goes_on equals (goes_on value (goes_on block (goes_on rest end))))
 
   pub fields_refused : (i from to : ℕ) (k : Kind) → fields edition t R i (Refused k from to) →
-      BehindName i (Refused k from to)
+      EntryAfterName i (Refused k from to)
   fields_refused i from to k (stops x) = stops x
   fields_refused i from to k (goes_on blank (stops x)) = goes_on blank (stops x)
   fields_refused i from to k (goes_on blank (goes_on equals (stops x))) = goes_on blank (goes_on equals (stops x))
@@ -49,8 +49,8 @@ module _ (edition : Edition) (t : List ℕ) (R : Family)
   fields_refused i from to k (goes_on blank (goes_on equals (goes_on value (goes_on block (goes_on rest x))))) =
       elim x [ ]
 
-  -- where what stands behind the name nests too deeply
-  fields_deeper : (i : ℕ) → TooDeep (fields edition t R) i → TooDeep BehindName i
+  -- where what comes after the name nests too deeply
+  fields_deeper : (i : ℕ) → TooDeep (fields edition t R) i → TooDeep EntryAfterName i
   fields_deeper i h o (stops x) = h _ (stops x)
   fields_deeper i h o (goes_on blank (stops x)) = h _ (goes_on blank (stops x))
   fields_deeper i h o (goes_on blank (goes_on equals (stops x))) = h _ (goes_on blank (goes_on equals (stops x)))
@@ -61,7 +61,7 @@ module _ (edition : Edition) (t : List ℕ) (R : Family)
   fields_deeper i h o (goes_on blank (goes_on equals (goes_on value (goes_on block (goes_on rest x))))) =
       h _ (goes_on blank (goes_on equals (goes_on value (goes_on block (goes_on rest given)))))
 
-  pub fields_fail : {i : ℕ} {f : ReadFault} → Fails t (fields edition t R) i f → Fails t BehindName i f
+  pub fields_fail : {i : ℕ} {f : ReadFault} → Fails t (fields edition t R) i f → Fails t EntryAfterName i f
   fields_fail (refused h) = refused (λ k from to s. fields_refused _ from to k (h k from to s))
   fields_fail (too_deep h) = too_deep (fields_deeper _ h)
   fields_fail no_memory = no_memory

@@ -1,4 +1,4 @@
--- Entries whose texts were made, and the trees of spans that they stand for.
+-- Entries whose texts were made, and the trees of spans that they represent.
 use Rattle.std.proofs.Common.{◌≡◌, ◌<◌, ℕ, suc, ◌-◌, List, [], ◌∷◌, ◌++◌, length, Bool, true, false, map}
 use Rattle.std.proofs.Common.{Option, Some, None, option_map, refl, sym, ap, subst, arith, ◌∙◌}
 use Rattle.std.specs.Prelude.{is_some, option_to_list, slice_get, Result, Ok, Err, IfOk}
@@ -145,7 +145,7 @@ module _ {S X : Type 0} (f : Span → X) (v : S → X) where
         ∙ ap (λ x. with_lines (map f content) x) same ∙ mapped_lines f content tree
         ∙ ap (option_map (entry_map f)) (sym (attached_is content tree))
 
-    -- the entry with the comment stands for the tree with it
+    -- the entry with the comment represents the tree with it
     pub attached_made : (with_comment : Entry S) → commented c e ≡ Some with_comment →
         (x : EntryTree Span) × (attached content tree ≡ Some x) × (entry_view v with_comment ≡ entry_map f x)
     attached_made with_comment h =
@@ -156,7 +156,7 @@ module _ {S X : Type 0} (f : Span → X) (v : S → X) where
     attached_not h = none_of (entry_map f) (attached content tree)
         (ap (option_map (entry_view v)) (sym h) ∙ same_attached)
 
-  -- what stands for a comment of level 1
+  -- what represents a comment of level 1
   comment_tree : (tree : EntryTree Span) (xs : List X) → comment regular xs ≡ entry_map f tree →
       (content : List Span) × (tree ≡ comment regular content) × (xs ≡ map f content)
   comment_tree (message m) xs e = cc
@@ -171,7 +171,7 @@ module _ {S X : Type 0} (f : Span → X) (v : S → X) where
   other_tree e tree same h =
       sym (mapped_may f tree) ∙ ap may_attach (sym same) ∙ viewed_may v e ∙ h
 
-  -- The entry is a comment of level 1, and so is the tree that it stands for.
+  -- The entry is a comment of level 1, and so is the tree that it represents.
   pub record IsComment (e : Entry S) (tree : EntryTree Span) : Type 0 where
     pub lines : Comment S
     pub is : e ≡ entries.Comment lines
@@ -220,9 +220,10 @@ module _ {S X : Type 0} (f : Span → X) (v : S → X) where
         -- with the next entry and its error, what was read reaches to where that ends
         pub read_on : (j : ℕ) (e : Entry S) (tree : EntryTree Span) (faults : List (Option Fault)) →
             EntryTo comments edition t i j tree faults → entry_view v e ≡ entry_map f tree → (longer : List (Entry S)) →
-            longer ≡ body ++ e ∷ [] → (told : List ParserError) → map fault_of told ≡ map fault_of errors ++ faults →
-            MadeTo comments edition t j longer told
-        read_on j e tree faults next same longer all told more = record {
+            longer ≡ body ++ e ∷ [] → (stated : List ParserError) →
+            map fault_of stated ≡ map fault_of errors ++ faults →
+            MadeTo comments edition t j longer stated
+        read_on j e tree faults next same longer all stated more = record {
           trees = read.trees ++ tree ∷ [];
           same =
               ap (map (entry_view v)) all ∙ map-append (entry_view v) body (e ∷ [])
@@ -233,11 +234,11 @@ module _ {S X : Type 0} (f : Span → X) (v : S → X) where
               (read.rest _ _ (next others after h));
         }
 
--- what one error more tells, if there is one
-pub error_faults : (errors told : List ParserError) (error : Option ParserError) →
-    told ≡ errors ++ option_to_list error → map fault_of told ≡ map fault_of errors ++ faults_of error
-error_faults errors told None same = ap (map fault_of) same ∙ map-append fault_of errors []
-error_faults errors told (Some e) same = ap (map fault_of) same ∙ map-append fault_of errors (e ∷ [])
+-- what one more error says, if there is one
+pub error_faults : (errors stated : List ParserError) (error : Option ParserError) →
+    stated ≡ errors ++ option_to_list error → map fault_of stated ≡ map fault_of errors ++ faults_of error
+error_faults errors stated None same = ap (map fault_of) same ∙ map-append fault_of errors []
+error_faults errors stated (Some e) same = ap (map fault_of) same ∙ map-append fault_of errors (e ∷ [])
 
 -- ---- entries of spans
 
@@ -252,8 +253,8 @@ next_of_spans : (comments : Comments) (edition : Edition) (t : List ℕ) (i star
     (found : Option (Entry Span × Option ParserError)) →
     NextMade (λ s. s) (λ s. s) comments edition t i start j found → NextTo comments edition t i start j found
 next_of_spans comments edition t i start j None none = none
-next_of_spans comments edition t i start j (Some (e, error)) (tree, stands, same) =
-    entry_of_spans comments edition t i start j e (faults_of error) tree stands same
+next_of_spans comments edition t i start j (Some (e, error)) (tree, in_place, same) =
+    entry_of_spans comments edition t i start j e (faults_of error) tree in_place same
 
 pub answer_of_spans : (comments : Comments) (edition : Edition) (t : List ℕ) (i start j : ℕ)
     (r : Result (Option (Entry Span × Option ParserError)) Halt) →

@@ -1,4 +1,4 @@
--- The next argument of a list, by what stands there.
+-- The next argument of a list, by what is there.
 use Rattle.std.proofs.Common.{◌≡◌, ℕ, ◌+◌, ◌≤◌, ◌<◌, true, false, List, [], ◌∷◌, ◌++◌, length, map, Option, Some, None}
 use Rattle.std.proofs.Common.{refl, sym, ap, ◌∙◌, subst, inl, inr}
 use Rattle.std.specs.Prelude.{◌==◌, ◌⊎◌, slice_get}
@@ -35,7 +35,7 @@ use Rattle.fluent_syntax_parser.proofs.scanning.Names.{names_added}
 use Rattle.fluent_syntax_parser.specs.Outcomes.{Fails}
 use Rattle.fluent_syntax_parser.specs.declared.fault.ReadFault.{ReadFault}
 use Rattle.fluent_syntax_parser.specs.Made.{IsMade, made}
-use Rattle.fluent_syntax_parser.proofs.readers.ContinuesFrom.{ContinuesFrom, list_read, one_behind}
+use Rattle.fluent_syntax_parser.proofs.readers.ContinuesFrom.{ContinuesFrom, list_read, one_after}
 use Rattle.fluent_syntax_parser.proofs.readers.Fails.{fails_first, fails_next, fails_no, fails_seen, functional_look}
 
 pub token_there : (t : List ℕ) (b i : ℕ) → has_byte t b i ≡ true → token t b i (Read tt (i + 1))
@@ -112,7 +112,7 @@ module _ (t : List ℕ) (R : Family) where
   late [] e j some = absurd (some refl)
   late (name ∷ names) e j some = failed refl
 
--- What was gathered stands for what was read, with f of each text in its place.
+-- What was gathered represents what was read, with f of each text in its place.
 pub record MadeArguments {S X : Type 0} (t : List ℕ) (R : Family) (f : Span → X) (v : S → X) (from : ℕ)
     (positional : List (InlineExpression S)) (named : List (NamedArgument S)) (names : List (List ℕ)) (j : ℕ) : Type 0
   where
@@ -120,7 +120,7 @@ pub record MadeArguments {S X : Type 0} (t : List ℕ) (R : Family) (f : Span �
     pub ns : List (NamedTree Span)
     pub same_ps : map (inline_view v) positional ≡ map (inline_map f) ps
     pub same_ns : map (named_view v) named ≡ map (named_map f) ns
-    pub behind : ContinuesFrom t (next_argument t R) add_argument (arguments no_inlines no_named) [] from
+    pub beyond : ContinuesFrom t (next_argument t R) add_argument (arguments no_inlines no_named) [] from
         (put_arguments ps ns) names j
 
 module _ {S X : Type 0} (t : List ℕ) (R : Family) (f : Span → X) (v : S → X) (from : ℕ) where
@@ -134,7 +134,7 @@ module _ {S X : Type 0} (t : List ℕ) (R : Family) (f : Span → X) (v : S → 
     ns = [];
     same_ps = refl;
     same_ns = refl;
-    behind = record { read = none_read; fails = λ e h. h };
+    beyond = record { read = none_read; fails = λ e h. h };
   }
 
   -- the list ends
@@ -143,7 +143,7 @@ module _ {S X : Type 0} (t : List ℕ) (R : Family) (f : Span → X) (v : S → 
       IsMade (arguments_map f) (more_arguments t R []) from
       (arguments (inlines_of (map (inline_view v) ps)) (nameds_of (map (named_view v) ns))) m
   all_arguments ps ns names j m g x =
-      made (list_read (arguments (inlines_of g.ps) (nameds_of g.ns)) m g.behind (put_whole g.ps g.ns) x)
+      made (list_read (arguments (inlines_of g.ps) (nameds_of g.ns)) m g.beyond (put_whole g.ps g.ns) x)
       (rw (g.same_ps, g.same_ns) (arguments_mapped f g.ps g.ns))
 
   module _ (h : IsFunctionalFamily R) (ps : List (InlineExpression S)) (ns : List (NamedArgument S)) (i : ℕ)
@@ -172,9 +172,9 @@ module _ {S X : Type 0} (t : List ℕ) (R : Family) (f : Span → X) (v : S → 
               ∙ ap (λ z. map (named_map f) g.ns ++ z ∷ [])
               (view-NamedArgument v x ∙ rw (same, same_value) refl)
               ∙ sym (map-append (named_map f) g.ns (tree ∷ []));
-          behind =
-              one_behind (put_arguments g.ps (g.ns ++ tree ∷ [])) added (bytes_at t name ∷ names_in t names) next
-              g.behind (functional_next_argument t R h (names_in t names)) (put_named g.ps g.ns name value)
+          beyond =
+              one_after (put_arguments g.ps (g.ns ++ tree ∷ [])) added (bytes_at t name ∷ names_in t names) next
+              g.beyond (functional_next_argument t R h (names_in t names)) (put_named g.ps g.ns name value)
               (named t R (names_in t names) i within no_end e j read name is mark
               (Read (item added (bytes_at t name ∷ names_in t names)) next)
               (second new
@@ -200,8 +200,8 @@ module _ {S X : Type 0} (t : List ℕ) (R : Family) (f : Span → X) (v : S → 
               ∙ ap (λ zs. zs ++ inline_view v x ∷ []) g.same_ps
               ∙ ap (λ z. map (inline_map f) g.ps ++ z ∷ []) same ∙ sym (map-append (inline_map f) g.ps (e ∷ []));
           same_ns = g.same_ns;
-          behind =
-              one_behind (put_arguments (g.ps ++ e ∷ []) g.ns) added [] next g.behind
+          beyond =
+              one_after (put_arguments (g.ps ++ e ∷ []) g.ns) added [] next g.beyond
               (functional_next_argument t R h (names_in t names)) (put_positional g.ps g.ns e)
               (positional t R (names_in t names) i within no_end e j read is (Read (item added []) next)
               (subst (λ xs. positional_rest t xs e j (Read (item added []) next)) (sym all)

@@ -10,7 +10,7 @@ use Rattle.fluent_syntax_grammar.specs.Construct.{Construct, Read, More, no_item
 use Rattle.fluent_syntax_grammar.specs.UniqueReading.{IsFunctional}
 use Rattle.fluent_syntax_parser.specs.Gathered.{variants_view}
 use Rattle.fluent_syntax_parser.specs.Made.{IsMade, made}
-use Rattle.fluent_syntax_parser.proofs.readers.ContinuesFrom.{ContinuesFrom, list_read, one_behind}
+use Rattle.fluent_syntax_parser.proofs.readers.ContinuesFrom.{ContinuesFrom, list_read, one_after}
 
 abbrev pub put_variants : List (VariantTree Span) → VariantTrees Span → VariantTrees Span
 put_variants [] vs = vs
@@ -32,12 +32,12 @@ variants_mapped : {X : Type 0} (f : Span → X) (xs : List (VariantTree Span)) �
 variants_mapped f [] = refl
 variants_mapped f (x ∷ xs) = ap (variants (variant_map f x)) (variants_mapped f xs)
 
--- What was gathered stands for what was read, with f of each text in its place.
+-- What was gathered represents what was read, with f of each text in its place.
 pub record MadeVariants {S X : Type 0} (t : List ℕ) (next : Bool → Construct (More (VariantTree Span) Bool))
     (f : Span → X) (v : S → X) (i : ℕ) (xs : List (Variant S)) (starred : Bool) (j : ℕ) : Type 0 where
   pub items : List (VariantTree Span)
   pub same : map (variant_view v) xs ≡ map (variant_map f) items
-  pub behind : ContinuesFrom t next variants no_variants false i (put_variants items) starred j
+  pub beyond : ContinuesFrom t next variants no_variants false i (put_variants items) starred j
 
 module _ {S X : Type 0} {t : List ℕ} {next : Bool → Construct (More (VariantTree Span) Bool)} {f : Span → X}
     (v : S → X) {i : ℕ} where
@@ -45,7 +45,7 @@ module _ {S X : Type 0} {t : List ℕ} {next : Bool → Construct (More (Variant
   no_variant = record {
     items = [];
     same = refl;
-    behind = record { read = λ b end h. h; fails = λ e h. h };
+    beyond = record { read = λ b end h. h; fails = λ e h. h };
   }
 
   module _ {j m : ℕ} {starred : Bool} where
@@ -60,8 +60,8 @@ module _ {S X : Type 0} {t : List ℕ} {next : Bool → Construct (More (Variant
           ap (map (variant_view v)) all ∙ map-append (variant_view v) xs (x ∷ [])
           ∙ ap (λ zs. zs ++ variant_view v x ∷ []) g.same
           ∙ ap (λ z. map (variant_map f) g.items ++ z ∷ []) same ∙ sym (map-append (variant_map f) g.items (a ∷ []));
-      behind =
-          one_behind (put_variants (g.items ++ a ∷ [])) a later m g.behind h (variants_added g.items a) read;
+      beyond =
+          one_after (put_variants (g.items ++ a ∷ [])) a later m g.beyond h (variants_added g.items a) read;
     }
 
     -- the list ends
@@ -69,5 +69,5 @@ module _ {S X : Type 0} {t : List ℕ} {next : Bool → Construct (More (Variant
         next starred j (Read no_item m) →
         IsMade (variants_map f) (many next variants no_variants false) i (variants_view v xs) m
     all_variants xs g x =
-        made (list_read (variants_of g.items) m g.behind (variants_whole g.items) x)
+        made (list_read (variants_of g.items) m g.beyond (variants_whole g.items) x)
         (ap variants_of g.same ∙ variants_mapped f g.items)

@@ -1,4 +1,4 @@
--- An inline expression, by what stands at its start.
+-- An inline expression, by what is at its start.
 use Rattle.std.proofs.Common.{◌≡◌, ℕ, ◌+◌, List, subst, refl, inl as left, inr}
 use Rattle.std.specs.Prelude.{◌⊎◌, Result, Ok, Err}
 use Rattle.fluent_syntax_tree.specs.Kind.{ExpectedLiteral}

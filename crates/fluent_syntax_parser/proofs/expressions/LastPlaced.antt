@@ -19,7 +19,7 @@ abbrev some_or : {A : Type 0} → A → Option A → A
 some_or a None = a
 some_or a (Some b) = b
 
--- what stands at the last place of a list is what was added last
+-- what is at the last place of a list is what was added last
 pub last_is : {A : Type 0} (all xs : List A) (x y : A) → all ≡ xs ++ x ∷ [] →
     Some y ≡ slice_get all (length all - 1) → y ≡ x
 last_is all xs x y pushed there =
@@ -53,7 +53,7 @@ module _ {S X : Type 0} (v : S → X) where
       all ≡ new → AddsPlaced v old new tree → AddsPlaced v old all tree
   placed_in old tree same (e, pushed, seen) = (e, same ∙ pushed, seen)
 
-  -- the placeable that was added stands for that expression
+  -- the placeable that was added represents that expression
   pub placed_is : (x : Expression S) {e : PatternElement S} {tree : ExpressionTree X} → Placeable x ≡ e →
       element_view v e ≡ placeable tree → expression_view v x ≡ tree
   placed_is x {tree = tree} is seen =

@@ -10,7 +10,7 @@ use Rattle.std.specs.declared.cmp.Ordering.{Ordering}
 use Rattle.std.specs.declared.cmp.Ordering.TheVariants.{Equal}
 use Rattle.fluent_syntax_grammar.specs.Arguments.{is_used}
 use Rattle.fluent_syntax_grammar.specs.NameKeys.{NotesAll, is_key}
-use Rattle.fluent_syntax_grammar.proofs.NameKeys.{any_key, notes_behind}
+use Rattle.fluent_syntax_grammar.proofs.NameKeys.{any_key, notes_after}
 use Rattle.fluent_syntax_parser.specs.Noted.{Notes}
 
 not_new : (held used new : Bool) → new ≡ not held → held ≡ used → used ≡ not new
@@ -26,7 +26,7 @@ module _ {K : Type 0} (text : K → List ℕ) where
       let size = length-append names (n ∷ []) in (
         λ few. absurd (omega arith),
         λ many. rw e (subst (λ n. NotesAll text (insert_key cmp keys k) (names ++ n ∷ [])) f
-            (notes_behind text cmp same keys names k all)),
+            (notes_after text cmp same keys names k all)),
       )
 
   -- a name is new to the table just where none of the names there is it

@@ -1,4 +1,4 @@
--- A select from its arrow on, by what stands before its variants.
+-- A select from its arrow on, by what is before its variants.
 use Rattle.std.proofs.Common.{◌≡◌, ◌∙◌, ℕ, ◌+◌, List, Option, Some, None, true, ap, refl, subst, sym}
 use Rattle.std.specs.Prelude.{Result, Ok, Err}
 use Rattle.fluent_syntax_tree.specs.Kind.{Kind}
@@ -94,21 +94,21 @@ module _ (edition : Edition) (t : List ℕ) (R : Family) (e : InlineTree Span) (
         Fails t (select_with edition t R e (selector_fault e)) i f
     select_fails {f = f} h = subst (λ x. Fails t (select_with edition t R e x) i f) is (fails_from_arrow fault h)
 
--- The rest of an expression behind which an arrow stands, by its select.
-pub behind_blank : {S X : Type 0} (v : S → X) (edition : Edition) (t : List ℕ) (R : Family)
+-- The rest of an expression after which there is an arrow, by its select.
+pub beyond_blank : {S X : Type 0} (v : S → X) (edition : Edition) (t : List ℕ) (R : Family)
     (f : ExpressionTree Span → ExpressionTree X) (old new : List (PatternElement S)) {i j k : ℕ} {e : InlineTree Span}
     (r : Result ℕ ReadFault) → inline_expression t R i (Read e j) → Blank t j k → has_arrow t k ≡ true →
     IsFunctionalFamily R → Pushes v t f (select_with edition t R e (selector_fault e)) old new k r →
     Pushes v t f (expression edition t R) old new i r
-behind_blank v edition t R f old new (Ok x) read blank arrow g (b, there, added) =
+beyond_blank v edition t R f old new (Ok x) read blank arrow g (b, there, added) =
     (b, goes_on read (goes_on (passed blank) (goes_on (chosen given) (first arrow there))), added)
-behind_blank v edition t R f old new (Err _) read blank arrow g h =
+beyond_blank v edition t R f old new (Err _) read blank arrow g h =
     fails_next (functional_inline t R g) read
     (fails_next (functional_blank t) (passed blank)
     (fails_next (functional_look (has_arrow t)) (chosen given)
     (fails_yes arrow h)))
 
--- Why an expression is no selector, is told alike of what stands for it.
+-- Why an expression is no selector is reported alike of what represents it.
 pub same_fault : {X : Type 0} (f : Span → X) (b : InlineTree X) (e : InlineTree Span) → b ≡ inline_map f e →
     selector_fault b ≡ selector_fault e
 same_fault f b e same = ap selector_fault same ∙ same_selector_fault f e

@@ -186,7 +186,7 @@ module _ (edition : Edition) (t : List ℕ) where
     blank = blanks_blank i ends.place ends.block;
   }
 
--- ---- no blank line stands behind a pattern
+-- ---- no blank line comes after a pattern
 
 module _ (t : List ℕ) {i k : ℕ} (blank : InlineBlank t i k) where
   pub none_at_end : slice_get t k ≡ None → BlankBlock t k k

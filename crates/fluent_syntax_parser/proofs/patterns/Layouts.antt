@@ -1,4 +1,4 @@
--- What a layout spells with h of what stands for each placeable, it spells before, with h of that.
+-- What a layout spells with h of what represents each placeable, it spells before, with h of that.
 use Rattle.std.proofs.Common.{◌≡◌, ℕ, ◌+◌, List, [], ◌∷◌, ◌++◌, map, Option, Some, None, option_map, Bool, true, false}
 use Rattle.std.proofs.Common.{refl, sym, ap, ◌∙◌}
 use Rattle.std.specs.Prelude.{nat_lt, if◌then◌else◌}

@@ -40,9 +40,9 @@ module _ (t : List ℕ) (i j : ℕ) (l : i < j) (within : j ≤ length t) where
       rw (range_cons t i j l within (j - i - 1) (omega arith), same) (starts_nonblank b _ space other)
 
 -- items none of which stays are cut off where they end the list
-cut_behind : (t : List ℕ) (xs ys : List Item) → cut t ys ≡ [] → cut t (xs ++ ys) ≡ cut t xs
-cut_behind t [] ys none = none
-cut_behind t (x ∷ xs) ys none = ap (cut_before t x) (cut_behind t xs ys none)
+cut_after : (t : List ℕ) (xs ys : List Item) → cut t ys ≡ [] → cut t (xs ++ ys) ≡ cut t xs
+cut_after t [] ys none = none
+cut_after t (x ∷ xs) ys none = ap (cut_before t x) (cut_after t xs ys none)
 
 module _ (t : List ℕ) where
   module _ (start to : ℕ) (w : LongestRun (is_run_place t) start to) (some : start < to) where
@@ -137,16 +137,16 @@ module _ (edition : Edition) (t : List ℕ) (n : ℕ) where
     opening_read : (ptr end : ℕ) → InlineBlank t ptr start → EndsBlank edition t next end →
         pattern edition t R ptr (Read (if_any (spelled t (cut t (with_ending ps e)))) end)
     opening_read ptr end blank lines =
-        let behind = blank_rest edition t next end lines in
-        let laid : layout_at t R None start (Read (opened behind.lines) end) = goes_on at_place
+        let beyond = blank_rest edition t next end lines in
+        let laid : layout_at t R None start (Read (opened beyond.lines) end) = goes_on at_place
         (goes_on pieces
         (goes_on ends
-        (goes_on (behind.read n) given))) in
-        let whole : layout t R ptr (Read (opened behind.lines) end) = goes_on (passed blank)
-        (chosen (subst (λ o. layout_at t R o start (Read (opened behind.lines) end)) (sym opens) laid)) in
-        let cut_off = cut_behind t (with_ending ps e)
-        (flat_map (line_items edition (common_indent edition (opened behind.lines))) behind.lines) (behind.blank _) in
-        let same : pattern_of edition t (opened behind.lines) ≡ if_any (spelled t (cut t (with_ending ps e))) =
+        (goes_on (beyond.read n) given))) in
+        let whole : layout t R ptr (Read (opened beyond.lines) end) = goes_on (passed blank)
+        (chosen (subst (λ o. layout_at t R o start (Read (opened beyond.lines) end)) (sym opens) laid)) in
+        let cut_off = cut_after t (with_ending ps e)
+        (flat_map (line_items edition (common_indent edition (opened beyond.lines))) beyond.lines) (beyond.blank _) in
+        let same : pattern_of edition t (opened beyond.lines) ≡ if_any (spelled t (cut t (with_ending ps e))) =
         ap (λ is. if_any (spelled t is)) cut_off in
         rw (← same) (goes_on whole given)
 

@@ -27,39 +27,39 @@ use Rattle.fluent_syntax_parser.proofs.patterns.LineEndings.{ends_line, ends_tex
 use Rattle.fluent_syntax_parser.proofs.patterns.OneLine.{run_item}
 use Rattle.fluent_syntax_parser.proofs.patterns.Pieces.{end_pieces, no_pieces, run_there}
 use Rattle.fluent_syntax_parser.proofs.patterns.Rest.{run_mapped}
-use Rattle.fluent_syntax_parser.proofs.patterns.Settled.{placed_behind, run_behind, settled_ending, settled_mapped}
-use Rattle.fluent_syntax_parser.proofs.readers.ContinuesFrom.{ContinuesFrom, item_fails, list_read, one_behind}
+use Rattle.fluent_syntax_parser.proofs.patterns.Settled.{placed_after, run_after, settled_ending, settled_mapped}
+use Rattle.fluent_syntax_parser.proofs.readers.ContinuesFrom.{ContinuesFrom, item_fails, list_read, one_after}
 
--- The elements are those of pieces up to a placeable, and what stands at the place stands behind them.
+-- The elements are those of pieces up to a placeable, and what there is at the place comes after them.
 pub record MadeOpening {S X : Type 0} (t : List ℕ) (R : Family) (f : Span → X) (v : S → X) (i : ℕ)
     (elements : List (PatternElement S)) (j : ℕ) : Type 0 where
   pub pieces : List Piece
   pub settled : Settled pieces
   pub same : map (element_view v) elements ≡ map (piece_element f) pieces
-  pub behind : ContinuesFrom t (λ u. next_piece t R) (λ a rest. a ∷ rest) [] tt i (λ more. pieces ++ more) tt j
+  pub beyond : ContinuesFrom t (λ u. next_piece t R) (λ a rest. a ∷ rest) [] tt i (λ more. pieces ++ more) tt j
 
 module _ {S X : Type 0} (t : List ℕ) (R : Family) (f : Span → X) (v : S → X) (i : ℕ) where
   pub no_opening : MadeOpening t R f v i [] i
   no_opening =
-      record { pieces = []; settled = none; same = refl; behind = record { read = λ b end h. h; fails = λ e h. h } }
+      record { pieces = []; settled = none; same = refl; beyond = record { read = λ b end h. h; fails = λ e h. h } }
 
   module _ (h : IsFunctional (next_piece t R)) (place to : ℕ) (w : LongestRun (is_run_place t) place to) where
     abbrev span : Span
     span = record { start = place; end = to }
 
-    -- with the run that stands there, if it holds a byte
+    -- with the run there, if it holds a byte
     module _ (pieces : List Piece)
         (g : ContinuesFrom t (λ u. next_piece t R) (λ a rest. a ∷ rest) [] tt i (λ more. pieces ++ more) tt place) where
-      behind_run : ContinuesFrom t (λ u. next_piece t R) (λ a rest. a ∷ rest) [] tt i
+      beyond_run : ContinuesFrom t (λ u. next_piece t R) (λ a rest. a ∷ rest) [] tt i
           (λ more. (pieces ++ run_of span) ++ more) tt
           to
-      behind_run = by (nat_lt place to) refl
+      beyond_run = by (nat_lt place to) refl
         where
           by : (b : Bool) → nat_lt place to ≡ b →
               ContinuesFrom t (λ u. next_piece t R) (λ a rest. a ∷ rest) [] tt i
               (λ more. (pieces ++ (if b then run place to ∷ [] else [])) ++ more) tt to
           by true e =
-              one_behind (λ more. (pieces ++ run place to ∷ []) ++ more) (run place to) tt to g h
+              one_after (λ more. (pieces ++ run place to ∷ []) ++ more) (run place to) tt to g h
               (λ more. append_assoc pieces (run place to ∷ []) more)
               (run_item t R place to w (grind (arith, nat_tests)))
           by false e =
@@ -73,19 +73,19 @@ module _ {S X : Type 0} (t : List ℕ) (R : Family) (f : Span → X) (v : S → 
 
       pub opening_fails : {fault : ReadFault} → Fails t (next_piece t R) to fault →
           Fails t (list_of (next_piece t R)) i fault
-      opening_fails x = item_fails behind_run x
+      opening_fails x = item_fails beyond_run x
 
       pub opening_read : next_piece t R to (Read no_item to) →
           list_of (next_piece t R) i (Read (pieces ++ run_of span) to)
-      opening_read x = list_read (pieces ++ run_of span) to behind_run (append-nil (pieces ++ run_of span)) x
+      opening_read x = list_read (pieces ++ run_of span) to beyond_run (append-nil (pieces ++ run_of span)) x
 
       -- one more placeable
       placed_settled : (e : ExpressionTree Span) (b : Bool) → Settled pieces →
           Settled ((pieces ++ (if b then run place to ∷ [] else [])) ++ placed e ∷ [])
       placed_settled e true s =
-          subst Settled (sym (append_assoc pieces (run place to ∷ []) (placed e ∷ []))) (run_behind place to e s)
+          subst Settled (sym (append_assoc pieces (run place to ∷ []) (placed e ∷ []))) (run_after place to e s)
       placed_settled e false s =
-          subst (λ ps. Settled (ps ++ placed e ∷ [])) (sym (append-nil pieces)) (placed_behind e s)
+          subst (λ ps. Settled (ps ++ placed e ∷ [])) (sym (append-nil pieces)) (placed_after e s)
 
       pub opening_placed : Settled pieces → (xs ys : List (PatternElement S)) (x : PatternElement S)
           (zs : List (PatternElement S)) → map (element_view v) xs ≡ map (piece_element f) pieces →
@@ -102,8 +102,8 @@ module _ {S X : Type 0} (t : List ℕ) (R : Family) (f : Span → X) (v : S → 
             ∙ sym (map-append (piece_element f) pieces (run_of span)))
             ∙ ap (λ z. map (piece_element f) (pieces ++ run_of span) ++ z ∷ []) seen
             ∙ sym (map-append (piece_element f) (pieces ++ run_of span) (placed e ∷ []));
-        behind =
-            one_behind (λ more. ((pieces ++ run_of span) ++ placed e ∷ []) ++ more) (placed e) tt next behind_run h
+        beyond =
+            one_after (λ more. ((pieces ++ run_of span) ++ placed e ∷ []) ++ more) (placed e) tt next beyond_run h
             (λ more. append_assoc (pieces ++ run_of span) (placed e ∷ []) more) read;
       }
 
@@ -127,7 +127,7 @@ module _ {S X : Type 0} (f : Span → X) (v : S → X) (place to : ℕ) (xs ys :
 
   -- there is none
   pub no_run_added : to ≤ place → ys ≡ xs → AddsRun (nat_lt place to)
-  no_run_added behind same = by (nat_lt place to) refl
+  no_run_added beyond same = by (nat_lt place to) refl
     where
       by : (b : Bool) → nat_lt place to ≡ b → AddsRun b
       by true e = absurd (grind (arith, nat_tests))

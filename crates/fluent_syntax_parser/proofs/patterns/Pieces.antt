@@ -67,7 +67,7 @@ further test i j w here =
     let apart : i ≡ j → ⊥ = λ same. true≢false (sym here ∙ ap test same ∙ w.longest) in
     omega (arith, w.forward, apart)
 
--- a line is not empty where a byte stands in it
+-- a line is not empty where there is a byte in it
 pub line_onward : (t : List ℕ) (from end next : ℕ) → from < length t → from ≤ end → end ≤ next →
     (has_eol t end ≡ false → slice_get t end ≡ None) → (has_eol t end ≡ true → end < next) → from < next
 line_onward t from end next inside forward on stops further = by (has_eol t end) refl

@@ -27,7 +27,7 @@ module _ {E F : Type 0} (h : E → F) where
   rest_mapped s end =
       sym (ending_mapped h (run_of s) end) ∙ ap (λ ps. with_ending ps end) (run_mapped s)
 
--- nothing is left where nothing stands
+-- nothing is left where there is nothing
 pub nothing_left : {E : Type 0} (place : ℕ) →
     with_ending {E = E} (run_of (record { start = place; end = place })) text_end ≡ []
 nothing_left {E = E} place = by (nat_lt place place) refl

@@ -1,4 +1,4 @@
--- Pieces behind each run of which stands a placeable: what they spell doesn't hang on what follows.
+-- Pieces with a placeable after each run: what they spell doesn't depend on what follows.
 use Rattle.std.proofs.Common.{◌≡◌, ℕ, List, [], ◌∷◌, ◌++◌, map, refl, sym, ap, ◌∙◌}
 use Rattle.fluent_syntax_tree.specs.Tree.{ExpressionTree, placeable, text_element}
 use Rattle.fluent_syntax_tree.specs.declared.spans.Span.{Span}
@@ -9,17 +9,17 @@ use Rattle.fluent_syntax_parser.specs.Layouts.{piece_map}
 use Rattle.fluent_syntax_parser.specs.Opened.{Settled, as_item, none, by_placeable, by_run}
 
 module _ {E : Type 0} where
-  -- one more placeable, and one behind a run
-  pub placed_behind : {ps : List (PieceOf E)} (e : E) → Settled ps → Settled (ps ++ placed e ∷ [])
-  placed_behind e none = by_placeable none
-  placed_behind e (by_placeable s) = by_placeable (placed_behind e s)
-  placed_behind e (by_run s) = by_run (placed_behind e s)
+  -- one more placeable, and one after a run
+  pub placed_after : {ps : List (PieceOf E)} (e : E) → Settled ps → Settled (ps ++ placed e ∷ [])
+  placed_after e none = by_placeable none
+  placed_after e (by_placeable s) = by_placeable (placed_after e s)
+  placed_after e (by_run s) = by_run (placed_after e s)
 
-  pub run_behind : {ps : List (PieceOf E)} (from to : ℕ) (e : E) → Settled ps →
+  pub run_after : {ps : List (PieceOf E)} (from to : ℕ) (e : E) → Settled ps →
       Settled (ps ++ run from to ∷ placed e ∷ [])
-  run_behind from to e none = by_run (by_placeable none)
-  run_behind from to e (by_placeable s) = by_placeable (run_behind from to e s)
-  run_behind from to e (by_run s) = by_run (run_behind from to e s)
+  run_after from to e none = by_run (by_placeable none)
+  run_after from to e (by_placeable s) = by_placeable (run_after from to e s)
+  run_after from to e (by_run s) = by_run (run_after from to e s)
 
   -- they are items, before those of what follows them
   pub settled_ending : {ps : List (PieceOf E)} → Settled ps → (qs : List (PieceOf E)) (end : Ending) →
@@ -47,7 +47,7 @@ module _ {X : Type 0} (f : Span → X) (t : List ℕ) where
       ap (spelled f t) (cut_filled t e (cut t (map as_item ps ++ ys)))
       ∙ ap (λ xs. placeable e ∷ xs) (settled_spelled s ys)
   settled_spelled (by_run {from = from} {to = to} {e = e} {ps = ps} s) ys =
-      let behind = cut t (map as_item ps ++ ys) in
-      ap (λ xs. spelled f t (cut_before t (text from to) xs)) (cut_filled t e behind)
+      let beyond = cut t (map as_item ps ++ ys) in
+      ap (λ xs. spelled f t (cut_before t (text from to) xs)) (cut_filled t e beyond)
       ∙ ap (λ xs. text_element (f (record { start = from; end = to })) ∷ xs)
-      (ap (spelled f t) (sym (cut_filled t e behind)) ∙ settled_spelled s ys)
+      (ap (spelled f t) (sym (cut_filled t e beyond)) ∙ settled_spelled s ys)

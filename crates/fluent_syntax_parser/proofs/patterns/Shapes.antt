@@ -53,7 +53,7 @@ module _ {S X : Type 0} (v : S → X) where
       items_seen all ∙ ap (map (item_map (boxed_expression_view v))) same
       ∙ rest_mapped (boxed_expression_view v) rest.run (ending_view rest.ending)
 
-  -- the items of the other lines behind these
+  -- the items of the other lines after these
   pub items_viewed : (edition : Edition) (common : Option ℕ) (opening all : List (parts.Piece S))
       (lines : List (rows.Line S)) →
       map item_shape all ≡ map item_shape opening ++ flat_map (line_items edition common) (map line_shape lines) →

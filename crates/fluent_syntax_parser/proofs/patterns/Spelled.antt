@@ -90,12 +90,12 @@ module _ {X : Type 0} (f : Span → X) (t : List ℕ) where
       map (element_of f) (map as_item ps) ++ spelled f t (cut t (rest ++ dedented_items edition seen))
       ≡ map (element_map f) (grammar.spelled t (cut t (items edition y)))
   layout_spelled edition y {ps = ps} settled rest opening seen lines =
-      let behind = dedented_items edition seen in
+      let beyond = dedented_items edition seen in
       let first = opening_items (option_map (line_of f) y.opening) in
-      sym (settled_spelled f t settled (rest ++ behind))
+      sym (settled_spelled f t settled (rest ++ beyond))
       ∙ ap (λ xs. spelled f t (cut t xs))
-      (sym (append_assoc (map as_item ps) rest behind)
-      ∙ ap (λ xs. xs ++ behind) (sym opening)
+      (sym (append_assoc (map as_item ps) rest beyond)
+      ∙ ap (λ xs. xs ++ beyond) (sym opening)
       ∙ ap (λ ls. first ++ dedented_items edition ls) lines
       ∙ ap (λ common. first ++ flat_map (line_items edition common) (map (line_of f) y.lines))
       (common_mapped (expression_map f) edition y)

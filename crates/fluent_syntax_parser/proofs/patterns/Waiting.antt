@@ -1,4 +1,4 @@
--- What is added for a piece of a line, and what for those behind it, are together what is added from it on.
+-- What is added for a piece of a line, and what for those after it, are together what is added from it on.
 use Rattle.std.proofs.Common.{◌≡◌, ℕ, ◌+◌, List, [], ◌∷◌, ◌++◌, append_assoc, map, Option, Some, None, unwrap_or, Bool}
 use Rattle.std.proofs.Common.{true, false, refl, sym, ap, ◌∙◌}
 use Rattle.std.specs.Prelude.{nat_lt, if◌then◌else◌}

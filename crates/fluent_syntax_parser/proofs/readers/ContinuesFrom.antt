@@ -1,4 +1,4 @@
--- Lists that a loop gathers: what stands where the loop is, stands where it began, behind what was gathered.
+-- Lists that a loop gathers: what there is where the loop is comes where it began, after what was gathered.
 use Rattle.std.proofs.Common.{◌≡◌, ℕ, List, [], ◌∷◌, ◌++◌, append_assoc, map, ap, refl, subst, sym, ◌∙◌}
 use Rattle.std.proofs.lemmas.List.{map-append}
 use Rattle.fluent_syntax_grammar.specs.Construct.{Construct, Read, More, no_item, item, many, list_ends, list_stops}
@@ -16,13 +16,13 @@ module _ {A S B : Type 0} (t : List ℕ) (next : S → Construct (More A S)) (ad
       pub read : (b : B) (end : ℕ) → many next add none r j (Read b end) → many next add none s i (Read (put b) end)
       pub fails : (f : ReadFault) → Fails t (many next add none r) j f → Fails t (many next add none s) i f
 
--- where what stands behind an item fails, so does the list
-behind_item : {A S B : Type 0} (t : List ℕ) (next : S → Construct (More A S)) (add : A → B → B) (none : B) (r q : S)
+-- where what comes after an item fails, so does the list
+beyond_item : {A S B : Type 0} (t : List ℕ) (next : S → Construct (More A S)) (add : A → B → B) (none : B) (r q : S)
     (j m : ℕ) (a : A) → IsFunctional (next r) → next r j (Read (item a q) m) → (f : ReadFault) →
     Fails t (many next add none q) m f → Fails t (many next add none r) j f
-behind_item t next add none r q j m a h x f (refused n) = refused (λ k from to e. stops_later x (n k from to e))
-behind_item t next add none r q j m a h x f (too_deep n) = too_deep (deeper_later h a q m x n)
-behind_item t next add none r q j m a h x f no_memory = no_memory
+beyond_item t next add none r q j m a h x f (refused n) = refused (λ k from to e. stops_later x (n k from to e))
+beyond_item t next add none r q j m a h x f (too_deep n) = too_deep (deeper_later h a q m x n)
+beyond_item t next add none r q j m a h x f no_memory = no_memory
 
 module _ {A S B : Type 0} {t : List ℕ} {next : S → Construct (More A S)} {add : A → B → B} {none : B} {s : S} {i : ℕ}
     {put : B → B} {r : S} {j : ℕ} where
@@ -34,13 +34,13 @@ module _ {A S B : Type 0} {t : List ℕ} {next : S → Construct (More A S)} {ad
   item_fails g no_memory = no_memory
 
   -- one more item
-  pub one_behind : (more_put : B → B) (a : A) (q : S) (m : ℕ) → ContinuesFrom t next add none s i put r j →
+  pub one_after : (more_put : B → B) (a : A) (q : S) (m : ℕ) → ContinuesFrom t next add none s i put r j →
       IsFunctional (next r) → ((b : B) → more_put b ≡ put (add a b)) → next r j (Read (item a q) m) →
       ContinuesFrom t next add none s i more_put q m
-  one_behind more_put a q m g h same x = record {
+  one_after more_put a q m g h same x = record {
     read = λ b end y.
         subst (λ b. many next add none s i (Read b end)) (sym (same b)) (g.read (add a b) end (item_and_more x y));
-    fails = λ f y. g.fails f (behind_item t next add none r q j m a h x f y);
+    fails = λ f y. g.fails f (beyond_item t next add none r q j m a h x f y);
   }
 
   -- the list ends
@@ -51,19 +51,19 @@ module _ {A S B : Type 0} {t : List ℕ} {next : S → Construct (More A S)} {ad
 
 -- ---- plain lists
 
--- What was gathered stands for what was read, with f of each text in its place.
+-- What was gathered represents what was read, with f of each text in its place.
 pub record MadeItems {A B X : Type 0} (t : List ℕ) (next : Construct (More A (Unit {0}))) (f : A → B) (view : X → B)
     (i : ℕ) (xs : List X) (j : ℕ) : Type 0 where
   pub items : List A
   pub same : map view xs ≡ map f items
-  pub behind : ContinuesFrom t (λ u. next) (λ a rest. a ∷ rest) [] tt i (λ more. items ++ more) tt j
+  pub beyond : ContinuesFrom t (λ u. next) (λ a rest. a ∷ rest) [] tt i (λ more. items ++ more) tt j
 
 module _ {A B X : Type 0} {t : List ℕ} {next : Construct (More A (Unit {0}))} {f : A → B} (view : X → B) {i : ℕ} where
   pub no_items : MadeItems t next f view i [] i
   no_items = record {
     items = [];
     same = refl;
-    behind = record { read = λ b end h. h; fails = λ e h. h };
+    beyond = record { read = λ b end h. h; fails = λ e h. h };
   }
 
   module _ {j m : ℕ} where
@@ -75,12 +75,12 @@ module _ {A B X : Type 0} {t : List ℕ} {next : Construct (More A (Unit {0}))} 
       same =
           ap (map view) all ∙ map-append view xs (x ∷ []) ∙ ap (λ zs. zs ++ view x ∷ []) g.same
           ∙ ap (λ z. map f g.items ++ z ∷ []) same ∙ sym (map-append f g.items (a ∷ []));
-      behind =
-          one_behind (λ more. (g.items ++ a ∷ []) ++ more) a tt m g.behind h
+      beyond =
+          one_after (λ more. (g.items ++ a ∷ []) ++ more) a tt m g.beyond h
           (λ more. append_assoc g.items (a ∷ []) more) read;
     }
 
     -- the list ends
     pub all_made : (xs : List X) → MadeItems t next f view i xs j → next j (Read no_item m) →
         IsMade (map f) (list_of next) i (map view xs) m
-    all_made xs g x = made (list_read g.items m g.behind (append_nothing g.items) x) g.same
+    all_made xs g x = made (list_read g.items m g.beyond (append_nothing g.items) x) g.same

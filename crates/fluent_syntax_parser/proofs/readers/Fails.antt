@@ -107,7 +107,7 @@ functional_star starred star = search functional depth 30
 pub functional_arrow_end : (t : List ℕ) → IsFunctional (peek (after_eol t) arrow_line_end)
 functional_arrow_end t = functional_peek functional_arrow
 
--- ---- what stands inside, within one more
+-- ---- what is inside, within one more
 
 module _ (edition : Edition) (t : List ℕ) where
   pub inside_suc : (m i : ℕ) (o : Outcome (ExpressionTree Span)) → expression edition t (within edition t m) i o →

@@ -1,4 +1,4 @@
--- Lists that a loop gathers: what the construct gives from here on, it gives from the start on, behind what was
+-- Lists that a loop gathers: what the construct gives from here on, it gives from the start on, after what was
 -- gathered.
 use Rattle.std.proofs.Common.{◌≡◌, ℕ, List, [], ◌∷◌, ◌++◌, append_assoc, map, refl, sym, ap, ◌∙◌}
 use Rattle.std.proofs.lemmas.List.{map-append}
@@ -6,7 +6,7 @@ use Rattle.fluent_syntax_grammar.specs.Construct.{Construct, Read}
 use Rattle.fluent_syntax_grammar.proofs.Facts.{append_nothing}
 use Rattle.fluent_syntax_parser.specs.Made.{IsMade, made}
 
--- What was gathered stands for what was read, with f of each text in its place.
+-- What was gathered represents what was read, with f of each text in its place.
 pub record MadeList {A B X : Type 0} (c : Construct (List A)) (f : A → B) (v : X → B) (i : ℕ) (xs : List X) (j : ℕ) :
     Type 0 where
   pub items : List A

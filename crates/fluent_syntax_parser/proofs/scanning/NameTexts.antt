@@ -19,8 +19,8 @@ module _ (t : List ℕ) (p : ℕ → Bool) where
   at_place_of : (b : Bool) (k : ℕ) → k < length t → has t p k ≡ b → p (get_or t k 0) ≡ b
   at_place_of b k inside e = rw (slice_get-get_or t k 0 inside) at e
 
-  behind : (b : Bool) (i k n : ℕ) → i + k ≡ n → n < length t → has t p n ≡ b → p (get_or (drop i t) k 0) ≡ b
-  behind b i k n is inside e =
+  beyond : (b : Bool) (i k n : ℕ) → i + k ≡ n → n < length t → has t p n ≡ b → p (get_or (drop i t) k 0) ≡ b
+  beyond b i k n is inside e =
       ap p (get_or-drop i t k 0 ∙ ap (λ m. get_or t m 0) is) ∙ at_place_of b n inside e
 
   -- the longest run of bytes that pass a test
@@ -30,8 +30,8 @@ module _ (t : List ℕ) (p : ℕ → Bool) where
       let size = length-drop i t in
       let long : prefix_len p (drop i t) ≡ j - i =
       prefix_len_is p (drop i t) (j - i) 0 (omega (arith, size, w.forward, within))
-      (λ k l. behind true i k (i + k) refl (omega (arith, within)) (w.each (i + k) (omega arith) (omega arith)))
-      (λ l. behind false i (j - i) j (omega (arith, w.forward)) (omega (arith, size)) w.longest) in
+      (λ k l. beyond true i k (i + k) refl (omega (arith, within)) (w.each (i + k) (omega arith) (omega arith)))
+      (λ l. beyond false i (j - i) j (omega (arith, w.forward)) (omega (arith, size)) w.longest) in
       ap (λ n. take n (drop i t)) (sym long)
 
   -- it ends within the text
@@ -51,7 +51,7 @@ identifier_text t {i = i} {j = j}
 identifier_text t
     (goes_on at_place (goes_on (chosen given) (second other h))) = elim h [ ]
 
--- the place before that behind a mark
+-- the place before the one after a mark
 pub mark_before : (t : List ℕ) {b i j : ℕ} → token t b i (Read tt j) → j - 1 ≡ i
 mark_before t (goes_on (chosen (first e (goes_on (passed w) given))) (first f given)) = omega (arith, w.by)
 mark_before t (goes_on (chosen (first e (goes_on (passed w) given))) (second f x)) = elim x [ ]

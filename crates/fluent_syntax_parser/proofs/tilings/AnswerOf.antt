@@ -24,22 +24,22 @@ no_answer (f ∷ fs) e = absurd (cc)
 
 some_answer : (error : ParserError) (errors : List ParserError) (fs : List Fault) →
     map Some fs ≡ map fault_of (error ∷ errors) → fs ≢ []
-some_answer error errors fs told none = let nothing : map Some fs ≡ [] = ap (λ gs. map Some gs) none in cc
+some_answer error errors fs stated none = let nothing : map Some fs ≡ [] = ap (λ gs. map Some gs) none in cc
 
 module _ {S X : Type 0} (text : S → X) (whole : BodyTree Span → BodyTree X) (tiles : List Tile)
     (entries : Vec (Entry S) Global) (errors : Vec ParserError Global) (result : Result (Resource S) (ParseFault S))
     (clean : errors.items ≡ [] → result ≡ Ok (record { body = entries }))
     (syntax' : errors.items ≢ [] → result ≡ Err (Syntax (record { body = entries }) errors))
     (same : map (entry_view text) entries.items ≡ whole (body tiles))
-    (told : map Some (faults tiles) ≡ map fault_of errors.items) where
+    (stated : map Some (faults tiles) ≡ map fault_of errors.items) where
   answers_with : (found : List ParserError) → errors.items ≡ found → Answers text whole tiles result
   answers_with [] none =
       subst (Answers text whole tiles) (sym (clean none))
-      (same, no_answer (faults tiles) (told ∙ ap (λ es. map fault_of es) none))
+      (same, no_answer (faults tiles) (stated ∙ ap (λ es. map fault_of es) none))
   answers_with (error ∷ others) some =
       let not_none : errors.items ≢ [] = λ none. cc in
       subst (Answers text whole tiles) (sym (syntax' not_none))
-      (same, sym told, some_answer error others (faults tiles) (told ∙ ap (λ es. map fault_of es) some))
+      (same, sym stated, some_answer error others (faults tiles) (stated ∙ ap (λ es. map fault_of es) some))
 
   pub answers_of : Answers text whole tiles result
   answers_of = answers_with errors.items refl
@@ -51,8 +51,8 @@ answers_by : {S X : Type 0} (text : S → X) (whole other : BodyTree Span → Bo
     ((b : BodyTree Span) → whole b ≡ other b) → (tiles : List Tile) (result : Result (Resource S) (ParseFault S)) →
     Answers text whole tiles result → Answers text other tiles result
 answers_by text whole other same tiles (Ok tree) (there, none) = (there ∙ same (body tiles), none)
-answers_by text whole other same tiles (Err (Syntax tree errors)) (there, told, some) =
-    (there ∙ same (body tiles), told, some)
+answers_by text whole other same tiles (Err (Syntax tree errors)) (there, stated, some) =
+    (there ∙ same (body tiles), stated, some)
 answers_by text whole other same tiles (Err Memory) there = tt
 
 pub spans_answered : (comments : Comments) (edition : Edition) (t : List ℕ)

@@ -10,7 +10,7 @@ use Rattle.fluent_syntax_grammar.specs.Grammar.{within}
 use Rattle.fluent_syntax_grammar.specs.Nesting.{TextDeeper, TooDeep}
 use Rattle.fluent_syntax_grammar.specs.Places.{BlankBlock, has_byte}
 use Rattle.fluent_syntax_grammar.specs.Tiling as tiling
-use Rattle.fluent_syntax_grammar.specs.Tiling.{Tile, Tiled, done, next, drops, entry_in, reads, refuses, stands}
+use Rattle.fluent_syntax_grammar.specs.Tiling.{Tile, Tiled, done, next, drops, entry_in, reads, refuses, keeps_tile}
 use Rattle.fluent_syntax_grammar.specs.Tiling.{whole_line}
 use Rattle.fluent_syntax_grammar.proofs.Functional.{single_block}
 use Rattle.fluent_syntax_grammar.proofs.Nesting.{functional_within}
@@ -18,12 +18,12 @@ use Rattle.fluent_syntax_grammar.proofs.OneTiling.{IsOneTile, one_runtime_tile_i
 use Rattle.fluent_syntax_parser.specs.Rest.{GivesTile, TiledHere, TileDeeper, TileIn, are_dropped, at_end, at_tile}
 use Rattle.fluent_syntax_parser.specs.declared.options.Comments.{Comments}
 use Rattle.fluent_syntax_parser.specs.declared.options.Comments.TheVariants.{Kept, Dropped}
-use Rattle.fluent_syntax_parser.proofs.tilings.Rests.{behind_block, is_no_bare_comment}
+use Rattle.fluent_syntax_parser.proofs.tilings.Rests.{after_block, is_no_bare_comment}
 
 -- ---- tiles of whatever kind
 
 module _ (t : List ℕ) (at : (i j : ℕ) → Tile → Type 0) where
-  -- behind a blank block the tiles are those from its end on
+  -- after a blank block the tiles are those from its end on
   standing_there : (i start : ℕ) (tiles : List Tile) → BlankBlock t i start → Tiled t at i tiles →
       TiledHere t at start tiles
   standing_there i start tiles block (done all) = at_end (single_block.same i start (length t) block all)
@@ -46,15 +46,15 @@ module _ (edition : Edition) (t : List ℕ) (n : ℕ) where
     pub tile_deeper : BlankBlock t i j → TextDeeper edition t (TileIn comments edition t) n i →
         TileDeeper edition t (TileIn comments edition t) n j
     tile_deeper block d tiles tiled_here =
-        d tiles (behind_block t (TileIn comments edition t (within edition t n)) i j tiles block tiled_here)
+        d tiles (after_block t (TileIn comments edition t (within edition t n)) i j tiles block tiled_here)
 
     module _ (inside : i < length t) (tile : Tile)
         (there : TileIn comments edition t (within edition t n) i j tile) where
-      -- behind a tile that stands
-      pub behind_one : TextDeeper edition t (TileIn comments edition t) n j →
+      -- after a tile that is there
+      pub after_one : TextDeeper edition t (TileIn comments edition t) n j →
           TileDeeper edition t (TileIn comments edition t) n i
-      behind_one d tiles (at_end e) = omega (arith, e, inside)
-      behind_one d tiles (at_tile {end = k} {tile = x} {tiles = more} l y rest) =
+      after_one d tiles (at_end e) = omega (arith, e, inside)
+      after_one d tiles (at_tile {end = k} {tile = x} {tiles = more} l y rest) =
           let same : k ≡ j = (one_within comments).same_end i k j x tile y there in
           d more (subst (λ k. Tiled t (TileIn comments edition t (within edition t n)) k more) same rest)
 
@@ -62,7 +62,7 @@ module _ (edition : Edition) (t : List ℕ) (n : ℕ) where
           TextDeeper edition t (TileIn comments edition t) n j
       one_led d more rest = d (_ ∷ more) (at_tile inside there rest)
 
-  -- no tile stands where the entry nests too deeply
+  -- there is no tile where the entry nests too deeply
   pub entry_deeper : (comments : Comments) (i : ℕ) → (are_dropped comments ≡ true → has_byte t hash i ≡ false) →
       i < length t → TooDeep (entry_in edition t (within edition t n)) i →
       TileDeeper edition t (TileIn comments edition t) n i
@@ -70,15 +70,15 @@ module _ (edition : Edition) (t : List ℕ) (n : ℕ) where
   entry_deeper Kept i none inside d tiles (at_tile l (reads x) rest) = d _ x
   entry_deeper Kept i none inside d tiles (at_tile l (refuses x end) rest) = d _ x
   entry_deeper Dropped i none inside d tiles (at_tile l (drops there line) rest) = let f = none refl in cc
-  entry_deeper Dropped i none inside d tiles (at_tile l (stands bare (reads x)) rest) = d _ x
-  entry_deeper Dropped i none inside d tiles (at_tile l (stands bare (refuses x end)) rest) = d _ x
+  entry_deeper Dropped i none inside d tiles (at_tile l (keeps_tile bare (reads x)) rest) = d _ x
+  entry_deeper Dropped i none inside d tiles (at_tile l (keeps_tile bare (refuses x end)) rest) = d _ x
 
-  -- tiles stand at the text's end: none
+  -- tiles at the text's end: none
   pub tile_at_end : (comments : Comments) (i : ℕ) → i ≡ length t →
       TileDeeper edition t (TileIn comments edition t) n i → ⊥
   tile_at_end comments i end d = d [] (at_end end)
 
-  -- ---- behind a line that is dropped
+  -- ---- after a line that is dropped
 
   module _ (i j : ℕ) (inside : i < length t) (comments : Comments) (dropped : are_dropped comments ≡ true)
       (there : has_byte t hash i ≡ true) (line : whole_line t i (Read tt j)) where
@@ -87,36 +87,36 @@ module _ (edition : Edition) (t : List ℕ) (n : ℕ) where
     dropped_there Kept no_drop = cc
     dropped_there Dropped drop = drops there line
 
-    pub behind_dropped : TextDeeper edition t (TileIn comments edition t) n j →
+    pub after_dropped : TextDeeper edition t (TileIn comments edition t) n j →
         TileDeeper edition t (TileIn comments edition t) n i
-    behind_dropped = behind_one comments i j inside _ (dropped_there comments dropped)
+    after_dropped = after_one comments i j inside _ (dropped_there comments dropped)
 
     pub dropped_led : TileDeeper edition t (TileIn comments edition t) n i →
         TextDeeper edition t (TileIn comments edition t) n j
     dropped_led = one_led comments i j inside _ (dropped_there comments dropped)
 
-  -- ---- behind a comment of level 1, which is read where comments are kept
+  -- ---- after a comment of level 1, which is read where comments are kept
 
   module _ (i j : ℕ) (inside : i < length t) (e : EntryTree Span) (error : Option ParserError)
       (tile : GivesTile edition t n i j e error) (content : List Span)
       (same : e ≡ comment regular content) where
-    pub behind_comment : (comments : Comments) → (are_dropped comments ≡ true → has_byte t hash i ≡ false) →
+    pub after_comment : (comments : Comments) → (are_dropped comments ≡ true → has_byte t hash i ≡ false) →
         TextDeeper edition t (tiling.TileIn edition t) n j → TileDeeper edition t (TileIn comments edition t) n i
-    behind_comment Kept none h = behind_one Kept i j inside tile.tile tile.stands h
-    behind_comment Dropped none h =
+    after_comment Kept none h = after_one Kept i j inside tile.tile tile.in_place h
+    after_comment Dropped none h =
         absurd (is_no_bare_comment edition t n i j inside e error tile content same (none refl))
 
-    -- behind what may be attached to it
-    pub behind_attached : (comments : Comments) → (are_dropped comments ≡ true → has_byte t hash i ≡ false) → (k : ℕ) →
+    -- after what it may be attached to
+    pub after_attached : (comments : Comments) → (are_dropped comments ≡ true → has_byte t hash i ≡ false) → (k : ℕ) →
         (TextDeeper edition t (tiling.TileIn edition t) n k → TextDeeper edition t (tiling.TileIn edition t) n j) →
         TextDeeper edition t (TileIn comments edition t) n k → TileDeeper edition t (TileIn comments edition t) n i
-    behind_attached Kept none k through h = behind_one Kept i j inside tile.tile tile.stands (through h)
-    behind_attached Dropped none k through h =
+    after_attached Kept none k through h = after_one Kept i j inside tile.tile tile.in_place (through h)
+    after_attached Dropped none k through h =
         absurd (is_no_bare_comment edition t n i j inside e error tile content same (none refl))
 
     pub attached_led : (comments : Comments) → (are_dropped comments ≡ true → has_byte t hash i ≡ false) → (k : ℕ) →
         (TextDeeper edition t (tiling.TileIn edition t) n j → TextDeeper edition t (tiling.TileIn edition t) n k) →
         TileDeeper edition t (TileIn comments edition t) n i → TextDeeper edition t (TileIn comments edition t) n k
-    attached_led Kept none k through h = through (one_led Kept i j inside tile.tile tile.stands h)
+    attached_led Kept none k through h = through (one_led Kept i j inside tile.tile tile.in_place h)
     attached_led Dropped none k through h =
         absurd (is_no_bare_comment edition t n i j inside e error tile content same (none refl))

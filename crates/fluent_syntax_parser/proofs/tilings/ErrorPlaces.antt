@@ -28,30 +28,30 @@ same_place : {R : Type 0} (junk : Option R) (pos : ℕ) (fault : R → Fault) (f
     ((r : R) → (fault r).pos.start ≡ pos) → option_map fault junk ≡ Some f → pos ≡ f.pos.start
 same_place None pos fault f same e = absurd (cc)
 same_place (Some r) pos fault f same e =
-    let told : fault r ≡ f = cc in
-    let here = ap (λ g. g.pos.start) told in
+    let stated : fault r ≡ f = cc in
+    let here = ap (λ g. g.pos.start) stated in
     let there = same r in
     cc
 
--- an error begins where the fault begins that it tells of
+-- an error begins where the fault begins that it reports
 error_place : (e : ParserError) (f : Fault) → fault_of e ≡ Some f → e.pos.start ≡ f.pos.start
-error_place e f told = same_place e.slice e.pos.start (λ slice. record {
+error_place e f stated = same_place e.slice e.pos.start (λ slice. record {
   kind = kind_of e.kind;
   pos = record { start = e.pos.start; end = e.pos.end };
   slice = record { start = slice.start; end = slice.end };
-}) f (λ slice. refl) told
+}) f (λ slice. refl) stated
 
 module _ (t : List ℕ) where
   ascend_in_text : (from : ℕ) (fs : List Fault) → Ascend t from fs → from ≤ length t
   ascend_in_text from [] up = up
   ascend_in_text from (f ∷ fs) up = let after = ascend_in_text f.slice.end fs up.4 in omega (arith, up.0, up.1)
 
-  -- errors that tell of faults which ascend begin within the text
+  -- errors of faults which ascend begin within the text
   pub fault_in_text : (from : ℕ) (errors : List ParserError) (fs : List Fault) →
       map fault_of errors ≡ map Some fs → Ascend t from fs → All (λ e. e.pos.start ≤ length t) errors
-  fault_in_text from [] fs told up = All-nil (λ e. e.pos.start ≤ length t)
-  fault_in_text from (e ∷ errors) [] told up = absurd cc
-  fault_in_text from (e ∷ errors) (f ∷ fs) told up =
+  fault_in_text from [] fs stated up = All-nil (λ e. e.pos.start ≤ length t)
+  fault_in_text from (e ∷ errors) [] stated up = absurd cc
+  fault_in_text from (e ∷ errors) (f ∷ fs) stated up =
       let first : fault_of e ≡ Some f = cc in
       let others : map fault_of errors ≡ map Some fs = cc in
       let after = ascend_in_text f.slice.end fs up.4 in
@@ -59,18 +59,18 @@ module _ (t : List ℕ) where
       All-cons (λ e. e.pos.start ≤ length t) e errors (omega (arith, up.3))
       (fault_in_text f.slice.end errors fs others up.4)
 
-  -- an error begins within the text that tells of one of some faults which ascend
+  -- an error of one of some faults which ascend begins within the text
   one_in_text : (before : List (Option Fault)) (error : ParserError) (after : List (Option Fault)) (from : ℕ)
       (fs : List Fault) → map Some fs ≡ before ++ fault_of error ∷ after → Ascend t from fs →
       error.pos.start ≤ length t
-  one_in_text [] error after from [] told up = absurd cc
-  one_in_text (f ∷ before) error after from [] told up = absurd cc
-  one_in_text [] error after from (g ∷ fs) told up =
+  one_in_text [] error after from [] stated up = absurd cc
+  one_in_text (f ∷ before) error after from [] stated up = absurd cc
+  one_in_text [] error after from (g ∷ fs) stated up =
       let here : fault_of error ≡ Some g = cc in
       let later = ascend_in_text g.slice.end fs up.4 in
       let place = error_place error g here in
       omega (arith, up.3)
-  one_in_text (f ∷ before) error after from (g ∷ fs) told up =
+  one_in_text (f ∷ before) error after from (g ∷ fs) stated up =
       let others : map Some fs ≡ before ++ fault_of error ∷ after = cc in
       one_in_text before error after g.slice.end fs others up.4
 
@@ -85,12 +85,12 @@ module _ (t : List ℕ) where
       one_in_text before error after 0 (faults rest.tiles) rest.errors_are
       (runtime_errors_ascend edition t rest.tiles rest.tiled)
 
-  -- and one of an entry that stands behind what was reached
-  pub error_behind : (comments : Comments) (edition : Edition) (i j : ℕ) (e : EntryTree Span)
+  -- and one of an entry that comes after what was reached
+  pub error_after : (comments : Comments) (edition : Edition) (i j : ℕ) (e : EntryTree Span)
       (error : Option ParserError) → j ≤ length t → ∥ ReadSoFar comments edition t i ∥₁ →
       EntryTo comments edition t i j e (faults_of error) → IfSome error (λ error. error.pos.start ≤ length t)
-  error_behind comments edition i j e None inside reached there = tt
-  error_behind comments edition i j e (Some error) inside reached there =
+  error_after comments edition i j e None inside reached there = tt
+  error_after comments edition i j e (Some error) inside reached there =
       let left = some_rest t edition comments j inside in
       ∥∥₁_elim reached le_prop
       (λ r. error_in_text comments edition _ r.errors error left.1 (r.rest _ _ (there _ _ left.2)))
@@ -99,8 +99,8 @@ module _ (t : List ℕ) where
     given_in_text : (tiles : List Tile) (result : Result (Resource S) (ParseFault S)) →
         Ascend t 0 (faults tiles) → Answers text whole tiles result → ErrorsInText t result
     given_in_text tiles (Ok tree) up given = tt
-    given_in_text tiles (Err (Syntax tree errors)) up (same, told, some) =
-        fault_in_text 0 errors.items (faults tiles) told up
+    given_in_text tiles (Err (Syntax tree errors)) up (same, stated, some) =
+        fault_in_text 0 errors.items (faults tiles) stated up
     given_in_text tiles (Err Memory) up given = tt
 
     module _ (edition : Edition) (result : Result (Resource S) (ParseFault S)) where

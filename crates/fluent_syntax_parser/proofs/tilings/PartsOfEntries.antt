@@ -16,10 +16,10 @@ use Rattle.fluent_syntax_parser.specs.declared.options.Comments.{Comments}
 use Rattle.fluent_syntax_parser.specs.declared.options.Comments.TheVariants.{Kept, Dropped}
 
 -- the last of some entries, each of whose texts is a part
-behind : (P : Span → Type 0) (before : BodyTree Span) (e : EntryTree Span) (after : BodyTree Span) →
+beyond : (P : Span → Type 0) (before : BodyTree Span) (e : EntryTree Span) (after : BodyTree Span) →
     body_every P (before ++ e ∷ after) → entry_every P e
-behind P [] e after (here, others) = here
-behind P (x ∷ before) e after (here, others) = behind P before e after others
+beyond P [] e after (here, others) = here
+beyond P (x ∷ before) e after (here, others) = beyond P before e after others
 
 module _ (t : List ℕ) (edition : Edition) where
   -- from each place of a text on something is left
@@ -54,10 +54,10 @@ module _ (t : List ℕ) (edition : Edition) where
   body_parts Kept tiles utf8 tiled = body_in_text edition t tiles utf8 tiled
   body_parts Dropped tiles utf8 tiled = runtime_body_in_text edition t tiles utf8 tiled
 
-  -- the texts of an entry that stands in the whole text behind others are parts
+  -- the texts of an entry that comes in the whole text after others are parts
   pub parts_of_entry : (comments : Comments) (before : BodyTree Span) (e : EntryTree Span) (after : BodyTree Span)
       (errors : List (Option Fault)) → IsUtf8 t → Rest comments edition t 0 (before ++ e ∷ after) errors →
       entry_every (IsTextRange t) e
   parts_of_entry comments before e after errors utf8 rest =
-      behind (IsTextRange t) before e after
+      beyond (IsTextRange t) before e after
       (subst (body_every (IsTextRange t)) rest.yields (body_parts comments rest.tiles utf8 rest.tiled))

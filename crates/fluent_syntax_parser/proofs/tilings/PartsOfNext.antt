@@ -23,10 +23,10 @@ module _ (t : List ℕ) where
   IsTextRange-prop span = hlevel le_prop
 
   module _ (comments : Comments) (edition : Edition) (utf8 : IsUtf8 t) where
-    -- the texts of an entry that stands behind what was reached
-    parts_behind : (i j : ℕ) (e : EntryTree Span) (faults : List (Option Fault)) → j ≤ length t →
+    -- the texts of an entry that comes after what was reached
+    parts_after : (i j : ℕ) (e : EntryTree Span) (faults : List (Option Fault)) → j ≤ length t →
         ∥ ReadSoFar comments edition t i ∥₁ → EntryTo comments edition t i j e faults → entry_every (IsTextRange t) e
-    parts_behind i j e faults inside reached there =
+    parts_after i j e faults inside reached there =
         let left = some_rest t edition comments j inside in
         ∥∥₁_elim reached (entry_every-prop (IsTextRange t) IsTextRange-prop e)
         (λ r. parts_of_entry t edition comments r.entries e left.0 _ utf8 (r.rest _ _ (there _ _ left.2)))
@@ -37,6 +37,6 @@ module _ (t : List ℕ) where
         IfOk result (λ found. IfSome found (λ read. entry_every (IsTextRange t) (tree_of read.0)))
     parts_of_next i start j (Ok None) inside reached next = tt
     parts_of_next i start j (Ok (Some read)) inside reached next =
-        parts_behind i j (tree_of read.0) (faults_of read.1) inside reached
+        parts_after i j (tree_of read.0) (faults_of read.1) inside reached
         (entry_to comments edition t i start j (tree_of read.0) (faults_of read.1) next)
     parts_of_next i start j (Err e) inside reached next = tt

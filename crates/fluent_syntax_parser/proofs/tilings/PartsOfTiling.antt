@@ -21,7 +21,7 @@ module _ (t : List ℕ) where
   parts_given : (tiles : List Tile) (result : Result (Resource Span) (ParseFault Span)) →
       body_every (IsTextRange t) (body tiles) → Answers (λ s. s) (λ b. b) tiles result → HasParts t result
   parts_given tiles (Ok tree) parts (same, none) = subst (body_every (IsTextRange t)) (sym same) parts
-  parts_given tiles (Err (Syntax tree errors)) parts (same, told, some) =
+  parts_given tiles (Err (Syntax tree errors)) parts (same, stated, some) =
       subst (body_every (IsTextRange t)) (sym same) parts
   parts_given tiles (Err Memory) parts given = tt
 

@@ -16,7 +16,7 @@ use Rattle.fluent_syntax_grammar.specs.Grammar.{family, within}
 use Rattle.fluent_syntax_grammar.specs.Tiling as tiling
 use Rattle.fluent_syntax_grammar.specs.Tiling.{Fault, Tile, entry, refused, dropped, Tiled, done, next, TileAt}
 use Rattle.fluent_syntax_grammar.specs.Tiling.{entry_at, entry_in, reads}
-use Rattle.fluent_syntax_grammar.specs.Tiling.{refuses, drops, stands, whole_line}
+use Rattle.fluent_syntax_grammar.specs.Tiling.{refuses, drops, keeps_tile, whole_line}
 use Rattle.fluent_syntax_grammar.proofs.BareEntries.{bare_tile_at}
 use Rattle.fluent_syntax_grammar.proofs.Runtime.{IsBareTile}
 use Rattle.fluent_syntax_grammar.proofs.IncludedEntries.{included_entry, tile_part}
@@ -60,19 +60,19 @@ faults_then dropped more = refl
 -- ---- the rest from place to place
 
 module _ (t : List ℕ) (at : (i j : ℕ) → Tile → Type 0) where
-  pub behind_block : (i j : ℕ) (tiles : List Tile) → BlankBlock t i j → TiledHere t at j tiles → Tiled t at i tiles
-  behind_block i j tiles block (at_end e) = done (subst (BlankBlock t i) e block)
-  behind_block i j tiles block (at_tile l x more) = next block l x more
+  pub after_block : (i j : ℕ) (tiles : List Tile) → BlankBlock t i j → TiledHere t at j tiles → Tiled t at i tiles
+  after_block i j tiles block (at_end e) = done (subst (BlankBlock t i) e block)
+  after_block i j tiles block (at_tile l x more) = next block l x more
 
 module _ (comments : Comments) (edition : Edition) (t : List ℕ) where
   pub none_left : (i : ℕ) → i ≡ length t → RestAt comments edition t i [] []
   none_left i end = record { tiles = []; tiled_here = at_end end; yields = refl; errors_are = refl }
 
-  pub rest_behind : (i j : ℕ) (entries : BodyTree Span) (errors : List (Option Fault)) → BlankBlock t i j →
+  pub rest_after : (i j : ℕ) (entries : BodyTree Span) (errors : List (Option Fault)) → BlankBlock t i j →
       RestAt comments edition t j entries errors → Rest comments edition t i entries errors
-  rest_behind i j entries errors block rest = record {
+  rest_after i j entries errors block rest = record {
     tiles = rest.tiles;
-    tiled = behind_block t (TileIn comments edition t (family edition t)) i j rest.tiles block rest.tiled_here;
+    tiled = after_block t (TileIn comments edition t (family edition t)) i j rest.tiles block rest.tiled_here;
     yields = rest.yields;
     errors_are = rest.errors_are;
   }
@@ -81,7 +81,7 @@ pub in_mode : (comments : Comments) (edition : Edition) (t : List ℕ) (R : Fami
     (are_dropped comments ≡ true → has_byte t hash i ≡ false) → tiling.TileIn edition t R i j tile →
     TileIn comments edition t R i j tile
 in_mode Kept edition t R i j tile none x = x
-in_mode Dropped edition t R i j tile none x = stands (none refl) x
+in_mode Dropped edition t R i j tile none x = keeps_tile (none refl) x
 
 -- the tile at whatever depth
 pub at_any_depth : (edition : Edition) (t : List ℕ) (n i j : ℕ) (tile : Tile) →
@@ -113,7 +113,7 @@ module _ (edition : Edition) (t : List ℕ) (i j : ℕ) (inside : i < length t) 
     rest_tile other entries errors rest = record {
       tiles = tile.tile ∷ rest.tiles;
       tiled_here = at_tile inside (in_mode comments edition t (family edition t) i j tile.tile none
-          (at_any_depth edition t n i j tile.tile tile.stands)) rest.tiled;
+          (at_any_depth edition t n i j tile.tile tile.in_place)) rest.tiled;
       yields = body_then tile.tile rest.tiles e tile.entry other ∙ ap (λ b. e ∷ b) rest.yields;
       errors_are = rw (faults_then tile.tile rest.tiles, tile.errors, rest.errors_are) refl;
     }
@@ -146,54 +146,54 @@ comment_tile edition t i j tile content (refuses read end) same = cc
 module _ (edition : Edition) (t : List ℕ) (n i j : ℕ) (inside : i < length t) (e : EntryTree Span)
     (error : Option ParserError) (tile : GivesTile edition t n i j e error) (content : List Span)
     (same : e ≡ comment regular content) where
-  stands_there : TileAt edition t i j tile.tile
-  stands_there = at_any_depth edition t n i j tile.tile tile.stands
+  tile_there : TileAt edition t i j tile.tile
+  tile_there = at_any_depth edition t n i j tile.tile tile.in_place
 
   pub is_comment : tile.tile ≡ entry (record { start = i; end = j }) (comment regular content)
-  is_comment = comment_tile edition t i j tile.tile content stands_there (tile.entry ∙ ap (λ x. x ∷ []) same)
+  is_comment = comment_tile edition t i j tile.tile content tile_there (tile.entry ∙ ap (λ x. x ∷ []) same)
 
   -- a comment begins with `#`
   pub is_no_bare_comment : has_byte t hash i ≡ false → ⊥
-  is_no_bare_comment none = subst IsBareTile is_comment (bare_tile_at edition t i j tile.tile none stands_there)
+  is_no_bare_comment none = subst IsBareTile is_comment (bare_tile_at edition t i j tile.tile none tile_there)
 
   pub rest_comment : (comments : Comments) → (are_dropped comments ≡ true → has_byte t hash i ≡ false) →
       (with_comment : EntryTree Span) (k : ℕ) → Attaches edition t content j with_comment k →
       (entries : BodyTree Span) (errors : List (Option Fault)) → Rest comments edition t k entries errors →
       RestAt comments edition t i (with_comment ∷ entries) (faults_of error ++ errors)
   rest_comment Kept none with_comment k after entries errors rest =
-      let behind = after i entries errors rest in
+      let beyond = after i entries errors rest in
       record {
-        tiles = tile.tile ∷ behind.0;
-        tiled_here = at_tile inside stands_there behind.1;
-        yields = ap (λ x. body (x ∷ behind.0)) is_comment ∙ behind.2;
-        errors_are = rw (faults_then tile.tile behind.0, tile.errors, behind.3) refl;
+        tiles = tile.tile ∷ beyond.0;
+        tiled_here = at_tile inside tile_there beyond.1;
+        yields = ap (λ x. body (x ∷ beyond.0)) is_comment ∙ beyond.2;
+        errors_are = rw (faults_then tile.tile beyond.0, tile.errors, beyond.3) refl;
       }
   rest_comment Dropped none with_comment k after entries errors rest = absurd (is_no_bare_comment (none refl))
 
--- ---- entries, one behind the other
+-- ---- entries, one after the other
 
 module _ (comments : Comments) (edition : Edition) (t : List ℕ) where
-  pub entry_to : (i start j : ℕ) (e : EntryTree Span) (told : List (Option Fault)) →
-      EntryAt comments edition t i start j e told → EntryTo comments edition t i j e told
-  entry_to i start j e told there = λ entries errors rest. there.before _ _ (there.stands entries errors rest)
+  pub entry_to : (i start j : ℕ) (e : EntryTree Span) (stated : List (Option Fault)) →
+      EntryAt comments edition t i start j e stated → EntryTo comments edition t i j e stated
+  entry_to i start j e stated there = λ entries errors rest. there.before _ _ (there.in_place entries errors rest)
 
   pub none_reached : ReadSoFar comments edition t 0
   none_reached = record { entries = []; errors = []; rest = λ others more rest. rest }
 
-  reached_on : (i j : ℕ) (e : EntryTree Span) (told : List (Option Fault)) → EntryTo comments edition t i j e told →
+  reached_on : (i j : ℕ) (e : EntryTree Span) (stated : List (Option Fault)) → EntryTo comments edition t i j e stated →
       ReadSoFar comments edition t i → ReadSoFar comments edition t j
-  reached_on i j e told there reached = record {
+  reached_on i j e stated there reached = record {
     entries = reached.entries ++ e ∷ [];
-    errors = reached.errors ++ told;
+    errors = reached.errors ++ stated;
     rest = λ others more rest. rw (
       append_assoc reached.entries (e ∷ []) others,
-      append_assoc reached.errors told more,
+      append_assoc reached.errors stated more,
     )
         (reached.rest _ _ (there others more rest));
   }
 
-  pub reached_behind : (i start j : ℕ) (e : EntryTree Span) (told : List (Option Fault)) →
-      EntryAt comments edition t i start j e told → ∥ ReadSoFar comments edition t i ∥₁ →
+  pub reached_after : (i start j : ℕ) (e : EntryTree Span) (stated : List (Option Fault)) →
+      EntryAt comments edition t i start j e stated → ∥ ReadSoFar comments edition t i ∥₁ →
       ∥ ReadSoFar comments edition t j ∥₁
-  reached_behind i start j e told there reached =
-      ∥∥₁_map reached (reached_on i j e told (entry_to i start j e told there))
+  reached_after i start j e stated there reached =
+      ∥∥₁_map reached (reached_on i j e stated (entry_to i start j e stated there))

@@ -1,4 +1,4 @@
--- What stands at a place: an entry, or junk with its error.
+-- What there is at a place: an entry, or junk with its error.
 use Rattle.std.proofs.Common.{◌≡◌, ℕ, ◌<◌, ◌≤◌, List, length, Some, None, refl, sym, subst, arith}
 use Rattle.fluent_syntax_tree.specs.Entry.{EntryTree, junk}
 use Rattle.fluent_syntax_tree.specs.declared.edition.Edition.{Edition}
@@ -27,13 +27,13 @@ fails_there t f from place = refl
 
 module _ (edition : Edition) (t : List ℕ) (i j : ℕ) (inside : i < length t) where
   pub tile_within : (tile : Tile) → TileAt edition t i j tile → (i < j) × (j ≤ length t)
-  tile_within tile stands =
-      let ended = tile_good edition t (InText t) (text_cuts t) i j tile (omega (arith, inside)) inside stands in
+  tile_within tile in_place =
+      let ended = tile_good edition t (InText t) (text_cuts t) i j tile (omega (arith, inside)) inside in_place in
       (ended.onward, ended.place)
 
   pub gives_entry : (n : ℕ) (e : EntryTree Span) → entry_in edition t (within edition t n) i (Read e j) →
       GivesTile edition t n i j e None
-  gives_entry n e read = record { tile = _; stands = reads read; entry = refl; errors = refl }
+  gives_entry n e read = record { tile = _; in_place = reads read; entry = refl; errors = refl }
 
   module _ (n : ℕ) (r : Refusal) (refused : IsRefusedAs t (entry_in edition t (within edition t n)) i r) where
     pub refused_in_text : r.place ≤ length t
@@ -47,11 +47,11 @@ module _ (edition : Edition) (t : List ℕ) (i j : ℕ) (inside : i < length t) 
     pub gives_junk : (error : ParserError) → JunkEnd t r.place j →
         fault_of error ≡ Some (refused_as t r (record { start = i; end = j })) →
         GivesTile edition t n i j (junk (record { start = i; end = j })) (Some error)
-    gives_junk error end told =
+    gives_junk error end stated =
         let there = subst (λ place. JunkEnd t place j) (sym (fails_there t r.fault r.from r.place)) end in
         record {
           tile = _;
-          stands = refuses (refused _ _ _ (refl, refl, refl)) there;
+          in_place = refuses (refused _ _ _ (refl, refl, refl)) there;
           entry = refl;
-          errors = rw told refl;
+          errors = rw stated refl;
         }

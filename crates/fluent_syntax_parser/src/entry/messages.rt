@@ -14,7 +14,7 @@ use crate::texts::MakeTexts;
 use fluent_syntax_tree::ast::{Attribute, Entry, Message, Pattern, Term};
 use fluent_syntax_tree::spans::Span;
 
-/// What stands behind the name of a message or a term.
+/// What comes after the name of a message or a term.
 #[derive(Drop)]
 pub(crate) struct Fields<T> {
     value: Option<Pattern<T>>,
@@ -34,7 +34,7 @@ impl<'s, 't, M: MakeTexts> Reader<'s, 't, M> {
         let equals = self.source.skip_blank_inline(ptr);
         let start = self.source.expect_byte(b'=', equals)?;
         let (value, end) = self.get_pattern(nesting, start)?;
-        // no blank line stands behind a pattern
+        // no blank line comes after a pattern
         let (attributes, place) = self.get_attributes(nesting, end)?;
         Ok((Fields { value, attributes }, place))
     }

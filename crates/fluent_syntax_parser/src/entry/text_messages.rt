@@ -6,7 +6,7 @@ use crate::source::Source;
 use fluent_syntax_tree::edition::Edition;
 
 impl<'s> Source<'s> {
-    /// Where a pattern opens behind a name, an inline blank, `=` and an inline blank. `None` where these don't stand.
+    /// Where a pattern opens after a name, an inline blank, `=` and an inline blank. `None` where these are not there.
     fn pattern_start(&self, start: usize) -> Option<usize>
         requires { start ≤ length self.now.bytes.now }
         ensures opens { IfSome result (OpensPattern self.now.bytes.now start) }
@@ -16,10 +16,10 @@ impl<'s> Source<'s> {
             return None;
         };
         let equals = self.skip_blank_inline(end);
-        let Ok(behind) = self.expect_byte(b'=', equals) else {
+        let Ok(after_equals) = self.expect_byte(b'=', equals) else {
             return None;
         };
-        Some(self.skip_blank_inline(behind))
+        Some(self.skip_blank_inline(after_equals))
     }
 
     /// Where a list of attributes ends, of which the pattern of each is one text on its line. `None` where one is not.
@@ -44,7 +44,7 @@ impl<'s> Source<'s> {
     }
 
     /// Where a message ends whose patterns, of value and attributes, are each one text on its line. `None` where
-    /// none such stands there.
+    /// there is none.
     pub(crate) fn text_message_end(&self, edition: Edition, start: usize) -> Option<usize>
         requires { start ≤ length self.now.bytes.now }
         ensures message { IfSome result (MessageAtAnyDepth edition self.now.bytes.now start) }

@@ -39,7 +39,7 @@ impl<'s> SeenNames<'s> {
         self.names.is_empty()
     }
 
-    /// Notes a name behind the others, if it is none of them, and says whether it is new.
+    /// Notes a name after the others, if it is none of them, and says whether it is new.
     pub(crate) fn note_new(&mut self, source: &Source<'s>, name: Span) -> Result<bool, AllocError>
         requires { Notes (λ k. k.now) self.old.table.keys (names_in_order source.now.bytes.now self.old.names.items) }
         ensures new { let t = source.now.bytes.now in
@@ -63,7 +63,7 @@ impl<'s> SeenNames<'s> {
         Ok(true)
     }
 
-    /// Notes a name behind few others, which then perhaps are many.
+    /// Notes a name after few others, which then perhaps are many.
     fn note_among_few(&mut self, source: &Source<'s>, name: Span) -> Result<(), AllocError>
         requires { self.old.table.keys ≡ [] }
         ensures names { OnOk result (self.new.names.items ≡ self.old.names.items ++ name ∷ []) }

@@ -32,7 +32,7 @@ impl<'s> Source<'s> {
             || *c == b'-')
     }
 
-    /// Reads `.` and an identifier, if `.` stands there.
+    /// Reads `.` and an identifier, if there is a `.`.
     pub(crate) fn get_attribute_accessor(
         &self,
         ptr: usize,

@@ -21,7 +21,7 @@ use fluent_syntax_tree::ast::{Expression, InlineExpression, PatternElement, Vari
 use std::alloc::AllocError;
 
 impl<'s, 't, M: MakeTexts> Reader<'s, 't, M> {
-    /// Where the first variant of a select stands, whose arrow stands at the place; or why it is no select.
+    /// Where the first variant of a select is, whose arrow is at the place; or why it is no select.
     #[inline(never)]
     fn variants_start(
         &self,

@@ -20,7 +20,7 @@ use fluent_syntax_tree::edition::Edition;
 use fluent_syntax_tree::spans::Span;
 use std::alloc::AllocError;
 
-/// Whether a list of variants may end, where a star may stand before its end.
+/// Whether a list of variants may end, where there may be a star before its end.
 fn has_default(edition: Edition, starred: bool, star: bool) -> bool
     ensures { result ≡ has_default edition starred star }
 {
@@ -80,7 +80,7 @@ impl<'s, 't, M: MakeTexts> Reader<'s, 't, M> {
         Ok(())
     }
 
-    /// Gathers variants up to the place where neither `[` nor `*[` stands, in an empty list.
+    /// Gathers variants up to the place where there is neither `[` nor `*[`, in an empty list.
     #[cycle(readers)]
     #[inline(never)]
     pub(crate) fn gather_variants(

@@ -20,7 +20,7 @@ pub(crate) enum Ending {
     TextEnd,
 }
 
-/// What is left of the line on which a pattern opens, behind its last placeable: a run, which may be empty, and the
+/// What is left of the line on which a pattern opens, after its last placeable: a run, which may be empty, and the
 /// line's ending.
 #[derive(Clone, Copy, Debug)]
 pub(crate) struct OpeningEnd {

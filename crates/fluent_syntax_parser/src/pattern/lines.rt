@@ -218,7 +218,7 @@ impl<'s, 't, M: MakeTexts> Reader<'s, 't, M> {
         Ok(next)
     }
 
-    /// Reads the line that begins at `start`, whose leading spaces end at `first`, and adds it. A byte stands there.
+    /// Reads the line that begins at `start`, whose leading spaces end at `first`, and adds it. There is a byte.
     #[cycle(readers)]
     #[inline(never)]
     fn gather_line(
@@ -254,7 +254,7 @@ impl<'s, 't, M: MakeTexts> Reader<'s, 't, M> {
         ensures parses { let t = self.now.source.bytes.now in
             Fills t (map (line_of (M.source self.now.texts.now))) (more_lines t (within self.now.edition t nesting))
             (map (line_view M.made)) lines.new.items ptr result }
-        ensures behind { IfOk result (λ end. BlankBlock self.now.source.bytes.now end end) }
+        ensures beyond { IfOk result (λ end. BlankBlock self.now.source.bytes.now end end) }
         ensures within { IfOk result (λ end. (ptr ≤ end) × (end ≤ length self.now.source.bytes.now)) }
     {
         let mut start = ptr;

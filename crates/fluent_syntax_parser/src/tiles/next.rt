@@ -57,8 +57,8 @@ impl<'s> Source<'s> {
         start
     }
 
-    /// Where the next entry stands from a place on, if it is a message to which no comment is attached and whose
-    /// patterns are each one text on its line. `None` where another stands next, or none.
+    /// Where the next entry is from a place on, if it is a message to which no comment is attached and whose
+    /// patterns are each one text on its line. `None` where another comes next, or none.
     pub(crate) fn next_text_message(
         &self,
         edition: Edition,
@@ -83,7 +83,7 @@ impl<'s> Source<'s> {
 }
 
 impl<'s, 't, M: MakeTexts> Reader<'s, 't, M> {
-    /// Reads the next entry from a place on and adds it, with its error where it is junk; says where it stands. `None`
+    /// Reads the next entry from a place on and adds it, with its error where it is junk; says where it is. `None`
     /// where none is left.
     pub(crate) fn add_next(
         &self,

@@ -183,7 +183,7 @@ impl<'s, 't, M: MakeTexts> Reader<'s, 't, M> {
         ensures nests { IfErr result (HaltsWithin nesting (length self.now.source.bytes.now - ptr)) }
         ensures deeper { let t = self.now.source.bytes.now in let edition = self.now.edition in
             IfErr result (OnHalt (TextDeeper edition t (TileIn edition t) nesting ptr)) }
-        ensures behind { let t = self.now.source.bytes.now in let edition = self.now.edition in
+        ensures beyond { let t = self.now.source.bytes.now in let edition = self.now.edition in
             let deeper = TextDeeper edition t (TileIn edition t) nesting in
             IfOk result (λ end. deeper end → deeper ptr) }
         ensures shallow { let t = self.now.source.bytes.now in let edition = self.now.edition in

@@ -12,7 +12,7 @@ pub(crate) struct LineStart {
 }
 
 impl<'s> Source<'s> {
-    /// Whether LF or CRLF stands at a place.
+    /// Whether there is an LF or a CRLF at a place.
     pub(crate) fn is_eol_at(&self, place: usize) -> bool
         requires { place ≤ length self.now.bytes.now }
         ensures { result ≡ has_eol self.now.bytes.now place }
@@ -64,7 +64,7 @@ impl<'s> Source<'s> {
         }
     }
 
-    /// Passes over blank lines, and gives the line behind them. That is not blank.
+    /// Passes over blank lines, and gives the line after them. That is not blank.
     #[inline(always)]
     pub(crate) fn past_blank_lines(&self, ptr: usize) -> LineStart
         requires { ptr ≤ length self.now.bytes.now }

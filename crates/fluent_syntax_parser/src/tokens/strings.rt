@@ -64,7 +64,7 @@ impl<'s> Source<'s> {
         }
     }
 
-    /// The end of the bytes that stand for themselves.
+    /// The end of the bytes that represent themselves.
     fn plain_end(&self, ptr: usize) -> usize
         requires { ptr ≤ length self.now.bytes.now }
         ensures text { ByteRun self.now.bytes.now is_plain ptr result }

@@ -5,7 +5,7 @@ use crate::made::lent_tree;
 use fluent_syntax_edits::{EntryName, number_of};
 use std::test::Fail;
 
-/// A comment that is attached is a part of its entry; one that stands alone has a number, and so has junk.
+/// A comment that is attached is a part of its entry; one by itself has a number, and so has junk.
 const TEXT: &str = "# a\n\n# b\nb = c\n-b = d\ne@\nf = g\n    .h = i\nb = j\n";
 
 const ROWS: [(EntryName, Option<usize>); 6] = [

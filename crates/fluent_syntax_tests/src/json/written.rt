@@ -85,11 +85,11 @@ fn assert_within(alloc: Global, room: usize) -> Result<(), Fail> {
     let answer = write_to(&mut sink, &tree);
     assert_holds(alloc, "a tree", sink.holds_its_part(QUOTE, room, answer))?;
     let (sink, has_refused, answer) = written(Small::new(alloc, room)?, &tree.body);
-    let is_told = has_refused == (room < QUOTE.len() - 2);
+    let is_refusal_reported = has_refused == (room < QUOTE.len() - 2);
     assert_holds(
         alloc,
         "entries",
-        is_told && sink.holds_its_part(QUOTE, room, answer),
+        is_refusal_reported && sink.holds_its_part(QUOTE, room, answer),
     )
 }
 

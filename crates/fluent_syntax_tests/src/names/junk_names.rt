@@ -20,7 +20,7 @@ const ROWS: &[(&str, &str, &str, Option<usize>)] = table! {
     "a byte of no name", "aé\n", "a = A\n", Some(0);
     "the end", "a", "a = A\n", Some(0);
     "the first of two", "b\na A\na {\n", "a = A\n", Some(2);
-    "behind a blank", " a A\n", "a = A\n", None;
+    "after a blank", " a A\n", "a = A\n", None;
     "inside of junk", "b a\n", "a = A\n", None;
     "a later entry", "a A\n", "\nb = B\n", None;
 };

@@ -1,4 +1,4 @@
-//! What is found in a file by itself or beside others, and name indexes that are made entry by entry.
+//! What is found in a file by itself or among others, and name indexes that are made entry by entry.
 
 use crate::alike::{assert_holds, assert_same_text};
 use crate::names::findings::{name_index, push_finding};
@@ -18,7 +18,7 @@ const ROWS: &[(&str, &str, &str)] = table! {
     "two messages", "a = { b }\nb = { a }\n", "cyclic-reference 0 b 6\ncyclic-reference 0 a 16\n";
     "what another file may define", "a = { b } { -c } { a.t }\n", "";
     "a value that another file may give", "a = { b }\nb =\n    .t = T\n", "";
-    "a circle beside what another file may define",
+    "a circle next to what another file may define",
         "a = { b } { c }\nb = { a }\n", "cyclic-reference 0 b 6\ncyclic-reference 0 a 22\n";
     "in the order of the text",
         "a = { x }\n    .t = { y }\n    .t = T\na = { a }\n",
@@ -39,8 +39,8 @@ fn files_by_themselves(rt: HostRuntime) -> Result<(), Fail> {
     Ok(())
 }
 
-/// What is shown, a file, two others, and what is found in the file beside them.
-const BESIDE: &[(&str, &str, [&str; 2], &str)] = table! {
+/// What is shown, a file, two others, and what is found in the file among them.
+const AMONG_OTHERS: &[(&str, &str, [&str; 2], &str)] = table! {
     "its own", "a = { b }\nb = B\n", ["", ""], "";
     "the first one's", "a = { b } { b.t }\n", ["b = B\n    .t = T\n", ""], "";
     "the second one's", "a = { -b }\n", ["b = B\n", "-b = B\n"], "";
@@ -63,9 +63,9 @@ fn names_of(alloc: Global, text: &str) -> Result<DefinedNames, Fail> {
 }
 
 #[test]
-fn files_beside_others(rt: HostRuntime) -> Result<(), Fail> {
+fn files_among_others(rt: HostRuntime) -> Result<(), Fail> {
     let alloc = rt.alloc();
-    for (shows, text, others, expected) in BESIDE {
+    for (shows, text, others, expected) in AMONG_OTHERS {
         let files = [name_index(alloc, *text)?];
         let (first, second) = (names_of(alloc, others[0])?, names_of(alloc, others[1])?);
         let mut out = String::new(alloc);

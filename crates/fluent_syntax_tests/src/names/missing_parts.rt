@@ -40,7 +40,7 @@ fn two_files(rt: HostRuntime) -> Result<(), Fail> {
     assert_same_text(alloc, "other", out.as_str(), "=6\n")
 }
 
-/// A part that one side says and the other lacks, and the difference that is told of it.
+/// A part that one side says and the other lacks, and the difference that is reported of it.
 const DIFFERENCES: &[(Side, Part, Option<Difference>)] = table! {
     Side::Reference, Part::Entry, Some(Difference::Missing);
     Side::Reference, Part::Value, Some(Difference::MissingValue);

@@ -1,4 +1,4 @@
-//! Entries that are read one by one, or passed over, and tiles: where they stand, and their errors.
+//! Entries that are read one by one, or passed over, and tiles: where they are, and their errors.
 
 use crate::alike::assert_same_text;
 use fluent_syntax::parser::{Edition, ParserError};

@@ -2,10 +2,10 @@
 
 use crate::alike::assert_same_text;
 use fluent_syntax::ast::{Entry, PatternElement, Resource};
-use fluent_syntax::parser::Edition;
+use fluent_syntax::parser::{Edition, ParserError};
 use fluent_syntax::spans::{
-    Span, entry_ranges, parse_runtime_spans, parse_runtime_spans_edition, parse_spans,
-    parse_spans_edition,
+    Span, attribute_refusal, entry_ranges, parse_runtime_spans, parse_runtime_spans_edition,
+    parse_spans, parse_spans_edition,
 };
 use std::alloc::{AllocError, Global};
 use std::fmt::Write;
@@ -71,4 +71,35 @@ fn ranges_of_an_entry(rt: HostRuntime) -> Result<(), Fail> {
     push_span(&mut out, attribute.value)?;
     let expected = "1..2 4..7 7..15 9..10 12..15 ";
     assert_same_text(alloc, "a term", out.as_str(), expected)
+}
+
+/// The kind and the place of the attribute's refusal, or nothing where one is read.
+fn refusal_at(alloc: Global, text: &str, start: usize) -> Result<String, Fail> {
+    if start > text.len() {
+        return Err("a place beyond the text".into());
+    }
+    let refusal = attribute_refusal(alloc, text, Edition::One, 9, start);
+    let mut out = String::new(alloc);
+    if let Some(error) = refusal.ok().ok_or("a halt")? {
+        let ParserError { pos, kind, .. } = error;
+        write!(out, "{} {}..{}", kind.name(), pos.start, pos.end)?;
+    }
+    Ok(out)
+}
+
+#[test]
+fn attributes_that_are_refused(rt: HostRuntime) -> Result<(), Fail> {
+    let alloc = rt.alloc();
+    let text = "a =\n .b = { $c\n .d = e\n .f";
+    let got = refusal_at(alloc, text, 4)?;
+    assert_same_text(alloc, "an open brace", got.as_str(), "ExpectedToken 16..17")?;
+    let got = refusal_at(alloc, text, 15)?;
+    assert_same_text(alloc, "one that is read", got.as_str(), "")?;
+    let got = refusal_at(alloc, text, 23)?;
+    assert_same_text(
+        alloc,
+        "the text's end",
+        got.as_str(),
+        "ExpectedToken 26..27",
+    )
 }

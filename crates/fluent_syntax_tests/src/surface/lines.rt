@@ -54,7 +54,7 @@ fn places_of_errors(rt: HostRuntime) -> Result<(), Fail> {
     Ok(())
 }
 
-/// How many entries the recovered tree has, and how many errors stand beside it.
+/// How many entries the recovered tree has, and how many errors come with it.
 fn recovered_counts(alloc: Global, text: &str) -> Result<(usize, usize), Fail> {
     let (tree, errors) = recovered(alloc, parse(alloc, text))?;
     Ok((tree.body.len(), errors.len()))

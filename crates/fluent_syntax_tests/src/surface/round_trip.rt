@@ -44,7 +44,7 @@ fn reads_another_tree(rt: HostRuntime) -> Result<(), Fail> {
 
 /// A comment without lines is readable, and not canonical.
 #[test]
-fn tells_what_is_only_readable(rt: HostRuntime) -> Result<(), Fail> {
+fn reports_what_is_only_readable(rt: HostRuntime) -> Result<(), Fail> {
     let alloc = rt.alloc();
     let tree = joined(alloc, &owned_tree(alloc, "#")?)?;
     let is_so = is_readable(&tree, Edition::One) && !is_canonical(&tree, Edition::One);

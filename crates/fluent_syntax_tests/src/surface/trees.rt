@@ -20,7 +20,7 @@ const TEXT: &str =
 const JUNK: &str = "key = a\nb\n";
 
 /// Whether a tree equals its copy, and no tree without entries.
-fn is_told_apart(alloc: Global) -> Result<bool, Fail> {
+fn equals_only_its_copy(alloc: Global) -> Result<bool, Fail> {
     let tree = owned_tree_without_errors(alloc, TEXT)?;
     let copy = tree.try_clone(alloc)?;
     let other = Resource {
@@ -32,7 +32,7 @@ fn is_told_apart(alloc: Global) -> Result<bool, Fail> {
 #[test]
 fn equal_texts(rt: HostRuntime) -> Result<(), Fail> {
     let alloc = rt.alloc();
-    assert_holds(alloc, "equal texts", is_told_apart(alloc)?)?;
+    assert_holds(alloc, "equal texts", equals_only_its_copy(alloc)?)?;
     let empty: CallArguments<String> = CallArguments::empty(alloc);
     let has_none = empty.positional.is_empty() && empty.named.is_empty();
     assert_holds(alloc, "no arguments", has_none)

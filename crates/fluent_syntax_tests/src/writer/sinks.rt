@@ -206,9 +206,9 @@ fn assert_within(alloc: Global, room: usize) -> Result<(), Fail> {
     assert_holds(alloc, "escapes", sink.holds_its_part("abé", room, answer))?;
     let tree = lent_tree(alloc, "# a\nb=c")?;
     let (sink, has_refused, answer) = written(Small::new(alloc, room)?, &tree.body);
-    let is_told = has_refused == answer.is_err();
+    let is_refusal_reported = has_refused == answer.is_err();
     let holds = sink.holds_its_part("# a\nb = c\n", room, answer);
-    assert_holds(alloc, "entries", is_told && holds)
+    assert_holds(alloc, "entries", is_refusal_reported && holds)
 }
 
 /// What has the room is taken.

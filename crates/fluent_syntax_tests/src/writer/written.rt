@@ -63,7 +63,7 @@ fn trees_of_texts(rt: HostRuntime) -> Result<(), Fail> {
 }
 
 /// Junk, a comment without lines, and a message.
-fn entries_behind(alloc: Global, content: Text) -> Made<Resource<Text>> {
+fn entries_after(alloc: Global, content: Text) -> Made<Resource<Text>> {
     let mut body: Vec<Entry<Text>> = Vec::new(alloc);
     body.push(Entry::Junk { content })?;
     body.push(Entry::Comment(comment(alloc, &[])?))?;
@@ -73,14 +73,14 @@ fn entries_behind(alloc: Global, content: Text) -> Made<Resource<Text>> {
 
 /// A comment without lines is a line end, before which a CR is doubled.
 #[test]
-fn a_line_end_behind_a_cr(rt: HostRuntime) -> Result<(), Fail> {
-    let tree = entries_behind(rt.alloc(), "a\r")?;
+fn a_line_end_after_a_cr(rt: HostRuntime) -> Result<(), Fail> {
+    let tree = entries_after(rt.alloc(), "a\r")?;
     assert_written(rt.alloc(), "with junk", &tree, true, "a\r\r\nk = v\n")?;
     assert_written(rt.alloc(), "without", &tree, false, "\nk = v\n")
 }
 
 /// What a sink holds that has held the text, once the tree is written to it.
-fn written_behind(alloc: Global, held: &str, tree: &Resource<Text>) -> Result<String, Fail> {
+fn written_after(alloc: Global, held: &str, tree: &Resource<Text>) -> Result<String, Fail> {
     let mut sink = String::from_str(alloc, held)?;
     match serialize_to(&mut sink, tree, Options::default()) {
         Ok(()) => Ok(sink),
@@ -90,10 +90,10 @@ fn written_behind(alloc: Global, held: &str, tree: &Resource<Text>) -> Result<St
 
 /// What a sink holds already changes nothing.
 #[test]
-fn behind_what_a_sink_holds(rt: HostRuntime) -> Result<(), Fail> {
+fn after_what_a_sink_holds(rt: HostRuntime) -> Result<(), Fail> {
     let alloc = rt.alloc();
-    let sink = written_behind(alloc, "\r", &lent_tree(alloc, "#")?)?;
+    let sink = written_after(alloc, "\r", &lent_tree(alloc, "#")?)?;
     assert_same_text(alloc, "a comment", sink.as_str(), "\r\n")?;
-    let sink = written_behind(alloc, "x", &lent_tree(alloc, "x\nk = v\n")?)?;
+    let sink = written_after(alloc, "x", &lent_tree(alloc, "x\nk = v\n")?)?;
     assert_same_text(alloc, "a message", sink.as_str(), "xk = v\n")
 }

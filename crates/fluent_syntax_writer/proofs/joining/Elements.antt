@@ -96,7 +96,7 @@ module _ {S : Type 0} (f : S → Text) where
       ap (map (element_view f)) made ∙ map-append (element_view f) old (elem.TextElement v ∷ [])
       ∙ ap (λ x. map (element_view f) old ++ x ∷ []) (view-TextElement f v)
 
-  -- of a placeable whose expression stands for e, after elements that stand for done
+  -- of a placeable whose expression represents e, after elements that represent done
   pub placeable_pushed : (old new : List (PatternElement S)) (made : Expression S) (done : List (ElementTree Text))
       (e : ExpressionTree Text) → new ≡ old ++ elem.Placeable made ∷ [] → map (element_view f) old ≡ done →
       expression_view f made ≡ e → map (element_view f) new ≡ done ++ placeable e ∷ []

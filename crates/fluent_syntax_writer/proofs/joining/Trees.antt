@@ -34,7 +34,7 @@ module _ {X : Type 0} where
   each_variant view [] = refl
   each_variant view (x ∷ xs) = ap (variants (joined_variant (view x))) (each_variant view xs)
 
--- Two values of which one stands for the joined tree of the other, from their parts.
+-- Two values of which one represents the joined tree of the other, from their parts.
 module _ {S T : Type 0} (f : S → Text) (h : T → Text) where
   pub joined-CallArguments : (a : CallArguments-F S _ _ _ _ _ _ _) (b : CallArguments T) →
       map (inline_view f) a.positional.items

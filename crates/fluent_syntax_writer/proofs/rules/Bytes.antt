@@ -13,7 +13,7 @@ use Rattle.fluent_syntax_grammar.proofs.Facts.{equal}
 use Rattle.fluent_syntax_grammar.proofs.Tests.{and_false, neither_left, neither_right}
 use Rattle.fluent_syntax_writer.specs.Texts.{ends_in_crlf}
 
--- whether an LF directly follows a CR, which may stand before the text
+-- whether an LF directly follows a CR, which may be before the text
 abbrev pub has_crlf_after : Bool → Text → Bool
 has_crlf_after after_cr [] = false
 has_crlf_after after_cr (b ∷ bs) = after_cr && b == lf || has_crlf_after (b == cr) bs
@@ -23,7 +23,7 @@ has_crlf-after [] = refl
 has_crlf-after (b ∷ []) = refl
 has_crlf-after (b ∷ c ∷ bs) = ap (λ r. b == cr && c == lf || r) (has_crlf-after (c ∷ bs))
 
--- ---- A text by its line, which is what stands before the LF that ends it
+-- ---- A text by its line, which is what comes before the LF that ends it
 
 -- What is so of one LF, and of each other byte, is so of each byte.
 by_lf : (P : ℕ → Type 0) → P lf → ((b : ℕ) → (b == lf) ≡ false → P b) → (b : ℕ) → P b

@@ -18,7 +18,7 @@ use Rattle.fluent_syntax_grammar.specs.PatternTexts.{after_spaces}
 use Rattle.fluent_syntax_grammar.specs.Readable.{is_message, is_callee, is_text}
 use Rattle.fluent_syntax_grammar.specs.Readable.{ElementPosition, opening, after_line, within_line, after_placeable}
 use Rattle.fluent_syntax_grammar.specs.Readable.{position_after}
-use Rattle.fluent_syntax_grammar.specs.Readable.{indents, may_stand_at, may_precede, are_elements, is_pattern, defaults}
+use Rattle.fluent_syntax_grammar.specs.Readable.{indents, may_occur_at, may_precede, are_elements, is_pattern, defaults}
 use Rattle.fluent_syntax_grammar.specs.Readable.{are_lines, is_expression, are_arguments}
 use Rattle.fluent_syntax_grammar.specs.Canonical.{canonical_rules, is_plain_comment, is_plain_line, hides_mark}
 use Rattle.fluent_syntax_grammar.specs.Canonical.{are_lone, are_flush, first_position, is_flush, has_one_default}
@@ -78,7 +78,7 @@ on_later_line false mark false = refl
 
 module _ (edition : Edition) where
   place_whole : (multiline : Bool) (s : ElementPosition) (v : Text) (es : PatternTree Text)
-      → (may_stand_at edition multiline s v es && may_precede v es)
+      → (may_occur_at edition multiline s v es && may_precede v es)
       ≡ (follows_no_text s && (first_is_nonblank edition multiline s v es && (first_is_tight multiline s v
       && (may_precede v es && (later_is_no_space edition s v es && (later_is_unmarked s v && true))))))
   place_whole true opening v es =
@@ -91,7 +91,7 @@ module _ (edition : Edition) where
   place_whole multiline after_placeable v es = and_true (may_precede v es)
 
   text_whole : (multiline : Bool) (s : ElementPosition) (v : Text) (es : PatternTree Text)
-      → (is_text v && (may_stand_at edition multiline s v es && may_precede v es))
+      → (is_text v && (may_occur_at edition multiline s v es && may_precede v es))
       ≡ list_all (λ rule. text_keeps edition rule multiline s v es) every_rule
   text_whole multiline s v es =
       after_four (not (is_empty v)) (not (list_any is_brace v)) (not (has_crlf v)) (not (has_lf (without_last_lf v)))
@@ -104,7 +104,7 @@ module _ (edition : Edition) where
   texts_whole multiline s (elements (text_element v) es) =
       let text = λ (rule : Rule). text_keeps edition rule multiline s v es in
       let rest = λ (rule : Rule). texts_keep edition rule multiline (position_after v) es in
-      and_assoc (is_text v) (may_stand_at edition multiline s v es) (may_precede v es)
+      and_assoc (is_text v) (may_occur_at edition multiline s v es) (may_precede v es)
       (are_elements edition multiline (position_after v) es)
       ∙ rw (text_whole multiline s v es, texts_whole multiline (position_after v) es)
       (sym (both_pass text rest every_rule))

@@ -7,7 +7,7 @@ use Rattle.std.specs.List.{list_any}
 use Rattle.fluent_syntax_tree.specs.Tree.{ElementTree, text_element, placeable, PatternTree, no_elements, elements}
 use Rattle.fluent_syntax_tree.specs.Tree.{elements_of}
 use Rattle.fluent_syntax_tree.specs.declared.edition.Edition.{Edition}
-use Rattle.fluent_syntax_grammar.specs.Readable.{begins_with_placeable, is_text, may_stand_at, may_precede}
+use Rattle.fluent_syntax_grammar.specs.Readable.{begins_with_placeable, is_text, may_occur_at, may_precede}
 use Rattle.fluent_syntax_grammar.specs.Readable.{position_after}
 use Rattle.fluent_syntax_grammar.specs.Readable.{are_elements}
 use Rattle.fluent_syntax_grammar.specs.Readable.{ElementPosition, opening, is_line_start, is_pattern}
@@ -64,7 +64,7 @@ module _ {E : Type 0} (view : E → ElementTree Text) where
   abbrev pub tree : List E → PatternTree Text
   tree es = elements_of (map view es)
 
-  -- where the element after this one stands
+  -- where the element after this one is
   abbrev pub past : ElementPosition → E → ElementPosition
   past s e = position_past (view e)
 
@@ -79,7 +79,7 @@ module _ {E : Type 0} (view : E → ElementTree Text) where
         → are_elements edition multiline s (elements e es)
         ≡ (is_element edition multiline s e es && are_elements edition multiline (position_past e) es)
     by_form s (text_element v) es =
-        and_assoc (is_text v) (may_stand_at edition multiline s v es) (may_precede v es)
+        and_assoc (is_text v) (may_occur_at edition multiline s v es) (may_precede v es)
         (are_elements edition multiline (position_after v) es)
     by_form s (placeable e) es = refl
 

@@ -1,9 +1,9 @@
-//! The elements of a pattern, by where they stand.
+//! The elements of a pattern, by where they are.
 ghost use Rattle.std.specs.Prelude.{◌≡◌, map};
 ghost use Rattle.fluent_syntax_tree.specs.Tree.{text_element, elements_of};
 ghost use Rattle.fluent_syntax_tree.specs.View.{element_view, pattern_view};
 ghost use Rattle.fluent_syntax_grammar.specs.Readable.{opening, is_line_start, position_after, begins_with_placeable};
-ghost use Rattle.fluent_syntax_grammar.specs.Readable.{indents, may_be_first, may_stand_at, may_precede, are_elements};
+ghost use Rattle.fluent_syntax_grammar.specs.Readable.{indents, may_be_first, may_occur_at, may_precede, are_elements};
 ghost use Rattle.fluent_syntax_grammar.specs.Readable.{is_pattern};
 ghost use Rattle.fluent_syntax_writer.specs.Places.{position_of, position_past, is_element, is_placeable};
 
@@ -14,7 +14,7 @@ use fluent_syntax_tree::ast::{Pattern, PatternElement};
 use fluent_syntax_tree::edition::Edition;
 use fluent_syntax_tree::texts::ReadTexts;
 
-/// Where an element stands.
+/// Where an element is.
 #[derive(Clone, Copy)]
 pub enum ElementPosition {
     /// First in its pattern.
@@ -35,7 +35,7 @@ pub fn is_line_start(position: ElementPosition) -> bool
     )
 }
 
-/// Where the element stands that follows a text.
+/// Where the element is that follows a text.
 fn position_after(text: &str) -> ElementPosition
     ensures { position_of result ≡ position_after text.now }
 {
@@ -46,7 +46,7 @@ fn position_after(text: &str) -> ElementPosition
     }
 }
 
-/// Where the element stands that follows this one.
+/// Where the element is that follows this one.
 pub fn position_past<X, T: ReadTexts<X>>(element: &PatternElement<X>) -> ElementPosition
     ensures { position_of result ≡ position_past (element_view T.text element.now) }
 {
@@ -117,19 +117,19 @@ fn is_text_at<X, T: ReadTexts<X>>(
         (elements_of (map (element_view T.text) rest.now)) }
 {
     is_text(text)
-        && may_stand_at::<X, T>(edition, multiline, position, text, rest)
+        && may_occur_at::<X, T>(edition, multiline, position, text, rest)
         && may_precede::<X, T>(text, rest)
 }
 
-/// Whether the text may stand there.
-fn may_stand_at<X, T: ReadTexts<X>>(
+/// Whether the text may be there.
+fn may_occur_at<X, T: ReadTexts<X>>(
     edition: Edition,
     multiline: bool,
     position: ElementPosition,
     text: &str,
     rest: &[PatternElement<X>],
 ) -> bool
-    ensures { result ≡ may_stand_at edition multiline (position_of position) text.now
+    ensures { result ≡ may_occur_at edition multiline (position_of position) text.now
         (elements_of (map (element_view T.text) rest.now)) }
 {
     match position {

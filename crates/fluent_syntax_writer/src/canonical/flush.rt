@@ -29,7 +29,7 @@ pub fn is_flush<X, T: ReadTexts<X>>(edition: Edition, pattern: &Pattern<X>) -> b
     !hides_mark::<X, T>(pattern) && are_flush::<X, T>(edition, position, &pattern.elements)
 }
 
-/// Where the first element of a multiline pattern stands: at the beginning of a line, unless it would be read as
+/// Where the first element of a multiline pattern is: at the beginning of a line, unless it would be read as
 /// something else there.
 pub fn first_position<X, T: ReadTexts<X>>(pattern: &Pattern<X>) -> ElementPosition
     ensures { position_of result ≡ first_position (pattern_view T.text pattern.now) }

@@ -58,7 +58,7 @@ pub enum Rule {
     /// A select has more than one default variant.
     #[error("a select expression has more than one default variant")]
     SecondDefault,
-    /// A term reference with attribute stands in braces and is no selector.
+    /// A term reference with attribute is in braces and is no selector.
     #[error("an attribute of a term stands in braces and is no selector")]
     TermAttribute,
     /// A function's name holds another character than `A` to `Z`, digits, `_` and `-`.

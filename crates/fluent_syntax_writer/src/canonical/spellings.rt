@@ -93,7 +93,7 @@ enum Next {
     Escape,
 }
 
-/// What comes next after the byte, or `None` where the byte may not stand.
+/// What comes next after the byte, or `None` where the byte may not be.
 fn next_after(next: Next, byte: u8) -> Option<Next>
     ensures { MatchOption result ((rest : List ℕ) → may_follow next (byte ∷ rest) ≡ false)
         (λ after. (rest : List ℕ) → may_follow next (byte ∷ rest) ≡ may_follow after rest) }
@@ -135,7 +135,7 @@ fn after_backslash(byte: u8) -> Option<Next>
     }
 }
 
-/// Whether the text may stand between the quotes of a string.
+/// Whether the text may be between the quotes of a string.
 pub fn is_string(text: &str) -> bool
     ensures { result ≡ is_string text.now }
 {

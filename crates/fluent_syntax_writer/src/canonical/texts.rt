@@ -23,7 +23,7 @@ pub(crate) fn is_text(text: &str) -> bool
     if bytes.is_empty() {
         return false;
     }
-    // its line is what stands before the LF that ends it
+    // its line is what comes before the LF that ends it
     is_text_line(without_last_lf(bytes)) && !ends_in_crlf(text)
 }
 
@@ -61,7 +61,7 @@ fn is_brace(byte: u8) -> bool
     byte == b'{' || byte == b'}'
 }
 
-/// Whether a CR stands directly before an LF.
+/// Whether a CR comes directly before an LF.
 pub(crate) fn has_crlf(bytes: &[u8]) -> bool
     ensures { result ≡ has_crlf bytes.now }
 {

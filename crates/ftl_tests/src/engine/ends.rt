@@ -209,7 +209,8 @@ fn a_writer_of_one_byte_a_call_gets_all(rt: HostRuntime) -> Result<(), Fail> {
     assert_formatted(rt.alloc(), writer, end, OUTPUT.as_bytes())
 }
 
-/// Whether bytes that are no text are told as such, with nothing written and without a failure of the reader or writer.
+/// Whether bytes that are no text are reported as such, with nothing written and without a failure of the reader or
+/// writer.
 fn is_no_text(alloc: Global, bytes: &[u8]) -> bool {
     let mut reader = Watched::new(Drip::whole(bytes));
     let mut writer = Watched::new(Narrow::wide(alloc));

@@ -1,4 +1,4 @@
-//! A folder listed and formatted in place, with calls of the system that fail: the old bytes or the new ones stand.
+//! A folder listed and formatted in place, with calls of the system that fail: the old bytes are there or the new.
 
 use crate::files::shelf::{Failing, Shelf, State};
 use fluent_syntax::parser::Edition;
@@ -58,8 +58,8 @@ fn format(alloc: Global, state: &State) -> Result<Tally, Fail> {
     }
 }
 
-/// Whether each file stands as it was, but the one to be formatted, which may be new; and whether it is.
-fn stands(state: &State) -> Result<(bool, bool), Fail> {
+/// Whether each file is as it was, but the one to be formatted, which may be new; and whether it is.
+fn old_or_new(state: &State) -> Result<(bool, bool), Fail> {
     let one = state.get("/d/a.ftl")?;
     let is_old = one.as_slice() == OLD;
     let is_new = one.as_slice() == NEW;
@@ -74,7 +74,7 @@ fn formats_what_has_no_error(rt: HostRuntime) -> Result<(), Fail> {
     let alloc = rt.alloc();
     let state = folder(alloc, Failing::Never)?;
     let met = format(alloc, &state)?;
-    assert_holds(alloc, "the new bytes", stands(&state)? == (true, true))?;
+    assert_holds(alloc, "the new bytes", old_or_new(&state)? == (true, true))?;
     let expected = Tally {
         files: 3,
         with_problems: 1,
@@ -83,18 +83,18 @@ fn formats_what_has_no_error(rt: HostRuntime) -> Result<(), Fail> {
         fault: 0,
     };
     assert_same(alloc, "what was met", &met, &expected)?;
-    assert_holds(alloc, "nothing is left beside", state.count()? == 4)?;
+    assert_holds(alloc, "no other file is left", state.count()? == 4)?;
     assert_holds(alloc, "the calls", state.calls() > 20 && state.calls() < 80)
 }
 
-/// The file is old or new, and status 0 or 1 tells of the new bytes alone. After one failure nothing is left beside.
+/// The file is old or new, and status 0 or 1 means the new bytes alone. After one failure no other file is left.
 fn assert_whole(alloc: Global, failing: Failing) -> Result<(), Fail> {
     let state = folder(alloc, failing)?;
     let met = format(alloc, &state)?;
-    let (is_whole, is_new) = stands(&state)?;
+    let (is_whole, is_new) = old_or_new(&state)?;
     assert_holds(alloc, "old or new", is_whole)?;
     let is_cleared = state.count()? == 4 || matches!(failing, Failing::From(_));
-    assert_holds(alloc, "nothing is left beside", is_cleared)?;
+    assert_holds(alloc, "no other file is left", is_cleared)?;
     assert_holds(alloc, "the status", is_new || met.status() >= 3)
 }
 

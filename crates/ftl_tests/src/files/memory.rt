@@ -7,7 +7,7 @@ use std::io::ErrorKind;
 use std::test::Fail;
 
 /// Fails where the file has other bytes, or where there is one and none is wanted.
-fn assert_stands(
+fn assert_content(
     alloc: Global,
     memory: &Memory,
     path: &str,
@@ -17,7 +17,7 @@ fn assert_stands(
     assert_same(alloc, path, &memory.bytes_at(path), &expected)
 }
 
-/// A run that was killed has left a file beside.
+/// A run that was killed has left a temporary file.
 #[test]
 fn replaces(rt: HostRuntime) -> Result<(), Fail> {
     let alloc = rt.alloc();
@@ -27,10 +27,10 @@ fn replaces(rt: HostRuntime) -> Result<(), Fail> {
     memory.put("/d/.ftl-new-0", b"ne")?;
     replace_file(alloc, &mut memory, "/d/a.ftl", b"new")?;
     memory.replace("/d/b.ftl", b"another")?;
-    assert_stands(alloc, &memory, "/d/a.ftl", Some("new"))?;
-    assert_stands(alloc, &memory, "/d/b.ftl", Some("another"))?;
-    assert_stands(alloc, &memory, "/d/.ftl-new-0", Some("ne"))?;
-    assert_stands(alloc, &memory, "/d/.ftl-new-1", None)
+    assert_content(alloc, &memory, "/d/a.ftl", Some("new"))?;
+    assert_content(alloc, &memory, "/d/b.ftl", Some("another"))?;
+    assert_content(alloc, &memory, "/d/.ftl-new-0", Some("ne"))?;
+    assert_content(alloc, &memory, "/d/.ftl-new-1", None)
 }
 
 #[test]

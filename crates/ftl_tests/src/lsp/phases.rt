@@ -1,11 +1,11 @@
-//! What a session refuses, the phases behind a message, and how it ends.
+//! What a session refuses, the phases after a message, and how it ends.
 
 use fluent_syntax_tests::alike::{assert_holds, assert_same, assert_same_text};
 use ftl_lsp::{Ending, ErrorCode, Method, Phase, RenameFault};
 use std::alloc::Global;
 use std::test::Fail;
 
-/// A phase, a method, why a request for it is refused, and the phases behind a request and behind a notification.
+/// A phase, a method, why a request for it is refused, and the phases after a request and after a notification.
 type PhaseRow = (Phase, &'static str, Option<ErrorCode>, Phase, Phase);
 
 const PHASES: [PhaseRow; 3] = [

@@ -50,5 +50,5 @@ fn changes_of_a_text(rt: HostRuntime) -> Result<(), Fail> {
     let made = text_after(alloc, "a = 😀\r\nc\r\n", &[between])?;
     assert_same_text(alloc, "between two places", made.as_str(), "a = 😀 d\r\n")?;
     let whole = text_after(alloc, "a = b\n", &[between, Change::Whole("c")])?;
-    assert_same_text(alloc, "the whole behind it", whole.as_str(), "c")
+    assert_same_text(alloc, "the whole after it", whole.as_str(), "c")
 }

@@ -58,7 +58,7 @@ fn push_frame(alloc: Global, frames: &mut String, body: &str) -> Result<(), Fail
     Ok(())
 }
 
-/// The frames of the bodies, behind one another.
+/// The frames of the bodies, one after another.
 fn frames_of(alloc: Global, bodies: &[&str]) -> Result<String, Fail> {
     let mut frames = String::new(alloc);
     for body in bodies {

@@ -21,7 +21,7 @@ const ROWS: [Row; 9] = [
         9,
         "b = {\n     ^\n",
     ),
-    ("a place behind the end", "abc", 99, "abc\n   ^\n"),
+    ("a place after the end", "abc", 99, "abc\n   ^\n"),
     ("no text", "", 0, "\n^\n"),
     ("a tab", "a\tb = {", 2, "a\tb = {\n \t^\n"),
     ("wide characters", "漢字 = {", 7, "漢字 = {\n     ^\n"),

@@ -45,10 +45,15 @@ fn checked(
 fn a_check_whose_output_fails(rt: HostRuntime) -> Result<(), Fail> {
     let alloc = rt.alloc();
     let wide = Narrow::wide(alloc);
-    let (ended, told) = checked(alloc, "/d/a.ftl", wide, Narrow::closed(alloc))?;
+    let (ended, error_output) = checked(alloc, "/d/a.ftl", wide, Narrow::closed(alloc))?;
     assert_holds(alloc, "an end", ended == Ok(()))?;
-    let told = str::from_utf8(told.as_slice())?;
-    assert_same_text(alloc, "an error", told, "/d/a.ftl:2:5: ExpectedToken\n")?;
+    let error_output = str::from_utf8(error_output.as_slice())?;
+    assert_same_text(
+        alloc,
+        "an error",
+        error_output,
+        "/d/a.ftl:2:5: ExpectedToken\n",
+    )?;
     let closed = Narrow::closed(alloc);
     let (ended, _) = checked(alloc, "/d/a.ftl", closed, Narrow::wide(alloc))?;
     assert_holds(alloc, "the report", ended == Err(RunFault::Output))?;

@@ -19,10 +19,10 @@ pub returns-clause-input : goal.returns-clause-input
 returns-clause-input c = λ known. status_where (c.give.ensures.refused Input) (c.command_bytes.ensures.input known)
 
 pub returns-clause-deep : goal.returns-clause-deep
-returns-clause-deep c = λ told. c.command_bytes.ensures.deep ((c.give.ensures.refused Depth).0 told)
+returns-clause-deep c = λ stated. c.command_bytes.ensures.deep ((c.give.ensures.refused Depth).0 stated)
 
 pub returns-clause-deeper : goal.returns-clause-deeper
-returns-clause-deeper c = λ told. c.command_bytes.ensures.deeper ((c.give.ensures.refused Depth).0 told)
+returns-clause-deeper c = λ stated. c.command_bytes.ensures.deeper ((c.give.ensures.refused Depth).0 stated)
 
 pub returns-clause-shallow : goal.returns-clause-shallow
 returns-clause-shallow c = λ deeper.
@@ -31,7 +31,7 @@ returns-clause-shallow c = λ deeper.
     (λ e d. is_of_text d.0 (d.1 ∙ (c.command_bytes.ensures.tree e).0)) deeper
 
 pub returns-clause-tree : goal.returns-clause-tree
-returns-clause-tree c = λ told. c.command_bytes.ensures.tree ((c.give.ensures.refused Tree).0 told)
+returns-clause-tree c = λ stated. c.command_bytes.ensures.tree ((c.give.ensures.refused Tree).0 stated)
 
 pub returns-clause-json : goal.returns-clause-json
-returns-clause-json c = λ told. c.command_bytes.ensures.json ((c.give.ensures.refused Depth).0 told)
+returns-clause-json c = λ stated. c.command_bytes.ensures.json ((c.give.ensures.refused Depth).0 stated)

@@ -4,9 +4,9 @@ use Rattle.fluent_syntax_c.proofs.Statuses.{same_refusal}
 use Rattle.fluent_syntax_c.proofs.canonical.ftl_is_canonical.Goals as goal
 
 pub returns-in-Err-clause-tree : goal.returns-in-Err-clause-tree
-returns-in-Err-clause-tree c = λ told.
-    let same = same_refusal c.in-Err.refusal Tree (sym c.number-in-Err.ensures ∙ told) in c.in-Err.ensures.tree cc
+returns-in-Err-clause-tree c = λ stated.
+    let same = same_refusal c.in-Err.refusal Tree (sym c.number-in-Err.ensures ∙ stated) in c.in-Err.ensures.tree cc
 
 pub returns-in-Err-clause-json : goal.returns-in-Err-clause-json
-returns-in-Err-clause-json c = λ told.
-    let same = same_refusal c.in-Err.refusal Depth (sym c.number-in-Err.ensures ∙ told) in c.in-Err.ensures.json cc
+returns-in-Err-clause-json c = λ stated.
+    let same = same_refusal c.in-Err.refusal Depth (sym c.number-in-Err.ensures ∙ stated) in c.in-Err.ensures.json cc

@@ -9,7 +9,7 @@ overflow_add-column_utf16 c =
     let fits =
     counted_fits utf16_units c.args.text.now c.as_bytes.result.now c.args.start c.args.from.byte c.args.byte
     c.loop-byte.byte-index _ c.args.from.column_utf16 c.loop-byte.column_utf16 c.utf16_units-column_utf16.result
-    units_small c.requires.short known.behind c.requires.before c.requires.in_text c.loop-byte-test.true
+    units_small c.requires.short known.beyond c.requires.before c.requires.in_text c.loop-byte-test.true
     known.units_are c.loop-byte.invariant.units c.utf16_units-column_utf16.ensures in
     omega (arith, fits)
 
@@ -19,7 +19,7 @@ overflow_add-column_characters c =
     let fits =
     counted_fits characters c.args.text.now c.as_bytes.result.now c.args.start c.args.from.byte c.args.byte
     c.loop-byte.byte-index _ c.args.from.column_characters c.loop-byte.column_characters
-    c.characters-column_characters.result characters_small c.requires.short known.behind c.requires.before
+    c.characters-column_characters.result characters_small c.requires.short known.beyond c.requires.before
     c.requires.in_text c.loop-byte-test.true known.characters_are c.loop-byte.invariant.characters
     c.characters-column_characters.ensures in
     omega (arith, fits)
@@ -28,7 +28,7 @@ pub returns-clause-utf16 : goal.returns-clause-utf16
 returns-clause-utf16 c =
     let known = c.requires.on_line in
     counted_all utf16_units c.args.text.now c.as_bytes.result.now c.args.start c.args.from.byte c.args.byte
-    c.loop-byte.byte-index c.args.from.column_utf16 c.loop-byte.column_utf16 c.as_bytes.ensures.value known.behind
+    c.loop-byte.byte-index c.args.from.column_utf16 c.loop-byte.column_utf16 c.as_bytes.ensures.value known.beyond
     c.requires.before c.loop-byte-test.false known.units_are c.loop-byte.invariant.units
 
 pub returns-clause-characters : goal.returns-clause-characters
@@ -36,4 +36,4 @@ returns-clause-characters c =
     let known = c.requires.on_line in
     counted_all characters c.args.text.now c.as_bytes.result.now c.args.start c.args.from.byte c.args.byte
     c.loop-byte.byte-index c.args.from.column_characters c.loop-byte.column_characters c.as_bytes.ensures.value
-    known.behind c.requires.before c.loop-byte-test.false known.characters_are c.loop-byte.invariant.characters
+    known.beyond c.requires.before c.loop-byte-test.false known.characters_are c.loop-byte.invariant.characters

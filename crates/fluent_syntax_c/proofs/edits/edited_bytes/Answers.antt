@@ -11,7 +11,7 @@ pub text_tree-requires-2-clause-utf8 : goal.text_tree-requires-2-clause-utf8
 text_tree-requires-2-clause-utf8 c = rw c.as_bytes.ensures.value (IsUtf8-string_bytes c.in-Ok.new)
 
 pub returns-in_err-part-clause-deeper : goal.returns-in_err-part-clause-deeper
-returns-in_err-part-clause-deeper c = λ told.
+returns-in_err-part-clause-deeper c = λ stated.
     let part = c.in-Ok-Ok.ensures'.cases.0 in
     let same = c.as_bytes.ensures.value ∙ c.in-Ok.ensures ∙ ap (part_source c.args.action) part in
     inr (subst (λ u. EditionReadsDeeper c.args.edition u c.args.nesting) same

@@ -6,5 +6,6 @@ returns-clause-refused g c =
     refusal_exactly c.args.answer c.number.result c.give_answer.result c.number.ensures c.give_answer.ensures.refused
 
 pub returns-clause-edited : goal.returns-clause-edited
-returns-clause-edited g c = λ why told.
-    c.give_answer.ensures.edited why (not_edited_exactly c.number.result c.give_answer.result why c.number.ensures told)
+returns-clause-edited g c = λ why stated.
+    c.give_answer.ensures.edited why
+    (not_edited_exactly c.number.result c.give_answer.result why c.number.ensures stated)

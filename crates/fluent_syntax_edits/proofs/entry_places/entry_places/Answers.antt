@@ -2,7 +2,7 @@ use Rattle.std.proofs.Common.{ap, ◌∙◌, ◌++◌, [], sym}
 use Rattle.std.proofs.lemmas.List.{append-nil}
 use Rattle.std.specs.Global.{Global}
 use Rattle.std.proofs.Common.{Vec}
-use Rattle.fluent_syntax_edits.specs.EntryPlaces.{entry_places_behind}
+use Rattle.fluent_syntax_edits.specs.EntryPlaces.{entry_places_after}
 use Rattle.fluent_syntax_edits.specs.declared.entry_places.EntryPlace.{EntryPlace}
 use Rattle.fluent_syntax_edits.proofs.EntryPlacesRead.{read_all, read_on}
 use Rattle.fluent_syntax_edits.proofs.entry_places.entry_places.Goals as goal
@@ -38,8 +38,8 @@ returns-in-Ok-None c =
     (elim c.match-last.branch [
       | in-Some+in_ok-push-in-Ok-None w ↦
           all (ap (λ (v : Vec EntryPlace Global). v.items) w.entry_places-is ∙ (w.in_ok-push-in-Ok-None.ensures.items
-          ∙ ap (λ last. ps ++ entry_places_behind last []) (sym w.in-Some.is)))
+          ∙ ap (λ last. ps ++ entry_places_after last []) (sym w.in-Some.is)))
       | in_default w ↦
           all (ap (λ (v : Vec EntryPlace Global). v.items) w.entry_places-is
-          ∙ (sym (append-nil ps) ∙ ap (λ last. ps ++ entry_places_behind last []) (sym w.in_default.is)))
+          ∙ (sym (append-nil ps) ∙ ap (λ last. ps ++ entry_places_after last []) (sym w.in_default.is)))
     ])

@@ -76,7 +76,7 @@ fn is_zero_if_some(number: Option<usize>) -> bool
     }
 }
 
-/// Whether each text keeps the rule where it stands.
+/// Whether each text keeps the rule where it is.
 fn texts_keep<X, T: ReadTexts<X>>(
     edition: Edition,
     rule: Rule,

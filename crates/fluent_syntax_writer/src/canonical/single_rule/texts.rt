@@ -14,7 +14,7 @@ use fluent_syntax_tree::ast::PatternElement;
 use fluent_syntax_tree::edition::Edition;
 use fluent_syntax_tree::texts::ReadTexts;
 
-/// Whether the text keeps the rule where it stands. `rest` are the elements after it.
+/// Whether the text keeps the rule where it is. `rest` are the elements after it.
 pub fn text_keeps<X, T: ReadTexts<X>>(
     edition: Edition,
     rule: Rule,
@@ -42,7 +42,7 @@ pub fn text_keeps<X, T: ReadTexts<X>>(
     }
 }
 
-/// Whether no text that ends in no LF stands directly before.
+/// Whether no text that ends in no LF comes directly before.
 fn follows_no_text(position: ElementPosition) -> bool
     ensures { result ≡ follows_no_text (position_of position) }
 {

@@ -37,10 +37,10 @@ of_arm : {X E : Type 0} (bytes_of : X → List ℕ) (found_of : X → Outcome) (
     IfOk result (λ a. (tiles : List Tile) × HasTiles command t tiles × (bytes_of a ≡ text_of command t tiles) ×
     (found_of a ≡ outcome_of tiles)) →
     IfOk answer (λ a. IsAnswer given input (bytes_of a) (found_of a))
-of_arm bytes_of found_of given command input t utf8 is result answer same told =
+of_arm bytes_of found_of given command input t utf8 is result answer same stated =
     subst (λ r. IfOk r (λ a. IsAnswer given input (bytes_of a) (found_of a))) (sym same)
     (IfOk-weaker result _ _ (λ a h.
-    answered given command input t (bytes_of a) (found_of a) h.0 is utf8.0 utf8.1 h.1 h.2 h.3) told)
+    answered given command input t (bytes_of a) (found_of a) h.0 is utf8.0 utf8.1 h.1 h.2 h.3) stated)
 
 pub returns-clause-text : goal.returns-clause-text
 returns-clause-text c =

@@ -6,5 +6,5 @@ abbrev pub invariant-loop-number : goal.invariant-loop-number
 invariant-loop-number g l = record {
   goes_on : GoesOn (g.F.FileSystem.files l.fn.system) (g.F.FileSystem.files l.system)
       (at_free_paths (g.F.FileSystem.files l.fn.system));
-  stand : AllUnchanged (g.F.FileSystem.files l.fn.system).bytes_at (g.F.FileSystem.files l.system).bytes_at;
+  untouched : AllUnchanged (g.F.FileSystem.files l.fn.system).bytes_at (g.F.FileSystem.files l.system).bytes_at;
 }

@@ -30,8 +30,8 @@ returns-then-is_reached c =
     subst (λ u. IsByteOf u c.args.position c.loop-at.at) c.as_bytes-bytes.ensures.value
     (there t c.args.position c.loop-at.at c.loop-at.invariant.ahead c.loop-at-test.true reached)
 
-pub position_behind-here-requires-clause-position : goal.position_behind-here-requires-clause-position
-position_behind-here-requires-clause-position c = c.loop-at.invariant.here
+pub next_position-here-requires-clause-position : goal.next_position-here-requires-clause-position
+next_position-here-requires-clause-position c = c.loop-at.invariant.here
 
 pub loop-at-preserved : goal.loop-at-preserved
 loop-at-preserved c =
@@ -40,7 +40,7 @@ loop-at-preserved c =
     ap (λ here. is_reached (slice_index t c.loop-at.at) here c.args.position) (sym c.loop-at.invariant.here)
     ∙ sym c.is_reached.ensures ∙ c.if-is_reached.false in
     record {
-      here = c.position_behind-here.ensures;
+      here = c.next_position-here.ensures;
       ahead = still_ahead t c.args.position c.loop-at.at c.loop-at.invariant.ahead goes_on;
     }
 

@@ -10,14 +10,14 @@ loop-file-preserved g c =
     let written = g.O.Write.contents in
     let answering = c.args.answering.now in
     record {
-      stand = λ path. c.answer_file.ensures.stand path ∙ c.loop-file.invariant.stand path;
+      untouched = λ path. c.answer_file.ensures.untouched path ∙ c.loop-file.invariant.untouched path;
       each = WritesSo-more
           (ProcessesFile g.S.Store.fails (g.A.FileTask.answers answering) (g.A.FileTask.refuses answering))
           (at c.args.store.now) c.args.files.now (at c.loop-file.store) c.loop-file.file-index c.file-item.result
           c.as_str.result.now c.args.tally.now c.loop-file.tally c.answer_file.new.tally
           (written (inner_of c.args.streams.now.out.now)) (written (inner_of c.loop-file.streams.out.now))
           (written (inner_of c.answer_file.new.streams.out.now)) (omega arith) c.file-item.is c.as_str.ensures.value
-          (c.loop-file.invariant.stand c.as_str.result.now) c.loop-file.invariant.each
+          (c.loop-file.invariant.untouched c.as_str.result.now) c.loop-file.invariant.each
           c.in_ok-answer_file.ensures.counted;
     }
 

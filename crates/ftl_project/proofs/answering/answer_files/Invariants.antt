@@ -9,7 +9,7 @@ invariant-loop-file g l =
     let at = g.S.Store.bytes_at in
     let written = g.O.Write.contents in
     record {
-      stand : AllUnchanged (at l.fn.store) (at l.store);
+      untouched : AllUnchanged (at l.fn.store) (at l.store);
       each : WritesSo (ProcessesFile g.S.Store.fails (g.A.FileTask.answers l.answering) (g.A.FileTask.refuses
           l.answering))
           (at l.fn.store) l.files l.file-index l.fn.tally l.tally (written (inner_of l.fn.streams.out.now))

@@ -6,7 +6,7 @@ use Rattle.ftl_project.proofs.InOrder.{ComparesEach-more}
 use Rattle.ftl_project.proofs.comparing.compare_files.Goals as goal
 
 pub loop-pair-init : goal.loop-pair-init
-loop-pair-init g c = record { stand = λ path. refl; each = no_pairs }
+loop-pair-init g c = record { untouched = λ path. refl; each = no_pairs }
 
 pub loop-pair-preserved : goal.loop-pair-preserved
 loop-pair-preserved g c =
@@ -17,10 +17,10 @@ loop-pair-preserved g c =
     c.loop-pair.tally
     c.report_pair.new.tally c.loop-pair.share c.report_pair.new.share (written (inner_of c.loop-pair.streams.out.now))
     (written (inner_of c.report_pair.new.streams.out.now))) (same_files start (at c.loop-pair.store)
-    c.loop-pair.invariant.stand)
+    c.loop-pair.invariant.untouched)
     c.in_ok-report_pair.ensures.counted in
     record {
-      stand = λ path. c.report_pair.ensures.stand path ∙ c.loop-pair.invariant.stand path;
+      untouched = λ path. c.report_pair.ensures.untouched path ∙ c.loop-pair.invariant.untouched path;
       each = ComparesEach-more g.S.Store.fails c.args.reading c.args.options start c.args.pairs.now
           c.loop-pair.pair-index c.pair-item.result c.args.tally.now c.loop-pair.tally c.report_pair.new.tally
           c.args.share.now c.loop-pair.share c.report_pair.new.share (written (inner_of c.args.streams.now.out.now))

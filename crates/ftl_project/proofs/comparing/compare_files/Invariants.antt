@@ -9,7 +9,7 @@ invariant-loop-pair g l =
     let at = g.S.Store.bytes_at in
     let written = g.O.Write.contents in
     record {
-      stand : AllUnchanged (at l.fn.store) (at l.store);
+      untouched : AllUnchanged (at l.fn.store) (at l.store);
       each : ComparesEach g.S.Store.fails l.fn.reading l.fn.options (at l.fn.store) (take l.pair-index l.pairs)
           l.fn.tally l.tally
           l.fn.share l.share (written (inner_of l.fn.streams.out.now)) (written (inner_of l.streams.out.now));

@@ -1,6 +1,6 @@
-use Rattle.std.proofs.Common.{◌≡◌, append_assoc, arith, length, rules, true}
+use Rattle.std.proofs.Common.{◌≡◌, append_assoc, arith, false, length, rules, true}
 use Rattle.std.specs.Prelude.{chars, nat_lt}
-use Rattle.std.proofs.lemmas.Bool.{lt-ltb}
+use Rattle.std.proofs.lemmas.Bool.{le-ltb, lt-ltb}
 use Rattle.std.proofs.lemmas.Iterator.{YieldsList-from_chars}
 use Rattle.std.proofs.lemmas.Iterator.Consumers.{count_from_yields_List}
 use Rattle.ftl_project.specs.Excerpt.{window}
@@ -20,4 +20,6 @@ returns-else-count-gt-WINDOW c =
     let each = YieldsList-from_chars c.args.back.now c.utf8.back cc in
     let count : c.count.result ≡ length (chars c.args.back.now) =
     count_from_yields_List c.chars.result _ c.count.ensures.ran each in
-    search (rules, count)
+    let no_more : nat_lt window (length (chars c.args.back.now)) ≡ false =
+    le-ltb window (length (chars c.args.back.now)) (omega (arith, count, c.if-count-gt-WINDOW.false)) in
+    search (rules, append_assoc, no_more)

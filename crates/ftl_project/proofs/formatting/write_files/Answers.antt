@@ -2,14 +2,14 @@ use Rattle.std.proofs.Common.{arith, refl, subst}
 use Rattle.ftl_project.specs.Formatting.{Formats}
 use Rattle.ftl_project.proofs.FormattingEach.{FormatsSo-all, FormatsSo-more}
 use Rattle.ftl_project.proofs.Normal.{AllNormal-each}
-use Rattle.ftl_project.proofs.Reaching.{AllReach-stand, AllReach-trans}
+use Rattle.ftl_project.proofs.Reaching.{AllReach-untouched, AllReach-trans}
 use Rattle.ftl_project.proofs.formatting.write_files.Goals as goal
 
 pub loop-file-init : goal.loop-file-init
 loop-file-init g c =
     let at = g.S.Store.bytes_at c.args.store.now in
     record {
-      reaches = AllReach-stand c.args.reading.edition at at (λ path. refl);
+      reaches = AllReach-untouched c.args.reading.edition at at (λ path. refl);
       each = λ new after rest. rest;
     }
 
@@ -42,4 +42,4 @@ returns-clause-normal g c =
     c.args.tally.now c.loop-file.tally (omega arith) c.loop-file.invariant.each in
     AllNormal-each g.S.Store.fails c.args.reading c.args.files.now start start (at c.loop-file.store) c.args.tally.now
     c.loop-file.tally
-    (AllReach-stand c.args.reading.edition start start (λ path. refl)) each
+    (AllReach-untouched c.args.reading.edition start start (λ path. refl)) each

@@ -7,7 +7,7 @@ use Rattle.ftl_project.proofs.linting.read_sources.Goals as goal
 
 pub loop-file-init : goal.loop-file-init
 loop-file-init g c = record {
-  stand = λ path. refl;
+  untouched = λ path. refl;
   read = record {
     some = omega (arith, c.new-sources.ensures.len);
     all = λ clean. omega (arith, c.new-sources.ensures.len);
@@ -26,9 +26,9 @@ loop-file-preserved g c =
     let all = c.read_source.new.sources.items in
     let one = subst (λ files. ReadsSource g.S.Store.fails files path sources all c.loop-file.tally
     c.read_source.new.tally)
-    (same_files start (at c.loop-file.store) c.loop-file.invariant.stand) c.in_ok-read_source.ensures.source in
+    (same_files start (at c.loop-file.store) c.loop-file.invariant.untouched) c.in_ok-read_source.ensures.source in
     record {
-      stand = λ other. c.read_source.ensures.stand other ∙ c.loop-file.invariant.stand other;
+      untouched = λ other. c.read_source.ensures.untouched other ∙ c.loop-file.invariant.untouched other;
       read = HasRead-more c.loop-file.invariant.read c.in_ok-read_source.ensures.read;
       sources = Reads-more g.S.Store.fails start c.args.files.now c.loop-file.file-index c.file-item.result path
           sources all

@@ -7,7 +7,7 @@ abbrev pub invariant-loop-file : goal.invariant-loop-file
 invariant-loop-file g l =
     let at = g.S.Store.bytes_at in
     record {
-      stand : AllUnchanged (at l.fn.store) (at l.store);
+      untouched : AllUnchanged (at l.fn.store) (at l.store);
       read : HasRead l.file-index (vec_len l.sources) l.fn.tally l.tally;
       sources : Reads g.S.Store.fails (at l.fn.store) (take l.file-index l.files) l.sources.items l.fn.tally l.tally;
       out : l.streams.out ≡ l.fn.streams.out;

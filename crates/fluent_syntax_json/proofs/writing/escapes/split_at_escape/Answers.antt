@@ -14,9 +14,9 @@ range_from-requires c =
 
 pub loop-end-preserved : goal.loop-end-preserved
 loop-end-preserved c =
-    let stands = sym c.is_plain.ensures ∙ c.if-not-is_plain.false in
+    let in_place = sym c.is_plain.ensures ∙ c.if-not-is_plain.false in
     record {
       within = omega (arith, c.loop-end-test.true);
-      plain = plain_more c.as_bytes-bytes.result.now c.loop-end.end c.loop-end-test.true stands
+      plain = plain_more c.as_bytes-bytes.result.now c.loop-end.end c.loop-end-test.true in_place
           c.loop-end.invariant.plain;
     }

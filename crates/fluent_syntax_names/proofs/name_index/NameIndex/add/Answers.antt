@@ -13,6 +13,6 @@ returns-clause-mentions c =
     let old = c.args.self.now.mentions.items in
     let new = c.add_shifted.new.list.items in
     let same = c.deref.ensures.value ∙ c.in_ok-said.ensures in
-    let behind = λ (rest : Mentions Span).
+    let beyond = λ (rest : Mentions Span).
     ap (λ ms. old ++ (map (mention_map f) ms ++ rest)) same ∙ ap (λ l. old ++ l) (sym (entry_mapped f rest e [])) in
-    on_ok_weaker c.add_shifted.result (λ adds rest. adds rest ∙ behind rest) c.add_shifted.ensures
+    on_ok_weaker c.add_shifted.result (λ adds rest. adds rest ∙ beyond rest) c.add_shifted.ensures

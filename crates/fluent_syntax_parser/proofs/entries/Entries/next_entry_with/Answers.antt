@@ -1,6 +1,6 @@
 use Rattle.std.proofs.Common.{◌∷◌, ◌++◌, [], Some, ap, arith, length, sym, ◌∙◌}
 use Rattle.std.specs.Prelude.{option_to_list}
-use Rattle.fluent_syntax_parser.proofs.tilings.ErrorPlaces.{error_behind}
+use Rattle.fluent_syntax_parser.proofs.tilings.ErrorPlaces.{error_after}
 use Rattle.fluent_syntax_parser.proofs.entry_forms.MadeEntries.{same_some}
 use Rattle.fluent_syntax_parser.proofs.tilings.Rests.{entry_to}
 use Rattle.fluent_syntax_parser.proofs.entries.Entries.next_entry_with.Goals as goal
@@ -26,27 +26,27 @@ returns-in_default-only_item-clause-shallow g c =
 pub returns-clause-next : goal.returns-clause-next
 returns-clause-next g c =
     let put = rw (c.in-Some.is) at c.in_ok-_span.ensures.next in
-    let stands = rw c.in-Some.is at c.in_ok-_span.ensures.stands in
+    let in_place = rw c.in-Some.is at c.in_ok-_span.ensures.in_place in
     let same =
     sym c.in-Some-only_item.is
     ∙ c.only_item.ensures (Some put.entry)
     (put.added ∙ ap (λ xs. xs ++ put.entry ∷ []) c.new-body.ensures.items) in
-    let told =
+    let stated =
     c.only_item-2.ensures put.error
     (put.errors_are ∙ ap (λ xs. xs ++ option_to_list put.error) c.new-errors.ensures.items) in
-    rw (same_some c.in-Some-only_item.entry put.entry same, told) (put.tree, rw stands at put.stands, put.same)
+    rw (same_some c.in-Some-only_item.entry put.entry same, stated) (put.tree, rw in_place at put.in_place, put.same)
 
 pub returns-clause-places : goal.returns-clause-places
 returns-clause-places g c =
     let t = c.args.self.now.source.bytes.now in
     let options = c.args.self.now.options in
     let put = rw c.in-Some.is at c.in_ok-_span.ensures.next in
-    let stands = rw c.in-Some.is at c.in_ok-_span.ensures.stands in
+    let in_place = rw c.in-Some.is at c.in_ok-_span.ensures.in_place in
     let source = ap (λ source. length source.bytes.now) c.in_ok-_span.ensures.text in
-    let told =
+    let stated =
     c.only_item-2.ensures put.error
     (put.errors_are ∙ ap (λ xs. xs ++ option_to_list put.error) c.new-errors.ensures.items) in
-    let there = entry_to options.comments options.edition t _ _ _ put.tree _ (rw stands at put.stands) in
-    rw told
-    (error_behind t options.comments options.edition _ _ put.tree put.error
+    let there = entry_to options.comments options.edition t _ _ _ put.tree _ (rw in_place at put.in_place) in
+    rw stated
+    (error_after t options.comments options.edition _ _ put.tree put.error
     (omega (arith, source, c.add_next_entry.new.self.within)) c.args.self.now.reached there)

@@ -76,7 +76,7 @@ add_inline_expression-returns-in-Dollar-clause-parses = inlines.add_inline_expre
 pub add_inline_expression-returns-in-Other-clause-parses : goal.add_inline_expression-returns-in-Other-clause-parses
 add_inline_expression-returns-in-Other-clause-parses = inlines.add_inline_expression-returns-in-Other-clause-parses
 
--- ---- placeables and what stands in them
+-- ---- placeables and what is in them
 
 pub add_placeable-returns-in_err-start-clause-parses : goal.add_placeable-returns-in_err-start-clause-parses
 add_placeable-returns-in_err-start-clause-parses = placeables.add_placeable-returns-in_err-start-clause-parses
@@ -369,11 +369,11 @@ gather_line-returns-clause-within = patterns.gather_line-returns-clause-within
 pub gather_lines-returns-in-None-clause-parses : goal.gather_lines-returns-in-None-clause-parses
 gather_lines-returns-in-None-clause-parses = patterns.gather_lines-returns-in-None-clause-parses
 
-pub gather_lines-returns-in-None-clause-behind : goal.gather_lines-returns-in-None-clause-behind
-gather_lines-returns-in-None-clause-behind = patterns.gather_lines-returns-in-None-clause-behind
+pub gather_lines-returns-in-None-clause-beyond : goal.gather_lines-returns-in-None-clause-beyond
+gather_lines-returns-in-None-clause-beyond = patterns.gather_lines-returns-in-None-clause-beyond
 
-pub gather_lines-returns-then-not-belongs-clause-behind : goal.gather_lines-returns-then-not-belongs-clause-behind
-gather_lines-returns-then-not-belongs-clause-behind = patterns.gather_lines-returns-then-not-belongs-clause-behind
+pub gather_lines-returns-then-not-belongs-clause-beyond : goal.gather_lines-returns-then-not-belongs-clause-beyond
+gather_lines-returns-then-not-belongs-clause-beyond = patterns.gather_lines-returns-then-not-belongs-clause-beyond
 
 pub gather_lines-returns-then-not-belongs-clause-parses : goal.gather_lines-returns-then-not-belongs-clause-parses
 gather_lines-returns-then-not-belongs-clause-parses = patterns.gather_lines-returns-then-not-belongs-clause-parses

@@ -1,6 +1,6 @@
 use Rattle.std.proofs.Common.{◌<◌, ◌∷◌, ◌++◌, ◌∙◌, [], length, refl, sym, ap, arith}
 use Rattle.std.proofs.lemmas.Result.{err_from_is_err_and}
-use Rattle.fluent_syntax_parser.proofs.tilings.DeeperTiles.{behind_comment, behind_attached, behind_one, entry_deeper}
+use Rattle.fluent_syntax_parser.proofs.tilings.DeeperTiles.{after_comment, after_attached, after_one, entry_deeper}
 use Rattle.fluent_syntax_parser.proofs.tilings.DeeperTiles.{attached_led}
 use Rattle.fluent_syntax_parser.proofs.tilings.DeeperTiles.{one_led, tile_at_end}
 use Rattle.fluent_syntax_parser.proofs.entry_forms.MadeEntries.{comment_added, other_added}
@@ -38,12 +38,12 @@ returns-then-not-ends_with_comment-clause-next g c =
       added = put.added;
       errors_are = put.errors_are;
       tree = tile.tree;
-      stands = record {
+      in_place = record {
         order = (start.ensures.within.0, read.within.0);
         kept = start.ensures.dropped;
         before = start.ensures.rest edition;
-        stands = rest_tile edition t _ _ inside c.args.comments start.ensures.dropped tile.tree put.error c.args.nesting
-            tile.yields other;
+        in_place = rest_tile edition t _ _ inside c.args.comments start.ensures.dropped tile.tree put.error
+            c.args.nesting tile.yields other;
       };
       same = tile.same;
     }
@@ -71,11 +71,11 @@ returns-clause-next g c =
       added = attached.1;
       errors_are = put.errors_are;
       tree = made.0;
-      stands = record {
+      in_place = record {
         order = (start.ensures.within.0, omega (arith, read.within.0, c.in_ok-end-2.ensures.within.0));
         kept = start.ensures.dropped;
         before = start.ensures.rest edition;
-        stands = rest_comment edition t _ _ _ inside tile.tree put.error tile.yields is.content is.tree_is
+        in_place = rest_comment edition t _ _ _ inside tile.tree put.error tile.yields is.content is.tree_is
             c.args.comments start.ensures.dropped made.0 _ made.1;
       };
       same = made.2;
@@ -109,7 +109,7 @@ returns-in_err-end-2-clause-deeper g c =
     (last ∙ c.if-not-ends_with_comment.false) in
     let p = err_from_is_err_and c.from_residual-in_err-end-2.result c.from_residual-in_err-end-2.ensures.1 in
     rw (p.1, p.2) (λ e. start.ensures.deeper edition c.args.nesting
-    (behind_comment edition t c.args.nesting _ _ inside tile.tree put.error tile.yields is.content is.tree_is
+    (after_comment edition t c.args.nesting _ _ inside tile.tree put.error tile.yields is.content is.tree_is
     c.args.comments start.ensures.dropped (c.in_err-end-2.ensures.deeper e)))
 
 pub returns-then-start-self-clause-shallow : goal.returns-then-start-self-clause-shallow
@@ -136,8 +136,8 @@ returns-clause-shallow g c =
       λ h. attached_led edition t c.args.nesting _ _ inside tile.tree put.error tile.yields is.content is.tree_is
           c.args.comments start.ensures.dropped _ attached.shallow (start.ensures.shallow edition c.args.nesting h),
       λ h. start.ensures.deeper edition c.args.nesting
-          (behind_attached edition t c.args.nesting _ _ inside tile.tree put.error tile.yields is.content is.tree_is
-          c.args.comments start.ensures.dropped _ attached.behind h),
+          (after_attached edition t c.args.nesting _ _ inside tile.tree put.error tile.yields is.content is.tree_is
+          c.args.comments start.ensures.dropped _ attached.beyond h),
     )
 
 pub returns-then-not-ends_with_comment-clause-shallow : goal.returns-then-not-ends_with_comment-clause-shallow
@@ -148,7 +148,7 @@ returns-then-not-ends_with_comment-clause-shallow g c =
     let start = c.tile_start-start in
     let read = c.in_ok-end.ensures in
     let inside : start.result < length t = omega (arith, read.within.0, read.within.1) in
-    let tile = in_mode c.args.comments edition t _ _ _ _ start.ensures.dropped read.adds.tile.yields.stands in (
+    let tile = in_mode c.args.comments edition t _ _ _ _ start.ensures.dropped read.adds.tile.yields.in_place in (
       λ h. one_led edition t n c.args.comments _ _ inside _ tile (start.ensures.shallow edition n h),
-      λ h. start.ensures.deeper edition n (behind_one edition t n c.args.comments _ _ inside _ tile h),
+      λ h. start.ensures.deeper edition n (after_one edition t n c.args.comments _ _ inside _ tile h),
     )

@@ -52,7 +52,7 @@ returns-in_ok-end-in-Err-Refused-clause-within g c =
     let t = c.args.self.now.source.bytes.now in
     let made = (returns-in_ok-end-in-Err-Refused-clause-adds g c).tile in
     tile_within c.args.self.now.edition t c.args.start _ c.requires made.yields.tile
-    (at_any_depth c.args.self.now.edition t _ _ _ made.yields.tile made.yields.stands)
+    (at_any_depth c.args.self.now.edition t _ _ _ made.yields.tile made.yields.in_place)
 
 pub returns-in-Err-TooDeep-clause-deeper : goal.returns-in-Err-TooDeep-clause-deeper
 returns-in-Err-TooDeep-clause-deeper g c = λ e.

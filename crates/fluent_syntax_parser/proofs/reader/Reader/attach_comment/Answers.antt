@@ -3,10 +3,10 @@ use Rattle.fluent_syntax_tree.specs.Entry.{comment, regular}
 use Rattle.fluent_syntax_tree.specs.declared.ast.Entry.TheVariants as entries
 use Rattle.fluent_syntax_grammar.specs.Tiling.{reads}
 use Rattle.fluent_syntax_parser.proofs.entry_forms.EntryForms.{hash_attaches_not}
-use Rattle.fluent_syntax_parser.proofs.entry_forms.AttachesOn.{behind_blank, attaches_not, attaches_to, no_entry}
+use Rattle.fluent_syntax_parser.proofs.entry_forms.AttachesOn.{beyond_blank, attaches_not, attaches_to, no_entry}
 use Rattle.fluent_syntax_parser.proofs.entry_forms.AttachesOn.{other_entry}
 use Rattle.fluent_syntax_grammar.proofs.TotalEntries.{too_deep_left}
-use Rattle.fluent_syntax_parser.proofs.tilings.DeeperTiles.{behind_one, entry_deeper, one_led, text_deeper, tile_deeper}
+use Rattle.fluent_syntax_parser.proofs.tilings.DeeperTiles.{after_one, entry_deeper, one_led, text_deeper, tile_deeper}
 use Rattle.fluent_syntax_parser.proofs.readers.Fails.{refuses_there, too_deep_there}
 use Rattle.fluent_syntax_parser.proofs.readers.Made.{on_made}
 use Rattle.fluent_syntax_parser.proofs.entry_forms.MadeEntries.{attached_made, attached_not}
@@ -30,7 +30,7 @@ returns-then-is_byte_at-clause-attaches g c = λ before comm last.
           | then-is_byte_at-via-then-is_byte_at w ↦
               (λ block e j read. hash_attaches_not edition t content c.args.ptr j e (sym w.if-is_byte_at.ensures) read)
           | then-is_byte_at-via-else-is_byte_at+then-skip_blank_block-ptr w ↦
-              behind_blank edition t content c.args.ptr _ w.skip_blank_block.ensures.blank
+              beyond_blank edition t content c.args.ptr _ w.skip_blank_block.ensures.blank
               w.if-skip_blank_block-ptr.true
         ]),
         ap (comment regular) lines,
@@ -99,14 +99,14 @@ returns-in-Err-Refused-clause-attaches g c = λ before comm last.
 
 -- ---- how deeply it nests
 
-pub returns-then-attaches-clause-behind : goal.returns-then-attaches-clause-behind
-returns-then-attaches-clause-behind g c =
+pub returns-then-attaches-clause-beyond : goal.returns-then-attaches-clause-beyond
+returns-then-attaches-clause-beyond g c =
     let t = c.args.self.now.source.bytes.now in
     let read = c.in-Ok.ensures in
     let inside : c.args.ptr < length t = omega (arith, read.within.0, read.within.1) in
     let block = rw c.if-skip_blank_block-ptr.false at c.skip_blank_block.ensures.blank in
     on_made read.adds.2 (λ tree there same. λ h. text_deeper c.args.self.now.edition t c.args.nesting Kept _ _ block
-    (behind_one c.args.self.now.edition t c.args.nesting Kept _ _ inside _ (reads there) h))
+    (after_one c.args.self.now.edition t c.args.nesting Kept _ _ inside _ (reads there) h))
 
 pub returns-in-Err-TooDeep-clause-deeper : goal.returns-in-Err-TooDeep-clause-deeper
 returns-in-Err-TooDeep-clause-deeper g c =

@@ -41,7 +41,7 @@ returns-in_err-attributes g c =
     fails_next (functional_inline_blank t) (passed c.skip_blank_inline-equals.ensures.blank)
     (fails_next (functional_token t equals_sign) c.in_ok-start.ensures.parses
     (fails_next (functional_pattern edition t _ (functional_within edition t _)) read
-    (fails_next (functional_blank_block t) (passed c.in_ok-value.ensures.behind)
+    (fails_next (functional_blank_block t) (passed c.in_ok-value.ensures.beyond)
     (fails_first c.in_err-attributes.ensures.finds))))))
 
 pub returns : goal.returns
@@ -55,13 +55,13 @@ returns g c =
       (value, rest),
       record {
         equals = _;
-        behind = c.skip_blank_inline-equals.ensures.blank;
+        beyond = c.skip_blank_inline-equals.ensures.blank;
         place = place;
         sign = c.in_ok-start.ensures.parses;
         value = read;
         there = c.place_if.ensures ∙ same_place view (pattern_map f) place c.in_ok-value.value value same;
         line = _;
-        blank = c.in_ok-value.ensures.behind;
+        blank = c.in_ok-value.ensures.beyond;
         attributes = attributes;
       },
     ))

@@ -21,13 +21,13 @@ loop-errors-preserved g c =
     let old = c.loop-errors in
     let f = g.M.MakeTexts.source c.args.self.now.texts.now in
     let next = rw c.in-Some.is at c.in_ok-span.ensures.next in
-    let stands =
-    entry_to c.args.comments c.args.self.now.edition c.args.self.now.source.bytes.now _ _ _ next.tree _ next.stands in
+    let in_place =
+    entry_to c.args.comments c.args.self.now.edition c.args.self.now.source.bytes.now _ _ _ next.tree _ next.in_place in
     let nested = rw c.in-Some.is at c.in_ok-span.ensures.shallow in
     record {
       within = search rules;
       read = read_on f g.M.MakeTexts.made c.args.comments c.args.self.now.edition c.args.self.now.source.bytes.now _ _ _
-          old.invariant.read _ next.entry next.tree (faults_of next.error) stands next.same _ next.added _
+          old.invariant.read _ next.entry next.tree (faults_of next.error) in_place next.same _ next.added _
           (error_faults _ _ next.error next.errors_are);
       deeper = λ h. old.invariant.deeper (nested.1 h);
       shallow = λ h. nested.0 (old.invariant.shallow h);

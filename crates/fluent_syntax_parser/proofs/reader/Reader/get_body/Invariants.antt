@@ -5,7 +5,7 @@ use Rattle.fluent_syntax_parser.specs.Rest.{TileIn}
 use Rattle.fluent_syntax_parser.proofs.entry_forms.MadeEntries.{MadeTo}
 use Rattle.fluent_syntax_parser.proofs.reader.Reader.get_body.Given as goal
 
--- Whatever the rest is, the text has it behind what was read. In a text that is one blank block nothing is read.
+-- Whatever the rest is, the text has it after what was read. In a text that is one blank block nothing is read.
 abbrev pub invariant-loop-errors : goal.invariant-loop-errors
 invariant-loop-errors g l = record {
   within : l.ptr ≤ length l.self.source.bytes.now;

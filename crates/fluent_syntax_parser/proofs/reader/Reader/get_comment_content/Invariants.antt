@@ -2,7 +2,7 @@ use Rattle.std.proofs.Common.{length, ◌-◌, ◌<◌, ◌≤◌}
 use Rattle.fluent_syntax_parser.proofs.entry_forms.CommentEntries.{MadeLines}
 use Rattle.fluent_syntax_parser.proofs.reader.Reader.get_comment_content.Given as goal
 
--- what the lines from here on add, the comment has behind what was added so far
+-- what the lines from here on add, the comment has after what was added so far
 abbrev pub invariant-loop-line : goal.invariant-loop-line
 invariant-loop-line g l = record {
   forward : l.ptr < l.end;

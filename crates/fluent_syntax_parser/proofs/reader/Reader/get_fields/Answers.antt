@@ -38,7 +38,7 @@ returns-in_err-attributes-clause-parses g c =
     fails_next (functional_inline_blank t) (passed c.skip_blank_inline-equals.ensures.blank)
     (fails_next (functional_token t equals_sign) c.in_ok-start.ensures.parses
     (fails_next (functional_pattern edition t _ (functional_within edition t _)) read
-    (fails_next (functional_blank_block t) (passed c.in_ok-value.ensures.behind)
+    (fails_next (functional_blank_block t) (passed c.in_ok-value.ensures.beyond)
     (fails_first c.in_err-attributes.ensures.parses))))))
 
 pub returns-clause-parses : goal.returns-clause-parses
@@ -48,7 +48,7 @@ returns-clause-parses g c =
     (goes_on (passed c.skip_blank_inline-equals.ensures.blank)
     (goes_on c.in_ok-start.ensures.parses
     (goes_on read
-    (goes_on (passed c.in_ok-value.ensures.behind)
+    (goes_on (passed c.in_ok-value.ensures.beyond)
     (goes_on read_rest
     given)))))
     (rw (same, same_rest) refl)))

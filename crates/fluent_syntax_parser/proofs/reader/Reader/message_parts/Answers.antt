@@ -46,16 +46,16 @@ returns-then-is_empty g c =
     let size : length found.attributes.items ≡ vec_len found.attributes = omega (arith, found.attributes.ok.0) in
     let none = no_items found.attributes.items _ size c.if-is_empty.ensures in
     let text = sym (identifier_text t c.in_ok-end.ensures.parses) in
-    let (f, stand) = found.ensures in
+    let (f, parts_hold) = found.ensures in
     refused {f = fault.MessageField} {from = c.args.start} {place = found.place} (λ k from to (a, b, d).
     rw (a ∙ ap ExpectedMessageField text, b, d)
     (goes_on at_place
     (goes_on c.in_ok-end.ensures.parses
     (fields_then edition t R (message_with t c.args.start name) _ _ f _
-    (fields_there edition t R _ _ _ found.value f stand)
+    (fields_there edition t R _ _ _ found.value f parts_hold)
     (message_without t c.args.start _ name f.0 f.1
-    (same_value edition t R _ _ _ found.value f stand ∙ c.if-is_none.ensures)
-    (no_attributes edition t R stand.attributes none))))))
+    (same_value edition t R _ _ _ found.value f parts_hold ∙ c.if-is_none.ensures)
+    (no_attributes edition t R parts_hold.attributes none))))))
 
 pub returns : goal.returns
 returns g c =
@@ -65,21 +65,21 @@ returns g c =
     let name : Span = record { start = c.args.start; end = c.in_ok-end.end } in
     let found = c.in_ok-value in
     let size : length found.attributes.items ≡ vec_len found.attributes = omega (arith, found.attributes.ok.0) in
-    let (f, stand) = found.ensures in (
+    let (f, parts_hold) = found.ensures in (
       _,
       _,
       goes_on at_place
           (goes_on c.in_ok-end.ensures.parses
           (fields_then edition t R (message_with t c.args.start name) _ _ f _
-          (fields_there edition t R _ _ _ found.value f stand)
+          (fields_there edition t R _ _ _ found.value f parts_hold)
           (elim c.else-is_none.branch [
             | else-is_none-via-then-is_none+else-is_empty w ↦
                 message_of_attributes t c.args.start found.place name f.0 f.1
                 (λ none. some_items found.attributes.items _ size w.if-is_empty.ensures
-                (no_attribute_ranges edition t R stand.attributes none))
+                (no_attribute_ranges edition t R parts_hold.attributes none))
             | else-is_none-via-else-is_none w ↦
                 message_of_value t c.args.start found.place name f.0 f.1
-                (same_value edition t R _ _ _ found.value f stand ∙ w.if-is_none.ensures)
+                (same_value edition t R _ _ _ found.value f parts_hold ∙ w.if-is_none.ensures)
           ]))),
-      message_has_parts refl c.in_ok-end.ensures.parses stand,
+      message_has_parts refl c.in_ok-end.ensures.parses parts_hold,
     )

@@ -47,7 +47,7 @@ returns-then-is_none g c =
     let R = within edition t c.args.nesting in
     let name : Span = record { start = c.in_ok-letter.letter; end = c.in_ok-end.end } in
     let found = c.in_ok-value in
-    let (f, stand) = found.ensures in
+    let (f, parts_hold) = found.ensures in
     let text = sym (identifier_text t c.in_ok-end.ensures.parses) in
     let before = mark_before t c.in_ok-letter.ensures.parses in
     refused {f = fault.TermField} {from = c.in_ok-letter.letter} {place = found.place} (λ k from to (a, b, d).
@@ -57,7 +57,7 @@ returns-then-is_none g c =
     (goes_on c.in_ok-end.ensures.parses
     (fields_then edition t R (term_with t c.args.start name) _ _ (None, f.1) _
     (fields_there edition t R _ _ _ found.value (None, f.1)
-    (without_value edition t R _ _ _ found.value f stand c.if-is_none.ensures))
+    (without_value edition t R _ _ _ found.value f parts_hold c.if-is_none.ensures))
     failed_from)))))
 
 pub returns : goal.returns
@@ -67,8 +67,8 @@ returns g c =
     let R = within edition t c.args.nesting in
     let name : Span = record { start = c.in_ok-letter.letter; end = c.in_ok-end.end } in
     let found = c.in_ok-value in
-    let (f, stand) = found.ensures in
-    with_value edition t R _ _ _ found.value f stand c.if-is_none.ensures (λ value parts. (
+    let (f, parts_hold) = found.ensures in
+    with_value edition t R _ _ _ found.value f parts_hold c.if-is_none.ensures (λ value parts. (
       _,
       _,
       goes_on at_place

@@ -2,7 +2,7 @@ use Rattle.std.proofs.Common.{◌<◌, arith, length, refl, sym}
 use Rattle.fluent_syntax_tree.specs.Entry.{message}
 use Rattle.fluent_syntax_grammar.specs.Grammar.{within}
 use Rattle.fluent_syntax_grammar.specs.Tiling.{reads}
-use Rattle.fluent_syntax_parser.proofs.tilings.DeeperTiles.{behind_one, one_led}
+use Rattle.fluent_syntax_parser.proofs.tilings.DeeperTiles.{after_one, one_led}
 use Rattle.fluent_syntax_parser.proofs.entry_forms.EntryForms.{message_at_letter}
 use Rattle.fluent_syntax_parser.proofs.tilings.Rests.{at_any_depth_entry, in_mode, rest_entry}
 use Rattle.fluent_syntax_parser.proofs.source.Source.next_text_message.Goals as goal
@@ -22,7 +22,7 @@ returns-clause-next c =
         order = (start.ensures.within.0, found.within.0);
         kept = start.ensures.dropped;
         before = start.ensures.rest edition;
-        stands = rest_entry edition t _ _ inside c.args.comments start.ensures.dropped _ entry refl;
+        in_place = rest_entry edition t _ _ inside c.args.comments start.ensures.dropped _ entry refl;
       },
     )
 
@@ -37,5 +37,5 @@ returns-clause-nests c = λ n.
     let read = message_at_letter t _ (sym c.if-not-is_letter_at.ensures) edition (within edition t n) _ there.1 in
     let tile = in_mode c.args.comments edition t _ _ _ _ start.ensures.dropped (reads read) in (
       λ deeper. one_led edition t n c.args.comments _ _ inside _ tile (start.ensures.shallow edition n deeper),
-      λ deeper. start.ensures.deeper edition n (behind_one edition t n c.args.comments _ _ inside _ tile deeper),
+      λ deeper. start.ensures.deeper edition n (after_one edition t n c.args.comments _ _ inside _ tile deeper),
     )

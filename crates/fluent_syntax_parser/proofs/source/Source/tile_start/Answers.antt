@@ -1,7 +1,7 @@
 use Rattle.std.proofs.Common.{◌<◌, length, sym, arith}
 use Rattle.fluent_syntax_grammar.proofs.Functional.{single_block}
-use Rattle.fluent_syntax_parser.proofs.tilings.DeeperTiles.{behind_dropped, dropped_led, text_deeper, tile_deeper}
-use Rattle.fluent_syntax_parser.proofs.tilings.Rests.{rest_behind, rest_dropped}
+use Rattle.fluent_syntax_parser.proofs.tilings.DeeperTiles.{after_dropped, dropped_led, text_deeper, tile_deeper}
+use Rattle.fluent_syntax_parser.proofs.tilings.Rests.{rest_after, rest_dropped}
 use Rattle.fluent_syntax_parser.proofs.source.Source.tile_start.Goals as goal
 
 pub loop-comments-init : goal.loop-comments-init
@@ -12,7 +12,7 @@ loop-comments-init c =
       forward = block.forward;
       within = block.within;
       rest = λ edition entries errors rest.
-          rest_behind c.args.comments edition t _ _ entries errors block.blank rest;
+          rest_after c.args.comments edition t _ _ entries errors block.blank rest;
       deeper = λ edition n h. text_deeper edition t n c.args.comments _ _ block.blank h;
       shallow = λ edition n h. tile_deeper edition t n c.args.comments _ _ block.blank h;
       blank = λ all. single_block.same c.args.ptr _ _ block.blank all;
@@ -31,9 +31,9 @@ loop-comments-preserved c =
       rest = λ edition entries errors rest. inv.rest edition entries errors
           (rest_dropped edition t _ _ inside c.args.comments (sym c.loop-comments-test.ensures)
           (sym c.if-is_byte_at.ensures) line.line entries errors
-          (rest_behind c.args.comments edition t _ _ entries errors block.blank rest));
+          (rest_after c.args.comments edition t _ _ entries errors block.blank rest));
       deeper = λ edition n h. inv.deeper edition n
-          (behind_dropped edition t n _ _ inside c.args.comments (sym c.loop-comments-test.ensures)
+          (after_dropped edition t n _ _ inside c.args.comments (sym c.loop-comments-test.ensures)
           (sym c.if-is_byte_at.ensures) line.line (text_deeper edition t n c.args.comments _ _ block.blank h));
       shallow = λ edition n h. tile_deeper edition t n c.args.comments _ _ block.blank
           (dropped_led edition t n _ _ inside c.args.comments (sym c.loop-comments-test.ensures)

@@ -24,20 +24,20 @@ returns-clause-next c =
     sym c.in-Some.is
     ∙ c.only_item.ensures (Some put.entry)
     (put.added ∙ ap (λ xs. xs ++ put.entry ∷ []) c.new-body.ensures.items) in
-    let told =
+    let stated =
     c.only_item-error.ensures put.error
     (put.errors_are ∙ ap (λ xs. xs ++ option_to_list put.error) c.new-errors.ensures.items) in
     record {
       tile = found.tile;
       blank = c.skip_blank_block-start.ensures.blank;
       inside = omega (arith, c.in_ok-end.ensures.within.0, c.in_ok-end.ensures.within.1);
-      stands = at_any_depth c.args.self.now.edition c.args.self.now.source.bytes.now c.args.self.now.nesting _ _
-          found.tile found.stands;
+      in_place = at_any_depth c.args.self.now.edition c.args.self.now.source.bytes.now c.args.self.now.nesting _ _
+          found.tile found.in_place;
       yields = record {
         entry =
             found.entry ∙ ap (λ e. e ∷ []) (sym (made.same ∙ same_entry made.tree))
             ∙ ap (λ e. tree_of e ∷ []) (sym (same_some c.in-Some.entry put.entry same));
-        errors = found.errors ∙ ap faults_of (sym told);
+        errors = found.errors ∙ ap faults_of (sym stated);
       };
       ends = refl;
     }

@@ -11,10 +11,10 @@ returns-in_err-change-2-clause-changes c =
     let before = c.args.self.now.changes.items in
     let changes = renamed (files_of before) c.args.from.now c.args.to.now in
     let made = c.in_ok-change.ensures.changed in
-    let stood : bytes_at before c.args.from.now ≡ Some c.in-Some.bytes.now = search rules in
+    let had_bytes : bytes_at before c.args.from.now ≡ Some c.in-Some.bytes.now = search rules in
     let came : bytes_of made.0.bytes ≡ Some c.in-Some.bytes.now = search rules in
     let first = to_changed _ _ made.0 changes made.3
-    (λ path left is was. inr (is ∙ made.1, (c.in-Some.bytes.now, was ∙ came, inl stood))) in
+    (λ path left is was. inr (is ∙ made.1, (c.in-Some.bytes.now, was ∙ came, inl had_bytes))) in
     subst (λ l. GoesOn (files_of before) (files_of l) changes) (sym c.in_err-change-2.ensures.failed) first
 
 pub returns-clause-changes : goal.returns-clause-changes
@@ -23,9 +23,9 @@ returns-clause-changes c =
     let changes = renamed (files_of before) c.args.from.now c.args.to.now in
     let made = c.in_ok-change.ensures.changed in
     let taken = c.in_ok-change-2.ensures.changed in
-    let stood : bytes_at before c.args.from.now ≡ Some c.in-Some.bytes.now = search rules in
+    let had_bytes : bytes_at before c.args.from.now ≡ Some c.in-Some.bytes.now = search rules in
     let came : bytes_of made.0.bytes ≡ Some c.in-Some.bytes.now = search rules in
     let first = to_changed _ _ made.0 changes made.3
-    (λ path left is was. inr (is ∙ made.1, (c.in-Some.bytes.now, was ∙ came, inl stood))) in
+    (λ path left is was. inr (is ∙ made.1, (c.in-Some.bytes.now, was ∙ came, inl had_bytes))) in
     let second = to_changed _ _ taken.0 (at_path c.args.from.now) taken.3 (λ path left is was. is ∙ taken.1) in
     then _ _ _ changes (at_path c.args.from.now) changes first second (λ p left is. is) (λ p left same. inl same)

@@ -14,13 +14,13 @@ invariant_of-result-in-Ok-Err-Syntax c =
     let h = syntax.ensures.tiling in
     let answer =
     subst (λ r. Answers (λ (s : Span). s) (λ (b : BodyTree Span). b) h.0 r) syntax.field-0-is h.2 in
-    let told =
+    let stated =
     subst (λ (f : ParseFault Span). Answers (λ (s : Span). s) (λ (b : BodyTree Span). b) h.0 (Err f))
     syntax.field-0-0-is answer in
     let same = c.as_str-in-Ok-Err-Syntax.ensures.value ∙ sym c.as_str.ensures.value in
     let shows = c.in_ok-diagnostics-in-Ok-Err-Syntax.ensures
     ∙ ap (λ (t : List ℕ). map (diagnostic_of t) syntax.errors.items) same
-    ∙ made_of_faults (fault_shown c.as_str.result.now) syntax.errors.items (faults h.0) told.1 in
+    ∙ made_of_faults (fault_shown c.as_str.result.now) syntax.errors.items (faults h.0) stated.1 in
     record {
       diagnosed =
           ∣ subst (λ (t : List ℕ). DiagnosesText t (map shown c.in_ok-diagnostics-in-Ok-Err-Syntax.diagnostics.items))

@@ -1,6 +1,6 @@
 use Rattle.std.proofs.Common.{◌≡◌, false, rules, string_bytes, subst, true}
 use Rattle.std.proofs.lemmas.Result.{IfOk-weaker}
-use Rattle.ftl_project.proofs.Comparisons.{alone, beside, of_text}
+use Rattle.ftl_project.proofs.Comparisons.{alone, with_other, of_text}
 use Rattle.ftl_project.specs.Faults.{IsRead}
 use Rattle.ftl_project.proofs.comparing.Comparing.compare_pair.Goals as goal
 
@@ -30,11 +30,11 @@ returns-clause-compared g c =
     let read = of_text at c.as_str.result.now (string_bytes pair.reference) text
     (string_bytes c.in_ok-reference.reference) c.as_str.ensures.value c.as_str-3.ensures.value
     c.in_ok-reference.ensures.text in
-    let stands = subst (λ bytes. IsRead bytes (string_bytes c.in_ok-other.other))
-    (c.side_text.ensures.stand c.as_str-2.result.now) c.in_ok-other.ensures.text in
+    let in_place = subst (λ bytes. IsRead bytes (string_bytes c.in_ok-other.other))
+    (c.side_text.ensures.untouched c.as_str-2.result.now) c.in_ok-other.ensures.text in
     let other = of_text at c.as_str-2.result.now (string_bytes pair.other) more
-    (string_bytes c.in_ok-other.other) c.as_str-2.ensures.value c.as_str-4.ensures.value stands in
-    IfOk-weaker c.comparison_of_texts.result _ _ (λ compared that. beside g.S.Store.fails self.reading self.options
+    (string_bytes c.in_ok-other.other) c.as_str-2.ensures.value c.as_str-4.ensures.value in_place in
+    IfOk-weaker c.comparison_of_texts.result _ _ (λ compared that. with_other g.S.Store.fails self.reading self.options
     at pair text more
     compared.errors compared.share (string_bytes compared.report_text) there read other that)
     c.comparison_of_texts.ensures.compared

@@ -14,7 +14,7 @@ returns-clause-compared c =
       c.in_ok-reference.reference,
       c.in_ok-reference.ensures.name_index,
       record {
-        report_is = subst (λ told. IsFileReport self.options.form c.args.pair.now told report_text)
+        report_is = subst (λ stated. IsFileReport self.options.form c.args.pair.now stated report_text)
             c.is_reported-is_reported.ensures c.in_ok-report_text.ensures;
         errors_are = rw (c.from.ensures, c.is_reported-is_reported.ensures) (one_if _);
         share_is = rw c.entry_count-wanted.ensures refl;

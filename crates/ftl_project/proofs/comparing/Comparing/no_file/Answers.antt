@@ -9,11 +9,11 @@ returns c =
     let form = c.args.self.now.options.form in
     let pair = c.args.pair.now in
     let words = codes "there is no such file; the reference has " ++ string_bytes pair.reference in
-    let told : c.args.is_reported ≡ true = search (rules, c.if-not-is_reported.false) in
+    let stated : c.args.is_reported ≡ true = search (rules, c.if-not-is_reported.false) in
     let report = report_as c.diagnostic_text.result form c.as_str.result.now
     (string_bytes pair.other) None
     (codes "missing-file") (codes "missing-file") (string_bytes c.in_ok-message.message) words c.as_str.ensures.value
     refl
     (simp (c.in_ok-message.ensures.ok, c.as_str-reference.ensures.value)) c.diagnostic_text.ensures in
     IfOk-weaker c.diagnostic_text.result _ _
-    (λ text that. subst (λ b. IsFileReport form pair b (string_bytes text)) (sym told) that) report
+    (λ text that. subst (λ b. IsFileReport form pair b (string_bytes text)) (sym stated) that) report

@@ -29,7 +29,7 @@ returns-in-Open-clause-sound c =
     (ap (λ (v : Vec ℕ Global). v.items) (sym e.stack)) (sym e.starts)
     (ap (λ (v : Vec Pending Global). v.items) (sym e.pending)) (sym e.done)
     (merged g s.states.items s.stack.items s.starts.items s.pending.items s.done c.requires.sound c.args.from j
-    c.requires.from placed.0 c.requires.before leads m (omega (arith, e.fewer)) (λ k a b. e.behind k a (omega arith)))
+    c.requires.from placed.0 c.requires.before leads m (omega (arith, e.fewer)) (λ k a b. e.beyond k a (omega arith)))
 
 pub returns-in-Open-clause-seen : goal.returns-in-Open-clause-seen
 returns-in-Open-clause-seen c =
@@ -49,7 +49,7 @@ returns-in-Open-clause-seen c =
     ap (λ (v : Vec State Global). State_of v.items c.args.target) e.states ∙ known in
     let back =
     back_to_target g s.states.items s.stack.items s.starts.items s.pending.items s.done c.requires.sound c.args.from j
-    c.requires.from placed.0 c.requires.before leads m (omega (arith, e.fewer)) (λ k a b. e.behind k a (omega arith))
+    c.requires.from placed.0 c.requires.before leads m (omega (arith, e.fewer)) (λ k a b. e.beyond k a (omega arith))
     e.before in
     λ k. at_open j still (subst (λ (x : List ℕ). SameOrLaterSegment x c.args.from j) (sym e.starts) back)
 

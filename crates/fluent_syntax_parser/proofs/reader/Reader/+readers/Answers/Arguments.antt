@@ -114,7 +114,7 @@ get_arguments-add_positional-requires g m c =
 
 pub get_arguments-returns-then-place-self-clause-parses : goal.get_arguments-returns-then-place-self-clause-parses
 get_arguments-returns-then-place-self-clause-parses g m c =
-    item_fails c.loop-noted.invariant.gathered.behind (refused (λ k from to (a, b, d). rw (a, b, d)
+    item_fails c.loop-noted.invariant.gathered.beyond (refused (λ k from to (a, b, d). rw (a, b, d)
     (list_open c.args.self.now.source.bytes.now _ _ _ (omega (arith, c.if-place-self.true)))))
 
 pub get_arguments-returns-in_err-next-clause-parses :
@@ -123,7 +123,7 @@ get_arguments-returns-in_err-next-clause-parses g m c =
     let t = c.args.self.now.source.bytes.now in
     let p = err_from_is_err_and c.from_residual.result c.from_residual.ensures.1 in
     rw (p.1, p.2)
-    (item_fails c.loop-noted.invariant.gathered.behind
+    (item_fails c.loop-noted.invariant.gathered.beyond
     (inline_fails t _ _ _ (omega (arith, c.if-place-self.false, c.loop-noted.invariant.within))
     (sym c.loop-noted-test.ensures) c.in_err-next.ensures.parses))
 
@@ -138,7 +138,7 @@ get_arguments-returns-then-not-is_new-clause-parses g m c =
     let is = sym (c.in-Some.ensures c.args.nesting _ e read there) in
     let text = sym (argument_text t _ _ e _ read c.in-Some.name is) in
     let next = c.in_ok-next.next in
-    item_fails c.loop-noted.invariant.gathered.behind
+    item_fails c.loop-noted.invariant.gathered.beyond
     (refused {f = fault.Duplicated} {from = c.loop-noted.place} {place = next} (λ k from to (a, b, d).
     rw (a ∙ ap DuplicatedNamedArgument text, b, d)
     (named t _ (names_in t names) _
@@ -162,7 +162,7 @@ get_arguments-returns-in_err-end-in-Some-clause-parses g m c =
     let p = err_from_is_err_and c.from_residual-in_err-end-in-Some.result
     c.from_residual-in_err-end-in-Some.ensures.1 in
     rw (p.1, p.2)
-    (item_fails c.loop-noted.invariant.gathered.behind
+    (item_fails c.loop-noted.invariant.gathered.beyond
     (named_fails t _ (names_in t names) _
     (omega (arith, c.if-place-self.false, c.loop-noted.invariant.within)) (sym c.loop-noted-test.ensures) e _
     read (functional_within c.args.self.now.edition t _) c.in-Some.name
@@ -228,7 +228,7 @@ get_arguments-returns-then-not-is_empty-clause-parses g m c =
       | get_arguments-in_default-via-in-Some+else-is_byte_at w ↦ inr (sym w.if-is_byte_at.ensures)
       | get_arguments-in_default-via-in_default w ↦ inl (sym (w.in_default.ensures c.args.nesting _ e read there))
     ] in
-    item_fails old.invariant.gathered.behind (refused (λ k from to (a, b, d). rw (a, b, d)
+    item_fails old.invariant.gathered.beyond (refused (λ k from to (a, b, d). rw (a, b, d)
     (positional t _ (names_in t old.noted.names.items) old.place
     (omega (arith, c.if-place-self.false, old.invariant.within)) (sym c.loop-noted-test.ensures) e _
     read is _

@@ -84,7 +84,7 @@ add_opening-loop-elements-preserved g m c =
       unended = old.unended;
       gathered =
           opening_placed t R f g.M.MakeTexts.made _
-          (functional_next_piece t R (functional_within c.args.self.now.edition t _)) _ _ run _ old.gathered.behind
+          (functional_next_piece t R (functional_within c.args.self.now.edition t _)) _ _ run _ old.gathered.beyond
           old.gathered.settled _ _ x _ old.gathered.same c.in_ok-add_text_run-in-Some-eq123.ensures pushed e seen _
           (placed_piece t R _ _ found (rw found refl) refl _ (goes_on there given));
     }
@@ -100,7 +100,7 @@ add_opening-returns-in-Some-eq125-clause-opens g m c =
     (fails_next functional_here at_place
     (fails_first (opening_fails t R f g.M.MakeTexts.made _
     (functional_next_piece t R (functional_within c.args.self.now.edition t _)) _ _ c.run_end-to.ensures.run _
-    old.gathered.behind (refused (λ k from to (a, b, d). rw (a, b, d)
+    old.gathered.beyond (refused (λ k from to (a, b, d). rw (a, b, d)
     (bare_brace t R _ _ found (rw found refl) refl))))))
 
 pub add_opening-returns-in_err-place-in-Some-eq123-clause-opens :
@@ -118,7 +118,7 @@ add_opening-returns-in_err-place-in-Some-eq123-clause-opens g m c =
     (fails_next functional_here at_place
     (fails_first (opening_fails t R f g.M.MakeTexts.made _
     (functional_next_piece t R (functional_within c.args.self.now.edition t _)) _ _ c.run_end-to.ensures.run _
-    old.gathered.behind
+    old.gathered.beyond
     (placed_fails t R _ _ found (rw found refl) refl (fails_first c.in_err-place-in-Some-eq123.ensures.parses))))))
 
 pub add_opening-returns-in_err-add_text_run-in-Some-eq123-clause-opens :
@@ -145,7 +145,7 @@ add_opening-returns-in_default-byte_at-clause-opens g m c =
           let none = sym c.byte_at.ensures ∙ w.in_default-byte_at.is in (no_byte_there none, no_byte_there none)
     ] in
     let there = opening_read t R f g.M.MakeTexts.made _ (functional_next_piece t R functional) _ _ run _
-    old.gathered.behind (line_ends t R _ _ run apart.0 apart.1) in
+    old.gathered.beyond (line_ends t R _ _ run apart.0 apart.1) in
     record {
       opening =
           Some (record {
@@ -254,7 +254,7 @@ gather_pieces-returns-then-is_eol_at-clause-parses g m c =
 
 pub gather_pieces-returns-then-byte-eq125-clause-parses : goal.gather_pieces-returns-then-byte-eq125-clause-parses
 gather_pieces-returns-then-byte-eq125-clause-parses g m c =
-    item_fails c.loop-elements.invariant.gathered.behind (refused (λ k from to (a, b, d). rw (a, b, d)
+    item_fails c.loop-elements.invariant.gathered.beyond (refused (λ k from to (a, b, d). rw (a, b, d)
     (bare_brace c.args.self.now.source.bytes.now (within c.args.self.now.edition c.args.self.now.source.bytes.now
     c.args.nesting) _ _
     (sym c.in-Some.ensures) (sym c.if-is_eol_at.ensures)
@@ -265,7 +265,7 @@ pub gather_pieces-returns-in_err-place-in-Some-clause-parses :
 gather_pieces-returns-in_err-place-in-Some-clause-parses g m c =
     let p = err_from_is_err_and c.from_residual.result c.from_residual.ensures.1 in
     rw (p.1, p.2)
-    (item_fails c.loop-elements.invariant.gathered.behind
+    (item_fails c.loop-elements.invariant.gathered.beyond
     (placed_fails c.args.self.now.source.bytes.now (within c.args.self.now.edition c.args.self.now.source.bytes.now
     c.args.nesting) _ _
     (sym c.in-Some.ensures) (sym c.if-is_eol_at.ensures)
@@ -381,12 +381,12 @@ gather_lines-returns-in-None-clause-parses g m c =
     all_made (line_view g.M.MakeTexts.made) _ c.loop-byte.invariant.gathered
     (no_byte c.skip_blank_inline-first.ensures.blank (sym c.in-None.ensures))
 
-pub gather_lines-returns-in-None-clause-behind : goal.gather_lines-returns-in-None-clause-behind
-gather_lines-returns-in-None-clause-behind g m c =
+pub gather_lines-returns-in-None-clause-beyond : goal.gather_lines-returns-in-None-clause-beyond
+gather_lines-returns-in-None-clause-beyond g m c =
     none_at_end c.args.self.now.source.bytes.now c.skip_blank_inline-first.ensures.blank (sym c.in-None.ensures)
 
-pub gather_lines-returns-then-not-belongs-clause-behind : goal.gather_lines-returns-then-not-belongs-clause-behind
-gather_lines-returns-then-not-belongs-clause-behind g m c =
+pub gather_lines-returns-then-not-belongs-clause-beyond : goal.gather_lines-returns-then-not-belongs-clause-beyond
+gather_lines-returns-then-not-belongs-clause-beyond g m c =
     none_before_other c.args.self.now.source.bytes.now c.skip_blank_inline-first.ensures.blank _
     (sym c.if-not-belongs.ensures)
 
@@ -401,7 +401,7 @@ gather_lines-returns-in_err-start-in-Some-clause-parses g m c =
     let t = c.args.self.now.source.bytes.now in
     let p = err_from_is_err_and c.from_residual.result c.from_residual.ensures.1 in
     rw (p.1, p.2)
-    (item_fails c.loop-byte.invariant.gathered.behind
+    (item_fails c.loop-byte.invariant.gathered.beyond
     (own_line_fails t (within c.args.self.now.edition t c.args.nesting) c.skip_blank_inline-first.ensures.blank
     (sym c.in-Some.ensures) (sym c.if-not-belongs.ensures) (fails_first c.in_err-start-in-Some.ensures.adds.0)))
 

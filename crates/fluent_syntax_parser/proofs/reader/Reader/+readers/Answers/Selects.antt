@@ -65,7 +65,7 @@ end_select-returns-clause-parses g m c = λ old e added.
 
 pub gather_variants-returns-then-star-clause-parses : goal.gather_variants-returns-then-star-clause-parses
 gather_variants-returns-then-star-clause-parses g m c =
-    item_fails c.loop-starred.invariant.gathered.behind (refused (λ k from to (a, b, d). rw (a, b, d)
+    item_fails c.loop-starred.invariant.gathered.beyond (refused (λ k from to (a, b, d). rw (a, b, d)
     (goes_on c.take_byte_if-star.ensures.parses
     (stops
     (first (both c.if-starred.true c.if-star.true)
@@ -83,7 +83,7 @@ gather_variants-returns-then-has_default-clause-parses g m c =
 
 pub gather_variants-returns-then-not-bracket-clause-parses : goal.gather_variants-returns-then-not-bracket-clause-parses
 gather_variants-returns-then-not-bracket-clause-parses g m c =
-    item_fails c.loop-starred.invariant.gathered.behind (refused (λ k from to (a, b, d). rw (a, b, d)
+    item_fails c.loop-starred.invariant.gathered.beyond (refused (λ k from to (a, b, d). rw (a, b, d)
     (goes_on c.take_byte_if-star.ensures.parses
     (goes_on (second (one_false _ _ c.else-starred.either) given)
     (goes_on c.take_byte_if-bracket.ensures.parses
@@ -94,7 +94,7 @@ gather_variants-returns-then-not-bracket-clause-parses g m c =
 pub gather_variants-returns-in_err-key-clause-parses : goal.gather_variants-returns-in_err-key-clause-parses
 gather_variants-returns-in_err-key-clause-parses g m c =
     let p = err_from_is_err_and c.from_residual.result c.from_residual.ensures.1 in
-    rw (p.1, p.2) (item_fails c.loop-starred.invariant.gathered.behind (refused (λ k from to h.
+    rw (p.1, p.2) (item_fails c.loop-starred.invariant.gathered.beyond (refused (λ k from to h.
     (goes_on c.take_byte_if-star.ensures.parses
     (goes_on (second (one_false _ _ c.else-starred.either) given)
     (goes_on c.take_byte_if-bracket.ensures.parses
@@ -105,7 +105,7 @@ gather_variants-returns-in_err-key-clause-parses g m c =
 pub gather_variants-returns-in_err-next-clause-parses : goal.gather_variants-returns-in_err-next-clause-parses
 gather_variants-returns-in_err-next-clause-parses g m c =
     let p = err_from_is_err_and c.from_residual-in_err-next.result c.from_residual-in_err-next.ensures.1 in
-    rw (p.1, p.2) (item_fails c.loop-starred.invariant.gathered.behind (refused (λ k from to h.
+    rw (p.1, p.2) (item_fails c.loop-starred.invariant.gathered.beyond (refused (λ k from to h.
     (goes_on c.take_byte_if-star.ensures.parses
     (goes_on (second (one_false _ _ c.else-starred.either) given)
     (goes_on c.take_byte_if-bracket.ensures.parses
@@ -121,7 +121,7 @@ gather_variants-returns-in_err-value-clause-parses g m c =
     let t = c.args.self.now.source.bytes.now in
     let p = err_from_is_err_and c.from_residual-in_err-value.result c.from_residual-in_err-value.ensures.1 in
     rw (p.1, p.2)
-    (item_fails c.loop-starred.invariant.gathered.behind
+    (item_fails c.loop-starred.invariant.gathered.beyond
     (fails_next (functional_optional t asterisk) c.take_byte_if-star.ensures.parses
     (fails_next (functional_star c.loop-starred.starred c.take_byte_if-star.result.0)
     (second (one_false _ _ c.else-starred.either) given)
@@ -140,7 +140,7 @@ gather_variants-returns-in_default-clause-parses g m c =
     let value_read = pattern c.args.self.now.edition t (within c.args.self.now.edition t c.args.nesting) in
     on_made found (λ o read same.
     let none = no_value_read (pattern_map (g.M.MakeTexts.source c.args.self.now.texts.now)) value_read o read same in
-    item_fails c.loop-starred.invariant.gathered.behind (refused (λ k from to (a, b, d). rw (a, b, d)
+    item_fails c.loop-starred.invariant.gathered.beyond (refused (λ k from to (a, b, d). rw (a, b, d)
     (goes_on c.take_byte_if-star.ensures.parses
     (goes_on (second (one_false _ _ c.else-starred.either) given)
     (goes_on c.take_byte_if-bracket.ensures.parses

@@ -1,30 +1,30 @@
-//! The brace or the parenthesis that an error found open.
+//! The brace, the parenthesis or the bracket that an error found open.
 
 use fluent_syntax::parser::{ErrorKind, ParserError};
 
-/// A brace or a parenthesis that is not closed.
-#[derive(Clone, Copy)]
-pub(crate) struct OpenBracket {
+/// A brace, a parenthesis or a bracket that is not closed.
+#[derive(Clone, Copy, Debug)]
+pub struct OpenBracket {
     /// Its byte of the text, counted from 0.
-    pub(crate) place: usize,
+    pub place: usize,
     /// What it is called.
-    pub(crate) name: &'static str,
+    pub name: &'static str,
 }
 
-/// The bracket that was opened last before the place of the error and is not closed there, if its closing one is to be
-/// there. Brackets in strings count too: it is shown beside the error, and no clause rests on it.
-pub(crate) fn open_bracket(text: &str, error: &ParserError) -> Option<OpenBracket> {
-    let junk = error.slice.as_ref()?;
-    let before = text.get(junk.start..error.pos.start)?;
+/// The bracket that was opened last from the start on, before the place of the error, and is not closed there, if its
+/// closing one is to be there. Brackets in strings count too: it is shown with the error, and no clause rests on it.
+pub(crate) fn open_bracket(text: &str, start: usize, error: &ParserError) -> Option<OpenBracket> {
+    let before = text.get(start..error.pos.start)?;
     let (at, name) = match &error.kind {
         ErrorKind::ExpectedToken('}') => (open_brace(before)?, "brace"),
         ErrorKind::ExpectedToken(')') => (open_parenthesis(before)?, "parenthesis"),
+        ErrorKind::ExpectedToken(']') => (before.rfind('[')?, "bracket"),
         ErrorKind::ExpectedInlineExpression if begins_no_argument(text, error.pos.start) => {
             (open_parenthesis(before)?, "parenthesis")
         }
         _ => return None,
     };
-    let place = junk.start.saturating_add(at);
+    let place = start.saturating_add(at);
     Some(OpenBracket { place, name })
 }
 
@@ -46,7 +46,7 @@ fn open_brace(before: &str) -> Option<usize> {
     None
 }
 
-/// None where a brace was opened behind the parenthesis.
+/// None where a brace was opened after the parenthesis.
 fn open_parenthesis(before: &str) -> Option<usize> {
     let brace = open_brace(before).unwrap_or(0);
     let inside = before.get(brace..)?;

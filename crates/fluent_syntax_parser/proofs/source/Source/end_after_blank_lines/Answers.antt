@@ -2,7 +2,7 @@ use Rattle.std.proofs.Common.{sym}
 use Rattle.fluent_syntax_grammar.specs.Construct.{list_ends}
 use Rattle.fluent_syntax_grammar.specs.Lines.{no_byte, other_line}
 use Rattle.fluent_syntax_parser.proofs.patterns.BlankLines.{none_at_end, none_before_other}
-use Rattle.fluent_syntax_parser.proofs.source.Source.end_behind_blank_lines.Goals as goal
+use Rattle.fluent_syntax_parser.proofs.source.Source.end_after_blank_lines.Goals as goal
 
 pub returns-in-None-clause-lines : goal.returns-in-None-clause-lines
 returns-in-None-clause-lines c = record {
@@ -11,8 +11,8 @@ returns-in-None-clause-lines c = record {
   none = λ n. list_ends (no_byte c.past_blank_lines-line.ensures.spaces (sym c.in-None.ensures));
 }
 
-pub returns-in-None-clause-behind : goal.returns-in-None-clause-behind
-returns-in-None-clause-behind c =
+pub returns-in-None-clause-beyond : goal.returns-in-None-clause-beyond
+returns-in-None-clause-beyond c =
     none_at_end c.args.self.now.bytes.now c.past_blank_lines-line.ensures.spaces (sym c.in-None.ensures)
 
 pub returns-else-belongs-clause-lines : goal.returns-else-belongs-clause-lines
@@ -23,6 +23,6 @@ returns-else-belongs-clause-lines c = record {
       (sym c.if-belongs.ensures));
 }
 
-pub returns-else-belongs-clause-behind : goal.returns-else-belongs-clause-behind
-returns-else-belongs-clause-behind c =
+pub returns-else-belongs-clause-beyond : goal.returns-else-belongs-clause-beyond
+returns-else-belongs-clause-beyond c =
     none_before_other c.args.self.now.bytes.now c.past_blank_lines-line.ensures.spaces _ (sym c.if-belongs.ensures)

@@ -1,7 +1,7 @@
 use Rattle.std.proofs.Common.{◌≡◌, ap, arith}
 use Rattle.ftl_lsp.specs.Positions.{line_at, character_at}
 use Rattle.ftl_lsp.proofs.PositionLemmas.{line_at-le, character_at-le, units-le}
-use Rattle.ftl_lsp.proofs.positions.position_behind.Goals as goal
+use Rattle.ftl_lsp.proofs.positions.next_position.Goals as goal
 
 pub overflow_add-result : goal.overflow_add-result
 overflow_add-result c =

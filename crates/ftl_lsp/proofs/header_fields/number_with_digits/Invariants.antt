@@ -1,6 +1,6 @@
 use Rattle.std.proofs.Common.{◌≡◌, ◌≤◌, length}
 use Rattle.ftl_lsp.specs.Fields.{digits_after}
-use Rattle.ftl_lsp.proofs.header_fields.digits_behind.Given as goal
+use Rattle.ftl_lsp.proofs.header_fields.number_with_digits.Given as goal
 
 abbrev pub invariant-loop-first : goal.invariant-loop-first
 invariant-loop-first l = record {
