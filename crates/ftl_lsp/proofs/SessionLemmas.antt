@@ -108,18 +108,20 @@ unpublished old mid uri same none =
     subst at same (subst (λ (o : Option OpenText). IsSent (published uri o) None) none sends_none)
 
 pub is_published : (old mid : Session) (uri : List ℕ) (found : OpenText) (value : Data) (list : List Data) →
-    mid ≡ old → Some found ≡ mid.texts uri → value ≡ diagnostics_form uri list → PublishesDiagnostics found.text list →
-    IsSent (published uri (old.texts uri)) (Some value)
+    mid ≡ old → Some found ≡ mid.texts uri → value ≡ diagnostics_form uri list →
+    PublishesDiagnostics uri found.text list → IsSent (published uri (old.texts uri)) (Some value)
 is_published old mid uri found value list same open' is publishes_all =
     let at : Session → Type 0 = λ s. IsSent (published uri (s.texts uri)) (Some value) in
     let sent = sent_as (diagnosed uri found.text) value _ is (sends_diagnostics uri found.text list publishes_all) in
     subst at same (subst (λ (o : Option OpenText). IsSent (published uri o) (Some value)) open' sent)
 
 -- what is reported of a document: its errors, and then what is reported with them
-pub publishes_document : (t : List ℕ) (errors : List Diagnostic) (values others all : List Value) →
-    ∥ DiagnosesText t (map shown errors) ∥₁ → map view values ≡ map error_form errors →
-    All IsLintDiagnostic (map view others) → all ≡ values ++ others → PublishesDiagnostics t (map view all)
-publishes_document t errors values others all diagnoses stated lint_diagnostics is = record {
+pub publishes_document : (uri t : List ℕ) (takes_related : Bool) (errors : List Diagnostic)
+    (values others all : List Value) → ∥ DiagnosesText t (map shown errors) ∥₁ →
+    map view values ≡ map (error_form uri takes_related) errors →
+    All IsLintDiagnostic (map view others) → all ≡ values ++ others → PublishesDiagnostics uri t (map view all)
+publishes_document uri t takes_related errors values others all diagnoses stated lint_diagnostics is = record {
+  takes_related = takes_related;
   errors = errors;
   diagnoses = diagnoses;
   others = map view others;

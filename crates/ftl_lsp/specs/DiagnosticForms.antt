@@ -1,6 +1,10 @@
 -- What is reported of a document, as JSON values.
-use Rattle.std.specs.Prelude.{◌≡◌, ℕ, List, ◌++◌, map, codes, string_bytes, All}
-use Rattle.serde_json.specs.Data.{Data, number, unsigned, string, object, member, no_members}
+use Rattle.std.specs.Prelude.{◌≡◌, ℕ, List, [], ◌∷◌, ◌++◌, map, codes, string_bytes, All}
+use Rattle.std.specs.Prelude.{Bool, true, false, Option, Some, None}
+use Rattle.std.specs.Global.{Global}
+use Rattle.std.specs.declared.string.String.{String}
+use Rattle.serde_json.specs.Data.{Data, number, unsigned, string, array, object, member, no_members}
+use Rattle.serde_json.specs.View.{items_of}
 use Rattle.fluent_syntax_names.specs.Differences.{difference_name, difference_severity}
 use Rattle.fluent_syntax_names.specs.Severities as finding
 use Rattle.fluent_syntax_names.specs.declared.finding.Severity.{Severity}
@@ -8,6 +12,7 @@ use Rattle.fluent_syntax_names.specs.declared.finding.Severity.TheVariants.{Erro
 use Rattle.ftl_lsp.specs.Diagnostics.{DiagnosesText, shown}
 use Rattle.ftl_lsp.specs.Locations.{range_form}
 use Rattle.ftl_lsp.specs.declared.diagnostics.Diagnostic.{Diagnostic}
+use Rattle.ftl_lsp.specs.declared.diagnostics.RelatedNote.{RelatedNote}
 use Rattle.ftl_lsp.specs.declared.positions.PositionRange.{PositionRange}
 use Rattle.ftl_lsp.specs.declared.diagnostic_forms.LintDiagnosticKind.{LintDiagnosticKind}
 use Rattle.ftl_lsp.specs.declared.diagnostic_forms.LintDiagnosticKind.TheVariants.{Difference, Finding}
@@ -23,9 +28,49 @@ diagnostic_form range severity code message =
     (member (codes "severity") (number (unsigned (severity_number severity)))
     (member (codes "source") (string (codes "ftl")) no_members)))))
 
--- of an error
-abbrev pub error_form : Diagnostic → Data
-error_form d = diagnostic_form (record { start = d.start; end = d.end }) Error d.code.now (string_bytes d.message)
+-- the same with other places
+abbrev pub diagnostic_with_related : PositionRange → Severity → (code message : List ℕ) → (positions : Data) → Data
+diagnostic_with_related range severity code message positions =
+    object (member (codes "code") (string code) (member (codes "message") (string message)
+    (member (codes "range") (range_form range.start range.end) (member (codes "relatedInformation") positions
+    (member (codes "severity") (number (unsigned (severity_number severity)))
+    (member (codes "source") (string (codes "ftl")) no_members))))))
+
+-- another place in the document with the name, and what is said of it
+abbrev pub related_form : (uri : List ℕ) → PositionRange → (message : List ℕ) → Data
+related_form uri range message =
+    object (member (codes "location")
+    (object (member (codes "range") (range_form range.start range.end) (member (codes "uri") (string uri) no_members)))
+    (member (codes "message") (string message) no_members))
+
+-- ---- of errors
+
+abbrev pub note_form : (uri : List ℕ) → RelatedNote → Data
+note_form uri note = related_form uri note.range (string_bytes note.message)
+
+-- with the other places, if there are some
+abbrev pub error_with : PositionRange → (code message : List ℕ) → (places : List Data) → Data
+error_with range code message [] = diagnostic_form range Error code message
+error_with range code message (place ∷ places) =
+    diagnostic_with_related range Error code message (array (items_of (place ∷ places)))
+
+-- a sentence on a line of its own
+abbrev pub further_line : Option (String Global) → List ℕ
+further_line None = []
+further_line (Some sentence) = codes "\n" ++ string_bytes sentence
+
+-- for an editor that takes no other places
+abbrev pub error_alone : PositionRange → Diagnostic → Data
+error_alone range d = diagnostic_form range Error d.code.now (string_bytes d.message ++ further_line d.bracket)
+
+abbrev pub range_of : Diagnostic → PositionRange
+range_of d = record { start = d.start; end = d.end }
+
+-- of an error of the document with the name, for an editor that takes other places or not
+abbrev pub error_form : (uri : List ℕ) → (takes_related : Bool) → Diagnostic → Data
+error_form uri true d =
+    error_with (range_of d) d.code.now (string_bytes d.message) (map (note_form uri) d.related.items)
+error_form uri false d = error_alone (range_of d) d
 
 -- ---- besides the errors
 
@@ -38,14 +83,6 @@ abbrev pub code_of : LintDiagnosticKind → List ℕ
 code_of (Finding kind) = finding.name_of kind
 code_of (Difference difference) = difference_name difference
 
--- a diagnostic with other places
-abbrev pub diagnostic_with_related : PositionRange → Severity → (code message : List ℕ) → (positions : Data) → Data
-diagnostic_with_related range severity code message positions =
-    object (member (codes "code") (string code) (member (codes "message") (string message)
-    (member (codes "range") (range_form range.start range.end) (member (codes "relatedInformation") positions
-    (member (codes "severity") (number (unsigned (severity_number severity)))
-    (member (codes "source") (string (codes "ftl")) no_members))))))
-
 -- The diagnostic of a finding, or of a difference from the original.
 pub data IsLintDiagnostic : Data → Type 0 where
   alone : (range : PositionRange) (kind : LintDiagnosticKind) (message : List ℕ) →
@@ -53,10 +90,12 @@ pub data IsLintDiagnostic : Data → Type 0 where
   with_related : (range : PositionRange) (kind : LintDiagnosticKind) (message : List ℕ) (positions : Data) →
       IsLintDiagnostic (diagnostic_with_related range (severity_of kind) (code_of kind) message positions)
 
--- The list has a diagnostic for each error of the text, in order, and after them those of findings and differences.
-pub record PublishesDiagnostics (t : List ℕ) (list : List Data) : Type 0 where
+-- The list has a diagnostic for each error of the text, in order, and after them those of findings and differences. The
+-- other places of errors are in the document with the name.
+pub record PublishesDiagnostics (uri t : List ℕ) (list : List Data) : Type 0 where
+  pub takes_related : Bool
   pub errors : List Diagnostic
   pub diagnoses : ∥ DiagnosesText t (map shown errors) ∥₁
   pub others : List Data
   pub lint_diagnostics : All IsLintDiagnostic others
-  pub publishes_each : list ≡ map error_form errors ++ others
+  pub publishes_each : list ≡ map (error_form uri takes_related) errors ++ others

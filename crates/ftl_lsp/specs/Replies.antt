@@ -68,7 +68,7 @@ pub data IsSent : Reply → Option Data → Type 0 where
   sends_none : IsSent silence None
   sends_answer : (id result : Data) → IsSent (answered id result) (Some (answer_form id result))
   sends_refusal : (id : Data) (code : ErrorCode) → IsSent (refused id code) (Some (refusal_form id code))
-  sends_diagnostics : (uri text : List ℕ) (list : List Data) → PublishesDiagnostics text list →
+  sends_diagnostics : (uri text : List ℕ) (list : List Data) → PublishesDiagnostics uri text list →
       IsSent (diagnosed uri text) (Some (diagnostics_form uri list))
   sends_withdrawal : (uri : List ℕ) → IsSent (withdrawn uri) (Some (diagnostics_form uri []))
   sends_watch : (params : Data) → IsSent watch (Some (register_form params))

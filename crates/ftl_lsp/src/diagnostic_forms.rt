@@ -2,10 +2,10 @@
 ghost use Rattle.std.specs.Prelude.{◌≡◌, map, All, IfOk};
 ghost use Rattle.serde_json.specs.View.{view};
 ghost use Rattle.ftl_lsp.specs.DiagnosticForms.{IsLintDiagnostic, code_of, diagnostic_form, diagnostic_with_related};
-ghost use Rattle.ftl_lsp.specs.DiagnosticForms.{error_form};
+ghost use Rattle.ftl_lsp.specs.DiagnosticForms.{error_alone, error_form, note_form, related_form};
 ghost use Rattle.ftl_lsp.specs.DiagnosticForms.{severity_number, severity_of};
 
-use crate::diagnostics::Diagnostic;
+use crate::diagnostics::{Diagnostic, RelatedNote};
 use crate::positions::PositionRange;
 use crate::replies::range_form;
 use fluent_syntax_names::{Difference, Kind, Severity};
@@ -64,34 +64,86 @@ impl LintDiagnosticKind {
 pub struct Related<'u> {
     pub uri: &'u str,
     pub range: PositionRange,
-    pub message: &'static str,
+    pub message: &'u str,
 }
 
-/// The diagnostics of errors, in order. `AllocError` where a growth was refused.
-pub fn error_list(alloc: Global, errors: &[Diagnostic]) -> Result<Vec<Value>, AllocError>
-    ensures { IfOk result (λ list. map view list.items ≡ map error_form errors.now) }
+/// The diagnostics of errors of the document, in order: each with the other places, if the editor takes such.
+/// `AllocError` where a growth was refused.
+pub fn error_list(
+    alloc: Global,
+    uri: &str,
+    errors: &[Diagnostic],
+    takes_related: bool,
+) -> Result<Vec<Value>, AllocError>
+    ensures { IfOk result (λ list. map view list.items ≡ map (error_form uri.now takes_related) errors.now) }
 {
     let mut list = Vec::new(alloc);
     for error in errors {
-        list.push(error_form(alloc, error)?)?;
+        list.push(error_form(alloc, uri, error, takes_related)?)?;
     }
     Ok(list)
 }
 
-/// The diagnostic of an error.
-fn error_form(alloc: Global, error: &Diagnostic) -> Result<Value, AllocError>
-    ensures { IfOk result (λ value. view value ≡ error_form error.now) }
+/// The diagnostic of an error of the document.
+fn error_form(
+    alloc: Global,
+    uri: &str,
+    error: &Diagnostic,
+    takes_related: bool,
+) -> Result<Value, AllocError>
+    ensures { IfOk result (λ value. view value ≡ error_form uri.now takes_related error.now) }
 {
     let range = PositionRange {
         start: error.start,
         end: error.end,
     };
-    diagnostic_form(
+    let (severity, message) = (Severity::Error, error.message.as_str());
+    if !takes_related {
+        return error_alone(alloc, range, error);
+    }
+    if error.related.is_empty() {
+        return diagnostic_form(alloc, range, severity, error.code, message);
+    }
+    let positions = Value::Array(note_list(alloc, uri, &error.related)?);
+    form_with_related(alloc, range, severity, error.code, message, positions)
+}
+
+/// The diagnostic of an error for an editor that takes no other places: one more line says where a bracket is open.
+fn error_alone(alloc: Global, range: PositionRange, error: &Diagnostic) -> Result<Value, AllocError>
+    ensures { IfOk result (λ value. view value ≡ error_alone range error.now) }
+{
+    let (severity, message) = (Severity::Error, error.message.as_str());
+    match &error.bracket {
+        Some(sentence) => {
+            let longer = format!(in alloc; "{message}\n{sentence}")?;
+            diagnostic_form(alloc, range, severity, error.code, longer.as_str())
+        }
+        None => diagnostic_form(alloc, range, severity, error.code, message),
+    }
+}
+
+/// Other places in the document, in order.
+fn note_list(alloc: Global, uri: &str, notes: &[RelatedNote]) -> Result<Vec<Value>, AllocError>
+    ensures { IfOk result (λ list. map view list.items ≡ map (note_form uri.now) notes.now) }
+{
+    let mut list = Vec::new(alloc);
+    for note in notes {
+        list.push(note_form(alloc, uri, note)?)?;
+    }
+    Ok(list)
+}
+
+fn note_form(alloc: Global, uri: &str, note: &RelatedNote) -> Result<Value, AllocError>
+    ensures { IfOk result (λ value. view value ≡ note_form uri.now note.now) }
+{
+    let (range, message) = (note.range, note.message.as_str());
+    related_form(
         alloc,
-        range,
-        Severity::Error,
-        error.code,
-        error.message.as_str(),
+        Related {
+            uri,
+            range,
+            message,
+        },
     )
 }
 
@@ -119,15 +171,13 @@ fn lint_diagnostic_form(
     ensures { IfOk result (λ value. IsLintDiagnostic (view value)) }
 {
     let (range, message) = (diagnostic.range, diagnostic.message.as_str());
+    let (severity, code) = (diagnostic.kind.severity(), diagnostic.kind.code());
     match diagnostic.related {
         Some(related) if takes_related => {
             let positions = json!(in alloc; [(related_form(alloc, related)?)])?;
-            form_with_related(alloc, range, diagnostic.kind, message, positions)
+            form_with_related(alloc, range, severity, code, message, positions)
         }
-        _ => {
-            let (severity, code) = (diagnostic.kind.severity(), diagnostic.kind.code());
-            diagnostic_form(alloc, range, severity, code, message)
-        }
+        _ => diagnostic_form(alloc, range, severity, code, message),
     }
 }
 
@@ -135,19 +185,20 @@ fn lint_diagnostic_form(
 fn form_with_related(
     alloc: Global,
     range: PositionRange,
-    kind: LintDiagnosticKind,
+    severity: Severity,
+    code: &str,
     message: &str,
     positions: Value,
 ) -> Result<Value, AllocError>
     ensures { IfOk result (λ value. view value
-        ≡ diagnostic_with_related range (severity_of kind) (code_of kind) message.now (view positions)) }
+        ≡ diagnostic_with_related range severity code.now message.now (view positions)) }
 {
     let range = range_form(alloc, range.start, range.end)?;
     json!(in alloc; {
         "range": range,
-        "severity": (severity_number(kind.severity())),
+        "severity": (severity_number(severity)),
         "source": "ftl",
-        "code": (kind.code()),
+        "code": code,
         "message": message,
         "relatedInformation": positions
     })
@@ -174,7 +225,10 @@ fn diagnostic_form(
 }
 
 /// Another place, with what is said of it.
-fn related_form(alloc: Global, related: Related<'_>) -> Result<Value, AllocError> {
+fn related_form(alloc: Global, related: Related<'_>) -> Result<Value, AllocError>
+    ensures { IfOk result (λ value. view value
+        ≡ related_form related.entry.uri.now related.entry.range related.entry.message.now) }
+{
     let range = range_form(alloc, related.range.start, related.range.end)?;
     json!(in alloc; {
         "location": {"uri": (related.uri), "range": range},

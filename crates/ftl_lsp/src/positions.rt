@@ -92,7 +92,9 @@ impl Positions<'_> {
     }
 
     /// Where a range of the text begins and ends.
-    pub fn range(&mut self, span: Span) -> PositionRange {
+    pub fn range(&mut self, span: Span) -> PositionRange
+        ensures { self.new ≡ self.old }
+    {
         PositionRange {
             start: self.position_or_end(span.start),
             end: self.position_or_end(span.end),

@@ -35,7 +35,8 @@ impl Server {
         let Some(open) = self.documents.get(uri) else {
             return Ok(None);
         };
-        let mut list = error_list(self.alloc, open.document.diagnostics())?;
+        let errors = open.document.diagnostics();
+        let mut list = error_list(self.alloc, uri, errors, self.related)?;
         let mut others = self.lint_diagnostics(uri, open)?;
         list.append(&mut others)?;
         Ok(Some(diagnostics_notification(self.alloc, uri, list)?))

@@ -4,4 +4,4 @@ use Rattle.ftl_lsp.specs.DiagnosticForms.{error_form}
 use Rattle.ftl_lsp.proofs.diagnostic_forms.error_list.Given as goal
 
 abbrev pub invariant-loop-error : goal.invariant-loop-error
-invariant-loop-error l = map view l.list.items ≡ map error_form (take l.error-index l.errors)
+invariant-loop-error l = map view l.list.items ≡ map (error_form l.uri l.takes_related) (take l.error-index l.errors)

@@ -11,6 +11,6 @@ pub returns-clause-sent : goal.returns-clause-sent
 returns-clause-sent c =
     is_published (session_of c.args.self.now) (session_of c.look_up_names.new.self) c.args.uri.now _ _ _
     c.in_ok-look_up_names.ensures.same c.in-Some.ensures c.in_ok-diagnostics_notification.ensures
-    (publishes_document _ c.diagnostics.result.now c.in_ok-list.list.items c.in_ok-others.others.items
-    c.append.new.self.items c.diagnostics.ensures c.in_ok-list.ensures c.in_ok-others.ensures
-    c.in_ok-append.ensures.items)
+    (publishes_document _ _ c.look_up_names.new.self.related c.diagnostics-errors.result.now
+    c.in_ok-list.list.items c.in_ok-others.others.items c.append.new.self.items c.diagnostics-errors.ensures
+    c.in_ok-list.ensures c.in_ok-others.ensures c.in_ok-append.ensures.items)
