@@ -105,7 +105,7 @@ pub(crate) fn look_alike_message(
         }
         Instead::Hyphen => format!(in alloc; "this is U+{number:04X}, {name}: write `-`"),
         Instead::Quote => {
-            format!(in alloc; "this is U+{number:04X}, {name}: a string is in `\"`")
+            format!(in alloc; "this is U+{number:04X}, {name}: a string begins and ends with `\"`")
         }
         Instead::Character(c) => {
             format!(in alloc; "this is U+{number:04X}, {name}: write `{c}`")

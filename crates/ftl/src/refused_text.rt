@@ -163,7 +163,9 @@ impl<'t> RefusedText<'t> {
         let before = self.text.get(..self.place)?.trim_end();
         let has_arrow = before.ends_with("->");
         let message = match kind {
-            ErrorKind::ExpectedCharRange { .. } if has_arrow => "no `{` before this select",
+            ErrorKind::ExpectedCharRange { .. } if has_arrow && self.place == self.start => {
+                "no `{` before this select"
+            }
             ErrorKind::ExpectedToken('}') | ErrorKind::TermAttributeAsPlaceable => {
                 "no `->` between this selector and its variants"
             }
