@@ -1,45 +1,59 @@
 -- Paths that lead through the folder of a language.
-use Rattle.std.proofs.Common.{◌≡◌, ◌≢◌, ◌∙◌, ◌<◌, ◌+◌, ◌-◌, ℕ, List, ◌++◌, ◌∷◌, Bor, Option, Some, None}
-use Rattle.std.proofs.Common.{append_assoc, ap, arith, codes, get_or, length, length-append, take}
-use Rattle.std.proofs.Math.Seq.{take-append_seam}
-use Rattle.std.specs.Prelude.{◌≤◌, IfSome, IsCharBoundary, MatchOption, slice_range}
-use Rattle.ftl_files.specs.Languages.{IsLanguage}
+use Rattle.std.proofs.Common.{◌≡◌, ◌∙◌, ◌-◌, ℕ, List, [], ◌++◌, ◌∷◌, Bor, Option, Some, None}
+use Rattle.std.proofs.Common.{append_assoc, codes, length, refl, sym, take}
+use Rattle.std.proofs.lemmas.List.{append_cancel_left, append_cancel_right}
+use Rattle.std.specs.Prelude.{◌≢◌, IfSome, MatchOption}
+use Rattle.ftl_files.specs.Languages.{IsDirect, IsLanguage}
 
 -- the path, by the folder of the language and by what is below it
-whole_path : (languages name rest below path : List ℕ) → path ≡ languages ++ codes "/" ++ below →
-    below ≡ name ++ 47 ∷ rest → path ≡ (languages ++ codes "/" ++ name) ++ 47 ∷ rest
-whole_path languages name rest below path place parts = place ∙ rw parts (simp append_assoc)
+pub whole_path : (languages name rest relative path : List ℕ) → path ≡ languages ++ codes "/" ++ relative →
+    relative ≡ name ++ 47 ∷ rest → path ≡ (languages ++ codes "/" ++ name ++ codes "/") ++ rest
+whole_path languages name rest relative path place parts = place ∙ rw parts (simp append_assoc)
 
-take_seam : (n : ℕ) (front beyond : List ℕ) → n ≡ length front → take n (front ++ beyond) ≡ front
-take_seam n front beyond size = rw size (take-append_seam front beyond)
+-- what a path begins with before its ending
+before_ending : (rest path front : List ℕ) (k : ℕ) → path ≡ take (length path - k) path ++ rest →
+    front ≡ take (length path - k) path → path ≡ front ++ rest
+before_ending rest path front k ends is = ends ∙ rw is refl
 
--- what is got of the first bytes of a text
-abbrev IsBegin : List ℕ → ℕ → Option (Bor (List ℕ)) → Type 0
-IsBegin t n r =
-    MatchOption r (0 ≤ n → IsCharBoundary t 0 → ¬ (IsCharBoundary t n))
-    (λ x. (x.now ≡ slice_range t 0 n) × (length x.now + 0 ≡ n) × (n ≤ length t))
+-- a language is found
+abbrev IsFound : (languages path : List ℕ) → Option (Bor (List ℕ)) → Type 0
+IsFound languages path r = MatchOption r ⊥ (λ language. IsLanguage languages path language.now)
 
--- what a path begins with, before a `/`
-front_of : (front rest path : List ℕ) (n : ℕ) → path ≡ front ++ 47 ∷ rest → n ≡ length path - length rest - 1 →
-    take n path ≡ front
-front_of front rest path n whole size =
-    let count : n ≡ length front = omega (arith, size, ap length whole, length-append front (47 ∷ rest)) in
-    ap (take n) whole ∙ take_seam n front (47 ∷ rest) count
-
-pub is_language : (languages name rest below path : List ℕ) (r : Option (Bor (List ℕ))) (n : ℕ) →
-    path ≡ languages ++ codes "/" ++ below → below ≡ name ++ 47 ∷ rest →
-    ((i : ℕ) → i < length name → get_or name i 0 ≢ 47) → n ≡ length path - length rest - 1 →
-    IsBegin path n r → IfSome r (λ language. IsLanguage languages path language.now)
-is_language languages name rest below path None n place parts direct size gets = tt
-is_language languages name rest below path (Some x) n place parts direct size gets =
-    let whole = whole_path languages name rest below path place parts in
-    let all : n - 0 ≡ n = omega arith in
-    let begin : x.now ≡ take n path = gets.0 ∙ ap (λ m. take m path) all in
-    let front = begin ∙ front_of (languages ++ codes "/" ++ name) rest path n whole size in
+-- what a path begins with, before a `/`, is the folder of the language
+pub is_language : (languages name rest relative path front : List ℕ) (k : ℕ) (r : Option (Bor (List ℕ))) →
+    path ≡ languages ++ codes "/" ++ relative → relative ≡ name ++ 47 ∷ rest → IsDirect name →
+    path ≡ take (length path - k) path ++ rest → front ≡ take (length path - k) path →
+    MatchOption r ((x : List ℕ) → front ≢ x ++ (47 ∷ [])) (λ x. front ≡ x.now ++ (47 ∷ [])) →
+    IsFound languages path r
+is_language languages name rest relative path front k None place parts direct ends is strips =
+    let whole = whole_path languages name rest relative path place parts in
+    let begins = before_ending rest path front k ends is in
+    strips (languages ++ codes "/" ++ name) (append_cancel_right _ _ rest (sym begins ∙ whole))
+is_language languages name rest relative path front k (Some x) place parts direct ends is strips =
+    let whole = whole_path languages name rest relative path place parts in
+    let begins = before_ending rest path front k ends is in
+    let slash = append_cancel_right front (languages ++ codes "/" ++ name ++ codes "/") rest (sym begins ∙ whole) in
+    let folder = append_cancel_right x.now (languages ++ codes "/" ++ name) (codes "/") (sym strips ∙ slash) in
     record {
       name = name;
       rest = rest;
-      language_is = front;
-      path_is = whole ∙ rw front (simp append_assoc);
+      language_is = folder;
+      path_is = whole ∙ rw folder (simp append_assoc);
       direct = direct;
     }
+
+pub found_is : (languages path : List ℕ) (r : Option (Bor (List ℕ))) → IsFound languages path r →
+    IfSome r (λ language. IsLanguage languages path language.now)
+found_is languages path None never = absurd never
+found_is languages path (Some x) is = is
+
+pub found_some : (languages path : List ℕ) (r : Option (Bor (List ℕ))) → IsFound languages path r → r ≢ None
+found_some languages path None never none = never
+found_some languages path (Some x) is none = absurd cc
+
+-- the relative path of what leads through the folder of a language
+pub language_relative : (languages path language relative : List ℕ) (l : IsLanguage languages path language) →
+    path ≡ languages ++ codes "/" ++ relative → relative ≡ l.name ++ 47 ∷ l.rest
+language_relative languages path language relative l from =
+    append_cancel_left (languages ++ codes "/") relative (l.name ++ 47 ∷ l.rest)
+    (sym from ∙ l.path_is ∙ rw l.language_is (simp append_assoc))

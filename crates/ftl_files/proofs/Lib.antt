@@ -2,6 +2,7 @@ pub mod Changed
 pub mod LanguageLemmas
 pub mod ListedNames
 pub mod OriginalLemmas
+pub mod PathLemmas
 pub mod ReadingLemmas
 pub mod Refusing
 pub mod Replaced

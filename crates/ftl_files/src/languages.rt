@@ -1,8 +1,8 @@
 //! Which language a file is of, where each language has a folder next to that of the reference.
-ghost use Rattle.std.specs.Prelude.{IfSome};
+ghost use Rattle.std.specs.Prelude.{◌≡◌, ℕ, List, IfSome, None};
 ghost use Rattle.ftl_files.specs.Languages.{IsLanguage};
 
-use crate::paths::absolute_path;
+use crate::paths::{absolute_path, relative_path};
 use std::alloc::{AllocError, Global};
 
 /// The folder in which each language has its own, by the reference of a project: in the folder `/app` that of
@@ -26,17 +26,9 @@ pub fn folder_of_languages(
 /// The folder of the language that the file at the path is of, where each has its own in `languages`: in
 /// `/app/locales` that of `/app/locales/de/menu.ftl` is `/app/locales/de`. None where it is in no folder there.
 pub fn language_of<'p>(languages: &str, path: &'p str) -> Option<&'p str>
-    ensures { IfSome result (λ language. IsLanguage languages.now path.now language.now) }
+    ensures some { IfSome result (λ language. IsLanguage languages.now path.now language.now) }
+    ensures none { result ≡ None → (language : List ℕ) → IsLanguage languages.now path.now language → ⊥ }
 {
-    let Some(remainder) = path.strip_prefix(languages) else {
-        return None;
-    };
-    let Some(below) = remainder.strip_prefix('/') else {
-        return None;
-    };
-    let Some((_, rest)) = below.split_once('/') else {
-        return None;
-    };
-    let end = path.len().saturating_sub(rest.len());
-    path.get(..end.saturating_sub(1))
+    let (_, rest) = relative_path(languages, path)?.split_once('/')?;
+    path.strip_suffix(rest)?.strip_suffix('/')
 }

@@ -1,5 +1,5 @@
 //! Files in memory. They show that the clauses of `FileSystem`, `Store` and `Folders` can be met, and serve tests.
-ghost use Rattle.std.specs.Prelude.{◌≡◌, ◌∷◌, [], None, Some, MatchOption, OnErr, OnOk, string_bytes};
+ghost use Rattle.std.specs.Prelude.{◌≡◌, ◌≢◌, ◌∷◌, ℕ, [], List, None, Some, MatchOption, OnErr, OnOk, string_bytes};
 ghost use Rattle.ftl_files.specs.Memory.{bytes_at, counts_now, fails, files_of, only_now};
 
 use crate::excluded::Excluded;
@@ -45,6 +45,8 @@ impl Memory {
     /// Puts a file of the bytes at the path, in the place of any that is there.
     pub fn put(&mut self, path: &str, bytes: &[u8]) -> Result<(), AllocError>
         ensures put { OnOk result (bytes_at self.new.changes.items path.now ≡ Some bytes.now) }
+        ensures others { (other : List ℕ) → other ≢ path.now
+            → bytes_at self.new.changes.items other ≡ bytes_at self.old.changes.items other }
     {
         let bytes = bytes.to_vec(self.alloc)?;
         self.change(path, Some(bytes))

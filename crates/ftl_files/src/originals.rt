@@ -1,7 +1,8 @@
 //! The file of the reference language that another one is to be a translation of.
-ghost use Rattle.std.specs.Prelude.{◌≡◌, ◌++◌, IfOk, IfSome, codes, string_bytes};
+ghost use Rattle.std.specs.Prelude.{◌≡◌, ◌≢◌, ◌++◌, ℕ, List, IfOk, IfSome, None, Ok, codes, string_bytes};
 ghost use Rattle.ftl_files.specs.Originals.{IsOriginal};
 
+use crate::paths::relative_path;
 use std::alloc::{AllocError, Global};
 
 /// The path of the original of the file at the path. The reference language has its files in `own`, a folder or a file
@@ -15,17 +16,15 @@ pub fn original_of(
     own: &str,
     path: &str,
 ) -> Result<Option<String>, AllocError>
-    ensures { IfOk result (λ found. IfSome found (λ original.
+    ensures some { IfOk result (λ found. IfSome found (λ original.
         IsOriginal above.now own.now path.now (string_bytes original))) }
+    ensures none { result ≡ Ok None → (original : List ℕ) → IsOriginal above.now own.now path.now original → ⊥ }
 {
-    let Some(remainder) = path.strip_prefix(above) else {
+    let Some(relative) = relative_path(above, path) else {
         return Ok(None);
     };
-    let Some(below) = remainder.strip_prefix('/') else {
-        return Ok(None);
-    };
-    let Some((language, rest)) = below.split_once('/') else {
-        return lone_original(alloc, above, own, below);
+    let Some((language, rest)) = relative.split_once('/') else {
+        return lone_original(alloc, above, own, relative);
     };
     if language == own {
         return Ok(None);
@@ -35,15 +34,16 @@ pub fn original_of(
     Ok(Some(original))
 }
 
-/// The path of the original of a file that is next to the reference itself, by its name there.
+/// The reference itself, which is the original of a file next to it, by that file's name. None where they are the same.
 fn lone_original(
     alloc: Global,
     above: &str,
     own: &str,
     name: &str,
 ) -> Result<Option<String>, AllocError>
-    ensures { IfOk result (λ found. IfSome found (λ original.
-        IsOriginal above.now own.now (above.now ++ codes "/" ++ name.now) (string_bytes original))) }
+    ensures some { IfOk result (λ found. IfSome found (λ original.
+        (name.now ≢ own.now) × (string_bytes original ≡ above.now ++ codes "/" ++ own.now))) }
+    ensures none { result ≡ Ok None → name.now ≡ own.now }
 {
     if name == own {
         return Ok(None);

@@ -1,5 +1,5 @@
 //! Which paths are below a folder, and which are the same.
-ghost use Rattle.std.specs.Prelude.{◌≡◌};
+ghost use Rattle.std.specs.Prelude.{◌≡◌, ◌≢◌, ◌++◌, ℕ, List, MatchOption, codes};
 ghost use Rattle.ftl_files.specs.Paths.{is_below, is_name};
 
 use std::alloc::{AllocError, Global};
@@ -21,6 +21,14 @@ fn is_name(after_slash: &[u8]) -> bool
         [first, _, ..] => *first == b'/',
         _ => false,
     }
+}
+
+/// The path relative to the folder, if it leads through it.
+pub(crate) fn relative_path<'p>(folder: &str, path: &'p str) -> Option<&'p str>
+    ensures { MatchOption result ((relative : List ℕ) → path.now ≢ folder.now ++ codes "/" ++ relative)
+        (λ relative. path.now ≡ folder.now ++ codes "/" ++ relative.now) }
+{
+    path.strip_prefix(folder)?.strip_prefix('/')
 }
 
 /// The path from the root on, without empty parts and dots: in the folder `/app/de`, `..//en/./a.ftl` is

@@ -1,17 +1,36 @@
-use Rattle.std.proofs.Common.{Some, arith}
-use Rattle.std.proofs.lemmas.Str.Pattern.{split_parts, strip_prefix_char}
-use Rattle.ftl_files.proofs.LanguageLemmas.{is_language}
-use Rattle.ftl_files.proofs.OriginalLemmas.{below_folder}
+use Rattle.std.proofs.Common.{None, Some, arith}
+use Rattle.std.proofs.lemmas.Str.Pattern.{split_after, split_parts, strip_suffix_char}
+use Rattle.ftl_files.proofs.LanguageLemmas.{found_is, found_some, is_language, language_relative, whole_path}
 use Rattle.ftl_files.proofs.languages.language_of.Goals as goal
 
-pub returns : goal.returns
-returns c =
-    let (n, front, temporary, size) = c.in-Some.ensures.cases in
-    let below = c.in-Some-strip_prefix.below in
-    let slash = strip_prefix_char 47 _ (Some below) c.in-Some-strip_prefix.ensures.cases (omega arith) in
-    let name = c.in-Some-split_once.field-0-0 in
-    let rest = c.in-Some-split_once.rest in
-    let parts = split_parts 47 _ (Some (name, rest)) c.in-Some-split_once.ensures.cases (omega arith) in
-    let place = below_folder c.args.languages.now _ below.now c.args.path.now n front.1 temporary slash in
-    is_language c.args.languages.now name.now rest.now below.now c.args.path.now c.get.result _ place parts.0 parts.1
-    (omega (arith, c.saturating_sub-end.ensures, c.saturating_sub.ensures)) c.get.ensures.cases
+pub returns-clause-some : goal.returns-clause-some
+returns-clause-some c =
+    let name = c.in_ok-rest.field-0-0 in
+    let rest = c.in_ok-rest.rest in
+    let parts = split_parts 47 _ (Some (name, rest)) c.in_ok-rest.ensures.cases (omega arith) in
+    let (k, found, front, size) = c.in_ok-strip_suffix.ensures.cases in
+    let slash = strip_suffix_char 47 _ c.strip_suffix-2.result c.strip_suffix-2.ensures.cases (omega arith) in
+    found_is _ _ _ (is_language c.args.languages.now name.now rest.now _ c.args.path.now _ k c.strip_suffix-2.result
+    c.in_ok-relative_path.ensures parts.0 parts.1 found.1 front slash)
+
+pub returns-in_err-rest-clause-none : goal.returns-in_err-rest-clause-none
+returns-in_err-rest-clause-none c none language l =
+    let relative = language_relative _ _ _ _ l c.in_ok-relative_path.ensures in
+    split_after 47 _ l.name l.rest None c.in_err-rest.ensures.cases (omega arith) relative l.direct
+
+pub returns-in_err-strip_suffix-clause-none : goal.returns-in_err-strip_suffix-clause-none
+returns-in_err-strip_suffix-clause-none c none language l =
+    let name = c.in_ok-rest.field-0-0 in
+    let rest = c.in_ok-rest.rest in
+    let parts = split_parts 47 _ (Some (name, rest)) c.in_ok-rest.ensures.cases (omega arith) in
+    c.in_err-strip_suffix.ensures.cases _ (whole_path _ name.now rest.now _ _ c.in_ok-relative_path.ensures parts.0)
+
+pub returns-clause-none : goal.returns-clause-none
+returns-clause-none c none language l =
+    let name = c.in_ok-rest.field-0-0 in
+    let rest = c.in_ok-rest.rest in
+    let parts = split_parts 47 _ (Some (name, rest)) c.in_ok-rest.ensures.cases (omega arith) in
+    let (k, found, front, size) = c.in_ok-strip_suffix.ensures.cases in
+    let slash = strip_suffix_char 47 _ c.strip_suffix-2.result c.strip_suffix-2.ensures.cases (omega arith) in
+    found_some _ _ _ (is_language c.args.languages.now name.now rest.now _ c.args.path.now _ k c.strip_suffix-2.result
+    c.in_ok-relative_path.ensures parts.0 parts.1 found.1 front slash) none
