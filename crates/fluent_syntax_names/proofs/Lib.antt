@@ -14,4 +14,4 @@ pub mod Placed
 pub mod MessageReferences
 pub mod Variants
 pub mod Ways
-pub mod graphs
+pub mod Certified

@@ -17,4 +17,4 @@ pub mod Severities
 pub mod QualifiedNames
 pub mod Tables
 pub mod Graph
-pub mod Search
+pub mod Certificates

@@ -1,4 +1,5 @@
 //! Which nodes of a directed graph lie on a cycle together.
+mod certificate;
 mod component_numbers;
 mod search;
 

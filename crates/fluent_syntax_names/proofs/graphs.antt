@@ -1,9 +1,0 @@
-pub mod Closing
-pub mod Entering
-pub mod Lists
-pub mod Looking
-pub mod News
-pub mod Parts
-pub mod Places
-pub mod Reaching
-pub mod Same
