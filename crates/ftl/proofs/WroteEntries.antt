@@ -1,26 +1,41 @@
 -- What came of entries that came to a writer one by one.
-use Rattle.std.proofs.Common.{◌≡◌, [], ◌∷◌, ◌++◌, String, Global, true}
+use Rattle.std.proofs.Common.{◌≡◌, ◌∙◌, ◌&&◌, [], ◌∷◌, ◌++◌, Bool, String, Global, ap, false, refl, sym, true}
 use Rattle.fluent_syntax_tree.specs.Entry.{BodyTree, EntryTree}
 use Rattle.fluent_syntax_tree.specs.declared.edition.Edition.{Edition}
 use Rattle.fluent_syntax_grammar.specs.Rules.{Rules, body_obeys, entry_obeys}
 use Rattle.fluent_syntax_grammar.specs.Written.{Text}
-use Rattle.fluent_syntax_grammar.proofs.Facts.{left_true, right_true}
 use Rattle.fluent_syntax_json.specs.declared.writing.body_writer.BodyWriter.{BodyWriter}
 use Rattle.ftl.specs.Formatting.{AddsJson, AddsNormal, HasJson, HasNormal}
 use Rattle.ftl.specs.OneByOne.{WroteEntries, wrote_none, one_more}
 use Rattle.ftl.specs.declared.writers.NormalWriter.{NormalWriter}
 
--- a tree that obeys the rules, and one more entry that does
-pub obeys_on : (rules : Rules) (tree : BodyTree Text) (e : EntryTree Text) → body_obeys rules tree ≡ true →
-    entry_obeys rules e ≡ true → body_obeys rules (tree ++ e ∷ []) ≡ true
-obeys_on rules [] e h k = rw k
-obeys_on rules (x ∷ tree) e h k =
-    rw (left_true (entry_obeys rules x) (body_obeys rules tree) h)
-    (obeys_on rules tree e (right_true (entry_obeys rules x) (body_obeys rules tree) h) k)
+and-assoc : (a b c : Bool) → ((a && b) && c) ≡ (a && (b && c))
+and-assoc true b c = refl
+and-assoc false b c = refl
 
-pub wrote_normal : {edition : Edition} {start now : NormalWriter} {tree : BodyTree Text}
+pub and-true : (b : Bool) → (b && true) ≡ b
+and-true true = refl
+and-true false = refl
+
+-- whether a tree and one more entry obey the rules
+obeys_with : (rules : Rules) (tree : BodyTree Text) (e : EntryTree Text) →
+    body_obeys rules (tree ++ e ∷ []) ≡ (body_obeys rules tree && entry_obeys rules e)
+obeys_with rules [] e = and-true (entry_obeys rules e)
+obeys_with rules (x ∷ tree) e =
+    ap (λ b. entry_obeys rules x && b) (obeys_with rules tree e)
+    ∙ sym (and-assoc (entry_obeys rules x) (body_obeys rules tree) (entry_obeys rules e))
+
+-- and whether this is known, if it is asked
+pub asked_with : (asks : Bool) (rules : Rules) (tree : BodyTree Text) (e : EntryTree Text) (all : Bool) →
+    all ≡ (asks && body_obeys rules tree) → (all && entry_obeys rules e)
+    ≡ (asks && body_obeys rules (tree ++ e ∷ []))
+asked_with asks rules tree e all is =
+    ap (λ b. b && entry_obeys rules e) is ∙ and-assoc asks (body_obeys rules tree) (entry_obeys rules e)
+    ∙ ap (λ b. asks && b) (sym (obeys_with rules tree e))
+
+pub wrote_normal : {edition : Edition} {asks : Bool} {start now : NormalWriter} {tree : BodyTree Text}
     → WroteEntries AddsNormal start tree now
-    → HasNormal edition [] start → HasNormal edition tree now
+    → HasNormal edition asks [] start → HasNormal edition asks tree now
 wrote_normal wrote_none none = none
 wrote_normal (one_more wrote next) none = next.added (wrote_normal wrote none)
 

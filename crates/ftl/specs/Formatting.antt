@@ -1,5 +1,5 @@
 -- Trees that are written entry by entry onto a text.
-use Rattle.std.specs.Prelude.{◌≡◌, [], ◌∷◌, ◌++◌, String, string_bytes, true, false}
+use Rattle.std.specs.Prelude.{◌≡◌, ◌&&◌, [], ◌∷◌, ◌++◌, Bool, String, string_bytes, false}
 use Rattle.std.specs.Global.{Global}
 use Rattle.fluent_syntax_tree.specs.Entry.{BodyTree, EntryTree}
 use Rattle.fluent_syntax_tree.specs.declared.edition.Edition.{Edition}
@@ -19,14 +19,15 @@ WroteNormal start tree writer = normal.HasWritten (λ (s : String Global). strin
 abbrev pub WroteJson : String Global → BodyTree Text → BodyWriter (String Global) → Type 0
 WroteJson start tree writer = json.HasWritten (λ (s : String Global). string_bytes s) (λ s. 0) start tree writer
 
--- The writer was made of an empty text, and the entries of the tree came to it.
-pub record HasNormal (edition : Edition) (tree : BodyTree Text) (writer : NormalWriter) : Type 0 where
+-- The writer was made of an empty text, and the entries of the tree came to it. It knows whether they are canonical,
+-- if it asks.
+pub record HasNormal (edition : Edition) (asks : Bool) (tree : BodyTree Text) (writer : NormalWriter) : Type 0 where
   pub start : String Global
   pub is_empty : string_bytes start ≡ []
   pub wrote : WroteNormal start tree writer.writer
   pub no_junk : writer.writer.options.with_junk ≡ false
   pub by_edition : writer.edition ≡ edition
-  pub canonical : writer.all_canonical ≡ true → is_canonical edition tree ≡ true
+  pub canonical : writer.all_canonical ≡ (asks && is_canonical edition tree)
 
 -- the same of a writer of JSON
 pub record HasJson (tree : BodyTree Text) (writer : BodyWriter (String Global)) : Type 0 where
@@ -36,8 +37,8 @@ pub record HasJson (tree : BodyTree Text) (writer : BodyWriter (String Global)) 
 
 -- After the entries that had come to the writer, this one came too.
 pub record AddsNormal (old : NormalWriter) (e : EntryTree Text) (new : NormalWriter) : Type 0 where
-  pub added : {edition : Edition} {tree : BodyTree Text} → HasNormal edition tree old
-      → HasNormal edition (tree ++ e ∷ []) new
+  pub added : {edition : Edition} {asks : Bool} {tree : BodyTree Text} → HasNormal edition asks tree old
+      → HasNormal edition asks (tree ++ e ∷ []) new
 
 -- the same of a writer of JSON
 pub record AddsJson (old : BodyWriter (String Global)) (e : EntryTree Text) (new : BodyWriter (String Global)) : Type 0

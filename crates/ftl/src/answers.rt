@@ -1,5 +1,5 @@
 //! The text that a command writes.
-ghost use Rattle.std.specs.Prelude.{◌≡◌, ◌≢◌, ◌↔◌, ◌+◌, ◌++◌, ◌^◌, ◌<◌, ◌≤◌, List, length, string_bytes, Err};
+ghost use Rattle.std.specs.Prelude.{◌≡◌, ◌≢◌, ◌&&◌, ◌↔◌, ◌+◌, ◌++◌, ◌^◌, ◌<◌, ◌≤◌, List, length, string_bytes, Err};
 ghost use Rattle.std.specs.Prelude.{Ok, IfErr, IfOk, OnErr, OnOk, All, map, true};
 ghost use Rattle.std.specs.List.{flat_map};
 ghost use Rattle.std.specs.Str.{IsUtf8};
@@ -14,7 +14,7 @@ ghost use Rattle.fluent_syntax_parser.specs.Halts.{HaltsWithin, OnHalt};
 ghost use Rattle.fluent_syntax_parser.specs.Rest.{TileIn};
 ghost use Rattle.fluent_syntax_parser.specs.declared.fault.ParseFault.TheVariants.{Memory};
 ghost use Rattle.ftl.specs.Answer.{IsAnswer, ReadsDeeper, error_line, error_lines, error_text, json_text};
-ghost use Rattle.ftl.specs.Answer.{normal_text, outcome_of, outcome_with, range_text, error_fault};
+ghost use Rattle.ftl.specs.Answer.{HasTiles, normal_text, outcome_of, outcome_with, range_text, error_fault, text_of};
 
 use crate::command::Command;
 use crate::errors::errors_within;
@@ -69,15 +69,35 @@ pub fn answer_within(
     if text.len() == usize::MAX {
         return Ok(Err(RunFault::Memory));
     }
-    let answer = match command {
-        Command::Check => check(alloc, text, Edition::One, nesting)?,
-        Command::CheckTwo => check(alloc, text, Edition::Two, nesting)?,
-        Command::Format => format(alloc, text, Edition::One, Comments::Kept, nesting)?,
-        Command::FormatTwo => format(alloc, text, Edition::Two, Comments::Kept, nesting)?,
-        Command::Runtime => format(alloc, text, Edition::One, Comments::Dropped, nesting)?,
-        Command::Json => json(alloc, text, nesting)?,
-    };
-    Ok(answer)
+    match text_answer(alloc, command, text, nesting) {
+        Ok(answer) => Ok(Ok(answer)),
+        Err(Halt::Memory) => Ok(Err(RunFault::Memory)),
+        Err(Halt::TooDeep) => Err(TooDeep),
+    }
+}
+
+/// What the command answers to a text.
+fn text_answer(
+    alloc: Global,
+    command: Command,
+    text: &str,
+    nesting: usize,
+) -> Result<(String, Outcome), Halt>
+    requires { length text.now + 1 < 2 ^ 64 }
+    ensures text { IfOk result (λ given. (tiles : List Tile) × HasTiles command text.now tiles
+        × (string_bytes given.0 ≡ text_of command text.now tiles) × (given.1 ≡ outcome_of tiles)) }
+    ensures nests { IfErr result (HaltsWithin nesting (length text.now)) }
+    ensures deeper { IfErr result (OnHalt (ReadsDeeper command text.now nesting)) }
+    ensures shallow { IfOk result (λ given. ReadsDeeper command text.now nesting → ⊥) }
+{
+    match command {
+        Command::Check => check(alloc, text, Edition::One, nesting),
+        Command::CheckTwo => check(alloc, text, Edition::Two, nesting),
+        Command::Format => format(alloc, text, Edition::One, Comments::Kept, nesting),
+        Command::FormatTwo => format(alloc, text, Edition::Two, Comments::Kept, nesting),
+        Command::Runtime => format(alloc, text, Edition::One, Comments::Dropped, nesting),
+        Command::Json => json(alloc, text, nesting),
+    }
 }
 
 /// A line for each error.
@@ -86,23 +106,17 @@ fn check(
     text: &str,
     edition: Edition,
     nesting: usize,
-) -> Result<Result<(String, Outcome), RunFault>, TooDeep>
+) -> Result<(String, Outcome), Halt>
     requires { length text.now + 1 < 2 ^ 64 }
-    ensures text { IfOk result (λ answer. IfOk answer (λ given. (tiles : List Tile) × Tiling edition text.now tiles
-        × (string_bytes given.0 ≡ error_lines text.now tiles) × (given.1 ≡ outcome_of tiles))) }
-    ensures err { IfOk result (λ answer. IfErr answer (λ fault. fault ≡ RunFault.Memory)) }
-    ensures deep { OnErr result (nesting < length text.now) }
-    ensures deeper { OnErr result (NestsDeeper edition text.now nesting) }
-    ensures shallow { IfOk result (λ answer. IfOk answer (λ given. NestsDeeper edition text.now nesting → ⊥)) }
+    ensures text { IfOk result (λ given. (tiles : List Tile) × Tiling edition text.now tiles
+        × (string_bytes given.0 ≡ error_lines text.now tiles) × (given.1 ≡ outcome_of tiles)) }
+    ensures nests { IfErr result (HaltsWithin nesting (length text.now)) }
+    ensures deeper { IfErr result (OnHalt (NestsDeeper edition text.now nesting)) }
+    ensures shallow { IfOk result (λ given. NestsDeeper edition text.now nesting → ⊥) }
 {
-    match errors_within(alloc, text, edition, nesting) {
-        Ok(errors) => match error_lines(alloc, text, &errors) {
-            Ok(lines) => Ok(Ok((lines, outcome_of(&errors)))),
-            Err(AllocError) => Ok(Err(RunFault::Memory)),
-        },
-        Err(Halt::Memory) => Ok(Err(RunFault::Memory)),
-        Err(Halt::TooDeep) => Err(TooDeep),
-    }
+    let errors = errors_within(alloc, text, edition, nesting)?;
+    let errors = errors.as_slice();
+    Ok((error_lines(alloc, text, errors)?, outcome_of(errors)))
 }
 
 /// Whether there are errors.
@@ -189,28 +203,28 @@ pub struct Formatted {
     pub is_canonical: bool,
 }
 
-/// What `answer_within` gives for `Format` or `FormatTwo`, and whether the tree is canonical, which costs no second
-/// reading.
+/// The normal form of a text, with its comments. Whether its tree is canonical costs no second reading.
 ///
-/// `Err(Memory)`: a growth was refused. `TooDeep` where the text nests deeper than `nesting`.
+/// `Memory`: a growth was refused. `TooDeep` where the text nests deeper than `nesting`.
 pub fn formatted_within(
     alloc: Global,
     text: &str,
     edition: Edition,
     nesting: usize,
-) -> Result<Result<Formatted, RunFault>, TooDeep>
-    ensures text { IfOk result (λ answer. IfOk answer (λ given. (tiles : List Tile)
-        × Tiling edition text.now tiles
-        × (string_bytes given.text ≡ normal_text text.now tiles) × (given.outcome ≡ outcome_of tiles))) }
-    ensures canonical { let t = text.now in
-        IfOk result (λ answer. IfOk answer (λ given. given.is_canonical ≡ true → (tiles : List Tile)
-        × Tiling edition t tiles × (is_canonical edition (body_map (bytes_at t) (body tiles)) ≡ true))) }
-    ensures err { IfOk result (λ answer. IfErr answer (λ fault. fault ≡ RunFault.Memory)) }
-    ensures deep { OnErr result (nesting < length text.now) }
-    ensures deeper { OnErr result (NestsDeeper edition text.now nesting) }
-    ensures shallow { IfOk result (λ answer. IfOk answer (λ given. NestsDeeper edition text.now nesting → ⊥)) }
+) -> Result<Formatted, Halt>
+    ensures text { let t = text.now in IfOk result (λ given. (tiles : List Tile) × Tiling edition t tiles
+        × (string_bytes given.text ≡ normal_text t tiles) × (given.outcome ≡ outcome_of tiles)
+        × (given.is_canonical ≡ is_canonical edition (body_map (bytes_at t) (body tiles)))) }
+    ensures nests { IfErr result (HaltsWithin nesting (length text.now)) }
+    ensures deeper { IfErr result (OnHalt (NestsDeeper edition text.now nesting)) }
+    ensures shallow { IfOk result (λ given. NestsDeeper edition text.now nesting → ⊥) }
 {
-    normal_form(alloc, text, edition, Comments::Kept, nesting, true)
+    let options = Options {
+        edition,
+        comments: Comments::Kept,
+        nesting,
+    };
+    normal_form(alloc, text, options, true)
 }
 
 /// The text of the tree of the text, without its junk.
@@ -220,64 +234,32 @@ fn format(
     edition: Edition,
     comments: Comments,
     nesting: usize,
-) -> Result<Result<(String, Outcome), RunFault>, TooDeep>
-    ensures text { IfOk result (λ answer. IfOk answer (λ given. (tiles : List Tile)
-        × Tiled text.now (TileIn comments edition text.now (family edition text.now)) 0 tiles
-        × (string_bytes given.0 ≡ normal_text text.now tiles) × (given.1 ≡ outcome_of tiles))) }
-    ensures err { IfOk result (λ answer. IfErr answer (λ fault. fault ≡ RunFault.Memory)) }
-    ensures deep { OnErr result (nesting < length text.now) }
-    ensures deeper { OnErr result (TextDeeper edition text.now (TileIn comments edition text.now) nesting 0) }
-    ensures shallow { IfOk result (λ answer. IfOk answer (λ given.
-        TextDeeper edition text.now (TileIn comments edition text.now) nesting 0 → ⊥)) }
-{
-    match normal_form(alloc, text, edition, comments, nesting, false)? {
-        Ok(Formatted { text, outcome, .. }) => Ok(Ok((text, outcome))),
-        Err(fault) => Ok(Err(fault)),
-    }
-}
-
-/// The text in its normal form. Only if `asks`, it asks whether the tree is canonical; else it says that it is not.
-fn normal_form(
-    alloc: Global,
-    text: &str,
-    edition: Edition,
-    comments: Comments,
-    nesting: usize,
-    asks: bool,
-) -> Result<Result<Formatted, RunFault>, TooDeep>
-    ensures text { IfOk result (λ answer. IfOk answer (λ given. (tiles : List Tile)
-        × Tiled text.now (TileIn comments edition text.now (family edition text.now)) 0 tiles
-        × (string_bytes given.text ≡ normal_text text.now tiles) × (given.outcome ≡ outcome_of tiles))) }
-    ensures canonical { let t = text.now in
-        IfOk result (λ answer. IfOk answer (λ given. given.is_canonical ≡ true → (tiles : List Tile)
+) -> Result<(String, Outcome), Halt>
+    ensures text { let t = text.now in IfOk result (λ given. (tiles : List Tile)
         × Tiled t (TileIn comments edition t (family edition t)) 0 tiles
-        × (is_canonical edition (body_map (bytes_at t) (body tiles)) ≡ true))) }
-    ensures err { IfOk result (λ answer. IfErr answer (λ fault. fault ≡ RunFault.Memory)) }
-    ensures deep { OnErr result (nesting < length text.now) }
-    ensures deeper { OnErr result (TextDeeper edition text.now (TileIn comments edition text.now) nesting 0) }
-    ensures shallow { IfOk result (λ answer. IfOk answer (λ given.
-        TextDeeper edition text.now (TileIn comments edition text.now) nesting 0 → ⊥)) }
+        × (string_bytes given.0 ≡ normal_text t tiles) × (given.1 ≡ outcome_of tiles)) }
+    ensures nests { IfErr result (HaltsWithin nesting (length text.now)) }
+    ensures deeper { let t = text.now in
+        IfErr result (OnHalt (TextDeeper edition t (TileIn comments edition t) nesting 0)) }
+    ensures shallow { let t = text.now in
+        IfOk result (λ given. TextDeeper edition t (TileIn comments edition t) nesting 0 → ⊥) }
 {
     let options = Options {
         edition,
         comments,
         nesting,
     };
-    match normal(alloc, text, options, asks) {
-        Ok(given) => Ok(Ok(given)),
-        Err(Halt::Memory) => Ok(Err(RunFault::Memory)),
-        Err(Halt::TooDeep) => Err(TooDeep),
-    }
+    let Formatted { text, outcome, .. } = normal_form(alloc, text, options, false)?;
+    Ok((text, outcome))
 }
 
-/// The same, written as the entries come: none of them is kept.
-fn normal(alloc: Global, text: &str, options: Options, asks: bool) -> Result<Formatted, Halt>
+/// The text in its normal form, written as the entries come: none of them is kept. Only if `asks`, it asks whether the
+/// tree is canonical; else it says that it is not.
+fn normal_form(alloc: Global, text: &str, options: Options, asks: bool) -> Result<Formatted, Halt>
     ensures text { let t = text.now in IfOk result (λ given. (tiles : List Tile)
         × Tiled t (TileIn options.comments options.edition t (family options.edition t)) 0 tiles
-        × (string_bytes given.text ≡ normal_text t tiles) × (given.outcome ≡ outcome_of tiles)) }
-    ensures canonical { let t = text.now in IfOk result (λ given. given.is_canonical ≡ true → (tiles : List Tile)
-        × Tiled t (TileIn options.comments options.edition t (family options.edition t)) 0 tiles
-        × (is_canonical options.edition (body_map (bytes_at t) (body tiles)) ≡ true)) }
+        × (string_bytes given.text ≡ normal_text t tiles) × (given.outcome ≡ outcome_of tiles)
+        × (given.is_canonical ≡ (asks && is_canonical options.edition (body_map (bytes_at t) (body tiles))))) }
     ensures nests { IfErr result (HaltsWithin options.nesting (length text.now)) }
     ensures deeper { let t = text.now in let at = TileIn options.comments options.edition t in
         IfErr result (OnHalt (TextDeeper options.edition t at options.nesting 0)) }
@@ -295,28 +277,8 @@ fn normal(alloc: Global, text: &str, options: Options, asks: bool) -> Result<For
     })
 }
 
-/// The JSON form of the text's tree, as compact text, and LF.
-fn json(
-    alloc: Global,
-    text: &str,
-    nesting: usize,
-) -> Result<Result<(String, Outcome), RunFault>, TooDeep>
-    ensures text { IfOk result (λ answer. IfOk answer (λ given. (tiles : List Tile) × Tiling Edition.One text.now tiles
-        × (string_bytes given.0 ≡ json_text text.now tiles) × (given.1 ≡ outcome_of tiles))) }
-    ensures err { IfOk result (λ answer. IfErr answer (λ fault. fault ≡ RunFault.Memory)) }
-    ensures deep { OnErr result (nesting < length text.now) }
-    ensures deeper { OnErr result (NestsDeeper Edition.One text.now nesting) }
-    ensures shallow { IfOk result (λ answer. IfOk answer (λ given. NestsDeeper Edition.One text.now nesting → ⊥)) }
-{
-    match json_line(alloc, text, nesting) {
-        Ok(answer) => Ok(Ok(answer)),
-        Err(Halt::Memory) => Ok(Err(RunFault::Memory)),
-        Err(Halt::TooDeep) => Err(TooDeep),
-    }
-}
-
-/// The same, written as the entries come: none of them is kept.
-fn json_line(alloc: Global, text: &str, nesting: usize) -> Result<(String, Outcome), Halt>
+/// The JSON form of the text's tree, as compact text, and LF; written as the entries come: none of them is kept.
+fn json(alloc: Global, text: &str, nesting: usize) -> Result<(String, Outcome), Halt>
     ensures text { IfOk result (λ given. (tiles : List Tile) × Tiling Edition.One text.now tiles
         × (string_bytes given.0 ≡ json_text text.now tiles) × (given.1 ≡ outcome_of tiles)) }
     ensures nests { IfErr result (HaltsWithin nesting (length text.now)) }

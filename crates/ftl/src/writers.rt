@@ -39,7 +39,7 @@ impl NormalWriter {
     /// A writer to an empty text, to which no entry came yet. Only if `asks`, it asks whether entries are canonical.
     /// There is room for so many bytes, if there is memory for it.
     pub fn new(alloc: Global, edition: Edition, asks: bool, room: usize) -> NormalWriter
-        ensures { HasNormal edition [] result }
+        ensures { HasNormal edition asks [] result }
     {
         NormalWriter {
             writer: EntryWriter::new(string_with_room(alloc, room), Options::default()),
@@ -65,7 +65,7 @@ impl NormalWriter {
 
     /// The text of the entries that came, or `AllocError` where a growth of it was refused.
     pub fn finish(self) -> Result<String, AllocError>
-        ensures { (edition : _) (tree : BodyTree Text) → HasNormal edition tree self
+        ensures { (edition : _) (asks : _) (tree : BodyTree Text) → HasNormal edition asks tree self
             → IfOk result (λ text. string_bytes text ≡ written false tree) }
     {
         match self.writer.finish() {

@@ -2,6 +2,7 @@
 
 use crate::messages::{refuse, refuse_run};
 use fluent_syntax::parser::TooDeep;
+use fluent_syntax::spans::Halt;
 use ftl::{Command, Formatted, Outcome, RunFault, Watched, formatted_within, run_within};
 use ftl_args::{Task, Work};
 use ftl_project::{Reading, lossy_note, note_line};
@@ -72,9 +73,9 @@ fn format_input<R: Input + Print + Eprint + AllocGlobal>(rt: &R, work: &Work<'_>
     };
     let Reading { edition, nesting } = work.options.reading();
     match formatted_within(rt.alloc(), text, edition, nesting) {
-        Ok(Ok(formatted)) => put_formatted(rt, &formatted, text, work),
-        Ok(Err(fault)) => refuse_run(rt, fault),
-        Err(TooDeep) => refuse(rt, NESTS_DEEPER, TOO_DEEP),
+        Ok(formatted) => put_formatted(rt, &formatted, text, work),
+        Err(Halt::Memory) => refuse_run(rt, RunFault::Memory),
+        Err(Halt::TooDeep) => refuse(rt, NESTS_DEEPER, TOO_DEEP),
     }
 }
 

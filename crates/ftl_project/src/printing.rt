@@ -15,6 +15,7 @@ use crate::lossy_entry::lossy_note;
 use crate::streams::{Streams, byte_order_mark_note, note_line};
 use crate::tally::Tally;
 use fluent_syntax::parser::Edition;
+use fluent_syntax::spans::Halt;
 use ftl::{Command, Outcome, RunFault, answer_within, formatted_within};
 use ftl_files::{Reading, Store};
 use std::alloc::{AllocError, Global};
@@ -106,7 +107,7 @@ impl PrintTask {
         ensures fault { IfErr result (IsUnparsed (NestsDeeper edition text.now self.now.nesting)) }
     {
         match formatted_within(self.alloc, text, edition, self.nesting) {
-            Ok(Ok(formatted)) => Ok(Printed {
+            Ok(formatted) => Ok(Printed {
                 text: formatted.text,
                 outcome: formatted.outcome,
                 doubtful: match formatted.is_canonical {
@@ -114,8 +115,8 @@ impl PrintTask {
                     false => Some(edition),
                 },
             }),
-            Ok(Err(_)) => Err(Fault::Memory),
-            Err(_) => Err(Fault::TooDeep),
+            Err(Halt::Memory) => Err(Fault::Memory),
+            Err(Halt::TooDeep) => Err(Fault::TooDeep),
         }
     }
 

@@ -6,7 +6,7 @@ use Rattle.fluent_syntax_tree.specs.Entry.{body_map}
 use Rattle.fluent_syntax_tree.specs.Spans.{bytes_at}
 use Rattle.fluent_syntax_grammar.specs.Body.{body}
 use Rattle.ftl.proofs.WroteEntries.{wrote_json}
-use Rattle.ftl.proofs.answers.json_line.Goals as goal
+use Rattle.ftl.proofs.answers.json.Goals as goal
 
 pub returns-clause-text : goal.returns-clause-text
 unfolding lib.Utf8.encode
