@@ -1,5 +1,5 @@
 -- How deeply a text nests where reading it stops.
-use Rattle.std.specs.Prelude.{◌≡◌, ℕ, ◌<◌, Option, Some, None}
+use Rattle.std.specs.Prelude.{◌≡◌, ℕ, ◌<◌, Option, Some, None, Result, Ok, Err}
 use Rattle.fluent_syntax_tree.specs.declared.spans.Span.{Span}
 use Rattle.fluent_syntax_parser.specs.declared.options.Halt.{Halt}
 use Rattle.fluent_syntax_parser.specs.declared.options.Halt.TheVariants.{TooDeep}
@@ -22,3 +22,9 @@ ComesTo deeper i j (Some read) = (deeper i → deeper j) × (deeper j → deeper
 -- Where it nests too deeply, this holds.
 abbrev pub OnHalt : Type 0 → Halt → Type 0
 OnHalt deeper halt = halt ≡ TooDeep → deeper
+
+-- Where nothing was read, that from which it is read is as it was.
+abbrev pub StaysUnread : {A X : Type 0} → (old new : X) → Result (Option A) Halt → Type 0
+StaysUnread old new (Ok (Some read)) = Unit {0}
+StaysUnread old new (Ok None) = new ≡ old
+StaysUnread old new (Err halt) = new ≡ old

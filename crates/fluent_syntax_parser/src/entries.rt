@@ -1,5 +1,5 @@
 //! Entries one by one.
-ghost use Rattle.std.specs.Prelude.{◌≡◌, ◌-◌, ◌^◌, ◌<◌, ◌≤◌, length, IfErr, IfOk, IfSome, None, Ok, OnErr};
+ghost use Rattle.std.specs.Prelude.{◌≡◌, ◌-◌, ◌^◌, ◌<◌, ◌≤◌, length, IfErr, IfOk, IfSome, None, Ok};
 ghost use Rattle.std.proofs.Props.{props};
 ghost use Rattle.std.specs.Str.{IsUtf8};
 ghost use Rattle.fluent_syntax_tree.specs.Every.{entry_every};
@@ -7,7 +7,7 @@ ghost use Rattle.fluent_syntax_tree.specs.Spans.{IsTextRange};
 ghost use Rattle.fluent_syntax_tree.specs.View.{entry_view};
 ghost use Rattle.fluent_syntax_grammar.specs.Nesting.{TextDeeper};
 ghost use Rattle.fluent_syntax_grammar.specs.Places.{BlankBlock};
-ghost use Rattle.fluent_syntax_parser.specs.Halts.{ComesTo, HaltsWithin, OnHalt};
+ghost use Rattle.fluent_syntax_parser.specs.Halts.{ComesTo, HaltsWithin, OnHalt, StaysUnread};
 ghost use Rattle.fluent_syntax_parser.specs.MadeEntries.{AddsNext, NextMade};
 ghost use Rattle.fluent_syntax_parser.specs.Rest.{NextError, NextTo, ReadSoFar, TileIn};
 
@@ -69,7 +69,8 @@ impl<'s> Entries<'s> {
 
     /// Reads the next entry, with its error where it is junk. `None` where none is left.
     ///
-    /// Each span is an ordered range of the text, at character boundaries. After a `Halt` it is where it was.
+    /// Each span is an ordered range of the text, at character boundaries. Where nothing is left, and after a `Halt`, it
+    /// is as it was.
     pub fn next_entry(
         &mut self,
         alloc: Global,
@@ -86,7 +87,7 @@ impl<'s> Entries<'s> {
         ensures onward { IfOk result (λ found. IfSome found (λ read. self.old.ptr < self.new.ptr)) }
         ensures blank { let t = self.old.source.bytes.now in
             BlankBlock t self.old.ptr (length t) → result ≡ Ok None }
-        ensures stays { OnErr result (self.new.ptr ≡ self.old.ptr) }
+        ensures stays { StaysUnread self.old self.new result }
         ensures nests { let left = length self.old.source.bytes.now - self.old.ptr in
             IfErr result (HaltsWithin self.old.options.nesting left) }
         ensures deeper { let t = self.old.source.bytes.now in let options = self.old.options in
@@ -116,7 +117,7 @@ impl<'s> Entries<'s> {
         ensures onward { IfOk result (λ found. IfSome found (λ read. self.old.ptr < self.new.ptr)) }
         ensures blank { let t = self.old.source.bytes.now in
             BlankBlock t self.old.ptr (length t) → result ≡ Ok None }
-        ensures stays { OnErr result (self.new.ptr ≡ self.old.ptr) }
+        ensures stays { StaysUnread self.old self.new result }
         ensures nests { let left = length self.old.source.bytes.now - self.old.ptr in
             IfErr result (HaltsWithin self.old.options.nesting left) }
         ensures deeper { let t = self.old.source.bytes.now in let options = self.old.options in
@@ -158,7 +159,7 @@ impl<'s> Entries<'s> {
         ensures onward { IfOk result (λ found. IfSome found (λ span. self.old.ptr < self.new.ptr)) }
         ensures blank { let t = self.old.source.bytes.now in
             BlankBlock t self.old.ptr (length t) → result ≡ Ok None }
-        ensures stays { OnErr result (self.new.ptr ≡ self.old.ptr) }
+        ensures stays { StaysUnread self.old self.new result }
         ensures nests { let left = length self.old.source.bytes.now - self.old.ptr in
             IfErr result (HaltsWithin self.old.options.nesting left) }
         ensures deeper { let t = self.old.source.bytes.now in let options = self.old.options in
@@ -190,7 +191,8 @@ impl<'s> Entries<'s> {
     /// Passes over the next entry, as `next_entry` would read it: gives its error, where it is junk. `None` where no
     /// entry is left.
     ///
-    /// A message whose patterns are each one text on its line takes no memory. After a `Halt` it is where it was.
+    /// A message whose patterns are each one text on its line takes no memory. Where nothing is left, and after a `Halt`,
+    /// it is as it was.
     pub fn next_error(&mut self, alloc: Global) -> Result<Option<Option<ParserError>>, Halt>
         ensures text { self.new.source ≡ self.old.source }
         ensures options { self.new.options ≡ self.old.options }
@@ -202,7 +204,7 @@ impl<'s> Entries<'s> {
         ensures onward { IfOk result (λ found. IfSome found (λ error. self.old.ptr < self.new.ptr)) }
         ensures blank { let t = self.old.source.bytes.now in
             BlankBlock t self.old.ptr (length t) → result ≡ Ok None }
-        ensures stays { OnErr result (self.new.ptr ≡ self.old.ptr) }
+        ensures stays { StaysUnread self.old self.new result }
         ensures nests { let left = length self.old.source.bytes.now - self.old.ptr in
             IfErr result (HaltsWithin self.old.options.nesting left) }
         ensures deeper { let t = self.old.source.bytes.now in let options = self.old.options in
@@ -217,7 +219,8 @@ impl<'s> Entries<'s> {
             comments,
             ..
         } = self.options;
-        if let Some(passed) = self.source.next_text_message(edition, comments, self.ptr) {
+        let source = self.source;
+        if let Some(passed) = source.next_text_message(edition, comments, self.ptr) {
             self.start = passed.start;
             self.ptr = passed.end;
             return Ok(Some(None));
