@@ -6,8 +6,8 @@ use Rattle.fluent_syntax_parser.proofs.tilings.Rests.{at_any_depth}
 use Rattle.fluent_syntax_parser.proofs.readers.SameTrees.{same_entry}
 use Rattle.fluent_syntax_parser.proofs.tiles.Tiles.next_tile.Goals as goal
 
-pub returns-in_default-clause-next : goal.returns-in_default-clause-next
-returns-in_default-clause-next c =
+pub returns-in_default : goal.returns-in_default
+returns-in_default c =
     let put = c.in_ok-end.ensures.adds in
     let some =
     sym c.in_default.is
