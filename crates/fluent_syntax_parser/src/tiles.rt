@@ -1,6 +1,8 @@
 //! What is in a text, one after the other, and where.
 ghost use Rattle.std.specs.Prelude.{◌≡◌, ◌-◌, ◌^◌, ◌<◌, ◌≤◌, length, IfErr, IfOk, IfSome};
-ghost use Rattle.fluent_syntax_parser.specs.Halts.{HaltsWithin, StaysUnread};
+ghost use Rattle.fluent_syntax_grammar.specs.Nesting.{TextDeeper};
+ghost use Rattle.fluent_syntax_grammar.specs.Tiling.{TileIn};
+ghost use Rattle.fluent_syntax_parser.specs.Halts.{ComesTo, HaltsWithin, OnHalt, StaysUnread};
 
 pub(crate) mod junk;
 pub(crate) mod next;
@@ -75,6 +77,11 @@ impl<'s> Tiles<'s> {
         ensures stays { StaysUnread self.old self.new result }
         ensures nests { let left = length self.old.source.bytes.now - self.old.ptr in
             IfErr result (HaltsWithin self.old.nesting left) }
+        ensures deeper { let t = self.old.source.bytes.now in let edition = self.old.edition in
+            IfErr result (OnHalt (TextDeeper edition t (TileIn edition t) self.old.nesting self.old.ptr)) }
+        ensures shallow { let t = self.old.source.bytes.now in let edition = self.old.edition in
+            let deeper = TextDeeper edition t (TileIn edition t) self.old.nesting in
+            IfOk result (ComesTo deeper self.old.ptr self.new.ptr) }
     {
         let source = self.source;
         let start = source.skip_blank_block(self.ptr);
