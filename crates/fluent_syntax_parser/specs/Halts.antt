@@ -1,8 +1,15 @@
 -- How deeply a text nests where reading it stops.
-use Rattle.std.specs.Prelude.{◌≡◌, ℕ, ◌<◌, Option, Some, None, Result, Ok, Err}
+use Rattle.std.specs.Prelude.{◌≡◌, ℕ, ◌<◌, List, Option, Some, None, Result, Ok, Err}
 use Rattle.fluent_syntax_tree.specs.declared.spans.Span.{Span}
+use Rattle.fluent_syntax_grammar.specs.Nesting.{TextDeeper}
+use Rattle.fluent_syntax_parser.specs.Rest.{TileIn}
 use Rattle.fluent_syntax_parser.specs.declared.options.Halt.{Halt}
 use Rattle.fluent_syntax_parser.specs.declared.options.Halt.TheVariants.{TooDeep}
+use Rattle.fluent_syntax_parser.specs.declared.options.Options.{Options}
+
+-- From the place on the text nests deeper than the options allow.
+abbrev pub DeeperFrom : Options → List ℕ → ℕ → Type 0
+DeeperFrom options t i = TextDeeper options.edition t (TileIn options.comments options.edition t) options.nesting i
 
 -- It nests too deeply only where more bytes are left than it may nest.
 abbrev pub HaltsWithin : (nesting left : ℕ) → Halt → Type 0

@@ -5,11 +5,10 @@ ghost use Rattle.std.specs.Str.{IsUtf8};
 ghost use Rattle.fluent_syntax_tree.specs.Every.{entry_every};
 ghost use Rattle.fluent_syntax_tree.specs.Spans.{IsTextRange};
 ghost use Rattle.fluent_syntax_tree.specs.View.{entry_view};
-ghost use Rattle.fluent_syntax_grammar.specs.Nesting.{TextDeeper};
 ghost use Rattle.fluent_syntax_grammar.specs.Places.{BlankBlock};
-ghost use Rattle.fluent_syntax_parser.specs.Halts.{ComesTo, HaltsWithin, OnHalt, StaysUnread};
+ghost use Rattle.fluent_syntax_parser.specs.Halts.{ComesTo, DeeperFrom, HaltsWithin, OnHalt, StaysUnread};
 ghost use Rattle.fluent_syntax_parser.specs.MadeEntries.{AddsNext, NextMade};
-ghost use Rattle.fluent_syntax_parser.specs.Rest.{NextError, NextTo, ReadSoFar, TileIn};
+ghost use Rattle.fluent_syntax_parser.specs.Rest.{NextError, NextTo, ReadSoFar};
 
 use crate::options::{Halt, Options};
 use crate::reader::Reader;
@@ -90,12 +89,10 @@ impl<'s> Entries<'s> {
         ensures stays { StaysUnread self.old self.new result }
         ensures nests { let left = length self.old.source.bytes.now - self.old.ptr in
             IfErr result (HaltsWithin self.old.options.nesting left) }
-        ensures deeper { let t = self.old.source.bytes.now in let options = self.old.options in
-            let at = TileIn options.comments options.edition t in
-            IfErr result (OnHalt (TextDeeper options.edition t at options.nesting self.old.ptr)) }
-        ensures shallow { let t = self.old.source.bytes.now in let options = self.old.options in
-            let at = TileIn options.comments options.edition t in
-            IfOk result (ComesTo (TextDeeper options.edition t at options.nesting) self.old.ptr self.new.ptr) }
+        ensures deeper { let deeper = DeeperFrom self.old.options self.old.source.bytes.now in
+            IfErr result (OnHalt (deeper self.old.ptr)) }
+        ensures shallow { let deeper = DeeperFrom self.old.options self.old.source.bytes.now in
+            IfOk result (ComesTo deeper self.old.ptr self.new.ptr) }
     {
         self.next_entry_with(alloc, &AsSpans)
     }
@@ -120,12 +117,10 @@ impl<'s> Entries<'s> {
         ensures stays { StaysUnread self.old self.new result }
         ensures nests { let left = length self.old.source.bytes.now - self.old.ptr in
             IfErr result (HaltsWithin self.old.options.nesting left) }
-        ensures deeper { let t = self.old.source.bytes.now in let options = self.old.options in
-            let at = TileIn options.comments options.edition t in
-            IfErr result (OnHalt (TextDeeper options.edition t at options.nesting self.old.ptr)) }
-        ensures shallow { let t = self.old.source.bytes.now in let options = self.old.options in
-            let at = TileIn options.comments options.edition t in
-            IfOk result (ComesTo (TextDeeper options.edition t at options.nesting) self.old.ptr self.new.ptr) }
+        ensures deeper { let deeper = DeeperFrom self.old.options self.old.source.bytes.now in
+            IfErr result (OnHalt (deeper self.old.ptr)) }
+        ensures shallow { let deeper = DeeperFrom self.old.options self.old.source.bytes.now in
+            IfOk result (ComesTo deeper self.old.ptr self.new.ptr) }
     {
         let mut body = Vec::new(alloc);
         let mut errors = Vec::new(alloc);
@@ -162,12 +157,10 @@ impl<'s> Entries<'s> {
         ensures stays { StaysUnread self.old self.new result }
         ensures nests { let left = length self.old.source.bytes.now - self.old.ptr in
             IfErr result (HaltsWithin self.old.options.nesting left) }
-        ensures deeper { let t = self.old.source.bytes.now in let options = self.old.options in
-            let at = TileIn options.comments options.edition t in
-            IfErr result (OnHalt (TextDeeper options.edition t at options.nesting self.old.ptr)) }
-        ensures shallow { let t = self.old.source.bytes.now in let options = self.old.options in
-            let at = TileIn options.comments options.edition t in
-            IfOk result (ComesTo (TextDeeper options.edition t at options.nesting) self.old.ptr self.new.ptr) }
+        ensures deeper { let deeper = DeeperFrom self.old.options self.old.source.bytes.now in
+            IfErr result (OnHalt (deeper self.old.ptr)) }
+        ensures shallow { let deeper = DeeperFrom self.old.options self.old.source.bytes.now in
+            IfOk result (ComesTo deeper self.old.ptr self.new.ptr) }
     {
         let Options {
             edition,
@@ -207,20 +200,13 @@ impl<'s> Entries<'s> {
         ensures stays { StaysUnread self.old self.new result }
         ensures nests { let left = length self.old.source.bytes.now - self.old.ptr in
             IfErr result (HaltsWithin self.old.options.nesting left) }
-        ensures deeper { let t = self.old.source.bytes.now in let options = self.old.options in
-            let at = TileIn options.comments options.edition t in
-            IfErr result (OnHalt (TextDeeper options.edition t at options.nesting self.old.ptr)) }
-        ensures shallow { let t = self.old.source.bytes.now in let options = self.old.options in
-            let at = TileIn options.comments options.edition t in
-            IfOk result (ComesTo (TextDeeper options.edition t at options.nesting) self.old.ptr self.new.ptr) }
+        ensures deeper { let deeper = DeeperFrom self.old.options self.old.source.bytes.now in
+            IfErr result (OnHalt (deeper self.old.ptr)) }
+        ensures shallow { let deeper = DeeperFrom self.old.options self.old.source.bytes.now in
+            IfOk result (ComesTo deeper self.old.ptr self.new.ptr) }
     {
-        let Options {
-            edition,
-            comments,
-            ..
-        } = self.options;
         let source = self.source;
-        if let Some(passed) = source.next_text_message(edition, comments, self.ptr) {
+        if let Some(passed) = source.next_text_message(self.options, self.ptr) {
             self.start = passed.start;
             self.ptr = passed.end;
             return Ok(Some(None));
