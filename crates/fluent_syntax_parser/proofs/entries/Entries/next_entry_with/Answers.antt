@@ -33,7 +33,7 @@ returns-clause-places g c =
     let options = c.args.self.now.options in
     let put = rw c.in-Some.is at c.in_ok-_span.ensures.next in
     let in_place = rw c.in-Some.is at c.in_ok-_span.ensures.in_place in
-    let source = ap (λ source. length source.bytes.now) c.in_ok-_span.ensures.text in
+    let source = ap (λ source. length source.bytes.now) c.in_ok-_span.ensures.reads.text in
     let stated =
     c.only_item-2.ensures put.error
     (put.errors_are ∙ ap (λ xs. xs ++ option_to_list put.error) c.new-errors.ensures.items) in
