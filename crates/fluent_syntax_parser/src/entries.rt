@@ -68,8 +68,8 @@ impl<'s> Entries<'s> {
 
     /// Reads the next entry, with its error where it is junk. `None` where none is left.
     ///
-    /// Each span is an ordered range of the text, at character boundaries. Where nothing is left, and after a `Halt`, it
-    /// is as it was.
+    /// Each span is an ordered range of the text, at character boundaries. Where nothing is left, and after a `Halt`,
+    /// it is as it was.
     pub fn next_entry(
         &mut self,
         alloc: Global,
@@ -148,8 +148,8 @@ impl<'s> Entries<'s> {
     /// Passes over the next entry, as `next_entry` would read it: gives its error, where it is junk. `None` where no
     /// entry is left.
     ///
-    /// A message whose patterns are each one text on its line takes no memory. Where nothing is left, and after a `Halt`,
-    /// it is as it was.
+    /// A message whose patterns are each one text on its line takes no memory. Where nothing is left, and after a
+    /// `Halt`, it is as it was.
     pub fn next_error(&mut self, alloc: Global) -> Result<Option<Option<ParserError>>, Halt>
         ensures reads { ReadsEntry self.old self.new result }
         ensures next { let t = self.old.source.bytes.now in let options = self.old.options in

@@ -65,8 +65,8 @@ impl<'s> Tiles<'s> {
 
     /// Reads the next entry or junk; `None` where only blank lines are left.
     ///
-    /// Where nothing is left, and after a `Halt`, it is as it was. It is never `TooDeep` where as many may nest as bytes
-    /// are left.
+    /// Where nothing is left, and after a `Halt`, it is as it was. It is never `TooDeep` where as many may nest as
+    /// bytes are left.
     pub fn next_tile(&mut self, alloc: Global) -> Result<Option<SpannedTile>, Halt>
         ensures text { self.new.source ≡ self.old.source }
         ensures edition { self.new.edition ≡ self.old.edition }
