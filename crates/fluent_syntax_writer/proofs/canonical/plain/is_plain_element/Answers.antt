@@ -1,5 +1,4 @@
 use Rattle.std.proofs.Common.{ap, refl, ◌∙◌}
-use Rattle.fluent_syntax_tree.specs.Tree.{elements, no_elements}
 use Rattle.fluent_syntax_tree.proofs.Views.{view-TextElement, view-Placeable}
 use Rattle.fluent_syntax_writer.specs.Texts.{is_plain_text}
 use Rattle.fluent_syntax_writer.proofs.canonical.plain.is_plain_element.Goals as goal
