@@ -2,9 +2,6 @@
 use Rattle.std.specs.Prelude.{ℕ, ◌≡◌, Bool, ◌&&◌, ◌==◌}
 use Rattle.std.specs.Int.{bit_at}
 use denote.Enum.Declared.{tag_of}
-use Rattle.fluent_syntax_tree.specs.Tree.{ExpressionTree, select, inline}
-use Rattle.fluent_syntax_grammar.specs.Written.{Text}
-use Rattle.fluent_syntax_grammar.specs.Rules.{Rules, inline_obeys, variants_obey}
 use Rattle.fluent_syntax_writer.specs.contracts.canonical.rules.Rule.{the_type}
 use Rattle.fluent_syntax_writer.specs.declared.canonical.rule_set.RuleSet.{RuleSet}
 use Rattle.fluent_syntax_writer.specs.declared.canonical.rules.Rule.{Rule}
@@ -20,8 +17,3 @@ keeps broken rule = bit_at broken.bits (number rule) == 0
 -- The set is that of the rules that the test refuses.
 abbrev pub HoldsBroken : RuleSet → (Rule → Bool) → Type 0
 HoldsBroken broken test = (rule : Rule) → keeps broken rule ≡ test rule
-
--- all that an expression holds obeys
-abbrev pub parts_obey : Rules → ExpressionTree Text → Bool
-parts_obey r (select e vs) = inline_obeys r e && variants_obey r vs
-parts_obey r (inline e) = inline_obeys r e

@@ -10,10 +10,12 @@ use Rattle.fluent_syntax_grammar.specs.Canonical.{canonical_rules, is_canonical}
 use Rattle.fluent_syntax_grammar.specs.Readable.{readable_rules}
 use Rattle.fluent_syntax_grammar.specs.Rules.{entry_obeys}
 use Rattle.fluent_syntax_grammar.specs.Written.{Text}
+use Rattle.fluent_syntax_writer.specs.RuleSets.{keeps, HoldsBroken}
 use Rattle.fluent_syntax_writer.specs.SingleRule.{every_rule, entry_keeps}
 use Rattle.fluent_syntax_writer.specs.Uncanonical.{first_of, broken_rule, or_after, first_from, first_uncanonical}
 use Rattle.fluent_syntax_writer.specs.Uncanonical.{IsFirstBroken}
 use Rattle.fluent_syntax_writer.specs.declared.canonical.broken_rules.Uncanonical.{Uncanonical}
+use Rattle.fluent_syntax_writer.specs.declared.canonical.rule_set.RuleSet.{RuleSet}
 use Rattle.fluent_syntax_writer.specs.declared.canonical.rules.Rule.{Rule}
 use Rattle.fluent_syntax_writer.proofs.rules.EveryRule.{readable, keeps_readable, keeps_every}
 
@@ -60,7 +62,7 @@ module _ {X : Type 0} (test : X → Bool) where
   refused_is (x ∷ xs) found is = refused_by x xs found (test x) refl (refused_is xs found) is
 
   -- tests that give the same refuse the same first
-  pub refused_same : (other : X → Bool) → ((x : X) → other x ≡ test x) → (xs : List X)
+  refused_same : (other : X → Bool) → ((x : X) → other x ≡ test x) → (xs : List X)
       → find (λ x. not (other x)) xs ≡ refused xs
   refused_same other same [] = refl
   refused_same other same (x ∷ xs) =
@@ -76,6 +78,11 @@ nothing_found (Some x) true is = cc
 nothing_found (Some x) false is = refl
 
 -- ---- The rule that an entry breaks
+
+pub first_in_set : (edition : Edition) (e : EntryTree Text) (broken : RuleSet)
+    → HoldsBroken broken (λ rule. entry_keeps edition rule e) → (rules : List Rule)
+    → find (λ rule. not (keeps broken rule)) rules ≡ first_of edition e rules
+first_in_set edition e broken are rules = refused_same (λ rule. entry_keeps edition rule e) (keeps broken) are rules
 
 pub none_broken : (edition : Edition) (e : EntryTree Text)
     → is_none (broken_rule edition e) ≡ entry_obeys (canonical_rules edition) e

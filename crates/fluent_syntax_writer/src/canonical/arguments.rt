@@ -1,4 +1,6 @@
 //! The values of named arguments.
+#![tactic(auto, using(fluent_syntax_tree::proofs::Views::views))]
+
 ghost use Rattle.std.specs.Prelude.{◌≡◌, map};
 ghost use Rattle.fluent_syntax_tree.specs.Tree.{nameds_of};
 ghost use Rattle.fluent_syntax_tree.specs.View.{inline_view, named_view};

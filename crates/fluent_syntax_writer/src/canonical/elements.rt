@@ -1,4 +1,6 @@
 //! The elements of a pattern, by where they are.
+#![tactic(auto, using(fluent_syntax_tree::proofs::Views::views))]
+
 ghost use Rattle.std.specs.Prelude.{◌≡◌, map};
 ghost use Rattle.fluent_syntax_tree.specs.Tree.{elements_of};
 ghost use Rattle.fluent_syntax_tree.specs.View.{element_view};

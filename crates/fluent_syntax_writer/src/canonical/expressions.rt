@@ -1,4 +1,6 @@
 //! Selectors, default variants, and terms with attribute.
+#![tactic(auto, using(fluent_syntax_tree::proofs::Views::views))]
+
 ghost use Rattle.std.specs.Prelude.{◌≡◌, is_none, map};
 ghost use Rattle.fluent_syntax_tree.specs.Tree.{variants_of};
 ghost use Rattle.fluent_syntax_tree.specs.View.{inline_view, variant_view};

@@ -1,4 +1,6 @@
 //! The rules that a pattern breaks by its texts and lines.
+#![tactic(auto, using(fluent_syntax_tree::proofs::Views::views))]
+
 ghost use Rattle.std.specs.Prelude.{◌≡◌, ◌&&◌, map};
 ghost use Rattle.fluent_syntax_tree.specs.Tree.{elements_of};
 ghost use Rattle.fluent_syntax_tree.specs.View.{element_view, pattern_view};

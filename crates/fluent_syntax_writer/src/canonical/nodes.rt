@@ -1,7 +1,10 @@
 //! The rules that a node breaks by itself, but for the layout of patterns.
-ghost use Rattle.std.specs.Prelude.{◌≡◌, ◌&&◌, option_map};
+#![tactic(auto, using(fluent_syntax_tree::proofs::Views::views))]
+
+ghost use Rattle.std.specs.Prelude.{◌≡◌, ◌&&◌, map, option_map};
+ghost use Rattle.fluent_syntax_tree.specs.Tree.{select, inline, variants_of};
 ghost use Rattle.fluent_syntax_tree.specs.View.{identifier_view, comment_view, message_view};
-ghost use Rattle.fluent_syntax_tree.specs.View.{expression_view, arguments_view};
+ghost use Rattle.fluent_syntax_tree.specs.View.{inline_view, arguments_view, variant_view};
 ghost use Rattle.fluent_syntax_grammar.specs.Rules.{option_obeys};
 ghost use Rattle.fluent_syntax_grammar.specs.Readable.{is_message};
 ghost use Rattle.fluent_syntax_writer.specs.RuleSets.{keeps, HoldsBroken};
@@ -46,21 +49,25 @@ pub fn comment_breaks<X, T: ReadTexts<X>>(comment: &Comment<X>) -> RuleSet
         .union(RuleSet::unless(are_plain_lines::<X, T>(content), Rule::BlankCommentLine))
 }
 
-/// Of the select or of the expression in braces, not of what it holds.
-pub fn content_breaks<X, T: ReadTexts<X>>(expression: &Expression<X>) -> RuleSet
-    ensures { HoldsBroken result (λ rule. expression_keeps rule (expression_view T.text expression.now)) }
+/// Of the select itself, not of what it holds.
+pub fn select_breaks<X, T: ReadTexts<X>>(
+    selector: &InlineExpression<X>,
+    variants: &[Variant<X>],
+) -> RuleSet
+    ensures { HoldsBroken result (λ rule. expression_keeps rule (select (inline_view T.text selector.now)
+        (variants_of (map (variant_view T.text) variants.now)))) }
 {
-    match expression {
-        Expression::Select { selector, variants } => {
-            let defaults = defaults::<X, T>(variants);
-            RuleSet::unless(is_selector::<X, T>(selector), Rule::ForbiddenSelector)
-                .union(RuleSet::unless(defaults <= 1, Rule::SecondDefault))
-                .union(RuleSet::unless(1 <= defaults, Rule::NoDefault))
-        }
-        Expression::Inline(inline) => {
-            RuleSet::unless(!is_term_attribute::<X, T>(inline), Rule::TermAttribute)
-        }
-    }
+    let defaults = defaults::<X, T>(variants);
+    RuleSet::unless(is_selector::<X, T>(selector), Rule::ForbiddenSelector)
+        .union(RuleSet::unless(defaults <= 1, Rule::SecondDefault))
+        .union(RuleSet::unless(1 <= defaults, Rule::NoDefault))
+}
+
+/// Of the expression in braces itself, not of what it holds.
+pub fn content_breaks<X, T: ReadTexts<X>>(content: &InlineExpression<X>) -> RuleSet
+    ensures { HoldsBroken result (λ rule. expression_keeps rule (inline (inline_view T.text content.now))) }
+{
+    RuleSet::unless(!is_term_attribute::<X, T>(content), Rule::TermAttribute)
 }
 
 /// Of the named arguments of a list, not of what they hold.

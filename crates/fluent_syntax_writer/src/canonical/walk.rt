@@ -1,4 +1,6 @@
 //! The walk over a tree: the rules that its nodes break, together.
+#![tactic(auto, using(fluent_syntax_tree::proofs::Views::views))]
+
 ghost use Rattle.std.specs.Prelude.{◌&&◌, map, option_map};
 ghost use Rattle.std.specs.List.{list_all};
 ghost use Rattle.fluent_syntax_tree.specs.Tree.{arguments_of, elements_of, inlines_of, nameds_of, variants_of};
@@ -11,7 +13,7 @@ ghost use Rattle.fluent_syntax_grammar.specs.Rules.{named_arguments_obey};
 ghost use Rattle.fluent_syntax_grammar.specs.Rules.{named_obeys, pattern_obeys, elements_obey, element_obeys};
 ghost use Rattle.fluent_syntax_grammar.specs.Rules.{variants_obey, variant_obeys, attribute_obeys, message_obeys};
 ghost use Rattle.fluent_syntax_grammar.specs.Rules.{term_obeys, entry_obeys};
-ghost use Rattle.fluent_syntax_writer.specs.RuleSets.{keeps, HoldsBroken, parts_obey};
+ghost use Rattle.fluent_syntax_writer.specs.RuleSets.{HoldsBroken};
 ghost use Rattle.fluent_syntax_writer.specs.SingleRule.{single_rule};
 
 use crate::canonical::layout::layout_breaks;
@@ -134,20 +136,13 @@ fn expression_breaks<X, T: ReadTexts<X>>(check: RuleCheck, expression: &Expressi
     ensures { HoldsBroken result (λ rule. expression_obeys (single_rule check.edition rule)
         (expression_view T.text expression.now)) }
 {
-    content_breaks::<X, T>(expression).union(parts_break::<X, T>(check, expression))
-}
-
-/// What is broken within the expression.
-#[cycle(breaks)]
-fn parts_break<X, T: ReadTexts<X>>(check: RuleCheck, expression: &Expression<X>) -> RuleSet
-    ensures { HoldsBroken result (λ rule. parts_obey (single_rule check.edition rule)
-        (expression_view T.text expression.now)) }
-{
     match expression {
-        Expression::Select { selector, variants } => {
-            inline_breaks::<X, T>(check, selector).union(variants_break::<X, T>(check, variants))
+        Expression::Select { selector, variants } => select_breaks::<X, T>(selector, variants)
+            .union(inline_breaks::<X, T>(check, selector))
+            .union(variants_break::<X, T>(check, variants)),
+        Expression::Inline(inline) => {
+            content_breaks::<X, T>(inline).union(inline_breaks::<X, T>(check, inline))
         }
-        Expression::Inline(inline) => inline_breaks::<X, T>(check, inline),
     }
 }
 

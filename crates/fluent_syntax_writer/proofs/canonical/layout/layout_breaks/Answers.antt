@@ -9,18 +9,3 @@ returns-then-is_plain_pattern g c = λ k.
     let pattern = pattern_view g.T.ReadTexts.text c.args.pattern.now in
     let plain = sym c.is_plain_pattern.ensures ∙ c.if-is_plain_pattern.true in
     c.none.ensures k ∙ sym (plain_pattern_keeps c.args.edition k pattern plain)
-
-pub returns : goal.returns
-returns g c = λ k.
-    rw (
-      c.union-2.ensures k,
-      c.union.ensures k,
-      c.unless.ensures k,
-      c.has_element.ensures,
-      c.texts_break.ensures k,
-      c.lines_break.ensures k,
-      c.is_multiline-multiline.ensures,
-      c.deref.ensures.value,
-      c.deref-2.ensures.value,
-      ← view-Pattern g.T.ReadTexts.text c.args.pattern.now,
-    )

@@ -1,7 +1,8 @@
 use Rattle.std.proofs.Common.{◌&&◌, map, option_map, refl, ap, ◌∙◌}
-use Rattle.fluent_syntax_tree.specs.Tree.{elements_of, arguments, arguments_of, inlines_of, nameds_of}
+use Rattle.fluent_syntax_tree.specs.Tree.{select, elements_of, arguments, arguments_of, inlines_of, nameds_of}
+use Rattle.fluent_syntax_tree.specs.Tree.{variants_of}
 use Rattle.fluent_syntax_tree.specs.View.{identifier_view, inline_view, element_view, arguments_view, named_view}
-use Rattle.fluent_syntax_tree.specs.View.{pattern_view}
+use Rattle.fluent_syntax_tree.specs.View.{pattern_view, variant_view}
 use Rattle.fluent_syntax_tree.specs.declared.ast.CallArguments.{out-CallArguments}
 use Rattle.fluent_syntax_tree.proofs.Views.{view-Select, view-Inline, view-StringLiteral, view-NumberLiteral}
 use Rattle.fluent_syntax_tree.proofs.Views.{view-FunctionReference, view-MessageReference, view-TermReference}
@@ -9,9 +10,10 @@ use Rattle.fluent_syntax_tree.proofs.Views.{view-VariableReference, view-InlineP
 use Rattle.fluent_syntax_tree.proofs.Views.{view-Placeable, view-Pattern, view-Variant, view-NamedArgument}
 use Rattle.fluent_syntax_tree.proofs.Views.{view-CallArguments}
 use Rattle.fluent_syntax_grammar.specs.Rules.{option_obeys, elements_obey, element_obeys, arguments_obey}
-use Rattle.fluent_syntax_grammar.specs.Rules.{optional_arguments_obey, inlines_obey, named_arguments_obey}
+use Rattle.fluent_syntax_grammar.specs.Rules.{optional_arguments_obey, inlines_obey, named_arguments_obey, inline_obeys}
+use Rattle.fluent_syntax_grammar.specs.Rules.{variants_obey}
 use Rattle.fluent_syntax_writer.specs.RuleSets.{keeps}
-use Rattle.fluent_syntax_writer.specs.SingleRule.{single_rule, arguments_keep, callee_keeps, name_keeps}
+use Rattle.fluent_syntax_writer.specs.SingleRule.{single_rule, expression_keeps, arguments_keep, callee_keeps, name_keeps}
 use Rattle.fluent_syntax_writer.proofs.rules.Nodes.{pattern_parts}
 use Rattle.fluent_syntax_writer.proofs.rules.Sets.{and_assoc}
 use Rattle.fluent_syntax_writer.proofs.rules.Steps.{item_joins}
@@ -42,37 +44,22 @@ elements_break-loop-element-preserved g t c =
           (c.loop-element.invariant.rest k);
     }
 
-pub element_breaks-returns-in-TextElement : goal.element_breaks-returns-in-TextElement
-element_breaks-returns-in-TextElement g t c = rw (c.in-TextElement.is, view-TextElement) c.none.ensures
-
-pub element_breaks-returns-in-Placeable : goal.element_breaks-returns-in-Placeable
-element_breaks-returns-in-Placeable g t c = rw (c.in-Placeable.is, view-Placeable) c.expression_breaks.ensures
-
-pub parts_break-returns-in-Select : goal.parts_break-returns-in-Select
-parts_break-returns-in-Select g t c = λ k.
+pub expression_breaks-returns-in-Select : goal.expression_breaks-returns-in-Select
+expression_breaks-returns-in-Select g t c = λ k.
+    let f = g.T.ReadTexts.text in
+    let r = single_rule c.args.check.edition k in
+    let e = inline_view f c.in-Select.selector in
+    let vs = variants_of (map (variant_view f) c.in-Select.variants.items) in
     rw (
       c.in-Select.is,
       view-Select,
+      c.union-in-Select.ensures k,
       c.union.ensures k,
+      c.select_breaks.ensures k,
       c.inline_breaks.ensures k,
       c.variants_break.ensures k,
       c.deref.ensures.value,
-    )
-
-pub parts_break-returns-in-Inline : goal.parts_break-returns-in-Inline
-parts_break-returns-in-Inline g t c = rw (c.in-Inline.is, view-Inline) c.inline_breaks-in-Inline.ensures
-
-pub variant_breaks-returns : goal.variant_breaks-returns
-variant_breaks-returns g t c = λ k.
-    rw (view-Variant, c.union.ensures k, c.key_breaks.ensures k, c.pattern_breaks.ensures k)
-
-pub inline_breaks-returns-in-StringLiteral : goal.inline_breaks-returns-in-StringLiteral
-inline_breaks-returns-in-StringLiteral g t c =
-    rw (c.in-StringLiteral.is, view-StringLiteral, ← c.as_str.ensures) c.string_breaks.ensures
-
-pub inline_breaks-returns-in-NumberLiteral : goal.inline_breaks-returns-in-NumberLiteral
-inline_breaks-returns-in-NumberLiteral g t c =
-    rw (c.in-NumberLiteral.is, view-NumberLiteral, ← c.as_str-in-NumberLiteral.ensures) c.number_breaks.ensures
+    ) (and_assoc (expression_keeps k (select e vs)) (inline_obeys r e) (variants_obey r vs))
 
 pub inline_breaks-returns-in-FunctionReference : goal.inline_breaks-returns-in-FunctionReference
 inline_breaks-returns-in-FunctionReference g t c = λ k.
@@ -89,10 +76,6 @@ inline_breaks-returns-in-FunctionReference g t c = λ k.
       c.arguments_break.ensures k,
     ) (and_assoc (name_keeps k name) (callee_keeps k name) given)
 
-pub inline_breaks-returns-in-MessageReference : goal.inline_breaks-returns-in-MessageReference
-inline_breaks-returns-in-MessageReference g t c =
-    rw (c.in-MessageReference.is, view-MessageReference) c.reference_breaks.ensures
-
 pub inline_breaks-returns-in-TermReference : goal.inline_breaks-returns-in-TermReference
 inline_breaks-returns-in-TermReference g t c = λ k.
     let f = g.T.ReadTexts.text in
@@ -107,15 +90,6 @@ inline_breaks-returns-in-TermReference g t c = λ k.
       c.reference_breaks-in-TermReference.ensures k,
       c.optional_arguments_break.ensures k,
     ) (and_assoc (name_keeps k (f reference.id.name)) attribute given)
-
-pub inline_breaks-returns-in-VariableReference : goal.inline_breaks-returns-in-VariableReference
-inline_breaks-returns-in-VariableReference g t c =
-    rw (c.in-VariableReference.is, view-VariableReference, ← c.as_str-in-VariableReference.ensures)
-    c.name_breaks.ensures
-
-pub inline_breaks-returns-in-Placeable : goal.inline_breaks-returns-in-Placeable
-inline_breaks-returns-in-Placeable g t c =
-    rw (c.in-Placeable.is, view-InlinePlaceable, ← c.deref.ensures) c.expression_breaks.ensures
 
 pub arguments_break-returns : goal.arguments_break-returns
 arguments_break-returns g t c = λ k.
@@ -135,13 +109,3 @@ arguments_break-returns g t c = λ k.
       view-CallArguments,
     ) (and_assoc (arguments_keep k (arguments positional named)) (inlines_obey r positional)
     (named_arguments_obey r named))
-
-pub named_breaks-returns : goal.named_breaks-returns
-named_breaks-returns g t c = λ k.
-    rw (
-      view-NamedArgument,
-      c.union.ensures k,
-      c.name_breaks.ensures k,
-      c.as_str.ensures,
-      c.inline_breaks.ensures k,
-    )
