@@ -1,5 +1,5 @@
 -- Sets of broken rules, and which rules are kept.
-use Rattle.std.specs.Prelude.{ℕ, ◌≡◌, Bool, ◌&&◌, ◌==◌}
+use Rattle.std.specs.Prelude.{ℕ, ◌≡◌, Bool, ◌==◌}
 use Rattle.std.specs.Int.{bit_at}
 use denote.Enum.Declared.{tag_of}
 use Rattle.fluent_syntax_writer.specs.contracts.canonical.rules.Rule.{the_type}

@@ -7,7 +7,7 @@ ghost use Rattle.fluent_syntax_tree.specs.View.{identifier_view, comment_view, m
 ghost use Rattle.fluent_syntax_tree.specs.View.{inline_view, arguments_view, variant_view};
 ghost use Rattle.fluent_syntax_grammar.specs.Rules.{option_obeys};
 ghost use Rattle.fluent_syntax_grammar.specs.Readable.{is_message};
-ghost use Rattle.fluent_syntax_writer.specs.RuleSets.{keeps, HoldsBroken};
+ghost use Rattle.fluent_syntax_writer.specs.RuleSets.{HoldsBroken};
 ghost use Rattle.fluent_syntax_writer.specs.SingleRule.{comment_keeps, expression_keeps, arguments_keep};
 ghost use Rattle.fluent_syntax_writer.specs.SingleRule.{callee_keeps, string_keeps, number_keeps, name_keeps};
 

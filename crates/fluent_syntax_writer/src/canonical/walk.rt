@@ -1,12 +1,12 @@
 //! The walk over a tree: the rules that its nodes break, together.
 #![tactic(auto, using(fluent_syntax_tree::proofs::Views::views))]
 
-ghost use Rattle.std.specs.Prelude.{◌&&◌, map, option_map};
+ghost use Rattle.std.specs.Prelude.{map, option_map};
 ghost use Rattle.std.specs.List.{list_all};
 ghost use Rattle.fluent_syntax_tree.specs.Tree.{arguments_of, elements_of, inlines_of, nameds_of, variants_of};
-ghost use Rattle.fluent_syntax_tree.specs.View.{identifier_view, key_view, expression_view, inline_view};
+ghost use Rattle.fluent_syntax_tree.specs.View.{key_view, expression_view, inline_view};
 ghost use Rattle.fluent_syntax_tree.specs.View.{arguments_view, named_view, element_view, pattern_view, variant_view};
-ghost use Rattle.fluent_syntax_tree.specs.View.{comment_view, attribute_view, message_view, term_view, entry_view};
+ghost use Rattle.fluent_syntax_tree.specs.View.{attribute_view, message_view, term_view, entry_view};
 ghost use Rattle.fluent_syntax_grammar.specs.Rules.{option_obeys, key_obeys, expression_obeys, inline_obeys};
 ghost use Rattle.fluent_syntax_grammar.specs.Rules.{optional_arguments_obey, arguments_obey, inlines_obey};
 ghost use Rattle.fluent_syntax_grammar.specs.Rules.{named_arguments_obey};

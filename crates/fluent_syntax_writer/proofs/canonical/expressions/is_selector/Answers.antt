@@ -1,8 +1,6 @@
 use Rattle.fluent_syntax_tree.specs.View.{identifier_view}
 use Rattle.fluent_syntax_writer.proofs.rules.Nodes.{term_is_selector, message_is_no_selector}
-use Rattle.fluent_syntax_tree.proofs.Views.{view-StringLiteral, view-NumberLiteral, view-FunctionReference}
-use Rattle.fluent_syntax_tree.proofs.Views.{view-MessageReference, view-TermReference, view-VariableReference}
-use Rattle.fluent_syntax_tree.proofs.Views.{view-InlinePlaceable}
+use Rattle.fluent_syntax_tree.proofs.Views.{view-MessageReference, view-TermReference}
 use Rattle.fluent_syntax_writer.proofs.canonical.expressions.is_selector.Goals as goal
 
 pub returns-in-MessageReference : goal.returns-in-MessageReference

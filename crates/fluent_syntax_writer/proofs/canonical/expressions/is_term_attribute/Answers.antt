@@ -1,9 +1,7 @@
 use Rattle.fluent_syntax_tree.specs.View.{identifier_view}
 use Rattle.fluent_syntax_writer.proofs.rules.Nodes.{term_is_attribute}
 use Rattle.fluent_syntax_tree.specs.Tree.{no_arguments}
-use Rattle.fluent_syntax_tree.proofs.Views.{view-StringLiteral, view-NumberLiteral, view-FunctionReference}
-use Rattle.fluent_syntax_tree.proofs.Views.{view-MessageReference, view-TermReference, view-VariableReference}
-use Rattle.fluent_syntax_tree.proofs.Views.{view-InlinePlaceable}
+use Rattle.fluent_syntax_tree.proofs.Views.{view-TermReference}
 use Rattle.fluent_syntax_writer.proofs.canonical.expressions.is_term_attribute.Goals as goal
 
 pub returns-in-TermReference : goal.returns-in-TermReference

@@ -1,6 +1,5 @@
 use Rattle.std.proofs.Common.{sym, ◌∙◌}
 use Rattle.fluent_syntax_tree.specs.View.{pattern_view}
-use Rattle.fluent_syntax_tree.proofs.Views.{view-Pattern}
 use Rattle.fluent_syntax_writer.proofs.rules.Plain.{plain_pattern_keeps}
 use Rattle.fluent_syntax_writer.proofs.canonical.layout.layout_breaks.Goals as goal
 

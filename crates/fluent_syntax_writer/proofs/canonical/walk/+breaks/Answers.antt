@@ -4,10 +4,7 @@ use Rattle.fluent_syntax_tree.specs.Tree.{variants_of}
 use Rattle.fluent_syntax_tree.specs.View.{identifier_view, inline_view, element_view, arguments_view, named_view}
 use Rattle.fluent_syntax_tree.specs.View.{pattern_view, variant_view}
 use Rattle.fluent_syntax_tree.specs.declared.ast.CallArguments.{out-CallArguments}
-use Rattle.fluent_syntax_tree.proofs.Views.{view-Select, view-Inline, view-StringLiteral, view-NumberLiteral}
-use Rattle.fluent_syntax_tree.proofs.Views.{view-FunctionReference, view-MessageReference, view-TermReference}
-use Rattle.fluent_syntax_tree.proofs.Views.{view-VariableReference, view-InlinePlaceable, view-TextElement}
-use Rattle.fluent_syntax_tree.proofs.Views.{view-Placeable, view-Pattern, view-Variant, view-NamedArgument}
+use Rattle.fluent_syntax_tree.proofs.Views.{view-Select, view-FunctionReference, view-TermReference, view-Pattern}
 use Rattle.fluent_syntax_tree.proofs.Views.{view-CallArguments}
 use Rattle.fluent_syntax_grammar.specs.Rules.{option_obeys, elements_obey, element_obeys, arguments_obey}
 use Rattle.fluent_syntax_grammar.specs.Rules.{optional_arguments_obey, inlines_obey, named_arguments_obey, inline_obeys}
@@ -59,6 +56,7 @@ expression_breaks-returns-in-Select g t c = λ k.
       c.inline_breaks.ensures k,
       c.variants_break.ensures k,
       c.deref.ensures.value,
+      c.deref-in-Select.ensures.value,
     ) (and_assoc (expression_keeps k (select e vs)) (inline_obeys r e) (variants_obey r vs))
 
 pub inline_breaks-returns-in-FunctionReference : goal.inline_breaks-returns-in-FunctionReference
