@@ -4,8 +4,8 @@ use Rattle.std.proofs.Common.{◌&&◌, ◌||◌, ◌==◌, not, refl, sym, ap, 
 use Rattle.std.proofs.lemmas.Bool.{lt-leb}
 use Rattle.std.specs.Prelude.{nat_le, is_none}
 use Rattle.std.specs.List.{list_all, list_any}
-use Rattle.fluent_syntax_tree.specs.Tree.{ExpressionTree, select, inline, InlineTree, VariantTrees, ArgumentsTree, arguments}
-use Rattle.fluent_syntax_tree.specs.Tree.{text_element, placeable, PatternTree, no_elements, elements}
+use Rattle.fluent_syntax_tree.specs.Tree.{ExpressionTree, select, inline, InlineTree, VariantTrees, ArgumentsTree}
+use Rattle.fluent_syntax_tree.specs.Tree.{arguments, text_element, placeable, PatternTree, no_elements, elements}
 use Rattle.fluent_syntax_tree.specs.Entry.{EntryTree}
 use Rattle.fluent_syntax_tree.specs.declared.edition.Edition.{Edition}
 use Rattle.fluent_syntax_grammar.specs.Expressions.{selector_fault, is_term_attribute}

@@ -121,18 +121,18 @@ fn place_breaks<X, T: ReadTexts<X>>(
 {
     match position {
         ElementPosition::Opening => {
-            RuleSet::unless(
-                may_begin::<X, T>(edition, multiline, text, rest),
-                Rule::BlankFirstText,
-            )
-            .union(RuleSet::unless(is_tight(multiline, text), Rule::LeadingSpace))
+            let may_begin = may_begin::<X, T>(edition, multiline, text, rest);
+            RuleSet::unless(may_begin, Rule::BlankFirstText).union(RuleSet::unless(
+                is_tight(multiline, text),
+                Rule::LeadingSpace,
+            ))
         }
         ElementPosition::AfterLine => {
-            RuleSet::unless(
-                may_begin_line::<X, T>(edition, text, rest),
-                Rule::LineOfSpaces,
-            )
-            .union(RuleSet::unless(!begins_line_with_mark(text), Rule::MarkedLine))
+            let may_begin = may_begin_line::<X, T>(edition, text, rest);
+            RuleSet::unless(may_begin, Rule::LineOfSpaces).union(RuleSet::unless(
+                !begins_line_with_mark(text),
+                Rule::MarkedLine,
+            ))
         }
         ElementPosition::WithinLine => RuleSet::unless(false, Rule::TextAfterText),
         ElementPosition::AfterPlaceable => RuleSet::none(),

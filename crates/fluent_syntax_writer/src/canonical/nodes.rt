@@ -78,10 +78,9 @@ pub fn argument_list_breaks<X, T: ReadTexts<X>>(
     ensures { HoldsBroken result (λ rule. arguments_keep rule (arguments_view T.text arguments.now)) }
 {
     let named = &arguments.named;
-    RuleSet::unless(have_values::<X, T>(named), Rule::ForbiddenArgument).union(RuleSet::unless(
-        have_new_names::<X, T>(alloc, named),
-        Rule::RepeatedArgument,
-    ))
+    let values = RuleSet::unless(have_values::<X, T>(named), Rule::ForbiddenArgument);
+    let names = RuleSet::unless(have_new_names::<X, T>(alloc, named), Rule::RepeatedArgument);
+    values.union(names)
 }
 
 /// Of the name of a reference, and that of its attribute.

@@ -91,10 +91,8 @@ fn attribute_breaks<X, T: ReadTexts<X>>(check: RuleCheck, attribute: &Attribute<
     ensures { HoldsBroken result (λ rule. attribute_obeys (single_rule check.edition rule)
         (attribute_view T.text attribute.now)) }
 {
-    name_breaks(T::as_str(&attribute.id.name)).union(pattern_breaks::<X, T>(
-        check,
-        &attribute.value,
-    ))
+    let name = name_breaks(T::as_str(&attribute.id.name));
+    name.union(pattern_breaks::<X, T>(check, &attribute.value))
 }
 
 #[cycle(breaks)]
@@ -102,10 +100,8 @@ fn pattern_breaks<X, T: ReadTexts<X>>(check: RuleCheck, pattern: &Pattern<X>) ->
     ensures { HoldsBroken result (λ rule. pattern_obeys (single_rule check.edition rule)
         (pattern_view T.text pattern.now)) }
 {
-    layout_breaks::<X, T>(check.edition, pattern).union(elements_break::<X, T>(
-        check,
-        &pattern.elements,
-    ))
+    let layout = layout_breaks::<X, T>(check.edition, pattern);
+    layout.union(elements_break::<X, T>(check, &pattern.elements))
 }
 
 #[cycle(breaks)]

@@ -10,7 +10,8 @@ use Rattle.fluent_syntax_grammar.specs.Rules.{option_obeys, elements_obey, eleme
 use Rattle.fluent_syntax_grammar.specs.Rules.{optional_arguments_obey, inlines_obey, named_arguments_obey, inline_obeys}
 use Rattle.fluent_syntax_grammar.specs.Rules.{variants_obey}
 use Rattle.fluent_syntax_writer.specs.RuleSets.{keeps}
-use Rattle.fluent_syntax_writer.specs.SingleRule.{single_rule, expression_keeps, arguments_keep, callee_keeps, name_keeps}
+use Rattle.fluent_syntax_writer.specs.SingleRule.{single_rule, expression_keeps, arguments_keep, callee_keeps}
+use Rattle.fluent_syntax_writer.specs.SingleRule.{name_keeps}
 use Rattle.fluent_syntax_writer.proofs.rules.Nodes.{pattern_parts}
 use Rattle.fluent_syntax_writer.proofs.rules.Sets.{and_assoc}
 use Rattle.fluent_syntax_writer.proofs.rules.Steps.{item_joins}
@@ -22,7 +23,7 @@ pattern_breaks-returns g t c = λ k.
     let f = g.T.ReadTexts.text in
     rw (
       c.union.ensures k,
-      c.layout_breaks.ensures k,
+      c.layout_breaks-layout.ensures k,
       c.elements_break.ensures k,
       c.deref.ensures.value,
       ← view-Pattern f pattern,
