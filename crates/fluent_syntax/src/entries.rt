@@ -1,10 +1,10 @@
 //! Texts read with a text of the source in place of each span.
 ghost use Rattle.std.specs.Prelude.{◌+◌, ◌<◌, ◌^◌, ◌≢◌, length, Err, IfOk, IsOk, OnErr};
 ghost use Rattle.fluent_syntax.specs.Errors.{ErrorsAscend, JunkIsRefused};
-ghost use Rattle.fluent_syntax_grammar.specs.Nesting.{TextDeeper};
 ghost use Rattle.fluent_syntax_grammar.specs.Places.{BlankBlock};
 ghost use Rattle.fluent_syntax_parser.specs.Answers.{ErrorsInText};
-ghost use Rattle.fluent_syntax_parser.specs.Rest.{AnswersIn, TileIn};
+ghost use Rattle.fluent_syntax_parser.specs.Halts.{DeeperFrom};
+ghost use Rattle.fluent_syntax_parser.specs.Rest.{AnswersIn};
 ghost use Rattle.fluent_syntax_parser.specs.declared.fault.ParseFault.TheVariants.{Memory};
 ghost use Rattle.fluent_syntax_tree.specs.Entry.{body_map};
 ghost use Rattle.fluent_syntax_tree.specs.Spans.{bytes_at};
@@ -31,10 +31,8 @@ pub(crate) fn parse_by<'s, S: Slice<'s>>(
     ensures errors { IfOk result (ErrorsAscend (S.text input.now)) }
     ensures places { IfOk result (ErrorsInText (S.text input.now)) }
     ensures nests { OnErr result (options.nesting < length (S.text input.now)) }
-    ensures deeper { let t = S.text input.now in let at = TileIn options.comments options.edition t in
-        OnErr result (TextDeeper options.edition t at options.nesting 0) }
-    ensures shallow { let t = S.text input.now in let at = TileIn options.comments options.edition t in
-        IfOk result (λ answer. answer ≢ Err Memory → TextDeeper options.edition t at options.nesting 0 → ⊥) }
+    ensures deeper { OnErr result (DeeperFrom options (S.text input.now) 0) }
+    ensures shallow { IfOk result (λ answer. answer ≢ Err Memory → DeeperFrom options (S.text input.now) 0 → ⊥) }
 {
     let slices: Slices<'_, 's, S> = Slices::new(input);
     parse_texts(alloc, input.as_str(), options, &slices)

@@ -1,8 +1,18 @@
--- How deeply a text nests where reading it stops.
-use Rattle.std.specs.Prelude.{◌≡◌, ℕ, ◌<◌, Option, Some, None}
+-- How far a text is read, and how deeply it nests where reading it stops.
+use Rattle.std.specs.Prelude.{◌≡◌, ℕ, ◌-◌, ◌<◌, ◌≤◌, List, length, Option, Some, None, Result, Ok, Err, IfErr, IfOk}
+use Rattle.std.specs.Prelude.{IfSome}
 use Rattle.fluent_syntax_tree.specs.declared.spans.Span.{Span}
+use Rattle.fluent_syntax_grammar.specs.Nesting.{TextDeeper}
+use Rattle.fluent_syntax_grammar.specs.Places.{BlankBlock}
+use Rattle.fluent_syntax_parser.specs.Rest.{TileIn}
+use Rattle.fluent_syntax_parser.specs.declared.entries.Entries.{Entries}
 use Rattle.fluent_syntax_parser.specs.declared.options.Halt.{Halt}
 use Rattle.fluent_syntax_parser.specs.declared.options.Halt.TheVariants.{TooDeep}
+use Rattle.fluent_syntax_parser.specs.declared.options.Options.{Options}
+
+-- From the place on the text nests deeper than the options allow.
+abbrev pub DeeperFrom : Options → List ℕ → ℕ → Type 0
+DeeperFrom options t i = TextDeeper options.edition t (TileIn options.comments options.edition t) options.nesting i
 
 -- It nests too deeply only where more bytes are left than it may nest.
 abbrev pub HaltsWithin : (nesting left : ℕ) → Halt → Type 0
@@ -22,3 +32,21 @@ ComesTo deeper i j (Some read) = (deeper i → deeper j) × (deeper j → deeper
 -- Where it nests too deeply, this holds.
 abbrev pub OnHalt : Type 0 → Halt → Type 0
 OnHalt deeper halt = halt ≡ TooDeep → deeper
+
+-- Where nothing was read, that from which it is read is as it was.
+abbrev pub StaysUnread : {A X : Type 0} → (old new : X) → Result (Option A) Halt → Type 0
+StaysUnread old new (Ok (Some read)) = Unit {0}
+StaysUnread old new (Ok None) = new ≡ old
+StaysUnread old new (Err halt) = new ≡ old
+
+-- The next entry was read, whatever was given of it.
+pub record ReadsEntry {A : Type 0} (old new : Entries) (result : Result (Option A) Halt) : Type 0 where
+  pub text : new.source ≡ old.source
+  pub options : new.options ≡ old.options
+  pub stays : StaysUnread old new result
+  pub forward : old.ptr ≤ new.ptr
+  pub onward : IfOk result (λ found. IfSome found (λ read. old.ptr < new.ptr))
+  pub blank : BlankBlock old.source.bytes.now old.ptr (length old.source.bytes.now) → result ≡ Ok None
+  pub nests : IfErr result (HaltsWithin old.options.nesting (length old.source.bytes.now - old.ptr))
+  pub deeper : IfErr result (OnHalt (DeeperFrom old.options old.source.bytes.now old.ptr))
+  pub shallow : IfOk result (ComesTo (DeeperFrom old.options old.source.bytes.now) old.ptr new.ptr)

@@ -1,15 +1,12 @@
 //! Entries one by one.
-ghost use Rattle.std.specs.Prelude.{◌≡◌, ◌-◌, ◌^◌, ◌<◌, ◌≤◌, length, IfErr, IfOk, IfSome, None, Ok, OnErr};
+ghost use Rattle.std.specs.Prelude.{◌≡◌, ◌^◌, ◌<◌, ◌≤◌, length, IfOk, IfSome};
 ghost use Rattle.std.proofs.Props.{props};
 ghost use Rattle.std.specs.Str.{IsUtf8};
 ghost use Rattle.fluent_syntax_tree.specs.Every.{entry_every};
 ghost use Rattle.fluent_syntax_tree.specs.Spans.{IsTextRange};
 ghost use Rattle.fluent_syntax_tree.specs.View.{entry_view};
-ghost use Rattle.fluent_syntax_grammar.specs.Nesting.{TextDeeper};
-ghost use Rattle.fluent_syntax_grammar.specs.Places.{BlankBlock};
-ghost use Rattle.fluent_syntax_parser.specs.Halts.{ComesTo, HaltsWithin, OnHalt};
 ghost use Rattle.fluent_syntax_parser.specs.MadeEntries.{AddsNext, NextMade};
-ghost use Rattle.fluent_syntax_parser.specs.Rest.{NextError, NextTo, ReadSoFar, TileIn};
+ghost use Rattle.fluent_syntax_parser.specs.Rest.{NextError, NextTo, ReadSoFar};
 
 use crate::options::{Halt, Options};
 use crate::reader::Reader;
@@ -36,6 +33,8 @@ pub struct Entries<'s> {
 }
 
 impl<'s> Entries<'s> {
+    ghost use Rattle.fluent_syntax_parser.specs.Halts.{ReadsEntry};
+
     /// The entries of the whole text.
     pub fn new(text: &'s str, options: Options) -> Entries<'s>
         ensures text { result.source.bytes.now ≡ text.now }
@@ -69,32 +68,19 @@ impl<'s> Entries<'s> {
 
     /// Reads the next entry, with its error where it is junk. `None` where none is left.
     ///
-    /// Each span is an ordered range of the text, at character boundaries. After a `Halt` it is where it was.
+    /// Each span is an ordered range of the text, at character boundaries. Where nothing is left, and after a `Halt`,
+    /// it is as it was.
     pub fn next_entry(
         &mut self,
         alloc: Global,
     ) -> Result<Option<(Entry<Span>, Option<ParserError>)>, Halt>
-        ensures text { self.new.source ≡ self.old.source }
-        ensures options { self.new.options ≡ self.old.options }
+        ensures reads { ReadsEntry self.old self.new result }
         ensures next { let t = self.old.source.bytes.now in let options = self.old.options in
             IfOk result (NextTo options.comments options.edition t self.old.ptr self.new.start self.new.ptr) }
         ensures parts { let t = self.old.source.bytes.now in
             IfOk result (λ found. IfSome found (λ read. entry_every (IsTextRange t) (entry_view (λ s. s) read.0))) }
         ensures places { let t = self.old.source.bytes.now in
             IfOk result (λ found. IfSome found (λ read. IfSome read.1 (λ error. error.pos.start ≤ length t))) }
-        ensures forward { self.old.ptr ≤ self.new.ptr }
-        ensures onward { IfOk result (λ found. IfSome found (λ read. self.old.ptr < self.new.ptr)) }
-        ensures blank { let t = self.old.source.bytes.now in
-            BlankBlock t self.old.ptr (length t) → result ≡ Ok None }
-        ensures stays { OnErr result (self.new.ptr ≡ self.old.ptr) }
-        ensures nests { let left = length self.old.source.bytes.now - self.old.ptr in
-            IfErr result (HaltsWithin self.old.options.nesting left) }
-        ensures deeper { let t = self.old.source.bytes.now in let options = self.old.options in
-            let at = TileIn options.comments options.edition t in
-            IfErr result (OnHalt (TextDeeper options.edition t at options.nesting self.old.ptr)) }
-        ensures shallow { let t = self.old.source.bytes.now in let options = self.old.options in
-            let at = TileIn options.comments options.edition t in
-            IfOk result (ComesTo (TextDeeper options.edition t at options.nesting) self.old.ptr self.new.ptr) }
     {
         self.next_entry_with(alloc, &AsSpans)
     }
@@ -105,26 +91,12 @@ impl<'s> Entries<'s> {
         alloc: Global,
         texts: &M,
     ) -> Result<Option<(Entry<M::Text>, Option<ParserError>)>, Halt>
-        ensures text { self.new.source ≡ self.old.source }
-        ensures options { self.new.options ≡ self.old.options }
+        ensures reads { ReadsEntry self.old self.new result }
         ensures next { let t = self.old.source.bytes.now in let options = self.old.options in
             let f = M.source texts.now in IfOk result
             (NextMade f M.made options.comments options.edition t self.old.ptr self.new.start self.new.ptr) }
         ensures places { let t = self.old.source.bytes.now in
             IfOk result (λ found. IfSome found (λ read. IfSome read.1 (λ error. error.pos.start ≤ length t))) }
-        ensures forward { self.old.ptr ≤ self.new.ptr }
-        ensures onward { IfOk result (λ found. IfSome found (λ read. self.old.ptr < self.new.ptr)) }
-        ensures blank { let t = self.old.source.bytes.now in
-            BlankBlock t self.old.ptr (length t) → result ≡ Ok None }
-        ensures stays { OnErr result (self.new.ptr ≡ self.old.ptr) }
-        ensures nests { let left = length self.old.source.bytes.now - self.old.ptr in
-            IfErr result (HaltsWithin self.old.options.nesting left) }
-        ensures deeper { let t = self.old.source.bytes.now in let options = self.old.options in
-            let at = TileIn options.comments options.edition t in
-            IfErr result (OnHalt (TextDeeper options.edition t at options.nesting self.old.ptr)) }
-        ensures shallow { let t = self.old.source.bytes.now in let options = self.old.options in
-            let at = TileIn options.comments options.edition t in
-            IfOk result (ComesTo (TextDeeper options.edition t at options.nesting) self.old.ptr self.new.ptr) }
     {
         let mut body = Vec::new(alloc);
         let mut errors = Vec::new(alloc);
@@ -147,26 +119,12 @@ impl<'s> Entries<'s> {
         body: &mut Vec<Entry<M::Text>>,
         errors: &mut Vec<ParserError>,
     ) -> Result<Option<Span>, Halt>
-        ensures text { self.new.source ≡ self.old.source }
-        ensures options { self.new.options ≡ self.old.options }
+        ensures reads { ReadsEntry self.old self.new result }
         ensures next { let t = self.old.source.bytes.now in let options = self.old.options in
             let f = M.source texts.now in IfOk result (AddsNext f M.made options.comments options.edition t
             self.old.ptr body.old.items body.new.items errors.old.items errors.new.items) }
         ensures in_place { IfOk result (λ found. IfSome found (λ span.
             span ≡ record { start = self.new.start; end = self.new.ptr })) }
-        ensures forward { self.old.ptr ≤ self.new.ptr }
-        ensures onward { IfOk result (λ found. IfSome found (λ span. self.old.ptr < self.new.ptr)) }
-        ensures blank { let t = self.old.source.bytes.now in
-            BlankBlock t self.old.ptr (length t) → result ≡ Ok None }
-        ensures stays { OnErr result (self.new.ptr ≡ self.old.ptr) }
-        ensures nests { let left = length self.old.source.bytes.now - self.old.ptr in
-            IfErr result (HaltsWithin self.old.options.nesting left) }
-        ensures deeper { let t = self.old.source.bytes.now in let options = self.old.options in
-            let at = TileIn options.comments options.edition t in
-            IfErr result (OnHalt (TextDeeper options.edition t at options.nesting self.old.ptr)) }
-        ensures shallow { let t = self.old.source.bytes.now in let options = self.old.options in
-            let at = TileIn options.comments options.edition t in
-            IfOk result (ComesTo (TextDeeper options.edition t at options.nesting) self.old.ptr self.new.ptr) }
     {
         let Options {
             edition,
@@ -190,34 +148,17 @@ impl<'s> Entries<'s> {
     /// Passes over the next entry, as `next_entry` would read it: gives its error, where it is junk. `None` where no
     /// entry is left.
     ///
-    /// A message whose patterns are each one text on its line takes no memory. After a `Halt` it is where it was.
+    /// A message whose patterns are each one text on its line takes no memory. Where nothing is left, and after a
+    /// `Halt`, it is as it was.
     pub fn next_error(&mut self, alloc: Global) -> Result<Option<Option<ParserError>>, Halt>
-        ensures text { self.new.source ≡ self.old.source }
-        ensures options { self.new.options ≡ self.old.options }
+        ensures reads { ReadsEntry self.old self.new result }
         ensures next { let t = self.old.source.bytes.now in let options = self.old.options in
             IfOk result (NextError options.comments options.edition t self.old.ptr self.new.start self.new.ptr) }
         ensures places { let t = self.old.source.bytes.now in
             IfOk result (λ found. IfSome found (λ error. IfSome error (λ e. e.pos.start ≤ length t))) }
-        ensures forward { self.old.ptr ≤ self.new.ptr }
-        ensures onward { IfOk result (λ found. IfSome found (λ error. self.old.ptr < self.new.ptr)) }
-        ensures blank { let t = self.old.source.bytes.now in
-            BlankBlock t self.old.ptr (length t) → result ≡ Ok None }
-        ensures stays { OnErr result (self.new.ptr ≡ self.old.ptr) }
-        ensures nests { let left = length self.old.source.bytes.now - self.old.ptr in
-            IfErr result (HaltsWithin self.old.options.nesting left) }
-        ensures deeper { let t = self.old.source.bytes.now in let options = self.old.options in
-            let at = TileIn options.comments options.edition t in
-            IfErr result (OnHalt (TextDeeper options.edition t at options.nesting self.old.ptr)) }
-        ensures shallow { let t = self.old.source.bytes.now in let options = self.old.options in
-            let at = TileIn options.comments options.edition t in
-            IfOk result (ComesTo (TextDeeper options.edition t at options.nesting) self.old.ptr self.new.ptr) }
     {
-        let Options {
-            edition,
-            comments,
-            ..
-        } = self.options;
-        if let Some(passed) = self.source.next_text_message(edition, comments, self.ptr) {
+        let source = self.source;
+        if let Some(passed) = source.next_text_message(self.options, self.ptr) {
             self.start = passed.start;
             self.ptr = passed.end;
             return Ok(Some(None));

@@ -5,7 +5,7 @@ ghost use Rattle.fluent_syntax_grammar.specs.Nesting.{NestsDeeper, RuntimeNestsD
 ghost use Rattle.fluent_syntax_grammar.specs.Places.{BlankBlock};
 ghost use Rattle.fluent_syntax_parser.specs.Answers.{AnswersRuntimeSpans, AnswersSpans, ErrorsInText};
 ghost use Rattle.fluent_syntax_parser.specs.Rest.{AnswersIn, AnswersSpansIn, TileIn};
-ghost use Rattle.fluent_syntax_parser.specs.Halts.{HaltsWithin, OnHalt};
+ghost use Rattle.fluent_syntax_parser.specs.Halts.{DeeperFrom, HaltsWithin, OnHalt};
 ghost use Rattle.fluent_syntax_parser.specs.Parts.{HasParts};
 ghost use Rattle.fluent_syntax_parser.specs.declared.fault.ParseFault.TheVariants.{Memory};
 ghost use Rattle.fluent_syntax_parser.specs.MadeEntries.{MadeBody};
@@ -69,10 +69,8 @@ pub fn parse_texts<M: MakeTexts>(
     ensures places { IfOk result (ErrorsInText source.now) }
     ensures blank { BlankBlock source.now 0 (length source.now) → IfOk result (λ answer. IsOk answer) }
     ensures nests { OnErr result (options.nesting < length source.now) }
-    ensures deeper { let t = source.now in let at = TileIn options.comments options.edition t in
-        OnErr result (TextDeeper options.edition t at options.nesting 0) }
-    ensures shallow { let t = source.now in let at = TileIn options.comments options.edition t in
-        IfOk result (λ answer. answer ≢ Err Memory → TextDeeper options.edition t at options.nesting 0 → ⊥) }
+    ensures deeper { OnErr result (DeeperFrom options source.now 0) }
+    ensures shallow { IfOk result (λ answer. answer ≢ Err Memory → DeeperFrom options source.now 0 → ⊥) }
 {
     let reader = Reader {
         source: Source {
@@ -100,10 +98,8 @@ fn parse_by(
     ensures places { IfOk result (ErrorsInText source.now) }
     ensures blank { BlankBlock source.now 0 (length source.now) → IfOk result (λ answer. IsOk answer) }
     ensures nests { OnErr result (options.nesting < length source.now) }
-    ensures deeper { let t = source.now in let at = TileIn options.comments options.edition t in
-        OnErr result (TextDeeper options.edition t at options.nesting 0) }
-    ensures shallow { let t = source.now in let at = TileIn options.comments options.edition t in
-        IfOk result (λ answer. answer ≢ Err Memory → TextDeeper options.edition t at options.nesting 0 → ⊥) }
+    ensures deeper { OnErr result (DeeperFrom options source.now 0) }
+    ensures shallow { IfOk result (λ answer. answer ≢ Err Memory → DeeperFrom options source.now 0 → ⊥) }
 {
     parse_texts(alloc, source, options, &AsSpans)
 }

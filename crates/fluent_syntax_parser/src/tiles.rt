@@ -1,6 +1,8 @@
 //! What is in a text, one after the other, and where.
-ghost use Rattle.std.specs.Prelude.{◌≡◌, ◌-◌, ◌^◌, ◌<◌, ◌≤◌, length, IfErr, IfOk, IfSome, OnErr};
-ghost use Rattle.fluent_syntax_parser.specs.Halts.{HaltsWithin};
+ghost use Rattle.std.specs.Prelude.{◌≡◌, ◌-◌, ◌^◌, ◌<◌, ◌≤◌, length, IfErr, IfOk, IfSome};
+ghost use Rattle.fluent_syntax_grammar.specs.Nesting.{TextDeeper};
+ghost use Rattle.fluent_syntax_grammar.specs.Tiling.{TileIn};
+ghost use Rattle.fluent_syntax_parser.specs.Halts.{ComesTo, HaltsWithin, OnHalt, StaysUnread};
 
 pub(crate) mod junk;
 pub(crate) mod next;
@@ -63,7 +65,8 @@ impl<'s> Tiles<'s> {
 
     /// Reads the next entry or junk; `None` where only blank lines are left.
     ///
-    /// After a `Halt` it is where it was. It is never `TooDeep` where as many may nest as bytes are left.
+    /// Where nothing is left, and after a `Halt`, it is as it was. It is never `TooDeep` where as many may nest as
+    /// bytes are left.
     pub fn next_tile(&mut self, alloc: Global) -> Result<Option<SpannedTile>, Halt>
         ensures text { self.new.source ≡ self.old.source }
         ensures edition { self.new.edition ≡ self.old.edition }
@@ -71,16 +74,22 @@ impl<'s> Tiles<'s> {
         ensures next { let t = self.old.source.bytes.now in
             IfOk result (NextTile self.old.edition t self.old.ptr self.new.ptr) }
         ensures onward { IfOk result (λ found. IfSome found (λ read. self.old.ptr < self.new.ptr)) }
-        ensures stays { OnErr result (self.new.ptr ≡ self.old.ptr) }
+        ensures stays { StaysUnread self.old self.new result }
         ensures nests { let left = length self.old.source.bytes.now - self.old.ptr in
             IfErr result (HaltsWithin self.old.nesting left) }
+        ensures deeper { let t = self.old.source.bytes.now in let edition = self.old.edition in
+            IfErr result (OnHalt (TextDeeper edition t (TileIn edition t) self.old.nesting self.old.ptr)) }
+        ensures shallow { let t = self.old.source.bytes.now in let edition = self.old.edition in
+            let deeper = TextDeeper edition t (TileIn edition t) self.old.nesting in
+            IfOk result (ComesTo deeper self.old.ptr self.new.ptr) }
     {
-        let start = self.source.skip_blank_block(self.ptr);
-        if start == self.source.bytes.len() {
+        let source = self.source;
+        let start = source.skip_blank_block(self.ptr);
+        if start == source.bytes.len() {
             return Ok(None);
         }
         let reader = Reader {
-            source: self.source,
+            source,
             alloc,
             edition: self.edition,
             texts: &AsSpans,

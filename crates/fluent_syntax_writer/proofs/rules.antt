@@ -6,5 +6,6 @@ pub mod Named
 pub mod Nodes
 pub mod Plain
 pub mod Positions
+pub mod Sets
 pub mod Steps
 pub mod Strings

@@ -3,7 +3,7 @@ use Rattle.std.specs.Prelude.{ℕ, List, [], Option, Some, None, Bool, true, fal
 use Rattle.fluent_syntax_tree.specs.Tree.{ElementTree, text_element, placeable, PatternTree}
 use Rattle.fluent_syntax_tree.specs.declared.edition.Edition.{Edition}
 use Rattle.fluent_syntax_grammar.specs.Readable as grammar
-use Rattle.fluent_syntax_grammar.specs.Readable.{is_text, may_occur_at, may_precede, is_line_start, position_after}
+use Rattle.fluent_syntax_grammar.specs.Readable.{is_line_start, position_after}
 use Rattle.fluent_syntax_grammar.specs.Canonical.{text_indents, placeable_indents}
 use Rattle.fluent_syntax_grammar.specs.PatternTexts.{is_lone_lf, begins_with_space, after_spaces}
 use Rattle.fluent_syntax_grammar.specs.Written.{Text, begins_with_mark}
@@ -26,13 +26,6 @@ position_past (placeable e) = grammar.after_placeable
 abbrev pub is_placeable : ElementTree Text → Bool
 is_placeable (text_element v) = false
 is_placeable (placeable e) = true
-
--- the rules of one element, by those that follow it
-abbrev pub is_element :
-    Edition → (multiline : Bool) → grammar.ElementPosition → ElementTree Text → (rest : PatternTree Text) → Bool
-is_element edition multiline s (text_element v) rest =
-    is_text v && (may_occur_at edition multiline s v rest && may_precede v rest)
-is_element edition multiline s (placeable e) rest = true
 
 -- one rule of one element, by those that follow it
 abbrev pub element_keeps :

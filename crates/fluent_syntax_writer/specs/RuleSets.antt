@@ -1,21 +1,19 @@
--- The rules of a standard.
-use Rattle.std.specs.Prelude.{Bool, ◌&&◌}
-use Rattle.fluent_syntax_tree.specs.Tree.{ExpressionTree, select, inline}
-use Rattle.fluent_syntax_grammar.specs.Written.{Text}
-use Rattle.fluent_syntax_grammar.specs.Rules.{Rules, inline_obeys, variants_obey}
-use Rattle.fluent_syntax_grammar.specs.Readable.{readable_rules}
-use Rattle.fluent_syntax_grammar.specs.Canonical.{canonical_rules}
-use Rattle.fluent_syntax_writer.specs.SingleRule.{single_rule}
+-- Sets of broken rules, and which rules are kept.
+use Rattle.std.specs.Prelude.{ℕ, ◌≡◌, Bool, ◌==◌}
+use Rattle.std.specs.Int.{bit_at}
+use denote.Enum.Declared.{tag_of}
+use Rattle.fluent_syntax_writer.specs.contracts.canonical.rules.Rule.{the_type}
 use Rattle.fluent_syntax_writer.specs.declared.canonical.rule_set.RuleSet.{RuleSet}
-use Rattle.fluent_syntax_writer.specs.declared.canonical.rule_set.RuleSet.TheVariants.{Readable, Canonical, Alone}
+use Rattle.fluent_syntax_writer.specs.declared.canonical.rules.Rule.{Rule}
 
--- the readable rules, the canonical ones, or one of these alone
-abbrev pub rules_of : RuleSet → Rules
-rules_of (Readable edition) = readable_rules edition
-rules_of (Canonical edition) = canonical_rules edition
-rules_of (Alone edition rule) = single_rule edition rule
+-- the number of a rule, in the order in which they are declared
+abbrev pub number : Rule → ℕ
+number rule = tag_of the_type rule
 
--- all that an expression holds obeys
-abbrev pub parts_obey : Rules → ExpressionTree Text → Bool
-parts_obey r (select e vs) = inline_obeys r e && variants_obey r vs
-parts_obey r (inline e) = inline_obeys r e
+-- the bit of the rule is not set
+abbrev pub keeps : RuleSet → Rule → Bool
+keeps broken rule = bit_at broken.bits (number rule) == 0
+
+-- The set is that of the rules that the test refuses.
+abbrev pub HoldsBroken : RuleSet → (Rule → Bool) → Type 0
+HoldsBroken broken test = (rule : Rule) → keeps broken rule ≡ test rule

@@ -1,5 +1,5 @@
 -- Tests of texts, and patterns that are one text.
-use Rattle.std.specs.Prelude.{None, Bool, true, false, ◌&&◌, not}
+use Rattle.std.specs.Prelude.{None, Bool, false, ◌&&◌, not}
 use Rattle.fluent_syntax_tree.specs.Tree.{PatternTree, no_elements, elements, text_element, placeable}
 use Rattle.fluent_syntax_grammar.specs.Bytes.{cr}
 use Rattle.fluent_syntax_grammar.specs.Elements.{without_last_lf}

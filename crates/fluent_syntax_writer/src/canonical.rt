@@ -14,14 +14,14 @@ mod arguments;
 mod broken_rules;
 mod comments;
 mod elements;
-mod entries;
 mod expressions;
 mod flush;
+mod layout;
+mod nodes;
 pub mod patterns;
 mod plain;
 mod rule_set;
 mod rules;
-mod single_rule;
 mod spellings;
 pub mod texts;
 mod walk;
@@ -31,10 +31,9 @@ use fluent_syntax_tree::ast::{Entry, Resource};
 use fluent_syntax_tree::edition::Edition;
 use fluent_syntax_tree::slice::Slice;
 use fluent_syntax_tree::texts::BySlice;
-use rule_set::{RuleCheck, RuleSet};
 pub use rules::Rule;
 use std::alloc::Global;
-use walk::body_obeys;
+use walk::RuleCheck;
 
 /// Whether the tree is canonical in the edition. Then it is read back, text by text, from the text that it is written
 /// as.
@@ -43,11 +42,7 @@ use walk::body_obeys;
 pub fn is_canonical<'s, S: Slice<'s>>(r: &Resource<S>, edition: Edition) -> bool
     ensures exact { result ≡ is_canonical edition (resource_view S.text r.now) }
 {
-    let canonical = RuleCheck {
-        rule_set: RuleSet::Canonical(edition),
-        alloc: None,
-    };
-    body_obeys::<S, BySlice<'s>>(canonical, &r.body)
+    first_uncanonical(r, edition).is_none()
 }
 
 /// Whether the tree is readable in the edition: it looks like a tree that was read. Each canonical tree is.
@@ -56,11 +51,13 @@ pub fn is_canonical<'s, S: Slice<'s>>(r: &Resource<S>, edition: Edition) -> bool
 pub fn is_readable<'s, S: Slice<'s>>(r: &Resource<S>, edition: Edition) -> bool
     ensures exact { result ≡ is_readable edition (resource_view S.text r.now) }
 {
-    let readable = RuleCheck {
-        rule_set: RuleSet::Readable(edition),
-        alloc: None,
-    };
-    body_obeys::<S, BySlice<'s>>(readable, &r.body)
+    broken_rules::are_readable::<S, BySlice<'s>>(
+        RuleCheck {
+            edition,
+            alloc: None,
+        },
+        &r.body,
+    )
 }
 
 /// The first entry of the tree that is not canonical in the edition, and the first rule that it breaks, in the order of
@@ -74,8 +71,7 @@ pub fn is_readable<'s, S: Slice<'s>>(r: &Resource<S>, edition: Edition) -> bool
 /// tree without its junk, in their order: the entry is, in the tree, the one before which there are so many entries
 /// that are no junk. The tree of a text without errors has no junk, so there both numbers are one.
 ///
-/// Takes no memory. The time is that of a walk over the tree, and of one walk more over that entry for each rule; and
-/// quadratic in the named arguments of one list.
+/// Takes no memory. The time is that of a walk over the tree, and quadratic in the named arguments of one list.
 pub fn first_uncanonical<'s, S: Slice<'s>>(
     tree: &Resource<S>,
     edition: Edition,
@@ -84,7 +80,13 @@ pub fn first_uncanonical<'s, S: Slice<'s>>(
     ensures none { is_none result ≡ is_canonical edition (resource_view S.text tree.now) }
     ensures first { IfSome result (λ found. IsFirstBroken edition (resource_view S.text tree.now) found) }
 {
-    first_uncanonical_by(None, tree, edition)
+    first_uncanonical_by(
+        RuleCheck {
+            edition,
+            alloc: None,
+        },
+        tree,
+    )
 }
 
 /// What `first_uncanonical` gives, in time near that of walks over the tree for every tree.
@@ -100,31 +102,41 @@ pub fn first_uncanonical_with<'s, S: Slice<'s>>(
     ensures none { is_none result ≡ is_canonical edition (resource_view S.text tree.now) }
     ensures first { IfSome result (λ found. IsFirstBroken edition (resource_view S.text tree.now) found) }
 {
-    first_uncanonical_by(Some(alloc), tree, edition)
+    first_uncanonical_by(
+        RuleCheck {
+            edition,
+            alloc: Some(alloc),
+        },
+        tree,
+    )
 }
 
 fn first_uncanonical_by<'s, S: Slice<'s>>(
-    alloc: Option<Global>,
+    check: RuleCheck,
     tree: &Resource<S>,
-    edition: Edition,
 ) -> Option<Uncanonical>
-    ensures exact { result ≡ first_uncanonical edition (resource_view S.text tree.now) }
-    ensures none { is_none result ≡ is_canonical edition (resource_view S.text tree.now) }
-    ensures first { IfSome result (λ found. IsFirstBroken edition (resource_view S.text tree.now) found) }
+    ensures exact { result ≡ first_uncanonical check.edition (resource_view S.text tree.now) }
+    ensures none { is_none result ≡ is_canonical check.edition (resource_view S.text tree.now) }
+    ensures first { IfSome result (λ found. IsFirstBroken check.edition (resource_view S.text tree.now) found) }
 {
-    broken_rules::first_uncanonical::<S, BySlice<'s>>(alloc, edition, &tree.body)
+    broken_rules::first_uncanonical::<S, BySlice<'s>>(check, &tree.body)
 }
 
 /// The first rule of canonical trees that the entry breaks in the edition; `None` where it breaks none. A tree is
 /// canonical where each of its entries is by itself, so this says a caller who has one entry at a time.
 ///
-/// Takes no memory. The time is that of a walk over the entry for each rule, and quadratic in the named arguments of
-/// one list.
+/// Takes no memory. The time is that of a walk over the entry, and quadratic in the named arguments of one list.
 pub fn broken_rule<'s, S: Slice<'s>>(entry: &Entry<S>, edition: Edition) -> Option<Rule>
     ensures exact { result ≡ broken_rule edition (entry_view S.text entry.now) }
     ensures none { is_none result ≡ entry_obeys (canonical_rules edition) (entry_view S.text entry.now) }
 {
-    broken_rule_by(None, entry, edition)
+    broken_rules::broken_rule::<S, BySlice<'s>>(
+        RuleCheck {
+            edition,
+            alloc: None,
+        },
+        entry,
+    )
 }
 
 /// What `broken_rule` gives, in time near that of walks over the entry for every entry, as `first_uncanonical_with`.
@@ -136,16 +148,9 @@ pub fn broken_rule_with<'s, S: Slice<'s>>(
     ensures exact { result ≡ broken_rule edition (entry_view S.text entry.now) }
     ensures none { is_none result ≡ entry_obeys (canonical_rules edition) (entry_view S.text entry.now) }
 {
-    broken_rule_by(Some(alloc), entry, edition)
-}
-
-fn broken_rule_by<'s, S: Slice<'s>>(
-    alloc: Option<Global>,
-    entry: &Entry<S>,
-    edition: Edition,
-) -> Option<Rule>
-    ensures exact { result ≡ broken_rule edition (entry_view S.text entry.now) }
-    ensures none { is_none result ≡ entry_obeys (canonical_rules edition) (entry_view S.text entry.now) }
-{
-    broken_rules::broken_rule::<S, BySlice<'s>>(alloc, edition, entry)
+    let check = RuleCheck {
+        edition,
+        alloc: Some(alloc),
+    };
+    broken_rules::broken_rule::<S, BySlice<'s>>(check, entry)
 }

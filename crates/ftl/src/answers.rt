@@ -10,7 +10,7 @@ ghost use Rattle.fluent_syntax_grammar.specs.Nesting.{NestsDeeper, TextDeeper};
 ghost use Rattle.fluent_syntax_grammar.specs.Tiling.{Tile, Tiled, Tiling};
 ghost use Rattle.fluent_syntax_grammar.specs.Body.{body};
 ghost use Rattle.fluent_syntax_grammar.specs.Canonical.{is_canonical};
-ghost use Rattle.fluent_syntax_parser.specs.Halts.{HaltsWithin, OnHalt};
+ghost use Rattle.fluent_syntax_parser.specs.Halts.{DeeperFrom, HaltsWithin, OnHalt};
 ghost use Rattle.fluent_syntax_parser.specs.Rest.{TileIn};
 ghost use Rattle.fluent_syntax_parser.specs.declared.fault.ParseFault.TheVariants.{Memory};
 ghost use Rattle.ftl.specs.Answer.{IsAnswer, ReadsDeeper, error_line, error_lines, error_text, json_text};
@@ -261,10 +261,8 @@ fn normal_form(alloc: Global, text: &str, options: Options, asks: bool) -> Resul
         × (string_bytes given.text ≡ normal_text t tiles) × (given.outcome ≡ outcome_of tiles)
         × (given.is_canonical ≡ (asks && is_canonical options.edition (body_map (bytes_at t) (body tiles))))) }
     ensures nests { IfErr result (HaltsWithin options.nesting (length text.now)) }
-    ensures deeper { let t = text.now in let at = TileIn options.comments options.edition t in
-        IfErr result (OnHalt (TextDeeper options.edition t at options.nesting 0)) }
-    ensures shallow { let t = text.now in let at = TileIn options.comments options.edition t in
-        IfOk result (λ given. TextDeeper options.edition t at options.nesting 0 → ⊥) }
+    ensures deeper { IfErr result (OnHalt (DeeperFrom options text.now 0)) }
+    ensures shallow { IfOk result (λ given. DeeperFrom options text.now 0 → ⊥) }
 {
     let mut writer = NormalWriter::new(alloc, options.edition, asks, text.len());
     let outcome = write_one_by_one(alloc, &mut writer, text, options)?;

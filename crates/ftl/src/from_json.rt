@@ -1,7 +1,7 @@
 //! A tree as JSON is written as the text of the tree.
-ghost use Rattle.std.specs.Prelude.{◌≤◌, Err, IfErr, IfOk, string_bytes};
+ghost use Rattle.std.specs.Prelude.{◌≡◌, Err, IfErr, IfOk, string_bytes};
 ghost use Rattle.fluent_syntax_tree.specs.View.{resource_view};
-ghost use Rattle.ftl.specs.FromJson.{IsFault, IsSpelled, IsTextOf};
+ghost use Rattle.ftl.specs.FromJson.{IsFault, IsSpelled, IsTextOf, json_status, nests_deeper, opened_after};
 
 use fluent_syntax::ast::Resource;
 use fluent_syntax::serializer::serialize;
@@ -29,8 +29,7 @@ pub enum JsonFault {
 impl JsonFault {
     /// The exit status: 3, 4 or 6.
     pub fn status(&self) -> u8
-        ensures least { 3 ≤ result }
-        ensures greatest { result ≤ 6 }
+        ensures { result ≡ json_status self.now }
     {
         match self {
             JsonFault::Syntax(..) | JsonFault::Shape => 3,
@@ -84,24 +83,58 @@ pub fn text_of_json(alloc: Global, json: &str) -> Result<String, JsonFault>
     }
 }
 
-/// Whether more than so many brackets and braces are open at once, outside of strings.
-fn nests_deeper(json: &str, depth: usize) -> bool {
-    let mut open: usize = 0;
-    let mut in_text = false;
-    let mut is_escaped = false;
-    for byte in json.as_bytes() {
-        if in_text {
-            in_text = is_escaped || *byte != b'"';
-            is_escaped = !is_escaped && *byte == b'\\';
-        } else {
-            match byte {
-                b'"' => in_text = true,
-                b'[' | b'{' => open = open.saturating_add(1),
-                b']' | b'}' => open = open.saturating_sub(1),
-                _ => (),
-            }
+/// What is open in a JSON text.
+#[derive(Clone, Copy)]
+pub(crate) struct Opened {
+    /// How many brackets and braces, outside of strings.
+    brackets: usize,
+    in_string: bool,
+    /// Whether a backslash in the string comes before what follows.
+    is_escaped: bool,
+}
+
+impl Opened {
+    /// What is open after a byte more.
+    fn after(self, byte: u8) -> Opened
+        ensures { result ≡ opened_after self byte }
+    {
+        if self.in_string {
+            return Opened {
+                in_string: self.is_escaped || byte != b'"',
+                is_escaped: !self.is_escaped && byte == b'\\',
+                ..self
+            };
         }
-        if open > depth {
+        match byte {
+            b'"' => Opened {
+                in_string: true,
+                ..self
+            },
+            b'[' | b'{' => Opened {
+                brackets: self.brackets.saturating_add(1),
+                ..self
+            },
+            b']' | b'}' => Opened {
+                brackets: self.brackets.saturating_sub(1),
+                ..self
+            },
+            _ => self,
+        }
+    }
+}
+
+/// Whether more than so many brackets and braces are open at once, outside of strings.
+fn nests_deeper(json: &str, depth: usize) -> bool
+    ensures { result ≡ nests_deeper depth json.now }
+{
+    let mut opened = Opened {
+        brackets: 0,
+        in_string: false,
+        is_escaped: false,
+    };
+    for byte in json.as_bytes() {
+        opened = opened.after(*byte);
+        if opened.brackets > depth {
             return true;
         }
     }

@@ -5,10 +5,9 @@ ghost use Rattle.fluent_syntax_tree.specs.Spans.{bytes_at};
 ghost use Rattle.fluent_syntax_tree.specs.View.{entry_view};
 ghost use Rattle.fluent_syntax_grammar.specs.Body.{body};
 ghost use Rattle.fluent_syntax_grammar.specs.Grammar.{family};
-ghost use Rattle.fluent_syntax_grammar.specs.Nesting.{TextDeeper};
 ghost use Rattle.fluent_syntax_grammar.specs.Tiling.{Tile, Tiled};
 ghost use Rattle.fluent_syntax_grammar.specs.Written.{Text};
-ghost use Rattle.fluent_syntax_parser.specs.Halts.{HaltsWithin, OnHalt};
+ghost use Rattle.fluent_syntax_parser.specs.Halts.{DeeperFrom, HaltsWithin, OnHalt};
 ghost use Rattle.fluent_syntax_parser.specs.Rest.{TileIn};
 ghost use Rattle.ftl.specs.Answer.{outcome_after, outcome_of};
 ghost use Rattle.ftl.specs.OneByOne.{WroteEntries};
@@ -41,10 +40,8 @@ pub fn write_one_by_one<W: WriteEntries>(
         × WroteEntries W.writes writer.old (body_map (bytes_at t) (body tiles)) writer.new
         × (outcome ≡ outcome_of tiles)) }
     ensures nests { IfErr result (HaltsWithin options.nesting (length text.now)) }
-    ensures deeper { let t = text.now in let at = TileIn options.comments options.edition t in
-        IfErr result (OnHalt (TextDeeper options.edition t at options.nesting 0)) }
-    ensures shallow { let t = text.now in let at = TileIn options.comments options.edition t in
-        IfOk result (λ outcome. TextDeeper options.edition t at options.nesting 0 → ⊥) }
+    ensures deeper { IfErr result (OnHalt (DeeperFrom options text.now 0)) }
+    ensures shallow { IfOk result (λ outcome. DeeperFrom options text.now 0 → ⊥) }
 {
     let slices: Slices<'_, '_, &str> = Slices::new(&text);
     let mut entries = Entries::new(text, options);

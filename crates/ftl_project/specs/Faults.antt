@@ -1,22 +1,30 @@
 -- Why a file is not answered.
-use Rattle.std.specs.Prelude.{◌≡◌, ◌≤◌, ◌⊎◌, ℕ, List, Option, IfSome}
+use Rattle.std.specs.Prelude.{◌≡◌, ℕ, List, Option, IfSome}
 use Rattle.std.specs.Str.{IsUtf8}
 use Rattle.std.specs.Str.Lossy.{utf8_valid_len}
+use Rattle.std.specs.IoError.{error_kind}
 use Rattle.std.specs.declared.io.Error.{Error}
+use Rattle.std.specs.declared.io.ErrorKind.{ErrorKind}
+use Rattle.std.specs.declared.io.ErrorKind.TheVariants.{OutOfMemory}
 use Rattle.fluent_syntax_grammar.specs.Nesting.{NestsDeeper}
 use Rattle.ftl.specs.FromJson as json
 use Rattle.ftl_project.specs.declared.fault.Fault.{Fault}
 use Rattle.ftl_project.specs.declared.fault.Fault.TheVariants.{Json, Memory, NotText, Read, TooDeep, Write}
 use Rattle.ftl_files.specs.declared.options.Reading.{Reading}
 
--- the exit status of a fault; where the system had no memory, that of want of memory
+-- the exit status of a call that failed: that of want of memory, where the system had none, or another
+abbrev pub status_of_call : ErrorKind → (other : ℕ) → ℕ
+status_of_call OutOfMemory other = 4
+status_of_call _ other = other
+
+-- the exit status of a fault
 abbrev pub HasStatus : Fault → ℕ → Type 0
-HasStatus (Read error) status = (status ≡ 3) ⊎ (status ≡ 4)
+HasStatus (Read error) status = status ≡ status_of_call (error_kind error) 3
 HasStatus (NotText place) status = status ≡ 3
 HasStatus Memory status = status ≡ 4
-HasStatus (Write error) status = (status ≡ 4) ⊎ (status ≡ 5)
+HasStatus (Write error) status = status ≡ status_of_call (error_kind error) 5
 HasStatus TooDeep status = status ≡ 6
-HasStatus (Json fault) status = (3 ≤ status) × (status ≤ 6)
+HasStatus (Json fault) status = status ≡ json.json_status fault
 
 -- The file failed so, and the status is that of its fault.
 abbrev pub Fails : (Fault → Type 0) → ℕ → Type 0

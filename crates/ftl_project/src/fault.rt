@@ -1,6 +1,6 @@
 //! Why a file was not answered.
-ghost use Rattle.std.specs.Prelude.{◌≤◌};
-ghost use Rattle.ftl_project.specs.Faults.{HasStatus};
+ghost use Rattle.std.specs.Prelude.{◌≡◌, ◌≤◌};
+ghost use Rattle.ftl_project.specs.Faults.{HasStatus, status_of_call};
 
 use ftl::JsonFault;
 use std::alloc::AllocError;
@@ -33,13 +33,23 @@ impl Fault {
         ensures status { HasStatus self.now result }
     {
         match self {
+            Fault::Read(error) => status_of_call(error.kind(), 3),
+            Fault::NotText(_) => 3,
             Fault::Memory => 4,
-            Fault::Read(error) | Fault::Write(error) if error.kind() == ErrorKind::OutOfMemory => 4,
-            Fault::Read(_) | Fault::NotText(_) => 3,
-            Fault::Write(_) => 5,
+            Fault::Write(error) => status_of_call(error.kind(), 5),
             Fault::TooDeep => 6,
             Fault::Json(fault) => fault.status(),
         }
+    }
+}
+
+/// The status of a call that failed: that of want of memory, or another.
+fn status_of_call(kind: ErrorKind, other: u8) -> u8
+    ensures { result ≡ status_of_call kind other }
+{
+    match kind {
+        ErrorKind::OutOfMemory => 4,
+        _ => other,
     }
 }
 

@@ -7,11 +7,11 @@ ghost use Rattle.fluent_syntax_grammar.specs.Bytes.{hash};
 ghost use Rattle.fluent_syntax_grammar.specs.Nesting.{TextDeeper};
 ghost use Rattle.fluent_syntax_grammar.specs.Places.{BlankBlock, has_byte};
 ghost use Rattle.fluent_syntax_grammar.specs.Tiling.{Fault};
-ghost use Rattle.fluent_syntax_parser.specs.Halts.{ComesNext, HaltsWithin, OnHalt};
+ghost use Rattle.fluent_syntax_parser.specs.Halts.{ComesNext, DeeperFrom, HaltsWithin, OnHalt};
 ghost use Rattle.fluent_syntax_parser.specs.MadeEntries.{AddsNext};
 ghost use Rattle.fluent_syntax_parser.specs.Rest.{EntryAt, Rest, RestAt, TileDeeper, TileIn, are_dropped};
 
-use crate::options::{Comments, Halt};
+use crate::options::{Comments, Halt, Options};
 use crate::reader::Reader;
 use crate::source::Source;
 use crate::texts::MakeTexts;
@@ -59,25 +59,19 @@ impl<'s> Source<'s> {
 
     /// Where the next entry is from a place on, if it is a message to which no comment is attached and whose
     /// patterns are each one text on its line. `None` where another comes next, or none.
-    pub(crate) fn next_text_message(
-        &self,
-        edition: Edition,
-        comments: Comments,
-        ptr: usize,
-    ) -> Option<Span>
+    pub(crate) fn next_text_message(&self, options: Options, ptr: usize) -> Option<Span>
         requires { ptr ≤ length self.now.bytes.now }
-        ensures next { let t = self.now.bytes.now in IfSome result
-            (λ span. (e : EntryTree Span) × EntryAt comments edition t ptr span.start span.end e []) }
+        ensures next { let t = self.now.bytes.now in IfSome result (λ span. (e : EntryTree Span)
+            × EntryAt options.comments options.edition t ptr span.start span.end e []) }
         ensures within { IfSome result (λ span. span.end ≤ length self.now.bytes.now) }
         ensures blank { let t = self.now.bytes.now in BlankBlock t ptr (length t) → result ≡ None }
-        ensures nests { let t = self.now.bytes.now in IfSome result (λ span. (n : ℕ) →
-            ComesNext (TextDeeper edition t (TileIn comments edition t) n) ptr (Some span)) }
+        ensures nests { IfSome result (λ span. ComesNext (DeeperFrom options self.now.bytes.now) ptr (Some span)) }
     {
-        let start = self.tile_start(comments, ptr);
+        let start = self.tile_start(options.comments, ptr);
         if !self.is_letter_at(start) {
             return None;
         }
-        let end = self.text_message_end(edition, start)?;
+        let end = self.text_message_end(options.edition, start)?;
         Some(Span { start, end })
     }
 }

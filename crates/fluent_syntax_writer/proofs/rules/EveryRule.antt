@@ -1,183 +1,286 @@
--- The canonical rules are put together of each rule alone.
-use Rattle.std.proofs.Common.{◌≡◌, ℕ, zero, suc, List, [], ◌∷◌, Option, Some, None, Bool, true, false, ◌&&◌, ◌||◌, ◌==◌}
-use Rattle.std.proofs.Common.{not, refl, sym, ap, ◌∙◌, arith}
+-- The readable and the canonical rules are put together of each rule alone.
+use Rattle.std.proofs.Common.{◌≡◌, ℕ, zero, suc, List, [], ◌∷◌, ◌++◌, take, drop, Option, Some, None, Bool, true, false}
+use Rattle.std.proofs.Common.{◌&&◌, ◌||◌, ◌==◌, not, refl, sym, ap, ◌∙◌, arith, if◌then◌else◌}
 use Rattle.std.proofs.lemmas.Bool.{lt-leb}
-use Rattle.std.specs.Prelude.{nat_le, is_some, is_none}
+use Rattle.std.specs.Prelude.{nat_le, is_none}
 use Rattle.std.specs.List.{list_all, list_any}
-use Rattle.fluent_syntax_tree.specs.Tree.{ExpressionTree, select, inline, ArgumentsTree, arguments}
-use Rattle.fluent_syntax_tree.specs.Tree.{text_element, placeable, PatternTree}
-use Rattle.fluent_syntax_tree.specs.Tree.{no_elements, elements}
+use Rattle.fluent_syntax_tree.specs.Tree.{ExpressionTree, select, inline, InlineTree, VariantTrees, ArgumentsTree}
+use Rattle.fluent_syntax_tree.specs.Tree.{arguments, text_element, placeable, PatternTree, no_elements, elements}
 use Rattle.fluent_syntax_tree.specs.Entry.{EntryTree}
 use Rattle.fluent_syntax_tree.specs.declared.edition.Edition.{Edition}
-use Rattle.fluent_syntax_grammar.specs.Expressions.{selector_fault}
+use Rattle.fluent_syntax_grammar.specs.Expressions.{selector_fault, is_term_attribute}
 use Rattle.fluent_syntax_grammar.specs.Elements.{is_nonblank, without_last_lf}
+use Rattle.fluent_syntax_grammar.specs.Layout.{least}
 use Rattle.fluent_syntax_grammar.specs.Written.{Text, has_lf, is_multiline, begins_with_mark}
 use Rattle.fluent_syntax_grammar.specs.Spellings.{is_name, is_number, is_string}
-use Rattle.fluent_syntax_grammar.specs.PatternTexts.{is_empty, is_brace, has_crlf, is_spaces, begins_with_space}
-use Rattle.fluent_syntax_grammar.specs.PatternTexts.{after_spaces}
-use Rattle.fluent_syntax_grammar.specs.Readable.{is_message, is_callee, is_text}
+use Rattle.fluent_syntax_grammar.specs.PatternTexts.{is_empty, is_brace, has_crlf, begins_with_space, after_spaces}
+use Rattle.fluent_syntax_grammar.specs.Readable.{readable_rules, is_message, is_callee, is_text, are_lines}
 use Rattle.fluent_syntax_grammar.specs.Readable.{ElementPosition, opening, after_line, within_line, after_placeable}
-use Rattle.fluent_syntax_grammar.specs.Readable.{position_after}
-use Rattle.fluent_syntax_grammar.specs.Readable.{indents, may_occur_at, may_precede, are_elements, is_pattern, defaults}
-use Rattle.fluent_syntax_grammar.specs.Readable.{are_lines, is_expression, are_arguments}
+use Rattle.fluent_syntax_grammar.specs.Readable.{position_after, may_occur_at, may_precede, are_elements}
+use Rattle.fluent_syntax_grammar.specs.Readable.{is_pattern, defaults, is_expression, are_arguments}
 use Rattle.fluent_syntax_grammar.specs.Canonical.{canonical_rules, is_plain_comment, is_plain_line, hides_mark}
-use Rattle.fluent_syntax_grammar.specs.Canonical.{are_lone, are_flush, first_position, is_flush, has_one_default}
+use Rattle.fluent_syntax_grammar.specs.Canonical.{line_indents, are_lone, are_flush, first_position, is_flush}
+use Rattle.fluent_syntax_grammar.specs.Canonical.{has_one_default}
 use Rattle.fluent_syntax_grammar.specs.Rules.{entry_obeys}
-use Rattle.fluent_syntax_writer.specs.SingleRule.{every_rule, single_rule, entry_keeps, comment_keeps, text_keeps}
-use Rattle.fluent_syntax_writer.specs.SingleRule.{texts_keep}
-use Rattle.fluent_syntax_writer.specs.SingleRule.{form_keeps, pattern_keeps, expression_keeps, have_values}
-use Rattle.fluent_syntax_writer.specs.SingleRule.{have_new_names}
-use Rattle.fluent_syntax_writer.specs.SingleRule.{arguments_keep, is_zero_if_some, least_of_lines, follows_no_text}
-use Rattle.fluent_syntax_writer.specs.SingleRule.{first_is_nonblank, first_is_tight, later_is_no_space}
-use Rattle.fluent_syntax_writer.specs.SingleRule.{later_is_unmarked}
+use Rattle.fluent_syntax_writer.specs.RuleSets.{number}
+use Rattle.fluent_syntax_writer.specs.SingleRule.{every_rule, asks, single_rule, entry_keeps, has_line, comment_keeps}
+use Rattle.fluent_syntax_writer.specs.SingleRule.{may_begin, is_tight, may_begin_line, spelling_keeps, place_keeps}
+use Rattle.fluent_syntax_writer.specs.SingleRule.{texts_keep, has_element, flush_keeps, lines_keep}
+use Rattle.fluent_syntax_writer.specs.SingleRule.{pattern_keeps, expression_keeps, have_values, have_new_names}
+use Rattle.fluent_syntax_writer.specs.SingleRule.{arguments_keep}
 use Rattle.fluent_syntax_writer.specs.declared.canonical.rules.Rule.{Rule}
+use Rattle.fluent_syntax_writer.specs.declared.canonical.rules.Rule.TheVariants as rule
 use Rattle.fluent_syntax_writer.proofs.rules.Named.{nameds_whole}
-use Rattle.fluent_syntax_writer.proofs.rules.Positions.{and_assoc}
-use Rattle.fluent_syntax_grammar.proofs.RuleConjunction.{ArePartsOf, both_pass, entry_obeys_each}
+use Rattle.fluent_syntax_writer.proofs.rules.Sets.{and_assoc, and_true}
+use Rattle.fluent_syntax_grammar.proofs.RuleConjunction.{ArePartsOf, both_pass, none_asked, entry_obeys_each}
 
-and_true : (x : Bool) → x ≡ (x && true)
-and_true true = refl
-and_true false = refl
+-- ---- What is asked of a node
 
-and_comm : (a b : Bool) → (a && b) ≡ (b && a)
-and_comm true true = refl
-and_comm true false = refl
-and_comm false true = refl
-and_comm false false = refl
+-- all these rules are kept exactly where the whole test passes
+record Are (ks : List Rule) (keeps : Rule → Bool) (whole : Bool) : Type 0 where
+  each : whole ≡ list_all keeps ks
 
--- ---- Comments
+-- the test passes, or the rule that asks for it is not among these
+abbrev asked : List Rule → Rule → Bool → Bool
+asked ks asker passes = not (list_any (λ k. number asker == number k) ks) || passes
 
-comment_whole : (content : List Text)
-    → (are_lines content && is_plain_comment content) ≡ list_all (λ rule. comment_keeps rule content) every_rule
-comment_whole [] = refl
-comment_whole (line ∷ lines) =
-    ap (λ b. are_lines (line ∷ lines) && b) (and_true (list_all is_plain_line (line ∷ lines)))
+one_more : (here later passes : Bool)
+    → (not (here || later) || passes) ≡ ((if here then passes else true) && (not later || passes))
+one_more true true true = refl
+one_more true true false = refl
+one_more true false passes = sym (and_true passes)
+one_more false later passes = refl
 
--- ---- Each text of a pattern
+each_asks : (ks : List Rule) (asker : Rule) (passes : Bool)
+    → asked ks asker passes ≡ list_all (λ k. asks asker k passes) ks
+each_asks [] asker passes = refl
+each_asks (k ∷ ks) asker passes =
+    one_more (number asker == number k) (list_any (λ k. number asker == number k) ks) passes
+    ∙ ap (λ b. asks asker k passes && b) (each_asks ks asker passes)
 
-after_four : (a b c d x y : Bool) → x ≡ y → ((a && (b && (c && d))) && x) ≡ (a && (b && (c && (d && y))))
-after_four true true true true x y e = e
-after_four true true true false x y e = refl
-after_four true true false d x y e = refl
-after_four true false c d x y e = refl
-after_four false b c d x y e = refl
+module _ {ks : List Rule} where
+  one : (asker : Rule) (passes : Bool) → Are ks (λ k. asks asker k passes) (asked ks asker passes)
+  one asker passes = record { each = each_asks ks asker passes }
 
--- a first text in a pattern on one line, and a text that begins a later line, each with its end
-on_one_line : (shown tight ends : Bool) → ((shown && tight) && ends) ≡ ((shown || false) && (tight && (ends && true)))
-on_one_line true true ends = and_true ends
-on_one_line true false ends = refl
-on_one_line false tight ends = refl
+  none : Are ks (λ k. true) true
+  none = record { each = none_asked ks }
 
-on_later_line : (spaces mark ends : Bool) → ((spaces && mark) && ends) ≡ (ends && (spaces && (mark && true)))
-on_later_line true true true = refl
-on_later_line true true false = refl
-on_later_line true false true = refl
-on_later_line true false false = refl
-on_later_line false mark true = refl
-on_later_line false mark false = refl
+  -- of two parts of a node, or of two tests
+  both : {a b : Rule → Bool} {x y : Bool} → Are ks a x → Are ks b y → Are ks (λ k. a k && b k) (x && y)
+  both {a} {b} m n = record { each = rw (m.each, n.each) (sym (both_pass a b ks)) }
 
-module _ (edition : Edition) where
-  place_whole : (multiline : Bool) (s : ElementPosition) (v : Text) (es : PatternTree Text)
-      → (may_occur_at edition multiline s v es && may_precede v es)
-      ≡ (follows_no_text s && (first_is_nonblank edition multiline s v es && (first_is_tight multiline s v
-      && (may_precede v es && (later_is_no_space edition s v es && (later_is_unmarked s v && true))))))
-  place_whole true opening v es =
-      ap (λ b. (is_nonblank v || indents edition v es) && b) (and_true (may_precede v es))
-  place_whole false opening v es = on_one_line (is_nonblank v) (not (begins_with_space v)) (may_precede v es)
-  place_whole multiline after_line v es =
-      on_later_line (not (is_spaces v) || indents edition v es) (not (begins_with_mark (after_spaces v)))
-      (may_precede v es)
-  place_whole multiline within_line v es = refl
-  place_whole multiline after_placeable v es = and_true (may_precede v es)
+  by : {a : Rule → Bool} {x y : Bool} → x ≡ y → Are ks a y → Are ks a x
+  by same m = record { each = same ∙ m.each }
 
-  text_whole : (multiline : Bool) (s : ElementPosition) (v : Text) (es : PatternTree Text)
-      → (is_text v && (may_occur_at edition multiline s v es && may_precede v es))
-      ≡ list_all (λ rule. text_keeps edition rule multiline s v es) every_rule
-  text_whole multiline s v es =
-      after_four (not (is_empty v)) (not (list_any is_brace v)) (not (has_crlf v)) (not (has_lf (without_last_lf v)))
-      _ _ (place_whole multiline s v es)
+and_four : (a b c d : Bool) → (a && (b && (c && d))) ≡ (((a && b) && c) && d)
+and_four a b c d = sym (and_assoc (a && b) c d ∙ and_assoc a b (c && d))
 
-  texts_whole : (multiline : Bool) (s : ElementPosition) (p : PatternTree Text)
-      → are_elements edition multiline s p ≡ list_all (λ rule. texts_keep edition rule multiline s p) every_rule
-  texts_whole multiline s no_elements = refl
-  texts_whole multiline s (elements (placeable e) es) = texts_whole multiline after_placeable es
-  texts_whole multiline s (elements (text_element v) es) =
-      let text = λ (rule : Rule). text_keeps edition rule multiline s v es in
-      let rest = λ (rule : Rule). texts_keep edition rule multiline (position_after v) es in
-      and_assoc (is_text v) (may_occur_at edition multiline s v es) (may_precede v es)
-      (are_elements edition multiline (position_after v) es)
-      ∙ rw (text_whole multiline s v es, texts_whole multiline (position_after v) es)
-      (sym (both_pass text rest every_rule))
+or_false : (b : Bool) → b ≡ (b || false)
+or_false true = refl
+or_false false = refl
+
+-- ---- The rules of readable trees, and these more
+
+module _ (more : List Rule) where
+  abbrev ks : List Rule
+  ks = take 23 every_rule ++ more
+
+  comment_each : (content : List Text) → Are ks (λ k. comment_keeps k content)
+      ((are_lines content && asked more rule.EmptyComment (has_line content))
+      && asked more rule.BlankCommentLine (list_all is_plain_line content))
+  comment_each content =
+      both (both (one rule.LfInComment (are_lines content)) (one rule.EmptyComment (has_line content)))
+      (one rule.BlankCommentLine (list_all is_plain_line content))
 
   -- ---- Patterns
 
-  lines_whole : (multiline hidden : Bool) (number : Option ℕ) (s : ElementPosition) (p : PatternTree Text)
-      → (not multiline || not hidden && are_flush number s p)
-      ≡ ((not multiline || not hidden) && ((not multiline || is_zero_if_some number)
-      && ((not multiline || (is_some number || are_lone s p)) && true)))
-  lines_whole false hidden number s p = refl
-  lines_whole true true number s p = refl
-  lines_whole true false None s p = and_true (are_lone s p)
-  lines_whole true false (Some n) s p = and_true (n == 0)
+  spelling_each : (v : Text) → Are ks (λ k. spelling_keeps k v) (is_text v)
+  spelling_each v =
+      let brace = not (list_any is_brace v) in
+      let lf = not (has_lf (without_last_lf v)) in
+      by (and_four (not (is_empty v)) brace (not (has_crlf v)) lf)
+      (both (both (both (one rule.EmptyText (not (is_empty v))) (one rule.BraceInText brace))
+      (one rule.CrBeforeLf (not (has_crlf v)))) (one rule.LfWithinText lf))
 
-  pattern_whole : (p : PatternTree Text)
-      → (is_pattern edition p && is_flush edition p) ≡ list_all (λ rule. pattern_keeps edition rule p) every_rule
-  pattern_whole no_elements = refl
-  pattern_whole (elements e es) =
-      let p = elements e es in
-      let form = λ (rule : Rule). form_keeps edition rule p in
-      let texts = λ (rule : Rule). texts_keep edition rule (is_multiline p) opening p in
-      let lines : is_flush edition p ≡ list_all form every_rule =
-      lines_whole (is_multiline p) (hides_mark p) (least_of_lines edition p) (first_position p) p in
-      and_comm (is_pattern edition p) (is_flush edition p)
-      ∙ rw (lines, texts_whole (is_multiline p) opening p) (sym (both_pass form texts every_rule))
+  module _ (edition : Edition) where
+    place_each : (multiline : Bool) (s : ElementPosition) (v : Text) (es : PatternTree Text)
+        → Are ks (λ k. place_keeps edition k multiline s v es) (may_occur_at edition multiline s v es)
+    place_each true opening v es =
+        by (sym (and_true (may_begin edition true v es)))
+        (both (one rule.BlankFirstText (may_begin edition true v es)) (one rule.LeadingSpace (is_tight true v)))
+    place_each false opening v es =
+        by (ap (λ b. b && not (begins_with_space v)) (or_false (is_nonblank v)))
+        (both (one rule.BlankFirstText (may_begin edition false v es)) (one rule.LeadingSpace (is_tight false v)))
+    place_each multiline after_line v es =
+        both (one rule.LineOfSpaces (may_begin_line edition v es))
+        (one rule.MarkedLine (not (begins_with_mark (after_spaces v))))
+    place_each multiline within_line v es = one rule.TextAfterText false
+    place_each multiline after_placeable v es = none
 
--- ---- Selects and expressions
+    texts_each : (multiline : Bool) (s : ElementPosition) (p : PatternTree Text)
+        → Are ks (λ k. texts_keep edition k multiline s p) (are_elements edition multiline s p)
+    texts_each multiline s no_elements = none
+    texts_each multiline s (elements (placeable e) es) = texts_each multiline after_placeable es
+    texts_each multiline s (elements (text_element v) es) =
+        by (and_four (is_text v) (may_occur_at edition multiline s v es) (may_precede v es)
+        (are_elements edition multiline (position_after v) es))
+        (both (both (both (spelling_each v) (place_each multiline s v es)) (one rule.BlankEnd (may_precede v es)))
+        (texts_each multiline (position_after v) es))
+
+    -- what is asked of the lines
+    abbrev flush_asked : Option ℕ → ElementPosition → PatternTree Text → Bool
+    flush_asked (Some n) s p = asked more rule.CommonIndent (n == 0)
+    flush_asked None s p = asked more rule.SpacesOnBlankLine (are_lone s p)
+
+    flush_each : (o : Option ℕ) (s : ElementPosition) (p : PatternTree Text)
+        → Are ks (λ k. flush_keeps k o s p) (flush_asked o s p)
+    flush_each (Some n) s p = one rule.CommonIndent (n == 0)
+    flush_each None s p = one rule.SpacesOnBlankLine (are_lone s p)
+
+    abbrev lines_asked : (multiline : Bool) → PatternTree Text → Bool
+    lines_asked multiline p =
+        not multiline
+        || asked more rule.HiddenMark (not (hides_mark p))
+        && flush_asked (least (line_indents edition (first_position p) p)) (first_position p) p
+
+    lines_each : (multiline : Bool) (p : PatternTree Text)
+        → Are ks (λ k. lines_keep edition k multiline p) (lines_asked multiline p)
+    lines_each false p = none
+    lines_each true p =
+        both (one rule.HiddenMark (not (hides_mark p)))
+        (flush_each (least (line_indents edition (first_position p) p)) (first_position p) p)
+
+    pattern_form : (p : PatternTree Text)
+        → is_pattern edition p ≡ (has_element p && are_elements edition (is_multiline p) opening p)
+    pattern_form no_elements = refl
+    pattern_form (elements e es) = refl
+
+    pattern_each : (p : PatternTree Text)
+        → Are ks (λ k. pattern_keeps edition k p) (is_pattern edition p && lines_asked (is_multiline p) p)
+    pattern_each p =
+        by (ap (λ b. b && lines_asked (is_multiline p) p) (pattern_form p))
+        (both (both (one rule.EmptyPattern (has_element p)) (texts_each (is_multiline p) opening p))
+        (lines_each (is_multiline p) p))
+
+  -- ---- Expressions and arguments
+
+  select_each : (e : InlineTree Text) (vs : VariantTrees Text) → Are ks (λ k. expression_keeps k (select e vs))
+      (is_expression (select e vs) && asked more rule.NoDefault (nat_le 1 (defaults vs)))
+  select_each e vs =
+      both (both (one rule.ForbiddenSelector (is_none (selector_fault e)))
+      (one rule.SecondDefault (nat_le (defaults vs) 1))) (one rule.NoDefault (nat_le 1 (defaults vs)))
+
+  arguments_each : (a : ArgumentsTree Text) → Are ks (λ k. arguments_keep k a) (are_arguments a)
+  arguments_each (arguments ps ns) =
+      by (nameds_whole [] ns)
+      (both (one rule.ForbiddenArgument (have_values ns)) (one rule.RepeatedArgument (have_new_names [] ns)))
+
+-- ---- Readable trees
+
+abbrev pub readable : List Rule
+readable = take 23 every_rule
+
+readable_lines : (edition : Edition) (multiline : Bool) (o : Option ℕ) (s : ElementPosition) (p : PatternTree Text)
+    → true ≡ (not multiline || flush_asked [] edition o s p)
+readable_lines edition false o s p = refl
+readable_lines edition true (Some n) s p = refl
+readable_lines edition true None s p = refl
+
+readable_pattern : (edition : Edition) (p : PatternTree Text)
+    → Are readable (λ k. pattern_keeps edition k p) (is_pattern edition p)
+readable_pattern edition p =
+    let number = least (line_indents edition (first_position p) p) in
+    by (sym (and_true (is_pattern edition p))
+    ∙ ap (λ b. is_pattern edition p && b) (readable_lines edition (is_multiline p) number (first_position p) p))
+    (pattern_each [] edition p)
+
+readable_expression : (e : ExpressionTree Text) → Are readable (λ k. expression_keeps k e) (is_expression e)
+readable_expression (select e vs) = by (sym (and_true (is_expression (select e vs)))) (select_each [] e vs)
+readable_expression (inline e) = one rule.TermAttribute (not (is_term_attribute e))
+
+readable_comment : (content : List Text) → Are readable (λ k. comment_keeps k content) (are_lines content)
+readable_comment content =
+    by (sym (and_true (are_lines content && true) ∙ and_true (are_lines content))) (comment_each [] content)
+
+readable_parts : (edition : Edition) → ArePartsOf readable (single_rule edition) (readable_rules edition)
+readable_parts edition = record {
+  junk_parts = each_asks readable rule.Junk false;
+  message_parts = λ m. each_asks readable rule.EmptyMessage (is_message m);
+  comment_parts = λ content. (readable_comment content).each;
+  pattern_parts = λ p. (readable_pattern edition p).each;
+  expression_parts = λ e. (readable_expression e).each;
+  callee_parts = λ v. each_asks readable rule.ForbiddenCallee (is_callee v);
+  arguments_parts = λ a. (arguments_each [] a).each;
+  string_parts = λ v. each_asks readable rule.MisspelledString (is_string v);
+  number_parts = λ v. each_asks readable rule.MisspelledNumber (is_number v);
+  name_parts = λ v. each_asks readable rule.MisspelledName (is_name v);
+}
+
+-- An entry is readable exactly where it keeps each of the first rules alone.
+pub keeps_readable : (edition : Edition) (e : EntryTree Text)
+    → entry_obeys (readable_rules edition) e ≡ list_all (λ k. entry_keeps edition k e) readable
+keeps_readable edition e =
+    entry_obeys_each readable (single_rule edition) (readable_rules edition) (readable_parts edition) e
+
+-- ---- Canonical trees
+
+abbrev further : List Rule
+further = drop 23 every_rule
+
+canonical_comment : (content : List Text)
+    → Are every_rule (λ k. comment_keeps k content) (are_lines content && is_plain_comment content)
+canonical_comment [] = comment_each further []
+canonical_comment (line ∷ lines) =
+    by (ap (λ b. b && list_all is_plain_line (line ∷ lines)) (sym (and_true (are_lines (line ∷ lines)))))
+    (comment_each further (line ∷ lines))
+
+canonical_flush : (edition : Edition) (o : Option ℕ) (s : ElementPosition) (p : PatternTree Text)
+    → are_flush o s p ≡ flush_asked further edition o s p
+canonical_flush edition (Some n) s p = refl
+canonical_flush edition None s p = refl
+
+canonical_pattern : (edition : Edition) (p : PatternTree Text)
+    → Are every_rule (λ k. pattern_keeps edition k p) (is_pattern edition p && is_flush edition p)
+canonical_pattern edition p =
+    let number = least (line_indents edition (first_position p) p) in
+    by (ap (λ b. is_pattern edition p && (not (is_multiline p) || not (hides_mark p) && b))
+    (canonical_flush edition number (first_position p) p)) (pattern_each further edition p)
 
 after_false : (a b c : Bool) → a ≡ false → (a && b) ≡ (a && c)
 after_false true b c is = cc
 after_false false b c is = refl
 
-one_default : (n : ℕ) → (nat_le n 1 && n == 1) ≡ (nat_le n 1 && (nat_le 1 n && true))
+one_default : (n : ℕ) → (nat_le n 1 && n == 1) ≡ (nat_le n 1 && nat_le 1 n)
 one_default zero = refl
 one_default (suc zero) = refl
 one_default (suc (suc n)) = after_false (nat_le (suc (suc n)) 1) _ _ (lt-leb (suc (suc n)) 1 (omega arith))
 
-select_whole : (allowed : Bool) (n : ℕ)
-    → ((allowed && nat_le n 1) && n == 1) ≡ (allowed && (nat_le n 1 && (nat_le 1 n && true)))
-select_whole true n = one_default n
-select_whole false n = refl
-
-expression_whole : (e : ExpressionTree Text)
-    → (is_expression e && has_one_default e) ≡ list_all (λ rule. expression_keeps rule e) every_rule
-expression_whole (select e vs) = select_whole (is_none (selector_fault e)) (defaults vs)
-expression_whole (inline e) = refl
-
--- ---- Arguments
-
-arguments_whole : (a : ArgumentsTree Text)
-    → are_arguments a ≡ list_all (λ rule. arguments_keep rule a) every_rule
-arguments_whole (arguments ps ns) =
-    nameds_whole [] ns ∙ ap (λ b. have_values ns && b) (and_true (have_new_names [] ns))
-
--- ---- All kinds of nodes
+canonical_expression : (e : ExpressionTree Text)
+    → Are every_rule (λ k. expression_keeps k e) (is_expression e && has_one_default e)
+canonical_expression (select e vs) =
+    let allowed = is_none (selector_fault e) in
+    let n = defaults vs in
+    by (and_assoc allowed (nat_le n 1) (n == 1) ∙ ap (λ b. allowed && b) (one_default n)
+    ∙ sym (and_assoc allowed (nat_le n 1) (nat_le 1 n))) (select_each further e vs)
+canonical_expression (inline e) =
+    by (and_true (not (is_term_attribute e))) (one rule.TermAttribute (not (is_term_attribute e)))
 
 canonical_parts : (edition : Edition) → ArePartsOf every_rule (single_rule edition) (canonical_rules edition)
 canonical_parts edition = record {
-  junk_parts = refl;
-  message_parts = λ m. and_true (is_message m);
-  comment_parts = comment_whole;
-  pattern_parts = pattern_whole edition;
-  expression_parts = expression_whole;
-  callee_parts = λ v. and_true (is_callee v);
-  arguments_parts = arguments_whole;
-  string_parts = λ v. and_true (is_string v);
-  number_parts = λ v. and_true (is_number v);
-  name_parts = λ v. and_true (is_name v);
+  junk_parts = each_asks every_rule rule.Junk false;
+  message_parts = λ m. each_asks every_rule rule.EmptyMessage (is_message m);
+  comment_parts = λ content. (canonical_comment content).each;
+  pattern_parts = λ p. (canonical_pattern edition p).each;
+  expression_parts = λ e. (canonical_expression e).each;
+  callee_parts = λ v. each_asks every_rule rule.ForbiddenCallee (is_callee v);
+  arguments_parts = λ a. (arguments_each further a).each;
+  string_parts = λ v. each_asks every_rule rule.MisspelledString (is_string v);
+  number_parts = λ v. each_asks every_rule rule.MisspelledNumber (is_number v);
+  name_parts = λ v. each_asks every_rule rule.MisspelledName (is_name v);
 }
 
 -- An entry is canonical exactly where it keeps each rule alone.
 pub keeps_every : (edition : Edition) (e : EntryTree Text)
-    → entry_obeys (canonical_rules edition) e ≡ list_all (λ rule. entry_keeps edition rule e) every_rule
+    → entry_obeys (canonical_rules edition) e ≡ list_all (λ k. entry_keeps edition k e) every_rule
 keeps_every edition e =
     entry_obeys_each every_rule (single_rule edition) (canonical_rules edition) (canonical_parts edition) e

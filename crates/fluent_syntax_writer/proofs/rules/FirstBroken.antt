@@ -1,19 +1,23 @@
 -- What is found first: that there is nothing exactly where a tree is canonical, and that what is named is so.
 use Rattle.std.proofs.Common.{◌≡◌, ℕ, suc, ◌+◌, List, [], ◌∷◌, take, Option, Some, None, Bool, true, false, ◌&&◌}
 use Rattle.std.proofs.Common.{not, refl, sym, ap, subst, ◌∙◌, arith}
-use Rattle.std.specs.Prelude.{is_none, slice_get, IfSome}
+use Rattle.std.specs.Prelude.{is_some, is_none, slice_get, IfSome}
 use Rattle.std.specs.List.{list_all, find}
 use Rattle.std.proofs.Math.Bool.{cond}
 use Rattle.fluent_syntax_tree.specs.Entry.{EntryTree, BodyTree}
 use Rattle.fluent_syntax_tree.specs.declared.edition.Edition.{Edition}
 use Rattle.fluent_syntax_grammar.specs.Canonical.{canonical_rules, is_canonical}
+use Rattle.fluent_syntax_grammar.specs.Readable.{readable_rules}
 use Rattle.fluent_syntax_grammar.specs.Rules.{entry_obeys}
 use Rattle.fluent_syntax_grammar.specs.Written.{Text}
+use Rattle.fluent_syntax_writer.specs.RuleSets.{keeps, HoldsBroken}
 use Rattle.fluent_syntax_writer.specs.SingleRule.{every_rule, entry_keeps}
-use Rattle.fluent_syntax_writer.specs.Uncanonical.{broken_rule, or_after, first_from, first_uncanonical, IsFirstBroken}
+use Rattle.fluent_syntax_writer.specs.Uncanonical.{first_of, broken_rule, or_after, first_from, first_uncanonical}
+use Rattle.fluent_syntax_writer.specs.Uncanonical.{IsFirstBroken}
 use Rattle.fluent_syntax_writer.specs.declared.canonical.broken_rules.Uncanonical.{Uncanonical}
+use Rattle.fluent_syntax_writer.specs.declared.canonical.rule_set.RuleSet.{RuleSet}
 use Rattle.fluent_syntax_writer.specs.declared.canonical.rules.Rule.{Rule}
-use Rattle.fluent_syntax_writer.proofs.rules.EveryRule.{keeps_every}
+use Rattle.fluent_syntax_writer.proofs.rules.EveryRule.{readable, keeps_readable, keeps_every}
 
 -- ---- The first that a test refuses
 
@@ -57,20 +61,38 @@ module _ {X : Type 0} (test : X → Bool) where
   refused_is [] found is = cc
   refused_is (x ∷ xs) found is = refused_by x xs found (test x) refl (refused_is xs found) is
 
-is_none-None : {X : Type 0} (o : Option X) → is_none o ≡ true → None ≡ o
-is_none-None None is = refl
-is_none-None (Some x) is = cc
+  -- tests that give the same refuse the same first
+  refused_same : (other : X → Bool) → ((x : X) → other x ≡ test x) → (xs : List X)
+      → find (λ x. not (other x)) xs ≡ refused xs
+  refused_same other same [] = refl
+  refused_same other same (x ∷ xs) =
+      ap (λ b. cond (not b) (Some x) (find (λ x. not (other x)) xs)) (same x)
+      ∙ ap (λ o. cond (not (test x)) (Some x) o) (refused_same other same xs)
+
+-- nothing is found exactly where this is answered
+pub nothing_found : {X : Type 0} (found : Option X) (answer : Bool) → is_some found ≡ not answer
+    → answer ≡ is_none found
+nothing_found None true is = refl
+nothing_found None false is = cc
+nothing_found (Some x) true is = cc
+nothing_found (Some x) false is = refl
 
 -- ---- The rule that an entry breaks
+
+pub first_in_set : (edition : Edition) (e : EntryTree Text) (broken : RuleSet)
+    → HoldsBroken broken (λ rule. entry_keeps edition rule e) → (rules : List Rule)
+    → find (λ rule. not (keeps broken rule)) rules ≡ first_of edition e rules
+first_in_set edition e broken are rules = refused_same (λ rule. entry_keeps edition rule e) (keeps broken) are rules
 
 pub none_broken : (edition : Edition) (e : EntryTree Text)
     → is_none (broken_rule edition e) ≡ entry_obeys (canonical_rules edition) e
 none_broken edition e =
     none_refused (λ rule. entry_keeps edition rule e) every_rule ∙ sym (keeps_every edition e)
 
-pub keeps_all : (edition : Edition) (e : EntryTree Text) → entry_obeys (canonical_rules edition) e ≡ true
-    → None ≡ broken_rule edition e
-keeps_all edition e canonical = is_none-None (broken_rule edition e) (none_broken edition e ∙ canonical)
+pub none_unreadable : (edition : Edition) (e : EntryTree Text)
+    → is_none (first_of edition e readable) ≡ entry_obeys (readable_rules edition) e
+none_unreadable edition e =
+    none_refused (λ rule. entry_keeps edition rule e) readable ∙ sym (keeps_readable edition e)
 
 -- ---- The entry that breaks one
 

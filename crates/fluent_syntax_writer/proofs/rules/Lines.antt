@@ -1,13 +1,13 @@
 -- The least number of the lines of a pattern.
-use Rattle.std.proofs.Common.{◌≡◌, ℕ, min, List, ◌++◌, ◌&&◌, ◌||◌, not, true, false, Option, Some, None, refl, sym}
+use Rattle.std.proofs.Common.{◌≡◌, ℕ, min, List, ◌++◌, Option, Some, None, refl, sym}
 use Rattle.std.proofs.Common.{ap, ◌∙◌, arith}
 use Rattle.std.specs.Prelude.{option_to_list}
 use Rattle.fluent_syntax_tree.specs.Tree.{ElementTree, text_element, placeable, PatternTree, elements}
 use Rattle.fluent_syntax_tree.specs.declared.edition.Edition.{Edition}
-use Rattle.fluent_syntax_grammar.specs.Canonical.{line_indents, hides_mark, first_position, are_flush, is_flush}
+use Rattle.fluent_syntax_grammar.specs.Canonical.{line_indents}
 use Rattle.fluent_syntax_grammar.specs.Layout.{least, least_with}
 use Rattle.fluent_syntax_grammar.specs.Readable.{ElementPosition}
-use Rattle.fluent_syntax_grammar.specs.Written.{Text, is_multiline}
+use Rattle.fluent_syntax_grammar.specs.Written.{Text}
 use Rattle.fluent_syntax_writer.specs.Places.{position_past, indents_at, least_of_two}
 
 least_of_two-assoc : (a b c : Option ℕ) → least_of_two a (least_of_two b c) ≡ least_of_two (least_of_two a b) c
@@ -42,10 +42,3 @@ least-step edition s e es so_far number is =
     ∙ ap (λ ns. least_of_two so_far (least (ns ++ later))) (sym is)
     ∙ ap (least_of_two so_far) (least-before number later)
     ∙ least_of_two-assoc so_far number (least later)
-
--- A multiline pattern whose first text hides no mark is flush by its lines.
-pub flush_by_lines : (edition : Edition) (p : PatternTree Text) → is_multiline p ≡ true → hides_mark p ≡ false
-    → is_flush edition p ≡ are_flush (least (line_indents edition (first_position p) p)) (first_position p) p
-flush_by_lines edition p spans shows =
-    let lines = are_flush (least (line_indents edition (first_position p) p)) (first_position p) p in
-    ap (λ b. not b || not (hides_mark p) && lines) spans ∙ ap (λ b. not b && lines) shows

@@ -1,7 +1,7 @@
 -- Nodes by their forms.
 use Rattle.std.proofs.Common.{◌≡◌, false, Option, ℕ, Box, Global, refl, sym, ◌∙◌, subst}
 use Rattle.std.specs.Prelude.{is_some, is_none}
-use Rattle.std.proofs.Common.{Some, None, option_map, Bool, true, ◌+◌, ◌&&◌, ap, arith, if◌then◌else◌}
+use Rattle.std.proofs.Common.{Some, None, option_map, Bool, true, ◌+◌, ◌&&◌, arith, if◌then◌else◌}
 use Rattle.fluent_syntax_grammar.specs.Expressions.{selector_fault, is_term_attribute}
 use Rattle.fluent_syntax_tree.specs.Tree.{InlineTree, string_literal, number_literal, function_reference}
 use Rattle.fluent_syntax_tree.specs.Tree.{message_reference, term_reference, variable_reference, ArgumentsTree}
@@ -24,6 +24,7 @@ use Rattle.fluent_syntax_tree.specs.declared.ast.NamedArgument.{NamedArgument}
 use Rattle.fluent_syntax_tree.specs.declared.ast.Pattern.{Pattern}
 use Rattle.fluent_syntax_tree.specs.declared.ast.Variant.{Variant}
 use Rattle.fluent_syntax_grammar.specs.Written.{Text, holds_select}
+use Rattle.fluent_syntax_writer.proofs.rules.Sets.{and_true}
 use denote.Hole.Carrier as carrier
 
 -- ---- Inline expressions that are no placeables
@@ -103,6 +104,6 @@ defaults-next key value false vs before after is = omega arith
 
 -- ---- Patterns
 
-pub pattern_parts : (r : Rules) (p : PatternTree Text) → r.pattern p ≡ true → elements_obey r p ≡ pattern_obeys r p
-pattern_parts r no_elements holds = sym holds
-pattern_parts r (elements e es) holds = ap (λ b. b && elements_obey r (elements e es)) (sym holds)
+pub pattern_parts : (r : Rules) (p : PatternTree Text) → (r.pattern p && elements_obey r p) ≡ pattern_obeys r p
+pattern_parts r no_elements = and_true (r.pattern no_elements)
+pattern_parts r (elements e es) = refl

@@ -1,6 +1,6 @@
--- A pattern that is one text on one line obeys each rule of patterns.
-use Rattle.std.proofs.Common.{◌≡◌, ℕ, List, [], ◌∷◌, length, get_or, map, true, false, ◌&&◌, ◌||◌, not, refl, sym}
-use Rattle.std.proofs.Common.{ap, ◌∙◌, arith}
+-- A pattern that is one text on one line keeps each rule of patterns.
+use Rattle.std.proofs.Common.{◌≡◌, ◌==◌, ℕ, List, [], ◌∷◌, length, get_or, map, Bool, true, false, ◌&&◌, ◌||◌, not}
+use Rattle.std.proofs.Common.{refl, sym, ap, ◌∙◌, arith}
 use Rattle.std.specs.Prelude.{if◌then◌else◌}
 use Rattle.std.specs.List.{list_any}
 use Rattle.fluent_syntax_tree.specs.Text.{is_trimmed}
@@ -8,13 +8,15 @@ use Rattle.fluent_syntax_tree.specs.Tree.{ElementTree, PatternTree, text_element
 use Rattle.fluent_syntax_tree.specs.Tree.{elements_of}
 use Rattle.fluent_syntax_tree.specs.declared.edition.Edition.{Edition}
 use Rattle.fluent_syntax_grammar.specs.Bytes.{lf, space, is_space}
-use Rattle.fluent_syntax_grammar.specs.Canonical.{canonical_rules, hides_mark, first_position, line_indents, are_flush}
 use Rattle.fluent_syntax_grammar.specs.Elements.{without_last_lf}
-use Rattle.fluent_syntax_grammar.specs.Layout.{least}
 use Rattle.fluent_syntax_grammar.specs.PatternTexts.{begins_with_space, ends_plainly, is_empty, is_brace, has_crlf}
-use Rattle.fluent_syntax_grammar.specs.Readable.{opening, is_text, are_elements}
+use Rattle.fluent_syntax_grammar.specs.Readable.{opening, is_text}
 use Rattle.fluent_syntax_grammar.specs.Written.{Text, has_lf}
+use Rattle.fluent_syntax_writer.specs.RuleSets.{number}
+use Rattle.fluent_syntax_writer.specs.SingleRule.{asks, spelling_keeps, texts_keep, lines_keep, pattern_keeps}
 use Rattle.fluent_syntax_writer.specs.Texts.{is_plain_pattern, is_plain_text}
+use Rattle.fluent_syntax_writer.specs.declared.canonical.rules.Rule.{Rule}
+use Rattle.fluent_syntax_writer.specs.declared.canonical.rules.Rule.TheVariants as rule
 use Rattle.fluent_syntax_grammar.proofs.Facts.{left_true, right_true}
 use Rattle.fluent_syntax_grammar.proofs.Tests.{both, differ, not_true, or_right}
 
@@ -35,9 +37,25 @@ ends_by (b ∷ c ∷ bs) ends =
     let rest = ends_by (c ∷ bs) ends in
     record { no_lf = ap (λ t. b ∷ t) rest.no_lf; shown = or_right (not (is_space b)) _ rest.shown }
 
-plain_text_obeys : (edition : Edition) (v : Text) → is_plain_text v ≡ true
-    → (canonical_rules edition).pattern (elements (text_element v) no_elements) ≡ true
-plain_text_obeys edition v plain =
+if_true : (b : Bool) → (if b then true else true) ≡ true
+if_true true = refl
+if_true false = refl
+
+asked_true : (asker k : Rule) (passes : Bool) → passes ≡ true → asks asker k passes ≡ true
+asked_true asker k passes e = ap (asks asker k) e ∙ if_true (number asker == number k)
+
+pub text_spelled : (k : Rule) (v : Text) → is_text v ≡ true → spelling_keeps k v ≡ true
+text_spelled k v text =
+    let later = right_true (not (is_empty v)) _ text in
+    let no_crlf = right_true (not (list_any is_brace v)) _ later in
+    both (both (both (asked_true rule.EmptyText k _ (left_true (not (is_empty v)) _ text))
+    (asked_true rule.BraceInText k _ (left_true (not (list_any is_brace v)) _ later)))
+    (asked_true rule.CrBeforeLf k _ (left_true (not (has_crlf v)) _ no_crlf)))
+    (asked_true rule.LfWithinText k _ (right_true (not (has_crlf v)) _ no_crlf))
+
+plain_text_keeps : (edition : Edition) (k : Rule) (v : Text) → is_plain_text v ≡ true
+    → pattern_keeps edition k (elements (text_element v) no_elements) ≡ true
+plain_text_keeps edition k v plain =
     let p = elements (text_element v) no_elements in
     let text = left_true (is_text v) _ plain in
     let at_ends = right_true (is_text v) _ plain in
@@ -50,19 +68,20 @@ plain_text_obeys edition v plain =
     let on_one_line : (has_lf v || false) ≡ false =
     ap (λ u. has_lf u || false) (sym ends.no_lf) ∙ ap (λ b. b || false) no_lf in
     let shown = ap (list_any (λ b. not (is_space b))) ends.no_lf ∙ ends.shown in
-    let flush = not (hides_mark p) && are_flush (least (line_indents edition (first_position p) p))
-    (first_position p) p in
-    both
-    (ap (λ multiline. are_elements edition multiline opening p) on_one_line
-    ∙ both text (both (both shown tight) (both plainly refl)))
-    (ap (λ multiline. not multiline || flush) on_one_line)
+    let place = both (asked_true rule.BlankFirstText k _ (ap (λ b. b || false) shown))
+    (asked_true rule.LeadingSpace k _ tight) in
+    let texts = both (both (both (text_spelled k v text) place) (asked_true rule.BlankEnd k _ plainly)) refl in
+    ap (λ multiline. (asks rule.EmptyPattern k true && texts_keep edition k multiline opening p)
+    && lines_keep edition k multiline p) on_one_line
+    ∙ both (both (asked_true rule.EmptyPattern k true refl) texts) refl
 
-pub plain_pattern_obeys : (edition : Edition) (p : PatternTree Text) → is_plain_pattern p ≡ true
-    → (canonical_rules edition).pattern p ≡ true
-plain_pattern_obeys edition no_elements plain = absurd cc
-plain_pattern_obeys edition (elements (text_element v) no_elements) plain = plain_text_obeys edition v plain
-plain_pattern_obeys edition (elements (text_element v) (elements x xs)) plain = absurd cc
-plain_pattern_obeys edition (elements (placeable e) xs) plain = absurd cc
+-- A pattern that is one text on one line keeps each rule.
+pub plain_pattern_keeps : (edition : Edition) (k : Rule) (p : PatternTree Text) → is_plain_pattern p ≡ true
+    → pattern_keeps edition k p ≡ true
+plain_pattern_keeps edition k no_elements plain = absurd cc
+plain_pattern_keeps edition k (elements (text_element v) no_elements) plain = plain_text_keeps edition k v plain
+plain_pattern_keeps edition k (elements (text_element v) (elements x xs)) plain = absurd cc
+plain_pattern_keeps edition k (elements (placeable e) xs) plain = absurd cc
 
 pub one_element : {E : Type 0} (view : E → ElementTree Text) (es : List E) (e : E) → length es ≡ 1 → e ≡ get_or es 0 e
     → is_plain_pattern (elements_of (map view es)) ≡ is_plain_pattern (elements (view e) no_elements)

@@ -1,5 +1,5 @@
 -- The elements of a pattern, one by one.
-use Rattle.std.proofs.Common.{◌≡◌, ◌≤◌, List, [], ◌∷◌, length, map, Bool, true, false, ◌&&◌}
+use Rattle.std.proofs.Common.{◌≡◌, List, [], ◌∷◌, length, map, Bool, true, false, ◌&&◌}
 use Rattle.std.proofs.Common.{◌||◌, ◌==◌, not, Some, None, refl, sym, ap, ◌∙◌, arith}
 use Rattle.std.proofs.lemmas.Bool.{eqb-true}
 use Rattle.std.specs.Prelude.{slice_get}
@@ -7,14 +7,11 @@ use Rattle.std.specs.List.{list_any}
 use Rattle.fluent_syntax_tree.specs.Tree.{ElementTree, text_element, placeable, PatternTree, no_elements, elements}
 use Rattle.fluent_syntax_tree.specs.Tree.{elements_of}
 use Rattle.fluent_syntax_tree.specs.declared.edition.Edition.{Edition}
-use Rattle.fluent_syntax_grammar.specs.Readable.{begins_with_placeable, is_text, may_occur_at, may_precede}
-use Rattle.fluent_syntax_grammar.specs.Readable.{position_after}
-use Rattle.fluent_syntax_grammar.specs.Readable.{are_elements}
-use Rattle.fluent_syntax_grammar.specs.Readable.{ElementPosition, opening, is_line_start, is_pattern}
+use Rattle.fluent_syntax_grammar.specs.Readable.{ElementPosition, is_line_start, begins_with_placeable, may_precede}
 use Rattle.fluent_syntax_grammar.specs.Canonical.{hides_mark, are_lone}
 use Rattle.fluent_syntax_grammar.specs.Written.{Text, is_multiline, spans_lines}
 use Rattle.fluent_syntax_writer.specs.SingleRule.{has_element, texts_keep}
-use Rattle.fluent_syntax_writer.specs.Places.{position_past, is_element, element_keeps, is_placeable}
+use Rattle.fluent_syntax_writer.specs.Places.{position_past, element_keeps, is_placeable}
 use Rattle.fluent_syntax_writer.specs.Places.{element_hides_mark}
 use Rattle.fluent_syntax_writer.specs.Places.{is_lone_lf_at_line_start}
 use Rattle.fluent_syntax_writer.specs.declared.canonical.rules.Rule.{Rule}
@@ -51,11 +48,6 @@ hides_mark-first (placeable e) es = refl
 
 -- ---- Each element by its place
 
-pub and_assoc : (a b c d : Bool) → (a && (b && (c && d))) ≡ ((a && (b && c)) && d)
-and_assoc true true c d = refl
-and_assoc true false c d = refl
-and_assoc false b c d = refl
-
 or_true : (b : Bool) → true ≡ (b || true)
 or_true true = refl
 or_true false = refl
@@ -68,42 +60,22 @@ module _ {E : Type 0} (view : E → ElementTree Text) where
   abbrev pub past : ElementPosition → E → ElementPosition
   past s e = position_past (view e)
 
-  module _ (edition : Edition) (multiline : Bool) where
-    abbrev pub obey : ElementPosition → List E → Bool
-    obey s es = are_elements edition multiline s (tree es)
+  module _ (edition : Edition) (multiline : Bool) (rule : Rule) where
+    abbrev pub keep : ElementPosition → List E → Bool
+    keep s es = texts_keep edition rule multiline s (tree es)
 
-    abbrev pub obeys : ElementPosition → E → List E → Bool
-    obeys s e es = is_element edition multiline s (view e) (tree es)
+    abbrev pub keeps : ElementPosition → E → List E → Bool
+    keeps s e es = element_keeps edition rule multiline s (view e) (tree es)
 
-    by_form : (s : ElementPosition) (e : ElementTree Text) (es : PatternTree Text)
-        → are_elements edition multiline s (elements e es)
-        ≡ (is_element edition multiline s e es && are_elements edition multiline (position_past e) es)
-    by_form s (text_element v) es =
-        and_assoc (is_text v) (may_occur_at edition multiline s v es) (may_precede v es)
-        (are_elements edition multiline (position_after v) es)
-    by_form s (placeable e) es = refl
+    keep_by_form : (s : ElementPosition) (e : ElementTree Text) (es : PatternTree Text)
+        → texts_keep edition rule multiline s (elements e es)
+        ≡ (element_keeps edition rule multiline s e es && texts_keep edition rule multiline (position_past e) es)
+    keep_by_form s (text_element v) es = refl
+    keep_by_form s (placeable e) es = refl
 
-    -- the same by one rule alone
-    module _ (rule : Rule) where
-      abbrev pub keep : ElementPosition → List E → Bool
-      keep s es = texts_keep edition rule multiline s (tree es)
-
-      abbrev pub keeps : ElementPosition → E → List E → Bool
-      keeps s e es = element_keeps edition rule multiline s (view e) (tree es)
-
-      keep_by_form : (s : ElementPosition) (e : ElementTree Text) (es : PatternTree Text)
-          → texts_keep edition rule multiline s (elements e es)
-          ≡ (element_keeps edition rule multiline s e es && texts_keep edition rule multiline (position_past e) es)
-      keep_by_form s (text_element v) es = refl
-      keep_by_form s (placeable e) es = refl
-
-      pub first_keeps : (s : ElementPosition) (e : E) (es : List E)
-          → keep s (e ∷ es) ≡ (keeps s e es && keep (past s e) es)
-      first_keeps s e es = keep_by_form s (view e) (tree es)
-
-    pub first_obeys : (s : ElementPosition) (e : E) (es : List E)
-        → obey s (e ∷ es) ≡ (obeys s e es && obey (past s e) es)
-    first_obeys s e es = by_form s (view e) (tree es)
+    pub first_keeps : (s : ElementPosition) (e : E) (es : List E)
+        → keep s (e ∷ es) ≡ (keeps s e es && keep (past s e) es)
+    first_keeps s e es = keep_by_form s (view e) (tree es)
 
   abbrev pub lone : ElementPosition → List E → Bool
   lone s es = are_lone s (tree es)
@@ -127,17 +99,6 @@ pub may_precede-before : {E : Type 0} (view : E → ElementTree Text) (v : Text)
     → true ≡ may_precede v (elements_of (map view es))
 may_precede-before view v [] some = cc
 may_precede-before view v (e ∷ es) some = refl
-
-pub is_pattern-some : {E : Type 0} (view : E → ElementTree Text) (edition : Edition) (es : List E) → 1 ≤ length es
-    → is_pattern edition (elements_of (map view es))
-    ≡ are_elements edition (is_multiline (elements_of (map view es))) opening (elements_of (map view es))
-is_pattern-some view edition [] some = absurd (omega arith)
-is_pattern-some view edition (e ∷ es) some = refl
-
-pub is_pattern-none : {E : Type 0} (view : E → ElementTree Text) (edition : Edition) (es : List E) → length es ≡ 0
-    → is_pattern edition (elements_of (map view es)) ≡ false
-is_pattern-none view edition [] none = refl
-is_pattern-none view edition (e ∷ es) none = absurd (omega arith)
 
 pub has_element-list : {E : Type 0} (view : E → ElementTree Text) (es : List E) (none : Bool)
     → none ≡ (length es == 0) → not none ≡ has_element (elements_of (map view es))

@@ -1,7 +1,8 @@
 -- Loops over a list, by what a function gives of what is left.
-use Rattle.std.proofs.Common.{◌≡◌, ℕ, ◌+◌, ◌<◌, List, ◌∷◌, length, get_or, drop, Bool, true, false, ◌&&◌, refl, sym}
+use Rattle.std.proofs.Common.{◌≡◌, ℕ, ◌+◌, ◌<◌, List, ◌∷◌, length, get_or, drop, Bool, true, false, ◌&&◌, sym}
 use Rattle.std.proofs.Common.{ap, ◌∙◌}
 use Rattle.std.proofs.lemmas.List.{at_drop_more}
+use Rattle.fluent_syntax_writer.proofs.rules.Sets.{and_assoc}
 
 pub next_of : {X Y : Type 0} (F : List X → Y) (xs : List X) (i : ℕ) (x : X) → i < length xs → x ≡ get_or xs i x
     → F (drop i xs) ≡ F (x ∷ drop (i + 1) xs)
@@ -26,14 +27,13 @@ module _ {S X : Type 0} (all : S → List X → Bool) (one : S → X → List X 
       next_of (all s) xs i x within is ∙ step s x others ∙ ap (λ b. b && all (next s x) others) fails in
       sym same ∙ rest
 
--- Three tests, of which the first two are made at once.
-
-pub three_hold : (a b c r : Bool) → (a && b) ≡ true → r ≡ c → r ≡ (a && (b && c))
-three_hold true true c r both third = third
-three_hold true false c r both third = cc
-three_hold false b c r both third = cc
-
-pub three_fail : (a b c : Bool) → (a && b) ≡ false → false ≡ (a && (b && c))
-three_fail true true c both = cc
-three_fail true false c both = refl
-three_fail false b c both = refl
+  -- What is kept so far and by what is left is kept by all, with an item more.
+  pub item_joins : (s : S) (xs : List X) (i : ℕ) (x : X) (before after whole : Bool) → i < length xs → x ≡ get_or xs i x
+      → after ≡ (before && one s x (drop (i + 1) xs)) → (before && all s (drop i xs)) ≡ whole
+      → (after && all (next s x) (drop (i + 1) xs)) ≡ whole
+  item_joins s xs i x before after whole within is joined rest =
+      let others = drop (i + 1) xs in
+      let same : all s (drop i xs) ≡ (one s x others && all (next s x) others) =
+      next_of (all s) xs i x within is ∙ step s x others in
+      ap (λ b. b && all (next s x) others) joined ∙ and_assoc before (one s x others) (all (next s x) others)
+      ∙ ap (λ b. before && b) (sym same) ∙ rest

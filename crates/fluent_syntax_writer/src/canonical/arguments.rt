@@ -1,25 +1,15 @@
-//! The arguments of a call.
+//! The values of named arguments.
+#![tactic(auto, using(fluent_syntax_tree::proofs::Views::views))]
+
 ghost use Rattle.std.specs.Prelude.{◌≡◌, map};
 ghost use Rattle.fluent_syntax_tree.specs.Tree.{nameds_of};
-ghost use Rattle.fluent_syntax_tree.specs.View.{inline_view, arguments_view, named_view};
-ghost use Rattle.fluent_syntax_grammar.specs.Readable.{is_argument_value, are_arguments};
+ghost use Rattle.fluent_syntax_tree.specs.View.{inline_view, named_view};
+ghost use Rattle.fluent_syntax_grammar.specs.Readable.{is_argument_value};
 ghost use Rattle.fluent_syntax_writer.specs.SingleRule.{have_values};
 
-use crate::canonical::argument_names::have_new_names;
 use crate::canonical::spellings::is_unsigned;
 use fluent_syntax_tree::ast::*;
 use fluent_syntax_tree::texts::ReadTexts;
-use std::alloc::Global;
-
-/// Whether the named arguments have values that such arguments may have, and distinct names.
-pub fn are_arguments<X, T: ReadTexts<X>>(
-    alloc: Option<Global>,
-    arguments: &CallArguments<X>,
-) -> bool
-    ensures { result ≡ are_arguments (arguments_view T.text arguments.now) }
-{
-    have_values::<X, T>(&arguments.named) && have_new_names::<X, T>(alloc, &arguments.named)
-}
 
 /// Whether each value is one that a named argument may have.
 pub fn have_values<X, T: ReadTexts<X>>(named: &[NamedArgument<X>]) -> bool

@@ -1,7 +1,7 @@
 //! Comments.
 ghost use Rattle.std.specs.Prelude.{◌≡◌, map, not};
 ghost use Rattle.std.specs.List.{list_all};
-ghost use Rattle.fluent_syntax_grammar.specs.Canonical.{is_plain_comment, is_plain_line};
+ghost use Rattle.fluent_syntax_grammar.specs.Canonical.{is_plain_line};
 ghost use Rattle.fluent_syntax_grammar.specs.Readable.{are_lines};
 ghost use Rattle.fluent_syntax_grammar.specs.Written.{has_lf};
 
@@ -19,13 +19,6 @@ fn is_line(line: &str) -> bool
     ensures { result ≡ not (has_lf line.now) }
 {
     !has_lf(line.as_bytes())
-}
-
-/// Whether there is a line, and each is plain.
-pub fn is_plain_comment<X, T: ReadTexts<X>>(content: &[X]) -> bool
-    ensures { result ≡ is_plain_comment (map T.text content.now) }
-{
-    !content.is_empty() && are_plain_lines::<X, T>(content)
 }
 
 pub fn are_plain_lines<X, T: ReadTexts<X>>(content: &[X]) -> bool

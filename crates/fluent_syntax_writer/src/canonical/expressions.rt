@@ -1,26 +1,14 @@
-//! Selects, and the expressions of placeables.
+//! Selectors, default variants, and terms with attribute.
+#![tactic(auto, using(fluent_syntax_tree::proofs::Views::views))]
+
 ghost use Rattle.std.specs.Prelude.{◌≡◌, is_none, map};
 ghost use Rattle.fluent_syntax_tree.specs.Tree.{variants_of};
-ghost use Rattle.fluent_syntax_tree.specs.View.{expression_view, inline_view, variant_view};
+ghost use Rattle.fluent_syntax_tree.specs.View.{inline_view, variant_view};
 ghost use Rattle.fluent_syntax_grammar.specs.Expressions.{selector_fault, is_term_attribute};
-ghost use Rattle.fluent_syntax_grammar.specs.Readable.{is_expression, defaults};
-ghost use Rattle.fluent_syntax_grammar.specs.Canonical.{has_one_default};
+ghost use Rattle.fluent_syntax_grammar.specs.Readable.{defaults};
 
 use fluent_syntax_tree::ast::*;
 use fluent_syntax_tree::texts::ReadTexts;
-
-/// Whether a select has a selector and at most one default, and an inline expression is no term reference with
-/// attribute.
-pub fn is_expression<X, T: ReadTexts<X>>(expression: &Expression<X>) -> bool
-    ensures { result ≡ is_expression (expression_view T.text expression.now) }
-{
-    match expression {
-        Expression::Select { selector, variants } => {
-            is_selector::<X, T>(selector) && defaults::<X, T>(variants) <= 1
-        }
-        Expression::Inline(inline) => !is_term_attribute::<X, T>(inline),
-    }
-}
 
 /// Whether the expression is a string, a number, a variable, a function, or a term reference with attribute.
 pub fn is_selector<X, T: ReadTexts<X>>(selector: &InlineExpression<X>) -> bool
@@ -48,16 +36,6 @@ pub fn is_term_attribute<X, T: ReadTexts<X>>(content: &InlineExpression<X>) -> b
         InlineExpression::TermReference { attribute, .. } => attribute.is_some(),
         InlineExpression::VariableReference { .. } => false,
         InlineExpression::Placeable { .. } => false,
-    }
-}
-
-/// Whether a select has exactly one default variant.
-pub fn has_one_default<X, T: ReadTexts<X>>(expression: &Expression<X>) -> bool
-    ensures { result ≡ has_one_default (expression_view T.text expression.now) }
-{
-    match expression {
-        Expression::Select { variants, .. } => defaults::<X, T>(variants) == 1,
-        Expression::Inline(_) => true,
     }
 }
 

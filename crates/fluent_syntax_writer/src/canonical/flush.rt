@@ -1,37 +1,51 @@
 //! The lines of a multiline pattern.
+#![tactic(auto, using(fluent_syntax_tree::proofs::Views::views))]
+
 ghost use Rattle.std.specs.Prelude.{◌≡◌, map, option_to_list};
 ghost use Rattle.fluent_syntax_tree.specs.Tree.{text_element, elements_of};
 ghost use Rattle.fluent_syntax_tree.specs.View.{element_view, pattern_view};
 ghost use Rattle.fluent_syntax_grammar.specs.Canonical.{hides_mark, text_indents, placeable_indents, line_indents};
-ghost use Rattle.fluent_syntax_grammar.specs.Canonical.{are_lone, are_flush, first_position, is_flush};
+ghost use Rattle.fluent_syntax_grammar.specs.Canonical.{are_lone, first_position};
 ghost use Rattle.fluent_syntax_grammar.specs.Layout.{least};
 ghost use Rattle.fluent_syntax_grammar.specs.PatternTexts.{is_lone_lf};
 ghost use Rattle.fluent_syntax_writer.specs.Places.{position_of, indents_at, element_indents, element_hides_mark};
 ghost use Rattle.fluent_syntax_writer.specs.Places.{is_lone};
 ghost use Rattle.fluent_syntax_writer.specs.Places.{is_lone_lf_at_line_start, least_of_two};
+ghost use Rattle.fluent_syntax_writer.specs.RuleSets.{HoldsBroken};
+ghost use Rattle.fluent_syntax_writer.specs.SingleRule.{lines_keep, flush_keeps};
 
 use crate::canonical::elements::{ElementPosition, is_line_start, position_past};
 use crate::canonical::patterns::{has_leading_mark, is_multiline};
+use crate::canonical::rule_set::RuleSet;
+use crate::canonical::rules::Rule;
 use crate::canonical::texts::*;
 use fluent_syntax_grammar::texts::is_lone_lf;
 use fluent_syntax_tree::ast::{Pattern, PatternElement};
 use fluent_syntax_tree::edition::Edition;
 use fluent_syntax_tree::texts::ReadTexts;
 
-/// Whether the pattern is not multiline, or its first text hides no mark and its lines are flush.
-pub fn is_flush<X, T: ReadTexts<X>>(edition: Edition, pattern: &Pattern<X>) -> bool
-    ensures { result ≡ is_flush edition (pattern_view T.text pattern.now) }
+/// Of the lines of the pattern, which is multiline or not.
+pub fn lines_break<X, T: ReadTexts<X>>(
+    edition: Edition,
+    multiline: bool,
+    pattern: &Pattern<X>,
+) -> RuleSet
+    ensures { HoldsBroken result (λ rule. lines_keep edition rule multiline (pattern_view T.text pattern.now)) }
 {
-    if !is_multiline::<X, T>(pattern) {
-        return true;
+    if !multiline {
+        return RuleSet::none();
     }
     let position = first_position::<X, T>(pattern);
-    !hides_mark::<X, T>(pattern) && are_flush::<X, T>(edition, position, &pattern.elements)
+    RuleSet::unless(!hides_mark::<X, T>(pattern), Rule::HiddenMark).union(flush_breaks::<X, T>(
+        edition,
+        position,
+        &pattern.elements,
+    ))
 }
 
 /// Where the first element of a multiline pattern is: at the beginning of a line, unless it would be read as
 /// something else there.
-pub fn first_position<X, T: ReadTexts<X>>(pattern: &Pattern<X>) -> ElementPosition
+fn first_position<X, T: ReadTexts<X>>(pattern: &Pattern<X>) -> ElementPosition
     ensures { position_of result ≡ first_position (pattern_view T.text pattern.now) }
 {
     if is_multiline::<X, T>(pattern) && !has_leading_mark::<X, T>(pattern) {
@@ -42,7 +56,7 @@ pub fn first_position<X, T: ReadTexts<X>>(pattern: &Pattern<X>) -> ElementPositi
 }
 
 /// Whether the first element is a text that begins with spaces and then `.`, `[` or `*`.
-pub fn hides_mark<X, T: ReadTexts<X>>(pattern: &Pattern<X>) -> bool
+fn hides_mark<X, T: ReadTexts<X>>(pattern: &Pattern<X>) -> bool
     ensures { result ≡ hides_mark (pattern_view T.text pattern.now) }
 {
     match pattern.elements.first() {
@@ -66,24 +80,27 @@ fn text_hides_mark(text: &str) -> bool
     begins_with_space(text) && begins_line_with_mark(text)
 }
 
-/// Whether the least number of the lines is 0, or no line has a number and each text that begins a line is one LF.
-fn are_flush<X, T: ReadTexts<X>>(
+/// The least number of the lines is to be 0. Where no line has a number, each text that begins a line is to be one LF.
+fn flush_breaks<X, T: ReadTexts<X>>(
     edition: Edition,
     position: ElementPosition,
     elements: &[PatternElement<X>],
-) -> bool
-    ensures { result ≡ are_flush
+) -> RuleSet
+    ensures { HoldsBroken result (λ rule. flush_keeps rule
         (least (line_indents edition (position_of position) (elements_of (map (element_view T.text) elements.now))))
-        (position_of position) (elements_of (map (element_view T.text) elements.now)) }
+        (position_of position) (elements_of (map (element_view T.text) elements.now))) }
 {
     match least_number::<X, T>(edition, position, elements) {
-        Some(number) => number == 0,
-        None => are_lone::<X, T>(position, elements),
+        Some(number) => RuleSet::unless(number == 0, Rule::CommonIndent),
+        None => RuleSet::unless(
+            are_lone::<X, T>(position, elements),
+            Rule::SpacesOnBlankLine,
+        ),
     }
 }
 
 /// The least number of the lines that begin at these elements, if a line has one.
-pub fn least_number<X, T: ReadTexts<X>>(
+fn least_number<X, T: ReadTexts<X>>(
     edition: Edition,
     first: ElementPosition,
     elements: &[PatternElement<X>],
@@ -160,7 +177,7 @@ fn placeable_number(edition: Edition) -> Option<usize>
 }
 
 /// Whether each text that begins a line is one LF.
-pub fn are_lone<X, T: ReadTexts<X>>(first: ElementPosition, elements: &[PatternElement<X>]) -> bool
+fn are_lone<X, T: ReadTexts<X>>(first: ElementPosition, elements: &[PatternElement<X>]) -> bool
     ensures { result ≡ are_lone (position_of first) (elements_of (map (element_view T.text) elements.now)) }
 {
     let mut position = first;

@@ -1,4 +1,6 @@
 //! How a pattern is laid out: which patterns span lines.
+#![tactic(auto, using(fluent_syntax_tree::proofs::Views::views))]
+
 ghost use Rattle.std.specs.Prelude.{◌≡◌};
 ghost use Rattle.fluent_syntax_tree.specs.View.{expression_view, inline_view, element_view, pattern_view};
 ghost use Rattle.fluent_syntax_grammar.specs.Written.{is_select, holds_select, spans_lines, is_multiline};

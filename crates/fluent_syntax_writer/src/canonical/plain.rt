@@ -1,4 +1,6 @@
 //! The usual pattern: one text on one line.
+#![tactic(auto, using(fluent_syntax_tree::proofs::Views::views))]
+
 ghost use Rattle.std.specs.Prelude.{◌≡◌};
 ghost use Rattle.fluent_syntax_tree.specs.Tree.{no_elements, elements};
 ghost use Rattle.fluent_syntax_tree.specs.View.{element_view, pattern_view};

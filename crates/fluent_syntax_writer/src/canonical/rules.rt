@@ -101,6 +101,9 @@ pub enum Rule {
     NoDefault,
 }
 
+/// So many of the first rules are those of readable trees.
+pub(crate) const READABLE_RULES: usize = 23;
+
 /// Each rule once, in the order in which a broken one is looked for: those of readable trees come first.
 pub(crate) const RULES: [Rule; 29] = [
     Rule::Junk,

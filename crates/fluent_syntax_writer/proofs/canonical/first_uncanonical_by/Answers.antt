@@ -8,11 +8,11 @@ use Rattle.fluent_syntax_writer.proofs.canonical.first_uncanonical_by.Goals as g
 pub returns-clause-none : goal.returns-clause-none
 returns-clause-none g c =
     let tree = resource_view g.S.Slice.text c.args.tree.now in
-    let exact : c.first_uncanonical.result ≡ first_uncanonical c.args.edition tree = search rules in
-    ap is_none exact ∙ none_uncanonical c.args.edition tree
+    let exact : c.first_uncanonical.result ≡ first_uncanonical c.args.check.edition tree = search rules in
+    ap is_none exact ∙ none_uncanonical c.args.check.edition tree
 
 pub returns-clause-first : goal.returns-clause-first
 returns-clause-first g c =
     let tree = resource_view g.S.Slice.text c.args.tree.now in
-    let exact : c.first_uncanonical.result ≡ first_uncanonical c.args.edition tree = search rules in
-    first_is_broken c.args.edition tree c.first_uncanonical.result exact
+    let exact : c.first_uncanonical.result ≡ first_uncanonical c.args.check.edition tree = search rules in
+    first_is_broken c.args.check.edition tree c.first_uncanonical.result exact

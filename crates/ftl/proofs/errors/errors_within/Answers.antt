@@ -12,9 +12,7 @@ use Rattle.ftl.proofs.errors.errors_within.Goals as goal
 pub loop-errors-init : goal.loop-errors-init
 loop-errors-init c = record {
   text = c.new-entries.ensures.text;
-  edition = ap (λ options. options.edition) c.new-entries.ensures.options;
-  comments = ap (λ options. options.comments) c.new-entries.ensures.options;
-  nesting = ap (λ options. options.nesting) c.new-entries.ensures.options;
+  options = c.new-entries.ensures.options;
   errors = rw (c.new-entries.ensures.start, c.new-errors.ensures.items) (no_errors c.args.edition c.args.text.now);
   places = rw c.new-errors.ensures.items (All-nil (λ (e : ParserError). e.pos.start ≤ length c.args.text.now));
   deeper = rw c.new-entries.ensures.start (λ d. d, λ d. d);
@@ -25,14 +23,12 @@ loop-errors-preserved c =
     let t = c.args.text.now in
     let inv = c.loop-errors.invariant in
     let here = c.in_ok-error.ensures in
-    let next = rw (inv.text, inv.edition, inv.comments, c.in-Some.is) at here.next in
+    let next = rw (inv.text, inv.options, c.in-Some.is) at here.next in
     let error = c.in-Some.error in
     let there = entry_to Kept c.args.edition t _ _ _ next.0 (faults_of error) next.1 in
     record {
-      text = ap (λ source. source.bytes.now) here.text ∙ inv.text;
-      edition = ap (λ options. options.edition) here.options ∙ inv.edition;
-      comments = ap (λ options. options.comments) here.options ∙ inv.comments;
-      nesting = ap (λ options. options.nesting) here.options ∙ inv.nesting;
+      text = ap (λ source. source.bytes.now) here.reads.text ∙ inv.text;
+      options = here.reads.options ∙ inv.options;
       errors =
           subst (ErrorsTo c.args.edition t _) (sym c.in_ok-push_if_error.ensures)
           (errors_on c.args.edition t _ _ _ next.0 error inv.errors there);
@@ -41,7 +37,7 @@ loop-errors-preserved c =
           subst (All is_inside) (sym c.in_ok-push_if_error.ensures)
           (all_with_error is_inside _ error inv.places (rw (inv.text, c.in-Some.is) at here.places));
       deeper =
-          let shallow = rw (inv.text, inv.edition, inv.comments, inv.nesting, c.in-Some.is) at here.shallow in
+          let shallow = rw (inv.text, inv.options, c.in-Some.is) at here.reads.shallow in
           (λ d. inv.deeper.0 (shallow.1 d), λ d. shallow.0 (inv.deeper.1 d));
     }
 
@@ -50,7 +46,7 @@ loop-errors-preserved c =
 pub returns-clause-errors : goal.returns-clause-errors
 returns-clause-errors c =
     let inv = c.loop-errors.invariant in
-    let none = rw (inv.text, inv.edition, inv.comments, c.in_default.is) at c.in_ok-error.ensures.next in
+    let none = rw (inv.text, inv.options, c.in_default.is) at c.in_ok-error.ensures.next in
     all_errors c.args.edition c.args.text.now _ _ inv.errors none
 
 -- ---- where it nests too deeply
@@ -58,6 +54,6 @@ returns-clause-errors c =
 pub returns-in_err-error-clause-deeper : goal.returns-in_err-error-clause-deeper
 returns-in_err-error-clause-deeper c =
     let inv = c.loop-errors.invariant in
-    let deeper = rw (inv.text, inv.edition, inv.comments, inv.nesting) at c.in_err-error.ensures.deeper in
+    let deeper = rw (inv.text, inv.options) at c.in_err-error.ensures.reads.deeper in
     let halt = err_from_is_err_and c.from_residual.result c.from_residual.ensures.1 in
     rw (halt.1, halt.2) (λ deep. inv.deeper.0 (deeper deep))

@@ -10,9 +10,7 @@ abbrev pub invariant-loop-errors : goal.invariant-loop-errors
 invariant-loop-errors l = let t = l.text in
     let deeper = TextDeeper l.fn.edition t (TileIn l.fn.edition t) l.fn.nesting in record {
       text : l.entries.source.bytes.now ≡ t;
-      edition : l.entries.options.edition ≡ l.fn.edition;
-      comments : l.entries.options.comments ≡ Kept;
-      nesting : l.entries.options.nesting ≡ l.fn.nesting;
+      options : l.entries.options ≡ record { edition = l.fn.edition; comments = Kept; nesting = l.fn.nesting };
       errors : ErrorsTo l.fn.edition t l.entries.ptr l.errors.items;
       places : All (λ e. e.pos.start ≤ length t) l.errors.items;
       deeper : (deeper l.entries.ptr → deeper 0) × (deeper 0 → deeper l.entries.ptr);

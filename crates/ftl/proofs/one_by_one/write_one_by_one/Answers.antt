@@ -40,8 +40,8 @@ loop-errors-preserved g c =
     (ap (map (entry_view (λ s. s.now))) (c.deref.ensures.value ∙ entry)) in
     let outcome = c.write_read-outcome.ensures.outcome put.error (c.deref-in-Some.ensures.value ∙ error) in
     record {
-      text = ap (λ source. source.bytes.now) here.text ∙ inv.text;
-      options = here.options ∙ inv.options;
+      text = ap (λ source. source.bytes.now) here.reads.text ∙ inv.text;
+      options = here.reads.options ∙ inv.options;
       no_entry = c.clear.ensures.items;
       no_error = c.clear-in-Some.ensures.items;
       so_far = (
@@ -50,7 +50,7 @@ loop-errors-preserved g c =
         rw outcome longer,
       );
       deeper =
-          let shallow = rw (inv.text, inv.options, c.in-Some.is) at here.shallow in
+          let shallow = rw (inv.text, inv.options, c.in-Some.is) at here.reads.shallow in
           (λ d. inv.deeper.0 (shallow.1 d), λ d. shallow.0 (inv.deeper.1 d));
     }
 

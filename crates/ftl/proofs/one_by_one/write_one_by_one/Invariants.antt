@@ -1,15 +1,14 @@
 use Rattle.std.proofs.Common.{◌≡◌, ◌-◌, [], length}
 use Rattle.fluent_syntax_tree.specs.Entry.{BodyTree}
-use Rattle.fluent_syntax_grammar.specs.Nesting.{TextDeeper}
 use Rattle.fluent_syntax_grammar.specs.Written.{Text}
-use Rattle.fluent_syntax_parser.specs.Rest.{TileIn}
+use Rattle.fluent_syntax_parser.specs.Halts.{DeeperFrom}
 use Rattle.ftl.specs.OneByOne.{WroteEntries}
 use Rattle.ftl.proofs.ReadTo.{ReadTo}
 use Rattle.ftl.proofs.one_by_one.write_one_by_one.Given as goal
 
 abbrev pub invariant-loop-errors : goal.invariant-loop-errors
 invariant-loop-errors g l = let t = l.fn.text in let asked = l.fn.options in
-    let deeper = TextDeeper asked.edition t (TileIn asked.comments asked.edition t) asked.nesting in record {
+    let deeper = DeeperFrom asked t in record {
       text : l.entries.source.bytes.now ≡ t;
       options : l.entries.options ≡ asked;
       no_entry : l.body.items ≡ [];

@@ -13,7 +13,7 @@ pub returns-clause-parts : goal.returns-clause-parts
 returns-clause-parts c =
     let options = c.args.self.now.options in
     let t = c.args.self.now.source.bytes.now in
-    let same = ap (λ source. length source.bytes.now) c.next_entry_with.ensures.text in
+    let same = ap (λ source. length source.bytes.now) c.next_entry_with.ensures.reads.text in
     let inside = c.next_entry_with.new.self.within in
     parts_of_next t options.comments options.edition c.args.self.now.utf8 _ _ _ _ (omega (arith, same, inside))
     c.args.self.now.reached

@@ -5,17 +5,8 @@ use Rattle.fluent_syntax_parser.proofs.entry_forms.MadeEntries.{same_some}
 use Rattle.fluent_syntax_parser.proofs.tilings.Rests.{entry_to}
 use Rattle.fluent_syntax_parser.proofs.entries.Entries.next_entry_with.Goals as goal
 
-pub returns-in_default-only_item-clause-next : goal.returns-in_default-only_item-clause-next
-returns-in_default-only_item-clause-next g c =
-    let put = rw c.in-Some.is at c.in_ok-_span.ensures.next in
-    let some =
-    sym c.in_default-only_item.is
-    ∙ c.only_item.ensures (Some put.entry)
-    (put.added ∙ ap (λ xs. xs ++ put.entry ∷ []) c.new-body.ensures.items) in
-    cc
-
-pub returns-in_default-only_item-clause-shallow : goal.returns-in_default-only_item-clause-shallow
-returns-in_default-only_item-clause-shallow g c =
+pub returns-in_default-only_item : goal.returns-in_default-only_item
+returns-in_default-only_item g c =
     let put = rw c.in-Some.is at c.in_ok-_span.ensures.next in
     let some =
     sym c.in_default-only_item.is
@@ -42,7 +33,7 @@ returns-clause-places g c =
     let options = c.args.self.now.options in
     let put = rw c.in-Some.is at c.in_ok-_span.ensures.next in
     let in_place = rw c.in-Some.is at c.in_ok-_span.ensures.in_place in
-    let source = ap (λ source. length source.bytes.now) c.in_ok-_span.ensures.text in
+    let source = ap (λ source. length source.bytes.now) c.in_ok-_span.ensures.reads.text in
     let stated =
     c.only_item-2.ensures put.error
     (put.errors_are ∙ ap (λ xs. xs ++ option_to_list put.error) c.new-errors.ensures.items) in

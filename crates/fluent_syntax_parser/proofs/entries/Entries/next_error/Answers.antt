@@ -10,8 +10,5 @@ invariant_of-self-clause-reached c =
     reached_after options.comments options.edition c.args.self.now.source.bytes.now _ _ _ found.0 [] found.1
     c.args.self.now.reached
 
-pub returns-in-Some-clause-shallow : goal.returns-in-Some-clause-shallow
-returns-in-Some-clause-shallow c = c.in-Some.ensures.nests c.args.self.now.options.nesting
-
 pub returns-in-Some-2-clause-next : goal.returns-in-Some-2-clause-next
 returns-in-Some-2-clause-next c = (tree_of c.in-Some-2._entry, rw c.in-Some-2.is at c.in_ok-_entry.ensures.next)

@@ -1,13 +1,17 @@
-use Rattle.std.proofs.Common.{arith, refl, ap, sym, ◌∙◌, ◌∷◌, ◌++◌, [], Some}
+use Rattle.std.proofs.Common.{arith, refl, ap, sym, ◌∙◌, ◌∷◌, ◌++◌, ◌<◌, [], length, Some}
+use Rattle.std.proofs.lemmas.Result.{err_from_is_err_and}
 use Rattle.std.specs.Prelude.{option_to_list}
 use Rattle.fluent_syntax_parser.specs.Rest.{faults_of, tree_of}
 use Rattle.fluent_syntax_parser.proofs.entry_forms.MadeEntries.{same_some}
+use Rattle.fluent_syntax_parser.specs.declared.options.Comments.TheVariants.{Kept}
+use Rattle.fluent_syntax_parser.proofs.tilings.DeeperTiles.{after_one, entry_deeper, one_led, text_deeper, tile_at_end}
+use Rattle.fluent_syntax_parser.proofs.tilings.DeeperTiles.{tile_deeper}
 use Rattle.fluent_syntax_parser.proofs.tilings.Rests.{at_any_depth}
 use Rattle.fluent_syntax_parser.proofs.readers.SameTrees.{same_entry}
 use Rattle.fluent_syntax_parser.proofs.tiles.Tiles.next_tile.Goals as goal
 
-pub returns-in_default-clause-next : goal.returns-in_default-clause-next
-returns-in_default-clause-next c =
+pub returns-in_default : goal.returns-in_default
+returns-in_default c =
     let put = c.in_ok-end.ensures.adds in
     let some =
     sym c.in_default.is
@@ -41,3 +45,36 @@ returns-clause-next c =
       };
       ends = refl;
     }
+
+-- ---- how deeply it nests
+
+pub returns-in_err-end-clause-deeper : goal.returns-in_err-end-clause-deeper
+returns-in_err-end-clause-deeper c =
+    let tiles = c.args.self.now in
+    let t = tiles.source.bytes.now in
+    let start = c.skip_blank_block-start.ensures in
+    let inside : c.skip_blank_block-start.result < length t = omega (arith, start.within, c.if-start-source.false) in
+    let halt = err_from_is_err_and c.from_residual.result c.from_residual.ensures.1 in
+    rw (halt.1, halt.2) (λ e. text_deeper tiles.edition t tiles.nesting Kept _ _ start.blank
+    (entry_deeper tiles.edition t tiles.nesting Kept _ (λ dropped. cc) inside (c.in_err-end.ensures.deeper e)))
+
+pub returns-then-start-source-clause-shallow : goal.returns-then-start-source-clause-shallow
+returns-then-start-source-clause-shallow c = λ deeper.
+    let tiles = c.args.self.now in
+    let t = tiles.source.bytes.now in
+    tile_at_end tiles.edition t tiles.nesting Kept _ c.if-start-source.true
+    (tile_deeper tiles.edition t tiles.nesting Kept _ _ c.skip_blank_block-start.ensures.blank deeper)
+
+pub returns-clause-shallow : goal.returns-clause-shallow
+returns-clause-shallow c =
+    let tiles = c.args.self.now in
+    let t = tiles.source.bytes.now in
+    let blank = c.skip_blank_block-start.ensures.blank in
+    let read = c.in_ok-end.ensures in
+    let inside : c.skip_blank_block-start.result < length t = omega (arith, read.within.0, read.within.1) in
+    let tile = read.adds.tile.yields in (
+      λ deeper. one_led tiles.edition t tiles.nesting Kept _ _ inside tile.tile tile.in_place
+          (tile_deeper tiles.edition t tiles.nesting Kept _ _ blank deeper),
+      λ deeper. text_deeper tiles.edition t tiles.nesting Kept _ _ blank
+          (after_one tiles.edition t tiles.nesting Kept _ _ inside tile.tile tile.in_place deeper),
+    )

@@ -8,6 +8,6 @@ invariant-loop-index g l =
     let view = entry_view g.T.ReadTexts.text in
     record {
       rest :
-          first_from l.edition l.index (map view (drop l.index l.entries))
-          ≡ first_uncanonical l.edition (map view l.entries);
+          first_from l.check.edition l.index (map view (drop l.index l.entries))
+          ≡ first_uncanonical l.check.edition (map view l.entries);
     }

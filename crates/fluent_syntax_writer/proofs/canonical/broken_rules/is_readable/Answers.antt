@@ -1,0 +1,15 @@
+use Rattle.std.proofs.Common.{ap, ◌∙◌}
+use Rattle.std.specs.Prelude.{is_none}
+use Rattle.fluent_syntax_tree.specs.View.{entry_view}
+use Rattle.fluent_syntax_writer.proofs.rules.EveryRule.{readable}
+use Rattle.fluent_syntax_writer.proofs.rules.FirstBroken.{nothing_found, first_in_set, none_unreadable}
+use Rattle.fluent_syntax_writer.proofs.canonical.broken_rules.is_readable.Goals as goal
+
+pub returns : goal.returns
+returns g c =
+    let edition = c.args.check.edition in
+    let entry = entry_view g.T.ReadTexts.text c.args.entry.now in
+    let broken = c.entry_breaks-broken in
+    nothing_found c.first_of.result c.is_none.result c.is_none.ensures
+    ∙ ap is_none (c.first_of.ensures ∙ first_in_set edition entry broken.result broken.ensures readable)
+    ∙ none_unreadable edition entry

@@ -1,8 +1,0 @@
-use Rattle.fluent_syntax_tree.proofs.Views.{view-TextElement, view-Placeable}
-use Rattle.fluent_syntax_writer.proofs.canonical.elements.position_past.Goals as goal
-
-pub returns-in-TextElement : goal.returns-in-TextElement
-returns-in-TextElement g c = rw (c.in-TextElement.is, view-TextElement, c.position_after.ensures, c.as_str.ensures)
-
-pub returns-in-Placeable : goal.returns-in-Placeable
-returns-in-Placeable g c = rw (c.in-Placeable.is, view-Placeable)
