@@ -1,36 +1,29 @@
 -- What came of entries that came to a writer one by one.
-use Rattle.std.proofs.Common.{◌≡◌, ◌∙◌, ◌&&◌, [], ◌∷◌, ◌++◌, Bool, String, Global, ap, false, refl, sym, true}
+use Rattle.std.proofs.Common.{◌≡◌, ◌∙◌, ◌&&◌, [], ◌∷◌, ◌++◌, Bool, String, Global, ap, sym}
 use Rattle.fluent_syntax_tree.specs.Entry.{BodyTree, EntryTree}
 use Rattle.fluent_syntax_tree.specs.declared.edition.Edition.{Edition}
 use Rattle.fluent_syntax_grammar.specs.Rules.{Rules, body_obeys, entry_obeys}
 use Rattle.fluent_syntax_grammar.specs.Written.{Text}
+use Rattle.fluent_syntax_writer.proofs.rules.Sets.{and_assoc, and_true}
 use Rattle.fluent_syntax_json.specs.declared.writing.body_writer.BodyWriter.{BodyWriter}
 use Rattle.ftl.specs.Formatting.{AddsJson, AddsNormal, HasJson, HasNormal}
 use Rattle.ftl.specs.OneByOne.{WroteEntries, wrote_none, one_more}
 use Rattle.ftl.specs.declared.writers.NormalWriter.{NormalWriter}
 
-and-assoc : (a b c : Bool) → ((a && b) && c) ≡ (a && (b && c))
-and-assoc true b c = refl
-and-assoc false b c = refl
-
-pub and-true : (b : Bool) → (b && true) ≡ b
-and-true true = refl
-and-true false = refl
-
 -- whether a tree and one more entry obey the rules
 obeys_with : (rules : Rules) (tree : BodyTree Text) (e : EntryTree Text) →
     body_obeys rules (tree ++ e ∷ []) ≡ (body_obeys rules tree && entry_obeys rules e)
-obeys_with rules [] e = and-true (entry_obeys rules e)
+obeys_with rules [] e = and_true (entry_obeys rules e)
 obeys_with rules (x ∷ tree) e =
     ap (λ b. entry_obeys rules x && b) (obeys_with rules tree e)
-    ∙ sym (and-assoc (entry_obeys rules x) (body_obeys rules tree) (entry_obeys rules e))
+    ∙ sym (and_assoc (entry_obeys rules x) (body_obeys rules tree) (entry_obeys rules e))
 
 -- and whether this is known, if it is asked
 pub asked_with : (asks : Bool) (rules : Rules) (tree : BodyTree Text) (e : EntryTree Text) (all : Bool) →
     all ≡ (asks && body_obeys rules tree) → (all && entry_obeys rules e)
     ≡ (asks && body_obeys rules (tree ++ e ∷ []))
 asked_with asks rules tree e all is =
-    ap (λ b. b && entry_obeys rules e) is ∙ and-assoc asks (body_obeys rules tree) (entry_obeys rules e)
+    ap (λ b. b && entry_obeys rules e) is ∙ and_assoc asks (body_obeys rules tree) (entry_obeys rules e)
     ∙ ap (λ b. asks && b) (sym (obeys_with rules tree e))
 
 pub wrote_normal : {edition : Edition} {asks : Bool} {start now : NormalWriter} {tree : BodyTree Text}

@@ -1,7 +1,8 @@
 -- Paths that lead through the folder of a language.
 use Rattle.std.proofs.Common.{◌≡◌, ◌∙◌, ◌-◌, ℕ, List, [], ◌++◌, ◌∷◌, Bor, Option, Some, None}
-use Rattle.std.proofs.Common.{append_assoc, codes, length, refl, sym, take}
+use Rattle.std.proofs.Common.{append_assoc, arith, codes, length, refl, sym, take}
 use Rattle.std.proofs.lemmas.List.{append_cancel_left, append_cancel_right}
+use Rattle.std.proofs.lemmas.Str.Pattern.{IsSplitOnceResult, split_parts}
 use Rattle.std.specs.Prelude.{◌≢◌, IfSome, MatchOption}
 use Rattle.ftl_files.specs.Languages.{IsDirect, IsLanguage}
 
@@ -9,6 +10,11 @@ use Rattle.ftl_files.specs.Languages.{IsDirect, IsLanguage}
 pub whole_path : (languages name rest relative path : List ℕ) → path ≡ languages ++ codes "/" ++ relative →
     relative ≡ name ++ 47 ∷ rest → path ≡ (languages ++ codes "/" ++ name ++ codes "/") ++ rest
 whole_path languages name rest relative path place parts = place ∙ rw parts (simp append_assoc)
+
+-- what is before the first `/` of a path, and what follows it
+pub cut_at_slash : (relative : List ℕ) (name rest : Bor (List ℕ)) → IsSplitOnceResult 47 relative (Some (name, rest)) →
+    (relative ≡ name.now ++ 47 ∷ rest.now) × IsDirect name.now
+cut_at_slash relative name rest splits = split_parts 47 relative (Some (name, rest)) splits (omega arith)
 
 -- what a path begins with before its ending
 before_ending : (rest path front : List ℕ) (k : ℕ) → path ≡ take (length path - k) path ++ rest →

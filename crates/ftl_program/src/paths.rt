@@ -9,8 +9,8 @@ use ftl::{RunFault, Watched};
 use ftl_args::{Change, Task, Work};
 use ftl_files::{Disk, Memory, Store};
 use ftl_project::{
-    RewriteCounts, Streams, Tally, check_files, check_summary, convert_files, diff_files,
-    format_summary, name_files, print_files, write_files, write_summary,
+    CheckTask, ConvertTask, DiffTask, NameTask, PrintTask, RewriteCounts, Streams, Tally,
+    answer_files, check_summary, format_summary, write_files, write_summary,
 };
 use std::alloc::AllocError;
 use std::io;
@@ -127,21 +127,25 @@ fn run_task<S: Store>(
     match (work.task, work.task.command(reading.edition)) {
         (Task::Check, _) => {
             let form = form_over_paths(rt, work.options);
-            check_files(alloc, store, files, reading, form, tally, &mut streams)
+            let task = CheckTask { reading, form };
+            answer_files(alloc, &task, store, files, tally, &mut streams)
         }
         (Task::Format(Change::Write), _) => {
             write_files(alloc, store, files, reading, tally, counts, &mut streams)
         }
         (Task::Format(Change::Name), _) => {
-            name_files(alloc, store, files, reading, tally, &mut streams)
+            let task = NameTask { reading };
+            answer_files(alloc, &task, store, files, tally, &mut streams)
         }
         (Task::Format(Change::Show), _) => {
-            diff_files(alloc, store, files, reading, tally, &mut streams)
+            let task = DiffTask { reading };
+            answer_files(alloc, &task, store, files, tally, &mut streams)
         }
         (_, Some(command)) => {
             let nesting = reading.nesting;
-            print_files(alloc, store, files, command, nesting, tally, &mut streams)
+            let task = PrintTask { command, nesting };
+            answer_files(alloc, &task, store, files, tally, &mut streams)
         }
-        (_, None) => convert_files(alloc, store, files, tally, &mut streams),
+        (_, None) => answer_files(alloc, &ConvertTask, store, files, tally, &mut streams),
     }
 }

@@ -19,19 +19,19 @@ use std::io::Write;
 
 /// What is said of a file.
 #[derive(Drop)]
-pub(crate) struct Answer {
+pub struct Answer {
     /// How many errors it has.
-    pub(crate) errors: usize,
+    pub errors: usize,
     /// Whether it has errors, or is not as it is to be.
-    pub(crate) has_problems: bool,
+    pub has_problems: bool,
     /// What was asked for.
-    pub(crate) text: String,
+    pub text: String,
     /// Lines for people, on the other stream.
-    pub(crate) note: String,
+    pub note: String,
 }
 
 /// What a run says of the text of each file.
-pub(crate) trait FileTask {
+pub trait FileTask {
     /// With so many errors, with problems or not, and with this text.
     ghost answers: { Self → List ℕ → List ℕ → ℕ → Bool → List ℕ → Type 0 };
 
@@ -39,24 +39,26 @@ pub(crate) trait FileTask {
     ghost refuses: { Self → List ℕ → Fault → Type 0 };
 
     /// What is said of the text of the file at the path.
-    fn answer(&self, path: &str, text: String) -> Result<Answer, Fault>
+    fn answer(&self, alloc: Global, path: &str, text: String) -> Result<Answer, Fault>
         ensures answer { IfOk result (λ answer. answers self.now path.now (string_bytes text) answer.errors
             answer.has_problems (string_bytes answer.text)) }
         ensures fault { IfErr result (refuses self.now (string_bytes text)) };
 }
 
-/// Reads each of the files, writes what is said of it, and counts it. One of which nothing is said is reported, and the
-/// others are answered. No file is changed.
-pub(crate) fn answer_files<A: FileTask, S: Store, O: Write, E: Write>(
+/// Reads each of the files, in their order, writes what the task says of it, and counts it. One of which nothing is said
+/// is reported, and the others are answered. No file is changed.
+///
+/// `Err` where the run stopped: `Memory`, or `Output`.
+pub fn answer_files<T: FileTask, S: Store, O: Write, E: Write>(
     alloc: Global,
-    answering: &A,
+    task: &T,
     store: &mut S,
     files: &[String],
     tally: &mut Tally,
     streams: &mut Streams<'_, O, E>,
 ) -> Result<(), RunFault>
     ensures untouched { AllUnchanged (S.bytes_at store.old) (S.bytes_at store.new) }
-    ensures each { OnOk result (AnswersEach S.fails (A.answers answering.now) (A.refuses answering.now)
+    ensures each { OnOk result (AnswersEach S.fails (T.answers task.now) (T.refuses task.now)
         (S.bytes_at store.old) files.now tally.old tally.new (O.contents (inner_of streams.old.out.now))
         (O.contents (inner_of streams.new.out.now))) }
     ensures input { result ≢ Err RunFault.Input }
@@ -64,45 +66,46 @@ pub(crate) fn answer_files<A: FileTask, S: Store, O: Write, E: Write>(
         ⊎ (has_failed streams.new.err.now ≡ true) }
 {
     for file in files {
-        answer_file(alloc, answering, store, file.as_str(), tally, streams)?;
+        answer_file(alloc, task, store, file.as_str(), tally, streams)?;
     }
     Ok(())
 }
 
-fn answer_file<A: FileTask, S: Store, O: Write, E: Write>(
+fn answer_file<T: FileTask, S: Store, O: Write, E: Write>(
     alloc: Global,
-    answering: &A,
+    task: &T,
     store: &mut S,
     path: &str,
     tally: &mut Tally,
     streams: &mut Streams<'_, O, E>,
 ) -> Result<(), RunFault>
     ensures untouched { AllUnchanged (S.bytes_at store.old) (S.bytes_at store.new) }
-    ensures counted { OnOk result (Writes (ProcessesFile S.fails (A.answers answering.now) (A.refuses answering.now)
+    ensures counted { OnOk result (Writes (ProcessesFile S.fails (T.answers task.now) (T.refuses task.now)
         path.now (S.bytes_at store.old path.now)) tally.old tally.new (O.contents (inner_of streams.old.out.now))
         (O.contents (inner_of streams.new.out.now))) }
     ensures input { result ≢ Err RunFault.Input }
     ensures output { result ≡ Err RunFault.Output → (has_failed streams.new.out.now ≡ true)
         ⊎ (has_failed streams.new.err.now ≡ true) }
 {
-    match read_and_answer(answering, store, path) {
+    match read_and_answer(alloc, task, store, path) {
         Ok(answer) => put_answer(&answer, tally, streams),
         Err(fault) => report_fault(alloc, tally, path, &fault, streams),
     }
 }
 
-fn read_and_answer<A: FileTask, S: Store>(
-    answering: &A,
+fn read_and_answer<T: FileTask, S: Store>(
+    alloc: Global,
+    task: &T,
     store: &mut S,
     path: &str,
 ) -> Result<Answer, Fault>
     ensures untouched { AllUnchanged (S.bytes_at store.old) (S.bytes_at store.new) }
     ensures answer { IfOk result (λ answer. (read : List ℕ) × IsRead (S.bytes_at store.old path.now) read
-        × A.answers answering.now path.now read answer.errors answer.has_problems (string_bytes answer.text)) }
-    ensures fault { IfErr result (IsFault S.fails (S.bytes_at store.old path.now) (A.refuses answering.now)) }
+        × T.answers task.now path.now read answer.errors answer.has_problems (string_bytes answer.text)) }
+    ensures fault { IfErr result (IsFault S.fails (S.bytes_at store.old path.now) (T.refuses task.now)) }
 {
     let text = read_text(store, path)?;
-    answering.answer(path, text)
+    task.answer(alloc, path, text)
 }
 
 /// Counts the file, and writes what is said of it.

@@ -1,60 +1,24 @@
 //! Files are checked.
-ghost use Rattle.std.specs.Prelude.{◌≡◌, ◌≢◌, ◌⊎◌, Err, IfErr, IfOk, OnOk, string_bytes, true};
+ghost use Rattle.std.specs.Prelude.{◌≡◌, IfErr, IfOk, string_bytes};
 ghost use Rattle.ftl.specs.Errors.{HasErrors};
-ghost use Rattle.ftl.specs.Watched.{has_failed, inner_of};
-ghost use Rattle.ftl_files.specs.Store.{AllUnchanged};
 ghost use Rattle.ftl_project.specs.Answered.{IsChecked};
 ghost use Rattle.ftl_project.specs.Faults.{IsTooDeep, IsUnparsed};
-ghost use Rattle.ftl_project.specs.Runs.{AnswersEach};
 
-use crate::answering::{Answer, FileTask, answer_files};
+use crate::answering::{Answer, FileTask};
 use crate::fault::Fault;
 use crate::reporting::report;
-use crate::streams::{Streams, byte_order_mark_note};
-use crate::tally::Tally;
+use crate::streams::byte_order_mark_note;
 use crate::text_with_errors::TextWithErrors;
 use fluent_syntax::spans::Halt;
-use ftl::{RunFault, errors_within};
-use ftl_files::{Form, Reading, Store};
+use ftl::errors_within;
+use ftl_files::{Form, Reading};
 use std::alloc::Global;
-use std::io::Write;
 
-/// Checks the files, and reports their errors in the form. No file is changed, and each is counted, with as many errors
-/// as it has.
-///
-/// `Err` where the run stopped: `Memory`, or `Output`.
-pub fn check_files<S: Store, O: Write, E: Write>(
-    alloc: Global,
-    store: &mut S,
-    files: &[String],
-    reading: Reading,
-    form: Form,
-    tally: &mut Tally,
-    streams: &mut Streams<'_, O, E>,
-) -> Result<(), RunFault>
-    ensures untouched { AllUnchanged (S.bytes_at store.old) (S.bytes_at store.new) }
-    ensures each { OnOk result (AnswersEach S.fails
-        (IsChecked reading form) (λ text. IsUnparsed (IsTooDeep reading text))
-        (S.bytes_at store.old) files.now tally.old tally.new (O.contents (inner_of streams.old.out.now))
-        (O.contents (inner_of streams.new.out.now))) }
-    ensures input { result ≢ Err RunFault.Input }
-    ensures output { result ≡ Err RunFault.Output → (has_failed streams.new.out.now ≡ true)
-        ⊎ (has_failed streams.new.err.now ≡ true) }
-{
-    let checking = CheckTask {
-        alloc,
-        reading,
-        form,
-    };
-    answer_files(alloc, &checking, store, files, tally, streams)
-}
-
-/// How files are checked, and how their errors are reported.
+/// Reports the errors of each file in the form, and counts it with as many errors as it has.
 #[derive(Clone, Copy)]
-struct CheckTask {
-    alloc: Global,
-    reading: Reading,
-    form: Form,
+pub struct CheckTask {
+    pub reading: Reading,
+    pub form: Form,
 }
 
 impl FileTask for CheckTask {
@@ -62,13 +26,13 @@ impl FileTask for CheckTask {
 
     ghost refuses = { λ checking text. IsUnparsed (IsTooDeep checking.reading text) };
 
-    fn answer(&self, path: &str, text: String) -> Result<Answer, Fault> {
-        let refused = errors_of(self.alloc, text, self.reading)?;
+    fn answer(&self, alloc: Global, path: &str, text: String) -> Result<Answer, Fault> {
+        let refused = errors_of(alloc, text, self.reading)?;
         let errors = refused.errors.len();
-        let text = report(self.alloc, path, &refused, self.form)?;
+        let text = report(alloc, path, &refused, self.form)?;
         let note = match self.form {
-            Form::Lines => byte_order_mark_note(self.alloc, path, refused.text.as_str())?,
-            _ => String::new(self.alloc),
+            Form::Lines => byte_order_mark_note(alloc, path, refused.text.as_str())?,
+            _ => String::new(alloc),
         };
         Ok(Answer {
             errors,

@@ -1,15 +1,12 @@
 //! Files are formatted in place, or named where they would change.
-ghost use Rattle.std.specs.Prelude.{◌≡◌, ◌≢◌, ◌⊎◌, ◌++◌, codes, Err, IfOk, OnOk, string_bytes, true};
+ghost use Rattle.std.specs.Prelude.{◌≡◌, ◌≢◌, ◌++◌, codes, Err, IfOk, OnOk, string_bytes, true};
 ghost use Rattle.ftl.specs.Watched.{has_failed, inner_of};
-ghost use Rattle.ftl_files.specs.Store.{AllUnchanged};
 ghost use Rattle.ftl_project.specs.Faults.{IsTooDeep, IsUnparsed};
 ghost use Rattle.ftl_project.specs.Formatting.{AllNormal, Formats, FormatsEach, IsNamed, errors_in, is_left_unchanged};
-ghost use Rattle.ftl_project.specs.Formatting.{is_not_normal};
-ghost use Rattle.ftl_project.specs.Formatting.{name_of};
+ghost use Rattle.ftl_project.specs.Formatting.{is_not_normal, name_of};
 ghost use Rattle.ftl_project.specs.Rewriting.{AllReach};
-ghost use Rattle.ftl_project.specs.Runs.{AnswersEach};
 
-use crate::answering::{Answer, FileTask, answer_files};
+use crate::answering::{Answer, FileTask};
 use crate::fault::Fault;
 use crate::lossy_entry::lossy_entry_line;
 use crate::replacement::{Replacement, replacement_for};
@@ -84,54 +81,24 @@ fn write_file<S: Store, O: Write, E: Write>(
     }
 }
 
-/// Names each file that `write_files` would change, on a line. No file is changed, and each is counted.
-///
-/// `Err` where the run stopped: `Memory`, or `Output`.
-pub fn name_files<S: Store, O: Write, E: Write>(
-    alloc: Global,
-    store: &mut S,
-    files: &[String],
-    reading: Reading,
-    tally: &mut Tally,
-    streams: &mut Streams<'_, O, E>,
-) -> Result<(), RunFault>
-    ensures untouched { AllUnchanged (S.bytes_at store.old) (S.bytes_at store.new) }
-    ensures each { OnOk result (AnswersEach S.fails (IsNamed reading) (λ text. IsUnparsed (IsTooDeep reading text))
-        (S.bytes_at store.old) files.now tally.old tally.new (O.contents (inner_of streams.old.out.now))
-        (O.contents (inner_of streams.new.out.now))) }
-    ensures input { result ≢ Err RunFault.Input }
-    ensures output { result ≡ Err RunFault.Output → (has_failed streams.new.out.now ≡ true)
-        ⊎ (has_failed streams.new.err.now ≡ true) }
-{
-    answer_files(
-        alloc,
-        &NamesTask { alloc, reading },
-        store,
-        files,
-        tally,
-        streams,
-    )
-}
-
-/// How files are read that are named where they would change.
+/// Names each file that `write_files` would change, on a line.
 #[derive(Clone, Copy)]
-struct NamesTask {
-    alloc: Global,
-    reading: Reading,
+pub struct NameTask {
+    pub reading: Reading,
 }
 
-impl FileTask for NamesTask {
+impl FileTask for NameTask {
     ghost answers = { λ naming. IsNamed naming.reading };
 
     ghost refuses = { λ naming text. IsUnparsed (IsTooDeep naming.reading text) };
 
-    fn answer(&self, path: &str, text: String) -> Result<Answer, Fault> {
-        let replacement = replacement_for(self.alloc, text, self.reading)?;
+    fn answer(&self, alloc: Global, path: &str, text: String) -> Result<Answer, Fault> {
+        let replacement = replacement_for(alloc, text, self.reading)?;
         Ok(Answer {
             errors: errors_in(&replacement),
             has_problems: is_not_normal(&replacement),
-            text: name_of(self.alloc, path, &replacement)?,
-            note: unchanged_note(self.alloc, path, &replacement)?,
+            text: name_of(alloc, path, &replacement)?,
+            note: unchanged_note(alloc, path, &replacement)?,
         })
     }
 }

@@ -5,7 +5,9 @@ use fluent_syntax::parser::Edition;
 use fluent_syntax_tests::alike::{assert_holds, assert_same_text};
 use ftl::{RunFault, Watched};
 use ftl_files::Memory;
-use ftl_project::{Form, Reading, Streams, Tally, check_files, check_summary, format_summary};
+use ftl_project::{
+    CheckTask, Form, Reading, Streams, Tally, answer_files, check_summary, format_summary,
+};
 use std::alloc::Global;
 use std::test::Fail;
 
@@ -29,12 +31,15 @@ fn checked(
         out: &mut out,
         err: &mut Watched::new(err),
     };
-    let ended = check_files(
+    let task = CheckTask {
+        reading,
+        form: Form::Lines,
+    };
+    let ended = answer_files(
         alloc,
+        &task,
         &mut memory,
         files.as_slice(),
-        reading,
-        Form::Lines,
         &mut Tally::new(),
         &mut streams,
     );

@@ -20,11 +20,11 @@ returns-in-Ok-clause-counted g c =
 
 pub returns-in-Err-clause-counted : goal.returns-in-Err-clause-counted
 returns-in-Err-clause-counted g c =
-    let answering = c.args.answering.now in
+    let task = c.args.task.now in
     let bytes = g.S.Store.bytes_at c.args.store.now c.args.path.now in
     let written = g.O.Write.contents in
-    let refuses = g.A.FileTask.refuses answering in
-    Writes-report_text (ProcessesFile g.S.Store.fails (g.A.FileTask.answers answering) refuses c.args.path.now bytes)
+    let refuses = g.T.FileTask.refuses task in
+    Writes-report_text (ProcessesFile g.S.Store.fails (g.T.FileTask.answers task) refuses c.args.path.now bytes)
     (IsFault g.S.Store.fails bytes refuses) c.report_fault.result c.in-Err.fault c.args.tally.now
     c.report_fault.new.tally
     (written (inner_of c.args.streams.now.out.now)) (written (inner_of c.report_fault.new.streams.out.now))

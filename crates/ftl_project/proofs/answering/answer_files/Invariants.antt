@@ -10,8 +10,8 @@ invariant-loop-file g l =
     let written = g.O.Write.contents in
     record {
       untouched : AllUnchanged (at l.fn.store) (at l.store);
-      each : WritesSo (ProcessesFile g.S.Store.fails (g.A.FileTask.answers l.answering) (g.A.FileTask.refuses
-          l.answering))
+      each : WritesSo (ProcessesFile g.S.Store.fails (g.T.FileTask.answers l.task) (g.T.FileTask.refuses
+          l.task))
           (at l.fn.store) l.files l.file-index l.fn.tally l.tally (written (inner_of l.fn.streams.out.now))
           (written (inner_of l.streams.out.now));
     }
