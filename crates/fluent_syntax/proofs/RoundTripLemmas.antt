@@ -12,7 +12,7 @@ use Rattle.fluent_syntax_grammar.specs.Written.{Text, written}
 use Rattle.fluent_syntax_grammar.specs.Readable.{is_readable}
 use Rattle.fluent_syntax_grammar.specs.Joined.{joined_body}
 use Rattle.fluent_syntax_grammar.specs.RoundTrip.{ReadsAs, tree_of}
-use Rattle.fluent_syntax_grammar.proofs.OneTiling.{one_tiling}
+use Rattle.fluent_syntax_grammar.proofs.OneTiling.{same_tilings}
 use Rattle.fluent_syntax_grammar.proofs.SomeTiling.{some_tiling}
 use Rattle.fluent_syntax_grammar.proofs.backward.Bodies.{joined_is_readable, joined_is_same}
 use Rattle.fluent_syntax_parser.specs.Answers.{Answers, AnswersTiling}
@@ -63,5 +63,5 @@ module _ {S : Type 0} (text : S → List ℕ) where
       ReadsAs One t tree → AnswersTiling text (body_map (bytes_at t)) One t result → IsTree text tree result
   tree_answered t tree result r (tiles, tiling, given) =
       tree_given t r.tiles tree result r.no_faults r.same
-      (subst (λ xs. Answers text (body_map (bytes_at t)) xs result) (one_tiling One t tiles r.tiles tiling r.tiling)
+      (subst (λ xs. Answers text (body_map (bytes_at t)) xs result) (same_tilings One t tiles r.tiles tiling r.tiling)
       given)

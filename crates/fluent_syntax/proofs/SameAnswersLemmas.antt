@@ -6,7 +6,7 @@ use Rattle.fluent_syntax_tree.specs.declared.ast.Resource.{Resource}
 use Rattle.fluent_syntax_tree.specs.declared.edition.Edition.{Edition}
 use Rattle.fluent_syntax_tree.specs.declared.spans.Span.{Span}
 use Rattle.fluent_syntax_grammar.specs.Tiling.{Tile}
-use Rattle.fluent_syntax_grammar.proofs.OneTiling.{one_tiling, one_runtime_tiling}
+use Rattle.fluent_syntax_grammar.proofs.OneTiling.{same_tilings, same_runtime_tilings}
 use Rattle.fluent_syntax_parser.specs.Answers.{Answers, AnswersTiling, AnswersRuntimeTiling}
 use Rattle.fluent_syntax_parser.specs.declared.fault.ParseFault.{ParseFault}
 use Rattle.fluent_syntax_parser.specs.declared.fault.ParseFault.TheVariants.{Syntax, Memory}
@@ -30,9 +30,10 @@ module _ {S Z : Type 0} (text : S → List ℕ) (other : Z → List ℕ) (whole 
     pub answers_same : AnswersTiling text whole edition t a → AnswersTiling other whole edition t b →
         SameAnswers text other a b
     answers_same (xs, p, h) (ys, q, k) =
-        of_one_tiling ys a b (subst (λ tiles. Answers text whole tiles a) (one_tiling edition t xs ys p q) h) k
+        of_one_tiling ys a b (subst (λ tiles. Answers text whole tiles a) (same_tilings edition t xs ys p q) h) k
 
     pub runtime_answers_same : AnswersRuntimeTiling text whole edition t a →
         AnswersRuntimeTiling other whole edition t b → SameAnswers text other a b
     runtime_answers_same (xs, p, h) (ys, q, k) =
-        of_one_tiling ys a b (subst (λ tiles. Answers text whole tiles a) (one_runtime_tiling edition t xs ys p q) h) k
+        of_one_tiling ys a b (subst (λ tiles. Answers text whole tiles a) (same_runtime_tilings edition t xs ys p q) h)
+        k

@@ -19,7 +19,7 @@ use Rattle.fluent_syntax_grammar.specs.Places.{BlankBlock}
 use Rattle.fluent_syntax_grammar.specs.Tiling.{Tile, Tiled, TileAt, Tiling, done, next, reads, refuses}
 use Rattle.fluent_syntax_grammar.proofs.Boundaries.{boundary_cuts}
 use Rattle.fluent_syntax_grammar.proofs.Cuts.{block_place}
-use Rattle.fluent_syntax_grammar.proofs.OneTiling.{one_tiling}
+use Rattle.fluent_syntax_grammar.proofs.OneTiling.{same_tilings}
 use Rattle.fluent_syntax_grammar.proofs.SoundTiling.{EndedTile, IsTileWellFormed, tile_good}
 use Rattle.fluent_syntax_parser.specs.Rest.{tree_of}
 use Rattle.fluent_syntax_parser.specs.Tiles.{TileTo}
@@ -129,5 +129,5 @@ pub names_of_tiling : {E : Type 0} (edition : Edition) (t : List ℕ) (tiles : L
     (answer : Result (Vec FtlName Global) E) → IfOk answer (λ rows. NamesTiles edition t rows.items) →
     IfOk answer (λ rows. are_names edition t tiles rows.items)
 names_of_tiling edition t tiles tiling (Ok rows) found =
-    found.rows_are ∙ ap (tiles_rows t 0) (one_tiling edition t found.tiles tiles found.has_tiles tiling)
+    found.rows_are ∙ ap (tiles_rows t 0) (same_tilings edition t found.tiles tiles found.has_tiles tiling)
 names_of_tiling edition t tiles tiling (Err e) found = found

@@ -15,9 +15,9 @@ use Rattle.fluent_syntax_grammar.specs.Body.{faults}
 use Rattle.fluent_syntax_grammar.specs.RoundTrip.{ReadsAs, tree_of}
 use Rattle.fluent_syntax_grammar.specs.Tiling.{Fault}
 use Rattle.fluent_syntax_grammar.specs.Written.{Text}
-use Rattle.fluent_syntax_grammar.proofs.OneTiling.{one_tiling}
+use Rattle.fluent_syntax_grammar.proofs.OneTiling.{same_tilings}
 use Rattle.fluent_syntax_edits.specs.Changes.{Change, inserts, replaces}
-use Rattle.fluent_syntax_edits.specs.Edits.{Answers}
+use Rattle.fluent_syntax_edits.specs.Edits.{IsEditResult}
 use Rattle.fluent_syntax_edits.specs.declared.fault.EditFault.{EditFault}
 use Rattle.ftl.specs.Answer.{outcome_of, outcome_with}
 use Rattle.ftl.specs.declared.outcome.Outcome.{Outcome}
@@ -63,12 +63,12 @@ module _ (edition : Edition) (t : List ℕ) (read : TextTree) (is : IsTextTree e
   pub tree_read : (tree : BodyTree Text) → ReadsAs edition t tree →
       resource_view (λ text. text.now) read.tree ≡ tree
   tree_read tree reads =
-      let same = one_tiling edition t is.tiles reads.tiles is.has_tiles reads.tiling in
+      let same = same_tilings edition t is.tiles reads.tiles is.has_tiles reads.tiling in
       is.tree_is ∙ ap (tree_of t) same ∙ reads.same
 
   pub clean_read : (tree : BodyTree Text) → ReadsAs edition t tree → read.outcome ≡ Clean
   clean_read tree reads =
-      let same = one_tiling edition t is.tiles reads.tiles is.has_tiles reads.tiling in
+      let same = same_tilings edition t is.tiles reads.tiles is.has_tiles reads.tiling in
       is.outcome_is ∙ ap outcome_of same ∙ ap outcome_with reads.no_faults
 
   -- the only entry of a text without errors is what it reads as
@@ -96,7 +96,7 @@ module _ (edition : Edition) (t : List ℕ) (read : TextTree) (is : IsTextTree e
 pub one_read : (edition : Edition) (t : List ℕ) (e other : EntryTree Text) → ReadsAs edition t (e ∷ []) →
     ReadsAs edition t (other ∷ []) → e ≡ other
 one_read edition t e other reads again =
-    let same = one_tiling edition t reads.tiles again.tiles reads.tiling again.tiling in
+    let same = same_tilings edition t reads.tiles again.tiles reads.tiling again.tiling in
     let trees : e ∷ [] ≡ other ∷ [] = sym reads.same ∙ ap (tree_of t) same ∙ again.same in cc
 
 -- what is said of nothing, where there is nothing
@@ -131,17 +131,17 @@ module _ (action : Action) (edition : Edition) (p : Text) (part : TextTree)
 
   module _ (t : List ℕ) (source : TextTree) (read : IsTextTree edition t source) (n : ℕ)
       (answer : Result (String Global) EditFault) where
-    answered : (change : Change) → Answers source.edition source.text.now n change answer →
-        Answers edition t n change answer
+    answered : (change : Change) → IsEditResult source.edition source.text.now n change answer →
+        IsEditResult edition t n change answer
     answered change answers =
-        subst (λ u. Answers edition u n change answer) read.text_is
-        (subst (λ by. Answers by source.text.now n change answer) read.edition_is answers)
+        subst (λ u. IsEditResult edition u n change answer) read.text_is
+        (subst (λ by. IsEditResult by source.text.now n change answer) read.edition_is answers)
 
     -- the change that a part spells, and what is answered for it
     pub value_spelled : action ≡ SetValue → (v : PatternTree Text) → ((edition : Edition) (t : List ℕ) →
         IsTextTree edition t part → ReadsAs edition t (value_message v ∷ [])) → (change : Change) →
-        Answers source.edition source.text.now n change answer → SetsValue change v →
-        (change : Change) × Spells edition action p change × Answers edition t n change answer
+        IsEditResult source.edition source.text.now n change answer → SetsValue change v →
+        (change : Change) × Spells edition action p change × IsEditResult edition t n change answer
     value_spelled e v reads change answers sets =
         let spelled = subst (λ a. IsTextTree edition (part_source a p) part) e is in
         let own = reads edition (part_source SetValue p) spelled in
@@ -149,8 +149,8 @@ module _ (action : Action) (edition : Edition) (p : Text) (part : TextTree)
 
     pub replace_spelled : action ≡ Replace → (entry : EntryTree Text) → ((edition : Edition) (t : List ℕ) →
         IsTextTree edition t part → ReadsAs edition t (entry ∷ [])) →
-        Answers source.edition source.text.now n (replaces entry) answer →
-        (change : Change) × Spells edition action p change × Answers edition t n change answer
+        IsEditResult source.edition source.text.now n (replaces entry) answer →
+        (change : Change) × Spells edition action p change × IsEditResult edition t n change answer
     replace_spelled e entry reads answers =
         let own = reads edition p (subst (λ a. IsTextTree edition (part_source a p) part) e is) in (
           replaces entry,
@@ -160,8 +160,8 @@ module _ (action : Action) (edition : Edition) (p : Text) (part : TextTree)
 
     pub insert_spelled : action ≡ Insert → (entry : EntryTree Text) → ((edition : Edition) (t : List ℕ) →
         IsTextTree edition t part → ReadsAs edition t (entry ∷ [])) →
-        Answers source.edition source.text.now n (inserts entry) answer →
-        (change : Change) × Spells edition action p change × Answers edition t n change answer
+        IsEditResult source.edition source.text.now n (inserts entry) answer →
+        (change : Change) × Spells edition action p change × IsEditResult edition t n change answer
     insert_spelled e entry reads answers =
         let own = reads edition p (subst (λ a. IsTextTree edition (part_source a p) part) e is) in (
           inserts entry,

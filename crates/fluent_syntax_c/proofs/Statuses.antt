@@ -14,7 +14,7 @@ use Rattle.fluent_syntax_c.specs.declared.status.Status.TheVariants.{Clean, Synt
 use Rattle.fluent_syntax_c.specs.Status.{EndsAs, edit_refusal_number, refusal_number, status_number}
 use Rattle.fluent_syntax_c.specs.Arguments.{IsNoEdition}
 use Rattle.fluent_syntax_c.specs.Output.{LeavesOutput}
-use Rattle.fluent_syntax_c.specs.Rows.{Answers, Gives}
+use Rattle.fluent_syntax_c.specs.Rows.{IsCallResult, Gives}
 
 -- the status of a number
 abbrev status_at : ℕ → Status
@@ -100,7 +100,7 @@ leaves_answered expected items_of found_of answer before after count number is h
 -- Rows that were answered are given.
 pub gives_answered : {A : Type 0} (number : ℕ) (expected : List A → Outcome → Type 0) (AreTexts Long Deeper : Type 0)
     (answer : Result (Vec A Global × Outcome) Refusal) (before after : List A) (count status : ℕ) →
-    Answers number expected AreTexts Long Deeper answer →
+    IsCallResult number expected AreTexts Long Deeper answer →
     EndsAs status
     (LeavesOutput (λ items found. IsOkAnd answer (λ given. (given.0.items ≡ items) × (given.1 ≡ found))) before after
     count) →
@@ -121,7 +121,7 @@ gives_answered number expected AreTexts Long Deeper answer before after count st
 -- nests deeper than it may.
 pub answers_ok : {A : Type 0} (number : ℕ) (expected : List A → Outcome → Type 0) (AreTexts Long Deeper : Type 0)
     (rows : Vec A Global) (outcome : Outcome) → expected rows.items outcome → ¬ (IsNoEdition number) → AreTexts →
-    (Deeper → ⊥) → Answers number expected AreTexts Long Deeper (Ok (rows, outcome))
+    (Deeper → ⊥) → IsCallResult number expected AreTexts Long Deeper (Ok (rows, outcome))
 answers_ok number expected AreTexts Long Deeper rows outcome is known texts shallow = record {
   rows = is;
   argument = ((λ e. cc), (λ none. absurd (known none)));

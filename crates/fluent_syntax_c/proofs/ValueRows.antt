@@ -8,8 +8,8 @@ use Rattle.fluent_syntax_tree.specs.declared.spans.Span.{Span}
 use Rattle.fluent_syntax_grammar.specs.Grammar.{family}
 use Rattle.fluent_syntax_grammar.specs.Places.{BlankBlock}
 use Rattle.fluent_syntax_grammar.specs.Tiling.{Tile, Tiled, TileAt, Tiling, done, entry, next, reads, refuses}
-use Rattle.fluent_syntax_grammar.proofs.FunctionalEntries.{functional_entry}
-use Rattle.fluent_syntax_grammar.proofs.OneTiling.{one_tiling}
+use Rattle.fluent_syntax_grammar.proofs.FunctionalEntries.{entry_is_functional}
+use Rattle.fluent_syntax_grammar.proofs.OneTiling.{same_tilings}
 use Rattle.fluent_syntax_parser.specs.PartRanges.{HasEntryParts, HasRanges}
 use Rattle.fluent_syntax_parser.specs.Tiles.{TileTo}
 use Rattle.fluent_syntax_parser.specs.declared.ranges.EntryRanges.{EntryRanges}
@@ -38,14 +38,14 @@ module _ (edition : Edition) (t : List ℕ) where
       subst (λ tree. TileValues edition t (entry s tree) []) (sym here.2) of_comment
   tile_values s tile None (refuses r end) has = of_junk
   tile_values s tile (Some x) (reads {e = e} r) has =
-      let same = (functional_entry edition t).same s.start _ _ has.read r in
+      let same = (entry_is_functional edition t).same s.start _ _ has.read r in
       let same_tree : has.tree ≡ e = cc in
       let same_end : has.end ≡ s.end = cc in
       of_entry
       (subst (λ tree. HasEntryParts edition t (family edition t) s.start x tree s.end) same_tree
       (subst (HasEntryParts edition t (family edition t) s.start x has.tree) same_end has.parts))
   tile_values s tile (Some x) (refuses r end) has =
-      let same = (functional_entry edition t).same s.start _ _ has.read r in cc
+      let same = (entry_is_functional edition t).same s.start _ _ has.read r in cc
 
   -- The rows are those of tiles that lead up to the place i.
   pub record ValuesTo (i : ℕ) (rows : List FtlValue) : Type 0 where
@@ -85,5 +85,5 @@ pub values_of_tiling : {E : Type 0} (edition : Edition) (t : List ℕ) (tiles : 
     IfOk answer (λ rows. TilesValues edition t tiles rows.items)
 values_of_tiling edition t tiles tiling (Ok rows) found =
     subst (λ ts. TilesValues edition t ts rows.items)
-    (one_tiling edition t found.tiles tiles found.has_tiles tiling) found.values
+    (same_tilings edition t found.tiles tiles found.has_tiles tiling) found.values
 values_of_tiling edition t tiles tiling (Err e) found = found

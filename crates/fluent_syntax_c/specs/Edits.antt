@@ -121,7 +121,7 @@ module _ (number : ℕ) (t name : List ℕ) (action : Action) (part : List ℕ) 
     pub change : Change
     pub asks : Asks edition tiles n change
     pub made : String Global
-    pub answers : edits.Answers edition t n change (Ok made)
+    pub answers : edits.IsEditResult edition t n change (Ok made)
     pub text_is : text ≡ string_bytes made
     pub outcome_is : outcome ≡ outcome_of tiles
 
@@ -132,7 +132,7 @@ module _ (number : ℕ) (t name : List ℕ) (action : Action) (part : List ℕ) 
     not_one_entry : (edition : Edition) → edition_number edition ≡ number →
         ((change : Change) → Spells edition action part change → ⊥) → IsNotEdited NotOneEntry
     refused : {why : EditRefusal} (edition : Edition) (tiles : List Tile) (n : ℕ) (change : Change)
-        (fault : EditFault) → Asks edition tiles n change → edits.Answers edition t n change (Err fault) →
+        (fault : EditFault) → Asks edition tiles n change → edits.IsEditResult edition t n change (Err fault) →
         edit_refusal fault ≡ Some why → IsNotEdited why
 
   -- The call leaves the new text or none in the caller's array, and returns this status; of what is UTF-8 and how

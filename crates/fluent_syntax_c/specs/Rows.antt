@@ -27,7 +27,7 @@ pub record AreRows {A : Type 0} (are : Edition → List ℕ → List Tile → Li
 -- has more bytes than may nest, and that one nests deeper than that.
 module _ {A : Type 0} (number : ℕ) (expected : List A → Outcome → Type 0) (AreTexts Long Deeper : Type 0) where
   -- These are the rows, or this is why there are none.
-  pub record Answers (answer : Result (Vec A Global × Outcome) Refusal) : Type 0 where
+  pub record IsCallResult (answer : Result (Vec A Global × Outcome) Refusal) : Type 0 where
     pub rows : IfOk answer (λ given. expected given.0.items given.1)
     pub argument : (answer ≡ Err Argument) ↔ IsNoEdition number
     pub input : ¬ (IsNoEdition number) → ((answer ≡ Err Input) ↔ ¬ AreTexts)

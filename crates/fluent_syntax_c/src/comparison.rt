@@ -5,7 +5,7 @@ ghost use Rattle.std.specs.Str.{IsUtf8};
 ghost use Rattle.fluent_syntax_c.specs.Comparison.{AreDifferences, compared_rows, missing_part_rows, side_number};
 ghost use Rattle.fluent_syntax_c.specs.Depth.{EditionReadsDeeper};
 ghost use Rattle.fluent_syntax_c.specs.NameIndexes.{IsShort};
-ghost use Rattle.fluent_syntax_c.specs.Rows.{Answers, Gives};
+ghost use Rattle.fluent_syntax_c.specs.Rows.{IsCallResult, Gives};
 
 use crate::arguments::edition_of;
 use crate::columns::Positions;
@@ -67,7 +67,7 @@ fn edition_differences(
     reference: &[u8],
     other: &[u8],
 ) -> Result<(Vec<FtlFinding>, Outcome), Refusal>
-    ensures answers { Answers edition (AreDifferences edition reference.now other.now)
+    ensures answers { IsCallResult edition (AreDifferences edition reference.now other.now)
         (IsUtf8 reference.now × IsUtf8 other.now)
         ((nesting < length reference.now) ⊎ (nesting < length other.now))
         (EditionReadsDeeper edition reference.now nesting ⊎ EditionReadsDeeper edition other.now nesting) result }

@@ -7,7 +7,7 @@ ghost use Rattle.fluent_syntax_tree.specs.View.{entry_view, pattern_view, resour
 ghost use Rattle.fluent_syntax_tree.specs.declared.edition.Edition.{Edition as ByEdition};
 ghost use Rattle.fluent_syntax_grammar.specs.RoundTrip.{ReadsAs};
 ghost use Rattle.fluent_syntax_edits.specs.Changes.{Change};
-ghost use Rattle.fluent_syntax_edits.specs.Edits.{Answers};
+ghost use Rattle.fluent_syntax_edits.specs.Edits.{IsEditResult};
 ghost use Rattle.fluent_syntax_c.specs.Edits.{IsTextTree, Spells, first_entry_named, has_entry_name, part_source};
 ghost use Rattle.fluent_syntax_c.specs.Edits.{place_of};
 ghost use Rattle.fluent_syntax_c.specs.Edits.{value_message};
@@ -144,7 +144,7 @@ pub(crate) fn edited_source(
     ensures some { (edition : ByEdition) (t p : List ℕ) → IsTextTree edition t source.now →
         IsTextTree edition (part_source action p) part.now →
         IfSome result (λ made. (change : Change) × Spells edition action p change
-        × Answers edition t index change made) }
+        × IsEditResult edition t index change made) }
     ensures none { (edition : ByEdition) (p : List ℕ) → IsTextTree edition (part_source action p) part.now →
         IfNone result ((change : Change) → Spells edition action p change → ⊥) }
 {

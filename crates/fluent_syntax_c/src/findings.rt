@@ -8,7 +8,7 @@ ghost use Rattle.fluent_syntax_c.specs.Findings.{text_at};
 ghost use Rattle.fluent_syntax_c.specs.FindingKinds.{IsFindingKindName, IsNoFindingKind};
 ghost use Rattle.fluent_syntax_c.specs.Output.{LeavesOutput};
 ghost use Rattle.fluent_syntax_c.specs.NameIndexes.{IsShort, IsText};
-ghost use Rattle.fluent_syntax_c.specs.Rows.{Answers, Gives};
+ghost use Rattle.fluent_syntax_c.specs.Rows.{IsCallResult, Gives};
 ghost use Rattle.fluent_syntax_c.specs.Status.{EndsAs};
 
 use crate::arguments::edition_of;
@@ -82,7 +82,7 @@ fn edition_findings(
     nesting: usize,
     texts: &[FtlText<'_>],
 ) -> Result<(Vec<FtlFinding>, Outcome), Refusal>
-    ensures answers { Answers edition (AreFindings edition texts.now) (All IsText texts.now)
+    ensures answers { IsCallResult edition (AreFindings edition texts.now) (All IsText texts.now)
         (Any (λ text. nesting < length text.text.now) texts.now)
         (Any (λ text. EditionReadsDeeper edition text.text.now nesting) texts.now) result }
 {

@@ -6,7 +6,7 @@ ghost use Rattle.fluent_syntax_grammar.specs.Tiling.{Tile};
 ghost use Rattle.fluent_syntax_parser.specs.Parts.{ResourceParts};
 ghost use Rattle.fluent_syntax_c.specs.Depth.{EditionReadsDeeper};
 ghost use Rattle.fluent_syntax_c.specs.Reading.{IsReading};
-ghost use Rattle.fluent_syntax_c.specs.Rows.{Answers, AreRows, Gives};
+ghost use Rattle.fluent_syntax_c.specs.Rows.{IsCallResult, AreRows, Gives};
 
 use crate::outputs::give;
 use crate::readings::{Reading, outcome_of, read};
@@ -56,8 +56,8 @@ fn text_rows<T: TextRows>(
     nesting: usize,
     input: &[u8],
 ) -> Result<(Vec<T::Row>, Outcome), Refusal>
-    ensures answers { Answers edition (AreRows T.are edition input.now) (IsUtf8 input.now) (nesting < length input.now)
-        (EditionReadsDeeper edition input.now nesting) result }
+    ensures answers { IsCallResult edition (AreRows T.are edition input.now) (IsUtf8 input.now)
+        (nesting < length input.now) (EditionReadsDeeper edition input.now nesting) result }
 {
     let reading = read(alloc, edition, nesting, input)?;
     match T::rows_of(alloc, nesting, &reading) {

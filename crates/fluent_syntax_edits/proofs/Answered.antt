@@ -1,11 +1,11 @@
--- Answers of edits.
+-- IsEditResult of edits.
 use Rattle.std.proofs.Common.{◌≡◌, ◌⊎◌, inl, inr, ℕ, List, Result, Ok, Err, String, subst}
 use Rattle.std.specs.Prelude.{IsErrAnd}
 use Rattle.std.specs.Global.{Global}
 use Rattle.fluent_syntax_tree.specs.declared.edition.Edition.{Edition}
 use Rattle.fluent_syntax_tree.specs.declared.spans.Span.{Span}
 use Rattle.fluent_syntax_edits.specs.Changes.{Change, refusal}
-use Rattle.fluent_syntax_edits.specs.Edits.{Answers, ReadsChanged, new_text, no_memory, no_range, read_otherwise}
+use Rattle.fluent_syntax_edits.specs.Edits.{IsEditResult, ReadsChanged, new_text, no_memory, no_range, read_otherwise}
 use Rattle.fluent_syntax_edits.specs.EntryPlaces.{RangeOf}
 use Rattle.fluent_syntax_edits.specs.declared.fault.EditFault.{EditFault}
 use Rattle.fluent_syntax_edits.specs.declared.fault.EditFault.TheVariants.{Memory}
@@ -13,13 +13,13 @@ use Rattle.fluent_syntax_edits.specs.declared.fault.EditFault.TheVariants.{Memor
 module _ (edition : Edition) (t : List ℕ) (n : ℕ) (change : Change) where
   -- a growth was refused
   pub no_growth : (r : Result (String Global) EditFault) → IsErrAnd r (λ fault. fault ≡ Memory) →
-      Answers edition t n change r
+      IsEditResult edition t n change r
   no_growth (Ok made) h = absurd h
   no_growth (Err fault) h = rw h no_memory
 
   -- there is no stretch, or no memory
   pub no_place : (fault : EditFault) → let r : Result Span EditFault = Err fault in
-      (r ≡ Err Memory) ⊎ RangeOf edition t n change r → Answers edition t n change (Err fault)
+      (r ≡ Err Memory) ⊎ RangeOf edition t n change r → IsEditResult edition t n change (Err fault)
   no_place fault (inl e) = let same : fault ≡ Memory = cc in rw same no_memory
   no_place fault (inr x) = no_range x
 
@@ -31,6 +31,6 @@ module _ (edition : Edition) (t : List ℕ) (n : ℕ) (change : Change) where
   -- what was made is not read so
   pub refused : (s : Span) (made : List ℕ) (fault : EditFault) → RangeOf edition t n change (Ok s) →
       made ≡ new_text edition t n change s → (ReadsChanged edition t n change s made → ⊥) →
-      fault ≡ refusal edition change → Answers edition t n change (Err fault)
+      fault ≡ refusal edition change → IsEditResult edition t n change (Err fault)
   refused s made fault x bytes otherwise e =
       rw e (read_otherwise s x (subst (λ u. ReadsChanged edition t n change s u → ⊥) bytes otherwise))

@@ -16,7 +16,7 @@ use Rattle.fluent_syntax_edits.specs.declared.entry_places.EntryPlace.{EntryPlac
 
 module _ (edition : Edition) (t : List ℕ) where
   -- Whatever the tiles from the place on are: these places, the last one, and those of the tiles are the text's.
-  pub record ReadTo (i : ℕ) (ps : List EntryPlace) (last : Option EntryPlace) : Type 0 where
+  pub record PlacesReadTo (i : ℕ) (ps : List EntryPlace) (last : Option EntryPlace) : Type 0 where
     pub whole : (more : List Tile) → Tiled t (TileAt edition t) i more →
         (tiles : List Tile) × Tiling edition t tiles × (ps ++ entry_places_after last more ≡ entry_places tiles)
 
@@ -29,12 +29,13 @@ module _ (edition : Edition) (t : List ℕ) where
       let same : junk s ≡ tree_of e = let given = g.entry in cc in ap (entry_place s) same
 
   -- one tile more
-  pub read_on : (i j : ℕ) (ps qs : List EntryPlace) (last : Option EntryPlace) (now : EntryPlace) (found : SpannedTile)
-      →
-      ReadTo i ps last → TileTo edition t i j found →
+  pub places_read_on : (i j : ℕ) (ps qs : List EntryPlace) (last : Option EntryPlace) (now : EntryPlace)
+      (found : SpannedTile)
+      → PlacesReadTo i ps last → TileTo edition t i j found →
       ((tile : Tile) (more : List Tile) → entry_place_of tile ≡ entry_place found.span (tree_of found.entry) →
-      qs ++ entry_places_after (Some now) more ≡ ps ++ entry_places_after last (tile ∷ more)) → ReadTo j qs (Some now)
-  read_on i j ps qs last now found read to add = record {
+      qs ++ entry_places_after (Some now) more ≡ ps ++ entry_places_after last (tile ∷ more)) → PlacesReadTo j qs
+      (Some now)
+  places_read_on i j ps qs last now found read to add = record {
     whole = λ more a.
         let beyond = subst (λ k. Tiled t (TileAt edition t) k more) to.ends a in
         let (tiles, tiling, same) = read.whole (to.tile ∷ more) (next to.blank to.inside to.in_place beyond) in
@@ -43,7 +44,7 @@ module _ (edition : Edition) (t : List ℕ) where
   }
 
   -- no tile more
-  pub read_all : (i : ℕ) (ps qs : List EntryPlace) (last : Option EntryPlace) → ReadTo i ps last
+  pub read_all : (i : ℕ) (ps qs : List EntryPlace) (last : Option EntryPlace) → PlacesReadTo i ps last
       → BlankBlock t i (length t) →
       qs ≡ ps ++ entry_places_after last [] → HasEntryPlaces edition t qs
   read_all i ps qs last read blank e =

@@ -47,10 +47,10 @@ module _ (edition : Edition) (t : List ℕ) (n : ℕ) (change : Change) where
 
   -- The new text is answered exactly where it is read so. It is refused exactly where the text has no stretch for the
   -- change, or where it would be read otherwise.
-  pub data Answers : Result (String Global) EditFault → Type 0 where
+  pub data IsEditResult : Result (String Global) EditFault → Type 0 where
     made : {text : String Global} (s : Span) → RangeOf edition t n change (Ok s) →
-        string_bytes text ≡ new_text s → ReadsChanged s (string_bytes text) → Answers (Ok text)
-    no_range : {fault : EditFault} → RangeOf edition t n change (Err fault) → Answers (Err fault)
+        string_bytes text ≡ new_text s → ReadsChanged s (string_bytes text) → IsEditResult (Ok text)
+    no_range : {fault : EditFault} → RangeOf edition t n change (Err fault) → IsEditResult (Err fault)
     read_otherwise : (s : Span) → RangeOf edition t n change (Ok s) → (ReadsChanged s (new_text s) → ⊥) →
-        Answers (Err (refusal edition change))
-    no_memory : Answers (Err Memory)
+        IsEditResult (Err (refusal edition change))
+    no_memory : IsEditResult (Err Memory)

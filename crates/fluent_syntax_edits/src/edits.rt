@@ -1,7 +1,7 @@
 //! The edits.
 ghost use Rattle.std.specs.Prelude.{◌≡◌, ◌⊎◌, ◌++◌, Err, drop, take, IfOk, string_bytes};
 ghost use Rattle.fluent_syntax_edits.specs.Changes.{change_of, inserts, removes, replaces, sets};
-ghost use Rattle.fluent_syntax_edits.specs.Edits.{Answers};
+ghost use Rattle.fluent_syntax_edits.specs.Edits.{IsEditResult};
 ghost use Rattle.fluent_syntax_edits.specs.declared.edited_ranges.ValueTarget.TheVariants.{Attribute, Value};
 ghost use Rattle.fluent_syntax_tree.specs.View.{entry_view, pattern_view};
 ghost use Rattle.std.specs.Str.{IsCharBoundary};
@@ -86,7 +86,7 @@ fn edited_text(
     index: usize,
     edit: Edit,
 ) -> Result<String, EditFault>
-    ensures { Answers edition source.now index (change_of edit) result }
+    ensures { IsEditResult edition source.now index (change_of edit) result }
 {
     let replaced = range_of(alloc, source, edition, index, &edit)?;
     let cuts = source.is_char_boundary(replaced.start) && source.is_char_boundary(replaced.end);
@@ -115,7 +115,7 @@ pub fn replace<'s, S: Slice<'s>>(
     index: usize,
     entry: &Entry<S>,
 ) -> Result<String, EditFault>
-    ensures { Answers edition source.now index (replaces (entry_view S.text entry.now)) result }
+    ensures { IsEditResult edition source.now index (replaces (entry_view S.text entry.now)) result }
 {
     let entry = own_entry(alloc, entry)?;
     edited_text(alloc, source, edition, index, Edit::Replace(entry))
@@ -130,7 +130,7 @@ pub fn insert<'s, S: Slice<'s>>(
     index: usize,
     entry: &Entry<S>,
 ) -> Result<String, EditFault>
-    ensures { Answers edition source.now index (inserts (entry_view S.text entry.now)) result }
+    ensures { IsEditResult edition source.now index (inserts (entry_view S.text entry.now)) result }
 {
     let entry = own_entry(alloc, entry)?;
     edited_text(alloc, source, edition, index, Edit::Insert(entry))
@@ -144,7 +144,7 @@ pub fn remove(
     edition: Edition,
     index: usize,
 ) -> Result<String, EditFault>
-    ensures { Answers edition source.now index removes result }
+    ensures { IsEditResult edition source.now index removes result }
 {
     edited_text(alloc, source, edition, index, Edit::Remove)
 }
@@ -158,7 +158,7 @@ pub fn set_value(
     index: usize,
     value: &Pattern<&str>,
 ) -> Result<String, EditFault>
-    ensures { Answers edition source.now index (sets Value (pattern_view (λ text. text.now) value.now)) result }
+    ensures { IsEditResult edition source.now index (sets Value (pattern_view (λ text. text.now) value.now)) result }
 {
     let value = own_pattern(alloc, value)?;
     edited_text(
@@ -181,7 +181,7 @@ pub fn set_attribute(
     value: &Pattern<&str>,
 ) -> Result<String, EditFault>
     ensures { let v = pattern_view (λ text. text.now) value.now in
-        Answers edition source.now index (sets (Attribute attribute) v) result }
+        IsEditResult edition source.now index (sets (Attribute attribute) v) result }
 {
     let value = own_pattern(alloc, value)?;
     let target = ValueTarget::Attribute(attribute);

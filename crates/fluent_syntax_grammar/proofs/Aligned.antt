@@ -23,14 +23,14 @@ use Rattle.fluent_syntax_tree.specs.declared.edition.Edition.{Edition}
 use Rattle.fluent_syntax_tree.specs.declared.spans.Span.{Span}
 use Rattle.fluent_syntax_grammar.proofs.Functional.{single_block}
 use Rattle.fluent_syntax_grammar.proofs.HoareTriple.{gave}
-use Rattle.fluent_syntax_grammar.proofs.OneTiling.{one_tile, junk_same, functional_whole_line}
+use Rattle.fluent_syntax_grammar.proofs.OneTiling.{one_tile, junk_same, whole_line_is_functional}
 use Rattle.fluent_syntax_grammar.proofs.Cuts.{block_forward}
 use Rattle.fluent_syntax_grammar.proofs.Sound.{IsPlain}
 use Rattle.fluent_syntax_grammar.proofs.SoundEntries.{plain_place}
 use Rattle.fluent_syntax_grammar.proofs.LineEnds.{IsLineStart, hash_entry, block_no_entry, block_at_entry, letter_entry}
 use Rattle.fluent_syntax_grammar.proofs.LineEnds.{block_at_end, block_start}
-use Rattle.fluent_syntax_grammar.proofs.WholeLines.{IsLine, line_of, line_to, line_start, line_in_text, no_start}
-use Rattle.fluent_syntax_grammar.proofs.WholeLines.{hash_bytes, comment_whole, hashes_onward}
+use Rattle.fluent_syntax_grammar.proofs.WholeLines.{IsLine, whole_line_is_line, line_to, line_start, line_in_text}
+use Rattle.fluent_syntax_grammar.proofs.WholeLines.{no_start, hash_bytes, comment_whole, hashes_onward}
 use Rattle.fluent_syntax_grammar.proofs.CommentFaults.{IsAt, comment_fault, name_fault, some_hash}
 use Rattle.fluent_syntax_grammar.proofs.Facts.{byte_found, byte_holds, differs, implies, left_true, lt_or_same}
 use Rattle.fluent_syntax_grammar.proofs.Facts.{right_false, right_true, lt_or_le, has_inside}
@@ -80,7 +80,7 @@ module _ (edition : Edition) (t : List ℕ) where
   drop_line i j ys e x (next {start = start} {end = end} {tiles = more} b l (drops h w) m) =
       let same : start ≡ i = single_block.same i _ _ b (block_at_entry t i (hash_there t i e)) in
       let w' = subst (λ k. whole_line t k (Read tt end)) same w in
-      let one = (functional_whole_line t).same i _ _ w' (line_to t i j x) in
+      let one = (whole_line_is_functional t).same i _ _ w' (line_to t i j x) in
       let same_end : end ≡ j = cc in
       record { rest = more; tiled = subst (λ k. Runtime k more) same_end m; aligned = λ xs a. dropped_right a }
   drop_line i j ys e x (next {start = start} b l (keeps_tile h y) m) =
@@ -127,7 +127,7 @@ module _ (edition : Edition) (t : List ℕ) where
       let same : start ≡ i = single_block.same i _ _ b (block_at_entry t i (hash_there t i e)) in
       record {
         end = end;
-        line = line_of t i end (subst (λ k. whole_line t k (Read tt end)) same w);
+        line = whole_line_is_line t i end (subst (λ k. whole_line t k (Read tt end)) same w);
         more = more;
         tiled = m;
         aligned = λ xs a. dropped_right a;

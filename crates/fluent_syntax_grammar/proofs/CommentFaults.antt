@@ -8,8 +8,7 @@ use Rattle.fluent_syntax_grammar.specs.Tokens.{identifier, spanned, token, past_
 use Rattle.fluent_syntax_grammar.specs.Comments.{hashes, comment_text, comment_rest, comment_lines, comment_of}
 use Rattle.fluent_syntax_grammar.specs.Comments.{comment_entry}
 use Rattle.fluent_syntax_grammar.proofs.HoareTriple.{HoareTriple, holds_weaker, holds_bind, holds_yields, holds_here}
-use Rattle.fluent_syntax_grammar.proofs.HoareTriple.{holds_fails}
-use Rattle.fluent_syntax_grammar.proofs.HoareTriple.{holds_skip, holds_peek, holds_branch_on}
+use Rattle.fluent_syntax_grammar.proofs.HoareTriple.{holds_fails, holds_skip, holds_peek, holds_branch_on}
 use Rattle.fluent_syntax_grammar.proofs.Sound.{IsPlain}
 
 -- refused at the place, for a kind that no message and no term lacks its field by

@@ -7,8 +7,7 @@ use Rattle.std.proofs.lemmas.Bool.Decides.{nat_tests}
 use Rattle.fluent_syntax_grammar.specs.Bytes.{lf, cr, space, is_space, is_digit, is_name_byte}
 use Rattle.std.specs.Char.{is_ascii_hexdigit}
 use Rattle.fluent_syntax_grammar.specs.Places.{holds, LongestRun, ByteRun, has, has_byte, has_eol, after_eol}
-use Rattle.fluent_syntax_grammar.specs.Places.{is_line_place}
-use Rattle.fluent_syntax_grammar.specs.Places.{is_blank_place, Blank, BlankBlock, no_line, line}
+use Rattle.fluent_syntax_grammar.specs.Places.{is_line_place, is_blank_place, Blank, BlankBlock, no_line, line}
 use Rattle.fluent_syntax_grammar.specs.Lines.{is_run_place}
 use Rattle.fluent_syntax_grammar.proofs.Facts.{byte_found, longest_run_in_text, two_on, add_one, has_inside, some_none}
 use Rattle.fluent_syntax_grammar.proofs.Tests.{or_cases}

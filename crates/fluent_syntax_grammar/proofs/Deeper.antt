@@ -1,10 +1,8 @@
 -- Where a part nests too deeply, so does the whole.
-use Rattle.std.proofs.Common.{◌≡◌, ℕ, zero, List, Bool, true, false}
-use Rattle.std.proofs.Common.{subst}
+use Rattle.std.proofs.Common.{◌≡◌, ℕ, zero, List, Bool, true, false, subst}
 use Rattle.fluent_syntax_grammar.specs.Construct.{Outcome, Construct, Read, Refused, ◌>>=◌, stops, goes_on, peek}
 use Rattle.fluent_syntax_grammar.specs.Construct.{chosen, branch_on, first, second, More, item, many, list_ends}
-use Rattle.fluent_syntax_grammar.specs.Construct.{list_stops}
-use Rattle.fluent_syntax_grammar.specs.Construct.{item_and_more, stops_later}
+use Rattle.fluent_syntax_grammar.specs.Construct.{list_stops, item_and_more, stops_later}
 use Rattle.fluent_syntax_tree.specs.declared.edition.Edition.{Edition}
 use Rattle.fluent_syntax_grammar.specs.Grammar.{within}
 use Rattle.fluent_syntax_grammar.specs.UniqueReading.{IsFunctional}

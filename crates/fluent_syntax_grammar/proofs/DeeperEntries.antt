@@ -7,7 +7,7 @@ use Rattle.fluent_syntax_grammar.specs.Construct.{Read}
 use Rattle.fluent_syntax_grammar.specs.Entries.{attribute_of, attributes_of, no_more, one_more}
 use Rattle.fluent_syntax_grammar.specs.Family.{Family}
 use Rattle.fluent_syntax_grammar.specs.Nesting.{TooDeep}
-use Rattle.fluent_syntax_grammar.proofs.FunctionalEntries.{functional_attribute_of}
+use Rattle.fluent_syntax_grammar.proofs.FunctionalEntries.{attribute_of_is_functional}
 use Rattle.fluent_syntax_grammar.proofs.FunctionalRules.{IsFunctionalFamily}
 
 module _ (edition : Edition) (t : List ℕ) (R : Family) where
@@ -21,8 +21,8 @@ module _ (edition : Edition) (t : List ℕ) (R : Family) where
       attribute_of edition t R i (Read a j) → TooDeep (attributes_of edition t R) j →
       TooDeep (attributes_of edition t R) i
   deeper_attributes h {i = i} x d o (no_more y) =
-      let e = (functional_attribute_of edition t R h).same i _ _ x y in cc
+      let e = (attribute_of_is_functional edition t R h).same i _ _ x y in cc
   deeper_attributes h {i = i} {j = j} x d o (one_more {j = k} {end = end} {rest = rest} y z) =
-      let e = (functional_attribute_of edition t R h).same i _ _ y x in
+      let e = (attribute_of_is_functional edition t R h).same i _ _ y x in
       let place : k ≡ j = cc in
       d _ (subst (λ k. attributes_of edition t R k (Read rest end)) place z)

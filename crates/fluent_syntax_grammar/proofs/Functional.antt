@@ -4,9 +4,8 @@ use Rattle.fluent_syntax_grammar.specs.Places.{LongestRun, Steps, JumpsTo, Blank
 use Rattle.std.proofs.Common.{List}
 use Rattle.fluent_syntax_tree.specs.Kind.{Kind}
 use Rattle.fluent_syntax_grammar.specs.Construct.{Outcome, Read, Refused, Construct, ◌>>=◌, stops, goes_on, yields}
-use Rattle.fluent_syntax_grammar.specs.Construct.{given, here}
-use Rattle.fluent_syntax_grammar.specs.Construct.{at_place, fails, failed, fails_from, failed_from, skip, passed}
-use Rattle.fluent_syntax_grammar.specs.Construct.{peek, chosen, branch_on, first, second, More, many, list_ends}
+use Rattle.fluent_syntax_grammar.specs.Construct.{given, here, at_place, fails, failed, fails_from, failed_from, skip}
+use Rattle.fluent_syntax_grammar.specs.Construct.{passed, peek, chosen, branch_on, first, second, More, many, list_ends}
 use Rattle.fluent_syntax_grammar.specs.Construct.{list_stops, item_and_more, stops_later}
 use Rattle.fluent_syntax_grammar.specs.UniqueReading.{IsFunctional}
 
@@ -25,49 +24,49 @@ bind_unique c f cf ff i o p (goes_on {j = j} {a = a} x y) (goes_on {j = k} {a = 
     let same_j : j ≡ k = cc in
     (ff a).same j o p y (subst (λ b. f b j p) (sym same_a) (subst (λ k. f b k p) (sym same_j) w))
 
-pub functional_bind : {A B : Type 0} {c : Construct A} {f : A → Construct B} → IsFunctional c →
+pub bind_is_functional : {A B : Type 0} {c : Construct A} {f : A → Construct B} → IsFunctional c →
     ((a : A) → IsFunctional (f a)) → IsFunctional (c >>= f)
-functional_bind {c = c} {f = f} cf ff = record { same = bind_unique c f cf ff }
+bind_is_functional {c = c} {f = f} cf ff = record { same = bind_unique c f cf ff }
 
 yields_unique : {A : Type 0} (a : A) (i : ℕ) (o p : Outcome A) → yields a i o → yields a i p → o ≡ p
 yields_unique a i o p given given = refl
 
-pub functional_yields : {A : Type 0} {a : A} → IsFunctional (yields a)
-functional_yields {a = a} = record { same = yields_unique a }
+pub yields_is_functional : {A : Type 0} {a : A} → IsFunctional (yields a)
+yields_is_functional {a = a} = record { same = yields_unique a }
 
 here_unique : (i : ℕ) (o p : Outcome ℕ) → here i o → here i p → o ≡ p
 here_unique i o p at_place at_place = refl
 
-pub functional_here : IsFunctional here
-functional_here = record { same = here_unique }
+pub here_is_functional : IsFunctional here
+here_is_functional = record { same = here_unique }
 
 fails_unique : {A : Type 0} (k : Kind) (i : ℕ) (o p : Outcome A) → fails k i o → fails k i p → o ≡ p
 fails_unique k i o p (failed e) (failed f) = cc
 
-pub functional_fails : {A : Type 0} {k : Kind} → IsFunctional (fails {A = A} k)
-functional_fails {k = k} = record { same = fails_unique k }
+pub fails_is_functional : {A : Type 0} {k : Kind} → IsFunctional (fails {A = A} k)
+fails_is_functional {k = k} = record { same = fails_unique k }
 
 fails_from_unique : {A : Type 0} (k : Kind) (from i : ℕ) (o p : Outcome A) → fails_from k from i o →
     fails_from k from i p → o ≡ p
 fails_from_unique k from i o p failed_from failed_from = refl
 
-pub functional_fails_from : {A : Type 0} {k : Kind} {from : ℕ} → IsFunctional (fails_from {A = A} k from)
-functional_fails_from {k = k} {from = from} = record { same = fails_from_unique k from }
+pub fails_from_is_functional : {A : Type 0} {k : Kind} {from : ℕ} → IsFunctional (fails_from {A = A} k from)
+fails_from_is_functional {k = k} {from = from} = record { same = fails_from_unique k from }
 
 skip_unique : (W : ℕ → ℕ → Type 0) → IsFunctionalRelation W → (i : ℕ) (o p : Outcome (Unit {0})) → skip W i o →
     skip W i p → o ≡ p
 skip_unique W single i o p (passed x) (passed y) = let e = single.same i _ _ x y in cc
 
-pub functional_skip : {W : ℕ → ℕ → Type 0} → IsFunctionalRelation W → IsFunctional (skip W)
-functional_skip {W = W} single = record { same = skip_unique W single }
+pub skip_is_functional : {W : ℕ → ℕ → Type 0} → IsFunctionalRelation W → IsFunctional (skip W)
+skip_is_functional {W = W} single = record { same = skip_unique W single }
 
 peek_unique : {A B : Type 0} (look : ℕ → A) (part : A → Construct B) → ((a : A) → IsFunctional (part a)) →
     (i : ℕ) (o p : Outcome B) → peek look part i o → peek look part i p → o ≡ p
 peek_unique look part f i o p (chosen x) (chosen y) = (f (look i)).same i o p x y
 
-pub functional_peek : {A B : Type 0} {look : ℕ → A} {part : A → Construct B} → ((a : A) → IsFunctional (part a)) →
+pub peek_is_functional : {A B : Type 0} {look : ℕ → A} {part : A → Construct B} → ((a : A) → IsFunctional (part a)) →
     IsFunctional (peek look part)
-functional_peek {look = look} {part = part} f = record { same = peek_unique look part f }
+peek_is_functional {look = look} {part = part} f = record { same = peek_unique look part f }
 
 branch_on_unique : {A : Type 0} (b : Bool) (c d : Construct A) → IsFunctional c → IsFunctional d →
     (i : ℕ) (o p : Outcome A) → branch_on b c d i o → branch_on b c d i p → o ≡ p
@@ -76,9 +75,9 @@ branch_on_unique b c d cf df i o p (first e x) (second f y) = cc
 branch_on_unique b c d cf df i o p (second e x) (first f y) = cc
 branch_on_unique b c d cf df i o p (second e x) (second f y) = df.same i o p x y
 
-pub functional_branch_on : {A : Type 0} {b : Bool} {c d : Construct A} → IsFunctional c → IsFunctional d →
+pub branch_on_is_functional : {A : Type 0} {b : Bool} {c d : Construct A} → IsFunctional c → IsFunctional d →
     IsFunctional (branch_on b c d)
-functional_branch_on {b = b} {c = c} {d = d} cf df = record { same = branch_on_unique b c d cf df }
+branch_on_is_functional {b = b} {c = c} {d = d} cf df = record { same = branch_on_unique b c d cf df }
 
 module _ {A S B : Type 0} (next : S → Construct (More A S)) (add : A → B → B) (none : B)
     (f : (s : S) → IsFunctional (next s)) where
@@ -125,9 +124,9 @@ module _ {A S B : Type 0} (next : S → Construct (More A S)) (add : A → B →
       let same_j : h ≡ j = cc in
       let same : Refused k m n ≡ Refused l u v = many_unique r j _ _ y (list_moved q r h j _ same_r same_j w) in cc
 
-pub functional_many : {A S B : Type 0} {next : S → Construct (More A S)} {add : A → B → B} {none : B} {s : S} →
+pub many_is_functional : {A S B : Type 0} {next : S → Construct (More A S)} {add : A → B → B} {none : B} {s : S} →
     ((s : S) → IsFunctional (next s)) → IsFunctional (many next add none s)
-functional_many {next = next} {add = add} {none = none} {s = s} f =
+many_is_functional {next = next} {add = add} {none = none} {s = s} f =
     record { same = many_unique next add none f s }
 
 -- ---- longest words
@@ -163,15 +162,15 @@ pub single_block : {t : List ℕ} → IsFunctionalRelation (BlankBlock t)
 single_block {t = t} = record { same = block_unique t }
 
 pub ruleset functional = (
-  functional_bind,
-  functional_yields,
-  functional_here,
-  functional_fails,
-  functional_fails_from,
-  functional_skip,
-  functional_peek,
-  functional_branch_on,
-  functional_many,
+  bind_is_functional,
+  yields_is_functional,
+  here_is_functional,
+  fails_is_functional,
+  fails_from_is_functional,
+  skip_is_functional,
+  peek_is_functional,
+  branch_on_is_functional,
+  many_is_functional,
   longest_run_functional,
   single_steps,
   single_reaches,

@@ -23,7 +23,8 @@ use Rattle.fluent_syntax_grammar.proofs.HoareTriple.{gave}
 use Rattle.fluent_syntax_grammar.proofs.Cuts.{AreBoundaries, block_forward}
 use Rattle.fluent_syntax_grammar.proofs.Sound.{IsSpan}
 use Rattle.fluent_syntax_grammar.proofs.SoundStrings.{InText}
-use Rattle.fluent_syntax_grammar.proofs.SoundTiling.{IsTileWellFormed, tile_good, line_end, tiled_good, runtime_good}
+use Rattle.fluent_syntax_grammar.proofs.SoundTiling.{IsTileWellFormed, tile_good, whole_line_inside, tiled_good}
+use Rattle.fluent_syntax_grammar.proofs.SoundTiling.{runtime_good}
 use Rattle.fluent_syntax_grammar.proofs.Boundaries.{text_cuts, boundary_cuts}
 use Rattle.fluent_syntax_grammar.proofs.BareEntries.{message_bare, term_bare}
 use Rattle.fluent_syntax_grammar.proofs.Runtime.{IsBare}
@@ -155,7 +156,7 @@ module _ (edition : Edition) (t : List ℕ) where
       Ascend t i (faults tiles)
   runtime_ascend i tiles p (done b) = p
   runtime_ascend i tiles p (next {start = start} {end = end} {tiles = more} b l (drops h x) m) =
-      let q = line_end edition t AllPlaces (text_cuts t) start end (omega arith) x in
+      let q = whole_line_inside edition t AllPlaces (text_cuts t) start end (omega arith) x in
       let blank = block_forward t i start b in
       let on = q.late in
       later i end (faults more) (omega arith) (runtime_ascend end more q.place m)

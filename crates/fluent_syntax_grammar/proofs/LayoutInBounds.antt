@@ -13,9 +13,8 @@ use Rattle.fluent_syntax_tree.specs.Every.{expression_every, element_every, patt
 use Rattle.fluent_syntax_grammar.specs.Layout.{Piece, run, placed, Ending, lf_at, crlf_at, text_end, Line, Layout}
 use Rattle.fluent_syntax_grammar.specs.Layout.{common_indent}
 use Rattle.fluent_syntax_grammar.specs.Elements.{Item, text, placeable_item, with_ending, common_indent_end, indented}
-use Rattle.fluent_syntax_grammar.specs.Elements.{items_from}
-use Rattle.fluent_syntax_grammar.specs.Elements.{line_items, opening_items, items, stays, cut_before, cut, trimmed_end}
-use Rattle.fluent_syntax_grammar.specs.Elements.{spelled, if_any, pattern_of}
+use Rattle.fluent_syntax_grammar.specs.Elements.{items_from, line_items, opening_items, items, stays, cut_before, cut}
+use Rattle.fluent_syntax_grammar.specs.Elements.{trimmed_end, spelled, if_any, pattern_of}
 use Rattle.fluent_syntax_tree.specs.declared.edition.Edition.{Edition}
 use Rattle.fluent_syntax_tree.specs.declared.edition.Edition.TheVariants.{One, Two}
 use Rattle.fluent_syntax_tree.specs.declared.spans.Span.{Span}

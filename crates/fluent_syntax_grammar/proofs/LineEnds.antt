@@ -10,7 +10,7 @@ use Rattle.fluent_syntax_grammar.specs.Places.{has_eol}
 use Rattle.fluent_syntax_grammar.specs.Tiling.{is_entry_byte}
 use Rattle.fluent_syntax_grammar.proofs.Cuts.{eol_cases}
 use Rattle.fluent_syntax_grammar.proofs.Facts.{excludes, implies, none_holds, lt_or_le}
-use Rattle.fluent_syntax_grammar.proofs.Tests.{or_right, or_none, and_left}
+use Rattle.fluent_syntax_grammar.proofs.Tests.{true_by_right, or_none, and_left}
 
 -- spaces and the bytes of line ends
 abbrev pub is_blank_byte : ℕ → Bool
@@ -115,7 +115,7 @@ module _ (t : List ℕ) where
 
   lf_start : (i : ℕ) → has_byte t lf i ≡ true → starts_line t (i + 1) ≡ true
   lf_start i e =
-      or_right (i + 1 == 0) (has_byte t lf ((i + 1) - 1))
+      true_by_right (i + 1 == 0) (has_byte t lf ((i + 1) - 1))
       (let same : i ≡ (i + 1) - 1 = omega arith in subst (λ k. has_byte t lf k ≡ true) same e)
 
   pub eol_start : (k m : ℕ) → after_eol t k ≡ Some m → starts_line t m ≡ true

@@ -8,8 +8,8 @@ use Rattle.fluent_syntax_grammar.specs.Expressions as expressions
 use Rattle.fluent_syntax_grammar.specs.Grammar.{within, family}
 use Rattle.fluent_syntax_tree.specs.declared.edition.Edition.{Edition}
 use Rattle.fluent_syntax_tree.specs.declared.spans.Span.{Span}
-use Rattle.fluent_syntax_grammar.proofs.FunctionalRules.{IsFunctionalFamily, functional_next}
-use Rattle.fluent_syntax_grammar.proofs.Included.{IsIncludedFamily, included_next}
+use Rattle.fluent_syntax_grammar.proofs.FunctionalRules.{IsFunctionalFamily, next_is_functional}
+use Rattle.fluent_syntax_grammar.proofs.Included.{IsIncludedFamily, next_is_included}
 use Rattle.fluent_syntax_grammar.proofs.Union.{IsUnionFamily, union_arguments, union_expression}
 
 module _ (edition : Edition) (t : List ℕ) where
@@ -23,7 +23,7 @@ module _ (edition : Edition) (t : List ℕ) where
   next_included : (m n : ℕ) → IsIncludedFamily (within edition t m) (within edition t n) →
       IsIncludedFamily (within edition t (suc m)) (within edition t (suc n))
   unfolding within
-  next_included m n h = included_next edition t (within edition t m) (within edition t n) h
+  next_included m n h = next_is_included edition t (within edition t m) (within edition t n) h
 
   -- what nests no deeper than m, nests no deeper than a larger number
   pub within_grows : (m n : ℕ) → m ≤ n → IsIncludedFamily (within edition t m) (within edition t n)
@@ -71,38 +71,39 @@ module _ (edition : Edition) (t : List ℕ) where
       let m = (union_arguments t (family edition t) (within edition t) union_family []).found i o x in
       argument_list_at m.0 i o m.1
 
-  functional_nothing : IsFunctionalFamily (within edition t zero)
+  nothing_is_functional : IsFunctionalFamily (within edition t zero)
   unfolding within
-  functional_nothing = record {
+  nothing_is_functional = record {
     expression = record { same = λ i o p x y. absurd x };
     argument_list = record { same = λ i o p x y. absurd x };
   }
 
-  functional_suc : (n : ℕ) → IsFunctionalFamily (within edition t n) → IsFunctionalFamily (within edition t (suc n))
+  suc_is_functional : (n : ℕ) → IsFunctionalFamily (within edition t n) → IsFunctionalFamily (within edition t (suc n))
   unfolding within
-  functional_suc n h = functional_next edition t (within edition t n) h
+  suc_is_functional n h = next_is_functional edition t (within edition t n) h
 
   -- what nests no deeper than a number has at most one outcome at a place
-  pub functional_within : (n : ℕ) → IsFunctionalFamily (within edition t n)
-  functional_within zero = functional_nothing
-  functional_within (suc n) = functional_suc n (functional_within n)
+  pub within_is_functional : (n : ℕ) → IsFunctionalFamily (within edition t n)
+  within_is_functional zero = nothing_is_functional
+  within_is_functional (suc n) = suc_is_functional n (within_is_functional n)
 
   same_expression : (i : ℕ) (o p : Outcome (ExpressionTree Span)) → (family edition t).expression i o →
       (family edition t).expression i p → o ≡ p
   unfolding family
   same_expression i o p (m, x) (n, y) =
-      (functional_within (m + n)).expression.same i o p ((within_grows m (m + n) (omega arith)).expression.part i o x)
+      (within_is_functional (m + n)).expression.same i o p ((within_grows m (m + n) (omega arith)).expression.part i o
+      x)
       ((within_grows n (m + n) (omega arith)).expression.part i p y)
 
   same_argument_list : (i : ℕ) (o p : Outcome (ArgumentsTree Span)) → (family edition t).argument_list i o →
       (family edition t).argument_list i p → o ≡ p
   unfolding family
   same_argument_list i o p (m, x) (n, y) =
-      (functional_within (m + n)).argument_list.same i o p
+      (within_is_functional (m + n)).argument_list.same i o p
       ((within_grows m (m + n) (omega arith)).argument_list.part i o x)
       ((within_grows n (m + n) (omega arith)).argument_list.part i p y)
 
   -- the constructs that nest have at most one outcome at a place
-  pub functional_family : IsFunctionalFamily (family edition t)
-  functional_family =
+  pub family_is_functional : IsFunctionalFamily (family edition t)
+  family_is_functional =
       record { expression = record { same = same_expression }; argument_list = record { same = same_argument_list } }

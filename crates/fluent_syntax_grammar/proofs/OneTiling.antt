@@ -5,14 +5,14 @@ use Rattle.fluent_syntax_grammar.specs.Family.{Family}
 use Rattle.fluent_syntax_grammar.specs.Grammar.{family}
 use Rattle.fluent_syntax_grammar.specs.Tiling.{TileIn, RuntimeTileIn}
 use Rattle.fluent_syntax_grammar.proofs.FunctionalRules.{IsFunctionalFamily}
-use Rattle.fluent_syntax_grammar.proofs.Nesting.{functional_family}
+use Rattle.fluent_syntax_grammar.proofs.Nesting.{family_is_functional}
 use Rattle.fluent_syntax_grammar.specs.Tiling.{Tile, failing_place, JunkEnd, whole_line, Tiled, done, next, TileAt}
 use Rattle.fluent_syntax_grammar.specs.Tiling.{reads, refuses, RuntimeTileAt, drops, keeps_tile, Tiling, RuntimeTiling}
 use Rattle.fluent_syntax_tree.specs.declared.edition.Edition.{Edition}
 use Rattle.fluent_syntax_grammar.specs.UniqueReading.{IsFunctional}
 use Rattle.fluent_syntax_grammar.proofs.Functional.{functional, single_block}
-use Rattle.fluent_syntax_grammar.proofs.FunctionalWords.{functional_rest_of_line, functional_optional_eol}
-use Rattle.fluent_syntax_grammar.proofs.FunctionalEntries.{functional_entry_in}
+use Rattle.fluent_syntax_grammar.proofs.FunctionalWords.{rest_of_line_is_functional, optional_eol_is_functional}
+use Rattle.fluent_syntax_grammar.proofs.FunctionalEntries.{entry_in_is_functional}
 
 module _ (t : List ℕ) where
   not_before : (place end other : ℕ) → JunkEnd t place end → JunkEnd t place other → end < other → ⊥
@@ -23,8 +23,8 @@ module _ (t : List ℕ) where
   pub junk_same : (place end other : ℕ) → JunkEnd t place end → JunkEnd t place other → end ≡ other
   junk_same place end other a b = grind (arith, not_before place end other a b, not_before place other end b a)
 
-  pub functional_whole_line : IsFunctional (whole_line t)
-  functional_whole_line = search (functional, functional_rest_of_line, functional_optional_eol) depth 30
+  pub whole_line_is_functional : IsFunctional (whole_line t)
+  whole_line_is_functional = search (functional, rest_of_line_is_functional, optional_eol_is_functional) depth 30
 
 -- At each place there is at most one tile, with one end.
 pub record IsOneTile (at : (i j : ℕ) → Tile → Type 0) : Type 0 where
@@ -48,12 +48,12 @@ tiled_same t at one i xs ys (next {start = start} {end = j} {tile = x} {tiles = 
 
 module _ (edition : Edition) (t : List ℕ) (R : Family) (h : IsFunctionalFamily R) where
   tile_end : (i j k : ℕ) (x y : Tile) → TileIn edition t R i j x → TileIn edition t R i k y → j ≡ k
-  tile_end i j k x y (reads a) (reads b) = let g = (functional_entry_in edition t R h).same i _ _ a b in cc
-  tile_end i j k x y (reads a) (refuses b c) = let g = (functional_entry_in edition t R h).same i _ _ a b in cc
-  tile_end i j k x y (refuses a b) (reads c) = let g = (functional_entry_in edition t R h).same i _ _ a c in cc
+  tile_end i j k x y (reads a) (reads b) = let g = (entry_in_is_functional edition t R h).same i _ _ a b in cc
+  tile_end i j k x y (reads a) (refuses b c) = let g = (entry_in_is_functional edition t R h).same i _ _ a b in cc
+  tile_end i j k x y (refuses a b) (reads c) = let g = (entry_in_is_functional edition t R h).same i _ _ a c in cc
   tile_end i j k x y (refuses {from = from} {to = to} {k = kind} a b)
       (refuses {from = from'} {to = to'} {k = kind'} c d) =
-      let g = (functional_entry_in edition t R h).same i _ _ a c in
+      let g = (entry_in_is_functional edition t R h).same i _ _ a c in
       let same_kind : kind ≡ kind' = cc in
       let same_from : from ≡ from' = cc in
       let same_to : to ≡ to' = cc in
@@ -61,11 +61,11 @@ module _ (edition : Edition) (t : List ℕ) (R : Family) (h : IsFunctionalFamily
       junk_same t _ j k b (subst (λ p. JunkEnd t p k) (sym place) d)
 
   tile_same : (i j k : ℕ) (x y : Tile) → TileIn edition t R i j x → TileIn edition t R i k y → x ≡ y
-  tile_same i j k x y (reads a) (reads b) = let g = (functional_entry_in edition t R h).same i _ _ a b in cc
-  tile_same i j k x y (reads a) (refuses b c) = let g = (functional_entry_in edition t R h).same i _ _ a b in cc
-  tile_same i j k x y (refuses a b) (reads c) = let g = (functional_entry_in edition t R h).same i _ _ a c in cc
+  tile_same i j k x y (reads a) (reads b) = let g = (entry_in_is_functional edition t R h).same i _ _ a b in cc
+  tile_same i j k x y (reads a) (refuses b c) = let g = (entry_in_is_functional edition t R h).same i _ _ a b in cc
+  tile_same i j k x y (refuses a b) (reads c) = let g = (entry_in_is_functional edition t R h).same i _ _ a c in cc
   tile_same i j k x y (refuses a b) (refuses c d) =
-      let g = (functional_entry_in edition t R h).same i _ _ a c in
+      let g = (entry_in_is_functional edition t R h).same i _ _ a c in
       let same_end : j ≡ k = tile_end i j k _ _ (refuses a b) (refuses c d) in
       cc
 
@@ -73,7 +73,7 @@ module _ (edition : Edition) (t : List ℕ) (R : Family) (h : IsFunctionalFamily
   one_tile_in = record { same_end = tile_end; same_tile = tile_same }
 
   runtime_end : (i j k : ℕ) (x y : Tile) → RuntimeTileIn edition t R i j x → RuntimeTileIn edition t R i k y → j ≡ k
-  runtime_end i j k x y (drops a b) (drops c d) = let g = (functional_whole_line t).same i _ _ b d in cc
+  runtime_end i j k x y (drops a b) (drops c d) = let g = (whole_line_is_functional t).same i _ _ b d in cc
   runtime_end i j k x y (drops a b) (keeps_tile c d) = cc
   runtime_end i j k x y (keeps_tile a b) (drops c d) = cc
   runtime_end i j k x y (keeps_tile a b) (keeps_tile c d) = tile_end i j k _ _ b d
@@ -89,15 +89,15 @@ module _ (edition : Edition) (t : List ℕ) (R : Family) (h : IsFunctionalFamily
 
 module _ (edition : Edition) (t : List ℕ) where
   pub one_tile : IsOneTile (TileAt edition t)
-  one_tile = one_tile_in edition t (family edition t) (functional_family edition t)
+  one_tile = one_tile_in edition t (family edition t) (family_is_functional edition t)
 
   pub one_runtime_tile : IsOneTile (RuntimeTileAt edition t)
-  one_runtime_tile = one_runtime_tile_in edition t (family edition t) (functional_family edition t)
+  one_runtime_tile = one_runtime_tile_in edition t (family edition t) (family_is_functional edition t)
 
   -- a text has at most one tiling
-  pub one_tiling : (xs ys : List Tile) → Tiling edition t xs → Tiling edition t ys → xs ≡ ys
-  one_tiling xs ys a b = tiled_same t (TileAt edition t) one_tile 0 xs ys a b
+  pub same_tilings : (xs ys : List Tile) → Tiling edition t xs → Tiling edition t ys → xs ≡ ys
+  same_tilings xs ys a b = tiled_same t (TileAt edition t) one_tile 0 xs ys a b
 
   -- a text has at most one tiling without comments
-  pub one_runtime_tiling : (xs ys : List Tile) → RuntimeTiling edition t xs → RuntimeTiling edition t ys → xs ≡ ys
-  one_runtime_tiling xs ys a b = tiled_same t (RuntimeTileAt edition t) one_runtime_tile 0 xs ys a b
+  pub same_runtime_tilings : (xs ys : List Tile) → RuntimeTiling edition t xs → RuntimeTiling edition t ys → xs ≡ ys
+  same_runtime_tilings xs ys a b = tiled_same t (RuntimeTileAt edition t) one_runtime_tile 0 xs ys a b

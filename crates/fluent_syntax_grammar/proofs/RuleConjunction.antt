@@ -13,8 +13,7 @@ use Rattle.fluent_syntax_tree.specs.Entry.{BodyTree}
 use Rattle.fluent_syntax_grammar.specs.Written.{Text}
 use Rattle.fluent_syntax_grammar.specs.Rules.{Rules, key_obeys, expression_obeys, inline_obeys, optional_arguments_obey}
 use Rattle.fluent_syntax_grammar.specs.Rules.{arguments_obey, inlines_obey, named_arguments_obey, named_obeys}
-use Rattle.fluent_syntax_grammar.specs.Rules.{pattern_obeys}
-use Rattle.fluent_syntax_grammar.specs.Rules.{elements_obey, element_obeys, variants_obey, variant_obeys}
+use Rattle.fluent_syntax_grammar.specs.Rules.{pattern_obeys, elements_obey, element_obeys, variants_obey, variant_obeys}
 use Rattle.fluent_syntax_grammar.specs.Rules.{option_obeys, attribute_obeys, entry_obeys, body_obeys}
 
 swap : (a b c d : Bool) → ((a && b) && (c && d)) ≡ ((a && c) && (b && d))

@@ -20,7 +20,7 @@ use Rattle.fluent_syntax_grammar.proofs.Stretches.{junk_ends_at_entry, junk_ends
 use Rattle.fluent_syntax_grammar.proofs.TotalWords.{longest_run_word, block_word}
 use Rattle.fluent_syntax_grammar.proofs.TotalFamily.{pattern_everywhere}
 use Rattle.fluent_syntax_grammar.proofs.Facts.{lt_or_same}
-use Rattle.fluent_syntax_grammar.proofs.Included.{IsIncludedFamily, included_same}
+use Rattle.fluent_syntax_grammar.proofs.Included.{IsIncludedFamily, itself_is_included}
 use Rattle.fluent_syntax_grammar.proofs.TotalEntries.{entry_has}
 
 module _ (t : List ℕ) where
@@ -47,7 +47,7 @@ module _ (t : List ℕ) where
 
 module _ (edition : Edition) (t : List ℕ) where
   every : IsIncludedFamily (family edition t) (family edition t)
-  every = record { expression = included_same; argument_list = included_same }
+  every = record { expression = itself_is_included; argument_list = itself_is_included }
 
   -- a tile that is at a place, and goes on
   record TileThere (i : ℕ) : Type 0 where

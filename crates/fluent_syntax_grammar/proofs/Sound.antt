@@ -12,11 +12,9 @@ use Rattle.fluent_syntax_grammar.specs.Tokens.{rest_of_line}
 use Rattle.fluent_syntax_grammar.specs.Meaning.{kind_means}
 use Rattle.fluent_syntax_tree.specs.declared.spans.Span.{Span}
 use Rattle.fluent_syntax_grammar.proofs.HoareTriple.{HoareTriple, holds_weaker, holds_bind, holds_yields, holds_fails}
-use Rattle.fluent_syntax_grammar.proofs.HoareTriple.{holds_skip}
-use Rattle.fluent_syntax_grammar.proofs.HoareTriple.{holds_peek, holds_branch_on, holds_many}
+use Rattle.fluent_syntax_grammar.proofs.HoareTriple.{holds_skip, holds_peek, holds_branch_on, holds_many}
 use Rattle.fluent_syntax_grammar.proofs.Cuts.{AreBoundaries, IsAsciiSet, ascii_space, word_place, blank_place}
-use Rattle.fluent_syntax_grammar.proofs.Cuts.{block_place}
-use Rattle.fluent_syntax_grammar.proofs.Cuts.{block_forward, eol_forward, eol_place, line_stop, run_stop}
+use Rattle.fluent_syntax_grammar.proofs.Cuts.{block_place, block_forward, eol_forward, eol_place, line_stop, run_stop}
 
 -- an ordered range between two places of the kind
 abbrev pub IsSpan : (ℕ → Type 0) → Span → Type 0
@@ -89,43 +87,43 @@ module _ {t : List ℕ} {P : ℕ → Type 0} {s : ℕ} where
         λ i from to k p x. (f p.good).holds.on_refused i from to k (record { late = p.late; place = p.place }) x;
   }
 
-  pub sound_bind : {A B : Type 0} {Mid : A → Type 0} {Good : B → Type 0} {c : Construct A} {f : A → Construct B} →
+  pub bind_is_sound : {A B : Type 0} {Mid : A → Type 0} {Good : B → Type 0} {c : Construct A} {f : A → Construct B} →
       Sound t P s c Mid → ((a : A) → Mid a → Sound t P s (f a) Good) → Sound t P s (c >>= f) Good
-  sound_bind {Mid = Mid} x g = record { holds = holds_bind x.holds (λ a. known {Mid = Mid} (g a)) }
+  bind_is_sound {Mid = Mid} x g = record { holds = holds_bind x.holds (λ a. known {Mid = Mid} (g a)) }
 
-  pub sound_yields : {A : Type 0} {Good : A → Type 0} {a : A} → Good a → Sound t P s (yields a) Good
-  sound_yields g = record { holds = holds_yields (λ i p. record { late = p.late; place = p.place; good = g }) }
+  pub yields_is_sound : {A : Type 0} {Good : A → Type 0} {a : A} → Good a → Sound t P s (yields a) Good
+  yields_is_sound g = record { holds = holds_yields (λ i p. record { late = p.late; place = p.place; good = g }) }
 
-  pub sound_fails : {A : Type 0} {Good : A → Type 0} {k : Kind} → ((i : ℕ) → P i → i ≤ length t) → IsPlain k →
+  pub fails_is_sound : {A : Type 0} {Good : A → Type 0} {k : Kind} → ((i : ℕ) → P i → i ≤ length t) → IsPlain k →
       ((i : ℕ) → kind_means t k i) → Sound t P s (fails k) Good
-  sound_fails inside plain m =
+  fails_is_sound inside plain m =
       record {
         holds =
             holds_fails (λ i p.
             record { late = p.late; in_text = inside i p.place; one = refl; plain = plain; means = m i });
       }
 
-  pub sound_skip : {W : ℕ → ℕ → Type 0} → IsOnward P W → Sound t P s (skip W) (λ u. Unit {0})
-  sound_skip w =
+  pub skip_is_sound : {W : ℕ → ℕ → Type 0} → IsOnward P W → Sound t P s (skip W) (λ u. Unit {0})
+  skip_is_sound w =
       record {
         holds =
             holds_skip (λ i j p x. let f = w.forward i j x in let l = p.late in
             record { late = omega arith; place = w.place i j p.place x; good = tt });
       }
 
-  pub sound_peek : {A B : Type 0} {Good : B → Type 0} {look : ℕ → A} {part : A → Construct B} →
+  pub peek_is_sound : {A B : Type 0} {Good : B → Type 0} {look : ℕ → A} {part : A → Construct B} →
       ((a : A) → Sound t P s (part a) Good) → Sound t P s (peek look part) Good
-  sound_peek g =
+  peek_is_sound g =
       record { holds = holds_peek (λ a. holds_weaker (λ i p. p.0) (λ b j e. e) (λ k from to e. e) (g a).holds) }
 
-  pub sound_branch_on : {A : Type 0} {Good : A → Type 0} {test : Bool} {c d : Construct A} →
+  pub branch_on_is_sound : {A : Type 0} {Good : A → Type 0} {test : Bool} {c d : Construct A} →
       (test ≡ true → Sound t P s c Good) → (test ≡ false → Sound t P s d Good) → Sound t P s (branch_on test c d) Good
-  sound_branch_on g h = record { holds = holds_branch_on (λ e. (g e).holds) (λ e. (h e).holds) }
+  branch_on_is_sound g h = record { holds = holds_branch_on (λ e. (g e).holds) (λ e. (h e).holds) }
 
   -- after a place, what follows goes on from it
-  pub sound_here : {B : Type 0} {Good : B → Type 0} {f : ℕ → Construct B} →
+  pub here_is_sound : {B : Type 0} {Good : B → Type 0} {f : ℕ → Construct B} →
       ((m : ℕ) → Inside P s m → Sound t P m (f m) Good) → Sound t P s (here >>= f) Good
-  sound_here {Good = Good} {f = f} g =
+  here_is_sound {Good = Good} {f = f} g =
       record { holds = record { on_read = here_read t P s Good f g; on_refused = here_refused t P s Good f g } }
 
 -- what is good of a list's item, where there is one
@@ -133,12 +131,12 @@ abbrev pub good_more : {A S : Type 0} → (A → Type 0) → More A S → Type 0
 good_more Good no_item = Unit {0}
 good_more Good (item a s) = Good a
 
-pub sound_many :
+pub many_is_sound :
     {A S B : Type 0} {t : List ℕ} {P : ℕ → Type 0} {s : ℕ} {next : S → Construct (More A S)} {add : A → B → B}
     {none : B}
     {r : S} {Good : A → Type 0} {All : B → Type 0} → ((r : S) → Sound t P s (next r) (good_more Good)) → All none →
     ((a : A) (b : B) → Good a → All b → All (add a b)) → Sound t P s (many next add none r) All
-sound_many {Good = Good} h e g =
+many_is_sound {Good = Good} h e g =
     record {
       holds = holds_many (λ r. (h r).holds) (λ i p. record { late = p.late; place = p.place; good = e })
           (λ a r i p. record { late = p.late; place = p.place })
@@ -146,37 +144,38 @@ sound_many {Good = Good} h e g =
     }
 
 -- the text from an earlier place to here
-pub sound_spanned : {t : List ℕ} {P : ℕ → Type 0} {s : ℕ} → P s → Sound t P s (spanned s) (IsSpan P)
-sound_spanned p = sound_here (λ m q. sound_yields (q.late, p, q.place))
+pub spanned_is_sound : {t : List ℕ} {P : ℕ → Type 0} {s : ℕ} → P s → Sound t P s (spanned s) (IsSpan P)
+spanned_is_sound p = here_is_sound (λ m q. yields_is_sound (q.late, p, q.place))
 
 module _ (t : List ℕ) (P : ℕ → Type 0) (cuts : AreBoundaries t P) where
-  pub onward_word : {set : ℕ → Bool} → IsAsciiSet set → IsOnward P (ByteRun t set)
-  onward_word {set = set} a =
+  pub word_is_onward : {set : ℕ → Bool} → IsAsciiSet set → IsOnward P (ByteRun t set)
+  word_is_onward {set = set} a =
       record { forward = λ i j w. w.forward; place = λ i j p w. word_place t P cuts set a i j p w }
 
-  pub onward_blank : IsOnward P (Blank t)
-  onward_blank = record { forward = λ i j w. w.forward; place = λ i j p w. blank_place t P cuts i j p w }
+  pub blank_is_onward : IsOnward P (Blank t)
+  blank_is_onward = record { forward = λ i j w. w.forward; place = λ i j p w. blank_place t P cuts i j p w }
 
-  pub onward_block : IsOnward P (BlankBlock t)
-  onward_block = record { forward = λ i j w. block_forward t i j w; place = λ i j p w. block_place t P cuts i j p w }
+  pub block_is_onward : IsOnward P (BlankBlock t)
+  block_is_onward = record { forward = λ i j w. block_forward t i j w; place = λ i j p w. block_place t P cuts i j p w }
 
-  pub onward_line : IsOnward P (LongestRun (is_line_place t))
-  onward_line = record { forward = λ i j w. w.forward; place = λ i j p w. line_stop t P cuts i j p w }
+  pub line_is_onward : IsOnward P (LongestRun (is_line_place t))
+  line_is_onward = record { forward = λ i j w. w.forward; place = λ i j p w. line_stop t P cuts i j p w }
 
-  pub onward_run : IsOnward P (LongestRun (is_run_place t))
-  onward_run = record { forward = λ i j w. w.forward; place = λ i j p w. run_stop t P cuts i j p w }
+  pub run_is_onward : IsOnward P (LongestRun (is_run_place t))
+  run_is_onward = record { forward = λ i j w. w.forward; place = λ i j p w. run_stop t P cuts i j p w }
 
-  pub sound_inline_blank : {s : ℕ} → Sound t P s (inline_blank t) (λ u. Unit {0})
-  sound_inline_blank = sound_skip (onward_word ascii_space)
+  pub inline_blank_is_sound : {s : ℕ} → Sound t P s (inline_blank t) (λ u. Unit {0})
+  inline_blank_is_sound = skip_is_sound (word_is_onward ascii_space)
 
-  pub sound_blank : {s : ℕ} → Sound t P s (blank t) (λ u. Unit {0})
-  sound_blank = sound_skip onward_blank
+  pub blank_is_sound : {s : ℕ} → Sound t P s (blank t) (λ u. Unit {0})
+  blank_is_sound = skip_is_sound blank_is_onward
 
-  pub sound_blank_block : {s : ℕ} → Sound t P s (blank_block t) (λ u. Unit {0})
-  sound_blank_block = sound_skip onward_block
+  pub blank_block_is_sound : {s : ℕ} → Sound t P s (blank_block t) (λ u. Unit {0})
+  blank_block_is_sound = skip_is_sound block_is_onward
 
-  pub sound_rest_of_line : {s : ℕ} → Sound t P s (rest_of_line t) (IsSpan P)
-  sound_rest_of_line = sound_here (λ m q. sound_bind (sound_skip onward_line) (λ u v. sound_spanned q.place))
+  pub rest_of_line_is_sound : {s : ℕ} → Sound t P s (rest_of_line t) (IsSpan P)
+  rest_of_line_is_sound = here_is_sound (λ m q. bind_is_sound (skip_is_sound line_is_onward)
+      (λ u v. spanned_is_sound q.place))
 
   past_holds : (s : ℕ) (o : Option ℕ) →
       HoareTriple (λ i. Inside P s i × (after_eol t i ≡ o)) (past_eol o) (Ended P s (λ u. Unit {0})) (IsFault t s)
@@ -185,5 +184,5 @@ module _ (t : List ℕ) (P : ℕ → Type 0) (cuts : AreBoundaries t P) where
       holds_skip (λ i j p w. let q = p.0 in let l = q.late in let f = eol_forward t i k p.1 in let e = w.there in
       record { late = omega arith; place = subst P (sym e) (eol_place t P cuts i k p.1); good = tt })
 
-  pub sound_optional_eol : {s : ℕ} → Sound t P s (optional_eol t) (λ u. Unit {0})
-  sound_optional_eol {s = s} = record { holds = holds_peek (past_holds s) }
+  pub optional_eol_is_sound : {s : ℕ} → Sound t P s (optional_eol t) (λ u. Unit {0})
+  optional_eol_is_sound {s = s} = record { holds = holds_peek (past_holds s) }

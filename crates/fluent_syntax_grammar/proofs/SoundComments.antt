@@ -11,10 +11,10 @@ use Rattle.fluent_syntax_grammar.specs.Comments.{other_level, no_comment_line, o
 use Rattle.fluent_syntax_tree.specs.declared.spans.Span.{Span}
 use Rattle.fluent_syntax_grammar.proofs.HoareTriple.{HoareTriple, holds_bind, holds_skip}
 use Rattle.fluent_syntax_grammar.proofs.Cuts.{AreBoundaries, ascii_byte}
-use Rattle.fluent_syntax_grammar.proofs.Sound.{IsSpan, Inside, Ended, IsFault, Sound, sound_bind, sound_yields}
-use Rattle.fluent_syntax_grammar.proofs.Sound.{sound_peek, sound_here, sound_spanned, known, sound_rest_of_line}
-use Rattle.fluent_syntax_grammar.proofs.Sound.{sound_optional_eol}
-use Rattle.fluent_syntax_grammar.proofs.SoundWords.{sound_token}
+use Rattle.fluent_syntax_grammar.proofs.Sound.{IsSpan, Inside, Ended, IsFault, Sound, bind_is_sound, yields_is_sound}
+use Rattle.fluent_syntax_grammar.proofs.Sound.{peek_is_sound, here_is_sound, spanned_is_sound, known}
+use Rattle.fluent_syntax_grammar.proofs.Sound.{rest_of_line_is_sound, optional_eol_is_sound}
+use Rattle.fluent_syntax_grammar.proofs.SoundWords.{token_is_sound}
 use Rattle.fluent_syntax_tree.proofs.Every.{every-append}
 use Rattle.fluent_syntax_grammar.proofs.CommentFaults.{some_hash}
 use Rattle.fluent_syntax_grammar.proofs.SoundEntries.{IsEntryFault, entry_fault, earlier_fault}
@@ -34,28 +34,28 @@ module _ (t : List ℕ) (P : ℕ → Type 0) (cuts : AreBoundaries t P) where
   hash_after : (i m n : ℕ) → m + 1 ≡ n → has_byte t 35 (i + m) ≡ true → P (i + n)
   hash_after i m n e h = subst P (plus_one i m n e) (cuts.after (i + m) (ascii_byte t 35 (i + m) (omega arith) h))
 
-  pub after_hashes : (i : ℕ) → P i → P (i + hashes t i)
-  after_hashes i p = hashes_place P i (has_byte t 35 i) (has_byte t 35 (i + 1)) (has_byte t 35 (i + 2)) p
+  pub place_after_hashes : (i : ℕ) → P i → P (i + hashes t i)
+  place_after_hashes i p = hashes_place P i (has_byte t 35 i) (has_byte t 35 (i + 1)) (has_byte t 35 (i + 2)) p
       (λ e. cuts.after i (ascii_byte t 35 i (omega arith) e)) (λ e. hash_after i 1 2 refl e)
       (λ e. hash_after i 2 3 refl e)
 
-  sound_text : {s : ℕ} (eol : Bool) → Sound t P s (comment_text t eol) (IsSpan P)
-  sound_text true = sound_here (λ m q. sound_spanned q.place)
-  sound_text false = sound_bind (sound_token t P cuts 32 refl) (λ u v. sound_rest_of_line t P cuts)
+  text_is_sound : {s : ℕ} (eol : Bool) → Sound t P s (comment_text t eol) (IsSpan P)
+  text_is_sound true = here_is_sound (λ m q. spanned_is_sound q.place)
+  text_is_sound false = bind_is_sound (token_is_sound t P cuts 32 refl) (λ u v. rest_of_line_is_sound t P cuts)
 
-  sound_rest : {s : ℕ} (b : Option ℕ) → Sound t P s (comment_rest t b) (list_every (IsSpan P))
-  sound_rest None = sound_yields tt
-  sound_rest (Some b) =
-      sound_bind (sound_peek sound_text)
-      (λ content g. sound_bind (sound_optional_eol t P cuts) (λ u v. sound_yields (g, tt)))
+  rest_is_sound : {s : ℕ} (b : Option ℕ) → Sound t P s (comment_rest t b) (list_every (IsSpan P))
+  rest_is_sound None = yields_is_sound tt
+  rest_is_sound (Some b) =
+      bind_is_sound (peek_is_sound text_is_sound)
+      (λ content g. bind_is_sound (optional_eol_is_sound t P cuts) (λ u v. yields_is_sound (g, tt)))
 
   -- a comment line, from a place with that many hashes
   pub line_from : (s i level : ℕ) → s ≤ i + level → P i → hashes t i ≡ level →
       HoareTriple (λ j. j ≡ i) (comment_line t level) (Ended P s (list_every (IsSpan P))) (IsFault t s)
   line_from s i level l p e = holds_bind {mid = λ u. Inside P s}
       (holds_skip (λ j m q w. let by = w.by in let same : i + hashes t i ≡ m = omega arith in
-      record { late = omega arith; place = subst P same (after_hashes i p) }))
-      (λ u. (sound_peek sound_rest).holds)
+      record { late = omega arith; place = subst P same (place_after_hashes i p) }))
+      (λ u. (peek_is_sound rest_is_sound).holds)
 
   lines_read : (s level i j : ℕ) (rest : List Span) → Inside P s i → comment_lines t level i (Read rest j) →
       Ended P s (list_every (IsSpan P)) rest j
@@ -70,8 +70,8 @@ module _ (t : List ℕ) (P : ℕ → Type 0) (cuts : AreBoundaries t P) where
   lines_refused : (X : Type 0) (level i from to : ℕ) (k : Kind) → comment_lines t level i (Refused k from to) → X
   lines_refused X level i from to k x = elim x [ ]
 
-  sound_lines : {s : ℕ} (level : ℕ) → Sound t P s (comment_lines t level) (list_every (IsSpan P))
-  sound_lines {s = s} level =
+  lines_are_sound : {s : ℕ} (level : ℕ) → Sound t P s (comment_lines t level) (list_every (IsSpan P))
+  lines_are_sound {s = s} level =
       record {
         holds =
             record {
@@ -85,7 +85,8 @@ module _ (t : List ℕ) (P : ℕ → Type 0) (cuts : AreBoundaries t P) where
       (IsFault t (i + level))
   comment_from i level p e = holds_bind (line_from (i + level) i level (omega arith) p e) (λ content.
       known {Mid = list_every (IsSpan P)}
-      (λ g. sound_bind (sound_lines level) (λ rest k. sound_yields (every-append (IsSpan P) content rest g k))))
+      (λ g. bind_is_sound (lines_are_sound level) (λ rest k. yields_is_sound
+      (every-append (IsSpan P) content rest g k))))
 
   pub comment_read : (i j : ℕ) (a : EntryTree Span) → P i → has_byte t 35 i ≡ true → comment_entry t i (Read a j) →
       Ended P (i + 1) (entry_every (IsSpan P)) a j

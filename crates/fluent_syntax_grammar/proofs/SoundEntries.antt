@@ -22,11 +22,12 @@ use Rattle.fluent_syntax_tree.specs.declared.spans.Span.{Span}
 use Rattle.fluent_syntax_grammar.proofs.HoareTriple.{HoareTriple, holds_weaker, holds_bind, holds_yields, holds_fails}
 use Rattle.fluent_syntax_grammar.proofs.HoareTriple.{holds_fails_from, holds_skip, holds_peek, holds_branch_on}
 use Rattle.fluent_syntax_grammar.proofs.Cuts.{AreBoundaries, word_place, ascii_name, ascii_byte}
-use Rattle.fluent_syntax_grammar.proofs.Sound.{IsSpan, IsPlain, Inside, Ended, IsFault, Sound, sound_bind, sound_yields}
-use Rattle.fluent_syntax_grammar.proofs.Sound.{sound_fails, sound_inline_blank, sound_blank_block}
-use Rattle.fluent_syntax_grammar.proofs.SoundWords.{sound_token, sound_identifier}
+use Rattle.fluent_syntax_grammar.proofs.Sound.{IsSpan, IsPlain, Inside, Ended, IsFault, Sound, bind_is_sound}
+use Rattle.fluent_syntax_grammar.proofs.Sound.{yields_is_sound}
+use Rattle.fluent_syntax_grammar.proofs.Sound.{fails_is_sound, inline_blank_is_sound, blank_block_is_sound}
+use Rattle.fluent_syntax_grammar.proofs.SoundWords.{token_is_sound, identifier_is_sound}
 use Rattle.fluent_syntax_grammar.proofs.SoundLines as lines
-use Rattle.fluent_syntax_grammar.proofs.SoundLines.{sound_family}
+use Rattle.fluent_syntax_grammar.proofs.SoundLines.{family_is_sound}
 use Rattle.fluent_syntax_grammar.proofs.Facts.{differs, implies}
 use Rattle.fluent_syntax_grammar.proofs.Tests.{letter_name}
 
@@ -83,35 +84,36 @@ module _ {t : List ℕ} {P : ℕ → Type 0} {i s : ℕ} where
   entry_yields g = record { holds = holds_yields (λ i p. record { late = p.late; place = p.place; good = g }) }
 
 module _ (edition : Edition) (t : List ℕ) (P : ℕ → Type 0) (cuts : AreBoundaries t P) where
-  pub sound_pattern : {s : ℕ} → Sound t P s (pattern edition t) (option_every (pattern_every (IsSpan P)))
-  sound_pattern = lines.sound_pattern edition t P cuts (family edition t) (sound_family edition t P cuts)
+  pub pattern_is_sound : {s : ℕ} → Sound t P s (pattern edition t) (option_every (pattern_every (IsSpan P)))
+  pattern_is_sound = lines.pattern_over_is_sound edition t P cuts (family edition t) (family_is_sound edition t P cuts)
 
-  sound_with : {s : ℕ} (id : Span) (value : Option (PatternTree Span)) → IsSpan P id →
+  with_is_sound : {s : ℕ} (id : Span) (value : Option (PatternTree Span)) → IsSpan P id →
       option_every (pattern_every (IsSpan P)) value → Sound t P s (attribute_with id value) (attribute_every (IsSpan P))
-  sound_with id None g k = sound_fails cuts.in_text tt (λ i. tt)
-  sound_with id (Some value) g k = sound_yields (g, k)
+  with_is_sound id None g k = fails_is_sound cuts.in_text tt (λ i. tt)
+  with_is_sound id (Some value) g k = yields_is_sound (g, k)
 
-  pub sound_attribute : {s : ℕ} → Sound t P s (attribute edition t) (attribute_every (IsSpan P))
-  sound_attribute =
-      sound_bind (sound_inline_blank t P cuts)
-      (λ u v. sound_bind (sound_token t P cuts 46 refl) (λ u v. sound_bind (sound_identifier t P cuts) (λ id g.
-      sound_bind (sound_inline_blank t P cuts)
-      (λ u v. sound_bind (sound_token t P cuts 61 refl)
-      (λ u v. sound_bind sound_pattern (λ value k. sound_with id value g k))))))
+  pub attribute_is_sound : {s : ℕ} → Sound t P s (attribute edition t) (attribute_every (IsSpan P))
+  attribute_is_sound =
+      bind_is_sound (inline_blank_is_sound t P cuts)
+      (λ u v. bind_is_sound (token_is_sound t P cuts 46 refl) (λ u v. bind_is_sound (identifier_is_sound t P cuts)
+      (λ id g.
+      bind_is_sound (inline_blank_is_sound t P cuts)
+      (λ u v. bind_is_sound (token_is_sound t P cuts 61 refl)
+      (λ u v. bind_is_sound pattern_is_sound (λ value k. with_is_sound id value g k))))))
 
   attributes_read : (s i j : ℕ) (rest : List (AttributeTree Span)) → Inside P s i →
       attributes edition t i (Read rest j) → Ended P s (list_every (attribute_every (IsSpan P))) rest j
   attributes_read s i j rest p (no_more x) = record { late = p.late; place = p.place; good = tt }
   attributes_read s i j rest p (one_more {j = m} {a = a} {rest = more} x y) =
-      let q = sound_attribute.holds.on_read i m a p x in
+      let q = attribute_is_sound.holds.on_read i m a p x in
       let r = attributes_read s m j more (record { late = q.late; place = q.place }) y in
       record { late = r.late; place = r.place; good = (q.good, r.good) }
 
   attributes_refused : (X : Type 0) (i from to : ℕ) (k : Kind) → attributes edition t i (Refused k from to) → X
   attributes_refused X i from to k x = elim x [ ]
 
-  pub sound_attributes : {s : ℕ} → Sound t P s (attributes edition t) (list_every (attribute_every (IsSpan P)))
-  sound_attributes {s = s} =
+  pub attributes_are_sound : {s : ℕ} → Sound t P s (attributes edition t) (list_every (attribute_every (IsSpan P)))
+  attributes_are_sound {s = s} =
       record {
         holds =
             record {
@@ -123,30 +125,30 @@ module _ (edition : Edition) (t : List ℕ) (P : ℕ → Type 0) (cuts : AreBoun
   abbrev Good : EntryTree Span → Type 0
   Good = entry_every (IsSpan P)
 
-  sound_message_with : (i : ℕ) (id : Span) (value : Option (PatternTree Span)) (rest : List (AttributeTree Span)) →
+  message_with_is_sound : (i : ℕ) (id : Span) (value : Option (PatternTree Span)) (rest : List (AttributeTree Span)) →
       IsSpan P id → option_every (pattern_every (IsSpan P)) value → list_every (attribute_every (IsSpan P)) rest →
       SoundEntry t P i (i + 1) (message_with t i id value rest) Good
-  sound_message_with i id None [] f g k =
+  message_with_is_sound i id None [] f g k =
       record {
         holds =
             holds_fails_from
             (λ j p. let late = p.late in let inside = cuts.in_text j p.place in
             record { late = omega arith; ordered = omega arith; onward = late; in_text = inside; means = tt });
       }
-  sound_message_with i id None (a ∷ rest) f g k = entry_yields (f, tt, k, tt)
-  sound_message_with i id (Some value) rest f g k = entry_yields (f, g, k, tt)
+  message_with_is_sound i id None (a ∷ rest) f g k = entry_yields (f, tt, k, tt)
+  message_with_is_sound i id (Some value) rest f g k = entry_yields (f, g, k, tt)
 
-  sound_term_with : (i : ℕ) (id : Span) (value : Option (PatternTree Span)) (rest : List (AttributeTree Span)) →
+  term_with_is_sound : (i : ℕ) (id : Span) (value : Option (PatternTree Span)) (rest : List (AttributeTree Span)) →
       IsSpan P id → option_every (pattern_every (IsSpan P)) value → list_every (attribute_every (IsSpan P)) rest →
       SoundEntry t P i (i + 1) (term_with t i id value rest) Good
-  sound_term_with i id None rest f g k =
+  term_with_is_sound i id None rest f g k =
       record {
         holds =
             holds_fails_from
             (λ j p. let late = p.late in let inside = cuts.in_text j p.place in
             record { late = omega arith; ordered = omega arith; onward = late; in_text = inside; means = tt });
       }
-  sound_term_with i id (Some value) rest f g k = entry_yields (f, g, k, tt)
+  term_with_is_sound i id (Some value) rest f g k = entry_yields (f, g, k, tt)
 
   abbrev AfterName : ℕ → Span →
       (Span → Option (PatternTree Span) → List (AttributeTree Span) → Construct (EntryTree Span)) →
@@ -169,9 +171,10 @@ module _ (edition : Edition) (t : List ℕ) (P : ℕ → Type 0) (cuts : AreBoun
       SoundEntry t P i (i + 1) (AfterName i id last) Good
   after_name i id last f g =
       let l : i ≤ i + 1 = omega arith in
-      entry_bind l (sound_inline_blank t P cuts)
-      (λ u v. entry_bind l (sound_token t P cuts 61 refl) (λ u v. entry_bind l sound_pattern (λ value k.
-      entry_bind l (sound_blank_block t P cuts) (λ u v. entry_bind l sound_attributes (λ rest m. g value rest k m)))))
+      entry_bind l (inline_blank_is_sound t P cuts)
+      (λ u v. entry_bind l (token_is_sound t P cuts 61 refl) (λ u v. entry_bind l pattern_is_sound (λ value k.
+      entry_bind l (blank_block_is_sound t P cuts) (λ u v. entry_bind l attributes_are_sound
+      (λ rest m. g value rest k m)))))
 
 name_goes_on : (t : List ℕ) (i j : ℕ) → has t is_letter i ≡ true → ByteRun t is_name_byte i j → i < j
 name_goes_on t i j e w =
@@ -209,7 +212,7 @@ module _ (t : List ℕ) (P : ℕ → Type 0) (cuts : AreBoundaries t P) where
     on_read = λ j m a e x. at_name i j a p e m x;
     on_refused = λ j from to k e x.
         entry_fault t i i (omega arith) k from to
-        ((sound_identifier t P cuts {s = i}).holds.on_refused j from to k
+        ((identifier_is_sound t P cuts {s = i}).holds.on_refused j from to k
         (record { late = omega arith; place = subst P (sym e) p }) x);
   }
 
@@ -252,11 +255,11 @@ module _ (edition : Edition) (t : List ℕ) (P : ℕ → Type 0) (cuts : AreBoun
       (earlier_fault t i (i + 1) s l)
       (known_entry {Mid = IsSpan P}
       (λ f. after_name edition t P cuts i id (message_with t i) f
-      (λ value rest g k. sound_message_with edition t P cuts i id value rest f g k))))
+      (λ value rest g k. message_with_is_sound edition t P cuts i id value rest f g k))))
 
-  pub message_read : (i j : ℕ) (a : EntryTree Span) → P i → message_entry edition t i (Read a j) →
+  pub message_ends_inside : (i j : ℕ) (a : EntryTree Span) → P i → message_entry edition t i (Read a j) →
       Ended P (i + 1) EntrySpansInBounds a j
-  message_read i j a p (goes_on at_place x) =
+  message_ends_inside i j a p (goes_on at_place x) =
       (message_from i i (omega arith) (name_holds t P cuts i p)).on_read i j a refl x
 
   pub message_refused : (i from to : ℕ) (k : Kind) → P i → message_entry edition t i (Refused k from to) →
@@ -275,9 +278,9 @@ module _ (edition : Edition) (t : List ℕ) (P : ℕ → Type 0) (cuts : AreBoun
       HoareTriple (λ j. j ≡ i) (token t 45 >> NameTerm i) (Ended P (i + 1) EntrySpansInBounds)
       (IsEntryFault t i (i + 1))
   term_from i e = holds_bind (token_there t P cuts 45 i (omega arith) e (IsEntryFault t i (i + 1)))
-      (λ u. (entry_bind (omega arith) (sound_identifier t P cuts)
+      (λ u. (entry_bind (omega arith) (identifier_is_sound t P cuts)
       (λ id f. after_name edition t P cuts i id (term_with t i) f
-      (λ value rest g k. sound_term_with edition t P cuts i id value rest f g k))).holds)
+      (λ value rest g k. term_with_is_sound edition t P cuts i id value rest f g k))).holds)
 
   pub term_read : (i j : ℕ) (a : EntryTree Span) → has_byte t 45 i ≡ true → term_entry edition t i (Read a j) →
       Ended P (i + 1) EntrySpansInBounds a j

@@ -1,7 +1,6 @@
 -- Lines, patterns and variants over a sound family are sound.
 use Rattle.std.proofs.Common.{◌≡◌, ℕ, zero, suc, ◌+◌, ◌-◌, ◌≤◌, List, [], ◌∷◌, Option, Some, None, Bool, true, false}
-use Rattle.std.proofs.Common.{refl}
-use Rattle.std.proofs.Common.{sym, ◌∙◌, subst, arith, inl, inr}
+use Rattle.std.proofs.Common.{refl, sym, ◌∙◌, subst, arith, inl, inr}
 use Rattle.std.specs.Prelude.{slice_get, ◌==◌, if◌then◌else◌}
 use Rattle.fluent_syntax_tree.specs.Kind.{Kind, TermAttributeAsPlaceable}
 use Rattle.fluent_syntax_grammar.specs.Meaning.{kind_means}
@@ -25,21 +24,20 @@ use Rattle.fluent_syntax_grammar.specs.Grammar.{next, within, family}
 use Rattle.fluent_syntax_tree.specs.declared.edition.Edition.{Edition}
 use Rattle.fluent_syntax_tree.specs.declared.spans.Span.{Span}
 use Rattle.fluent_syntax_grammar.proofs.HoareTriple.{HoareTriple, gave, holds_weaker, holds_bind, holds_yields}
-use Rattle.fluent_syntax_grammar.proofs.HoareTriple.{holds_fails}
-use Rattle.fluent_syntax_grammar.proofs.HoareTriple.{holds_skip, holds_peek, holds_branch_on}
+use Rattle.fluent_syntax_grammar.proofs.HoareTriple.{holds_fails, holds_skip, holds_peek, holds_branch_on}
 use Rattle.fluent_syntax_grammar.proofs.Cuts.{AreBoundaries, ascii_byte, ascii_has, ascii_space, eol_cases, eol_forward}
 use Rattle.fluent_syntax_grammar.proofs.Cuts.{eol_place, longest_run_places, word_place}
-use Rattle.fluent_syntax_grammar.proofs.Sound.{IsSpan, Inside, Ended, IsFault, Sound, weaker_fault, sound_bind}
-use Rattle.fluent_syntax_grammar.proofs.Sound.{sound_yields, sound_fails, sound_branch_on, sound_here, known, IsPlain}
-use Rattle.fluent_syntax_grammar.proofs.Sound.{good_more, sound_many}
-use Rattle.fluent_syntax_grammar.proofs.Sound.{sound_inline_blank, sound_blank, sound_blank_block, onward_run}
-use Rattle.fluent_syntax_grammar.proofs.SoundWords.{sound_optional, sound_token}
+use Rattle.fluent_syntax_grammar.proofs.Sound.{IsSpan, Inside, Ended, IsFault, Sound, weaker_fault, bind_is_sound}
+use Rattle.fluent_syntax_grammar.proofs.Sound.{yields_is_sound, fails_is_sound, branch_on_is_sound, here_is_sound}
+use Rattle.fluent_syntax_grammar.proofs.Sound.{known, IsPlain, good_more, many_is_sound, inline_blank_is_sound}
+use Rattle.fluent_syntax_grammar.proofs.Sound.{blank_is_sound, blank_block_is_sound, run_is_onward}
+use Rattle.fluent_syntax_grammar.proofs.SoundWords.{optional_is_sound, token_is_sound}
 use Rattle.fluent_syntax_grammar.proofs.LayoutInBounds.{PieceInBounds, EndingInBounds, LineInBounds, LayoutInBounds}
-use Rattle.fluent_syntax_grammar.proofs.LayoutInBounds.{later_piece}
-use Rattle.fluent_syntax_grammar.proofs.LayoutInBounds.{earlier_pieces, pattern_in_bounds}
-use Rattle.fluent_syntax_grammar.proofs.SoundRules.{IsSoundFamily, sound_key, sound_only, sound_end, plain_fault}
-use Rattle.fluent_syntax_grammar.proofs.SoundRules.{sound_arrow, AtArrow, after_arrow, sound_placeable, sound_inline}
-use Rattle.fluent_syntax_grammar.proofs.SoundRules.{sound_arguments}
+use Rattle.fluent_syntax_grammar.proofs.LayoutInBounds.{later_piece, earlier_pieces, pattern_in_bounds}
+use Rattle.fluent_syntax_grammar.proofs.SoundRules.{IsSoundFamily, key_is_sound, only_star_is_sound}
+use Rattle.fluent_syntax_grammar.proofs.SoundRules.{variants_end_is_sound, plain_fault, arrow_is_sound, AtArrow}
+use Rattle.fluent_syntax_grammar.proofs.SoundRules.{after_arrow, placeable_is_sound, inline_is_sound}
+use Rattle.fluent_syntax_grammar.proofs.SoundRules.{arguments_are_sound}
 use Rattle.fluent_syntax_grammar.proofs.Facts.{byte_holds, two_on, two_on_as_one, not_next}
 
 good_ending_if : (P : ℕ → Type 0) (s i : ℕ) (test : Bool) → (test ≡ true → EndingInBounds P s (lf_at i)) →
@@ -116,7 +114,7 @@ module _ (t : List ℕ) (P : ℕ → Type 0) (cuts : AreBoundaries t P) (R : Fam
   run_read s i j p q (goes_on at_place (goes_on (passed {j = to} w) (goes_on at_place given))) =
       let late = q.late in
       let forward = w.forward in
-      let place = (onward_run t P cuts).place i to q.place w in
+      let place = (run_is_onward t P cuts).place i to q.place w in
       (record { late = omega arith; place = place }, (late, forward, omega arith, q.place, place))
 
   run_refused : (X : Type 0) (i from to : ℕ) (k : Kind) → text_run t i (Refused k from to) → X
@@ -150,7 +148,7 @@ module _ (t : List ℕ) (P : ℕ → Type 0) (cuts : AreBoundaries t P) (R : Fam
       (λ f. holds_branch_on
       (λ g. holds_bind {mid = Ended P s (expression_every (IsSpan P))}
       (holds_weaker {pre = Inside P s} (λ i p. p.0.0) (λ a j x. x) (λ k from to x. x)
-      (sound_placeable t P cuts R h).holds)
+      (placeable_is_sound t P cuts R h).holds)
       (λ x. holds_yields (λ i p. (record { late = p.late; place = p.place }, p.good))))
       (λ g. holds_bind
       (holds_weaker {pre = Inside P s} (λ i p. p.0.0) (λ a j x. x) (λ k from to x. x) (run_holds s))
@@ -180,8 +178,8 @@ module _ (t : List ℕ) (P : ℕ → Type 0) (cuts : AreBoundaries t P) (R : Fam
   pieces_refused u s i from to k p (stops_later {later = v} {j = m} {a = piece} x y) =
       let q = (next_piece_holds s).on_read i m _ p x in pieces_refused v s m from to k q.0 y
 
-  pub sound_pieces : (s : ℕ) → HoareTriple (Inside P s) (more_pieces t R) (EndedPieces P s) (IsFault t s)
-  sound_pieces s = record {
+  pub pieces_are_sound : (s : ℕ) → HoareTriple (Inside P s) (more_pieces t R) (EndedPieces P s) (IsFault t s)
+  pieces_are_sound s = record {
     on_read = λ i j ps p x. pieces_read tt s i j ps p x;
     on_refused = λ i from to k p x. pieces_refused tt s i from to k p x;
   }
@@ -198,7 +196,7 @@ module _ (t : List ℕ) (P : ℕ → Type 0) (cuts : AreBoundaries t P) (R : Fam
       let late = p.late in
       let forward = w.forward in
       let place = word_place t P cuts is_space ascii_space i f p.place w in
-      let r = (sound_pieces f).on_read f m ps (record { late = omega arith; place = place }) x in
+      let r = (pieces_are_sound f).on_read f m ps (record { late = omega arith; place = place }) x in
       let on = r.late in
       let q = (ending_holds t P cuts m).on_read m n e (record { late = omega arith; place = r.place }) y in
       let end = q.late in
@@ -224,7 +222,7 @@ module _ (t : List ℕ) (P : ℕ → Type 0) (cuts : AreBoundaries t P) (R : Fam
       let late = p.late in
       let forward = w.forward in
       weaker_fault s f (omega arith) k from to
-      ((sound_pieces f).on_refused f from to k
+      ((pieces_are_sound f).on_refused f from to k
       (record { late = omega arith; place = word_place t P cuts is_space ascii_space i f p.place w }) x)
   line_refused s i from to k p
       (goes_on at_place (goes_on (passed w) (goes_on at_place (goes_on {j = m} x (stops y))))) =
@@ -232,26 +230,27 @@ module _ (t : List ℕ) (P : ℕ → Type 0) (cuts : AreBoundaries t P) (R : Fam
   line_refused s i from to k p (goes_on at_place (goes_on (passed w) (goes_on at_place (goes_on x (goes_on y z))))) =
       elim z [ ]
 
-  sound_line : {s : ℕ} → Sound t P s (line t R) (LineInBounds P)
-  sound_line {s = s} = record { holds = record { on_read = line_read s; on_refused = line_refused s } }
+  line_is_sound : {s : ℕ} → Sound t P s (line t R) (LineInBounds P)
+  line_is_sound {s = s} = record { holds = record { on_read = line_read s; on_refused = line_refused s } }
 
-  sound_own : {s : ℕ} → Sound t P s (line t R >>= λ l. yields (item l tt)) (good_more {S = Unit {0}} (LineInBounds P))
-  sound_own = sound_bind sound_line (λ l g. sound_yields g)
+  own_is_sound : {s : ℕ} → Sound t P s (line t R >>= λ l. yields (item l tt))
+      (good_more {S = Unit {0}} (LineInBounds P))
+  own_is_sound = bind_is_sound line_is_sound (λ l g. yields_is_sound g)
 
   next_line_read : (s i j : ℕ) (l : More Line (Unit {0})) → Inside P s i → next_line t R i (Read l j) →
       Ended P s (good_more (LineInBounds P)) l j
   next_line_read s i j l p (no_byte w e) = let late = p.late in let forward = w.forward in
       record { late = omega arith; place = word_place t P cuts is_space ascii_space i j p.place w; good = tt }
   next_line_read s i j l p (other_line w e f) = record { late = p.late; place = p.place; good = tt }
-  next_line_read s i j l p (own_line w e f x) = sound_own.holds.on_read i j l p x
+  next_line_read s i j l p (own_line w e f x) = own_is_sound.holds.on_read i j l p x
 
   next_line_refused : (s i from to : ℕ) (k : Kind) → Inside P s i → next_line t R i (Refused k from to) →
       IsFault t s k from to
-  next_line_refused s i from to k p (own_line w e f x) = sound_own.holds.on_refused i from to k p x
+  next_line_refused s i from to k p (own_line w e f x) = own_is_sound.holds.on_refused i from to k p x
 
-  pub sound_lines : {s : ℕ} → Sound t P s (more_lines t R) (list_every (LineInBounds P))
-  sound_lines {s = s} =
-      sound_many
+  pub lines_are_sound : {s : ℕ} → Sound t P s (more_lines t R) (list_every (LineInBounds P))
+  lines_are_sound {s = s} =
+      many_is_sound
       (λ u. record { holds = record { on_read = next_line_read s; on_refused = next_line_refused s } })
       tt (λ l ls g k. (g, k))
 
@@ -285,61 +284,64 @@ module _ (t : List ℕ) (P : ℕ → Type 0) (cuts : AreBoundaries t P) (R : Fam
       HoareTriple (λ i. Inside P s i × (after_eol t i ≡ o)) (layout_at t R o) (Ended P s (LayoutInBounds P))
       (IsFault t s)
   layout_holds s None = holds_weaker {pre = Inside P s} (λ i p. p.0) (λ a j x. x) (λ k from to x. x)
-      (sound_here (λ m q. record {
-        holds = holds_bind (sound_pieces m) (λ ps. holds_bind (after_pieces m ps q.place) (λ e.
+      (here_is_sound (λ m q. record {
+        holds = holds_bind (pieces_are_sound m) (λ ps. holds_bind (after_pieces m ps q.place) (λ e.
             known {Mid = λ e. LineInBounds P (Opening m ps e)}
-            (λ g. sound_bind sound_lines (λ ls k. sound_yields (record { opening = g; lines = k })))));
+            (λ g. bind_is_sound lines_are_sound (λ ls k. yields_is_sound (record { opening = g; lines = k })))));
       })).holds
   layout_holds s (Some k) = holds_bind {mid = λ u. Inside P s}
       (holds_skip (λ i j p w. let q = p.0 in let late = q.late in let there = w.there in
       let f = eol_forward t i k p.1 in
       record { late = omega arith; place = subst P (sym there) (eol_place t P cuts i k p.1) }))
-      (λ u. (sound_bind (sound_blank_block t P cuts)
-      (λ u v. sound_bind sound_lines (λ ls g. sound_yields (record { opening = tt; lines = g })))).holds)
+      (λ u. (bind_is_sound (blank_block_is_sound t P cuts)
+      (λ u v. bind_is_sound lines_are_sound (λ ls g. yields_is_sound (record { opening = tt; lines = g })))).holds)
 
-  pub sound_layout : {s : ℕ} → Sound t P s (layout t R) (LayoutInBounds P)
-  sound_layout {s = s} =
-      sound_bind (sound_inline_blank t P cuts) (λ u v. record { holds = holds_peek (layout_holds s) })
+  pub layout_is_sound : {s : ℕ} → Sound t P s (layout t R) (LayoutInBounds P)
+  layout_is_sound {s = s} =
+      bind_is_sound (inline_blank_is_sound t P cuts) (λ u v. record { holds = holds_peek (layout_holds s) })
 
 module _ (edition : Edition) (t : List ℕ) (P : ℕ →
     Type 0) (cuts : AreBoundaries t P) (R : Family) (h : IsSoundFamily t P R)
   where
-    pub sound_pattern : {s : ℕ} → Sound t P s (pattern edition t R) (option_every (pattern_every (IsSpan P)))
-    sound_pattern =
-        sound_bind (sound_layout t P cuts R h) (λ y g. sound_yields (pattern_in_bounds t P cuts edition y g))
+    pub pattern_over_is_sound : {s : ℕ} → Sound t P s (pattern edition t R) (option_every (pattern_every (IsSpan P)))
+    pattern_over_is_sound =
+        bind_is_sound (layout_is_sound t P cuts R h) (λ y g. yields_is_sound (pattern_in_bounds t P cuts edition y g))
 
-    sound_variant_of : {s : ℕ} (starred star : Bool) (key : KeyTree Span) (p : Option (PatternTree Span)) →
+    variant_of_is_sound : {s : ℕ} (starred star : Bool) (key : KeyTree Span) (p : Option (PatternTree Span)) →
         key_every (IsSpan P) key → option_every (pattern_every (IsSpan P)) p →
         Sound t P s (variant_of t starred star key p) (good_more (variant_every (IsSpan P)))
-    sound_variant_of starred star key None g k = sound_fails cuts.in_text tt (λ i. tt)
-    sound_variant_of starred star key (Some p) g k = sound_bind (sound_blank t P cuts) (λ u v. sound_yields (g, k))
+    variant_of_is_sound starred star key None g k = fails_is_sound cuts.in_text tt (λ i. tt)
+    variant_of_is_sound starred star key (Some p) g k = bind_is_sound (blank_is_sound t P cuts)
+        (λ u v. yields_is_sound (g, k))
 
-    sound_after : {s : ℕ} (starred star : Bool) →
+    after_is_sound : {s : ℕ} (starred star : Bool) →
         Sound t P s (variant_after edition t R starred star) (good_more (variant_every (IsSpan P)))
-    sound_after starred star =
-        sound_bind (sound_blank t P cuts)
-        (λ u v. sound_bind (sound_key t P cuts) (λ key g. sound_bind (sound_blank t P cuts) (λ u v.
-        sound_bind (sound_token t P cuts 93 refl)
-        (λ u v. sound_bind sound_pattern (λ value k. sound_variant_of starred star key value g k)))))
+    after_is_sound starred star =
+        bind_is_sound (blank_is_sound t P cuts)
+        (λ u v. bind_is_sound (key_is_sound t P cuts) (λ key g. bind_is_sound (blank_is_sound t P cuts) (λ u v.
+        bind_is_sound (token_is_sound t P cuts 93 refl)
+        (λ u v. bind_is_sound pattern_over_is_sound (λ value k. variant_of_is_sound starred star key value g k)))))
 
-    sound_next_variant : {s : ℕ} (starred : Bool) →
+    next_variant_is_sound : {s : ℕ} (starred : Bool) →
         Sound t P s (next_variant edition t R starred) (good_more (variant_every (IsSpan P)))
-    sound_next_variant starred =
-        sound_bind (sound_optional t P cuts 42 refl) (λ star u. sound_bind (sound_only t P cuts starred star) (λ u v.
-        sound_bind (sound_optional t P cuts 91 refl)
-        (λ bracket u. sound_branch_on (λ e. sound_after starred star) (λ e. sound_end t P cuts edition starred star))))
+    next_variant_is_sound starred =
+        bind_is_sound (optional_is_sound t P cuts 42 refl) (λ star u. bind_is_sound
+        (only_star_is_sound t P cuts starred star) (λ u v.
+        bind_is_sound (optional_is_sound t P cuts 91 refl)
+        (λ bracket u. branch_on_is_sound (λ e. after_is_sound starred star)
+        (λ e. variants_end_is_sound t P cuts edition starred star))))
 
-    pub sound_variants : {s : ℕ} (starred : Bool) →
+    pub variants_are_sound : {s : ℕ} (starred : Bool) →
         Sound t P s (more_variants edition t R starred) (variants_every (IsSpan P))
-    sound_variants starred = sound_many sound_next_variant tt (λ v vs g k. (g, k))
+    variants_are_sound starred = many_is_sound next_variant_is_sound tt (λ v vs g k. (g, k))
 
     variants_holds : (s : ℕ) →
         HoareTriple (AtArrow t P cuts s true) (variants_of_select edition t R) (Ended P s (variants_every (IsSpan P)))
         (IsFault t s)
     variants_holds s = holds_bind {mid = λ u. Inside P s} (holds_skip (after_arrow t P cuts s))
-        (λ u. (sound_bind (sound_inline_blank t P cuts)
-        (λ u v. sound_bind (sound_arrow t P cuts)
-        (λ u v. sound_bind (sound_blank t P cuts) (λ u v. sound_variants false)))).holds)
+        (λ u. (bind_is_sound (inline_blank_is_sound t P cuts)
+        (λ u v. bind_is_sound (arrow_is_sound t P cuts)
+        (λ u v. bind_is_sound (blank_is_sound t P cuts) (λ u v. variants_are_sound false)))).holds)
 
     select_holds : (s : ℕ) (e : InlineTree Span) → inline_every (IsSpan P) e → (o : Option Kind) →
         ((k : Kind) → o ≡ Some k → (i : ℕ) → IsPlain k × kind_means t k i) →
@@ -361,52 +363,53 @@ module _ (edition : Edition) (t : List ℕ) (P : ℕ →
         (λ y. holds_weaker (λ i p. (p.0, p.1 ∙ y)) (λ a j x. x) (λ k from to x. x)
         (select_holds s e g (selector_fault e) (plain_fault t e)))
         (λ y. holds_weaker {pre = Inside P s} (λ i p. p.0) (λ a j x. x) (λ k from to x. x)
-        (sound_branch_on (λ z. sound_fails cuts.in_text tt (λ i. tt)) (λ z. sound_yields g)).holds)
+        (branch_on_is_sound (λ z. fails_is_sound cuts.in_text tt (λ i. tt)) (λ z. yields_is_sound g)).holds)
 
-    pub sound_expression : {s : ℕ} → Sound t P s (expression edition t R) (expression_every (IsSpan P))
-    sound_expression {s = s} = sound_bind (sound_inline t P cuts R h) (λ e g. sound_bind (sound_blank t P cuts) (λ u v.
+    pub expression_is_sound : {s : ℕ} → Sound t P s (expression edition t R) (expression_every (IsSpan P))
+    expression_is_sound {s = s} = bind_is_sound (inline_is_sound t P cuts R h)
+        (λ e g. bind_is_sound (blank_is_sound t P cuts) (λ u v.
         record {
           holds =
               holds_bind {mid = AtArrow t P cuts s} (holds_peek (λ a. holds_yields (λ i p. p)))
               (λ arrow. after_blank s e g arrow);
         }))
 
-    sound_next : IsSoundFamily t P (next edition t R)
-    sound_next =
-        record { expression = λ s. sound_expression; argument_list = λ s. sound_arguments t P cuts R h [] }
+    next_is_sound : IsSoundFamily t P (next edition t R)
+    next_is_sound =
+        record { expression = λ s. expression_is_sound; argument_list = λ s. arguments_are_sound t P cuts R h [] }
 
 module _ (edition : Edition) (t : List ℕ) (P : ℕ → Type 0) (cuts : AreBoundaries t P) where
-  sound_nothing : IsSoundFamily t P (within edition t zero)
+  nothing_is_sound : IsSoundFamily t P (within edition t zero)
   unfolding within
-  sound_nothing = record {
+  nothing_is_sound = record {
     expression =
         λ s. record { holds = record { on_read = λ i j a p x. absurd x; on_refused = λ i from to k p x. absurd x } };
     argument_list =
         λ s. record { holds = record { on_read = λ i j a p x. absurd x; on_refused = λ i from to k p x. absurd x } };
   }
 
-  sound_suc : (n : ℕ) → IsSoundFamily t P (within edition t n) → IsSoundFamily t P (within edition t (suc n))
+  suc_is_sound : (n : ℕ) → IsSoundFamily t P (within edition t n) → IsSoundFamily t P (within edition t (suc n))
   unfolding within
-  sound_suc n h = sound_next edition t P cuts (within edition t n) h
+  suc_is_sound n h = next_is_sound edition t P cuts (within edition t n) h
 
-  pub sound_within : (n : ℕ) → IsSoundFamily t P (within edition t n)
-  sound_within zero = sound_nothing
-  sound_within (suc n) = sound_suc n (sound_within n)
+  pub within_is_sound : (n : ℕ) → IsSoundFamily t P (within edition t n)
+  within_is_sound zero = nothing_is_sound
+  within_is_sound (suc n) = suc_is_sound n (within_is_sound n)
 
   -- what nests is sound, to any depth
-  pub sound_family : IsSoundFamily t P (family edition t)
+  pub family_is_sound : IsSoundFamily t P (family edition t)
   unfolding family
-  sound_family = record {
+  family_is_sound = record {
     expression = λ s. record {
       holds = record {
-        on_read = λ i j a p x. ((sound_within x.0).expression s).holds.on_read i j a p x.1;
-        on_refused = λ i from to k p x. ((sound_within x.0).expression s).holds.on_refused i from to k p x.1;
+        on_read = λ i j a p x. ((within_is_sound x.0).expression s).holds.on_read i j a p x.1;
+        on_refused = λ i from to k p x. ((within_is_sound x.0).expression s).holds.on_refused i from to k p x.1;
       };
     };
     argument_list = λ s. record {
       holds = record {
-        on_read = λ i j a p x. ((sound_within x.0).argument_list s).holds.on_read i j a p x.1;
-        on_refused = λ i from to k p x. ((sound_within x.0).argument_list s).holds.on_refused i from to k p x.1;
+        on_read = λ i j a p x. ((within_is_sound x.0).argument_list s).holds.on_read i j a p x.1;
+        on_refused = λ i from to k p x. ((within_is_sound x.0).argument_list s).holds.on_refused i from to k p x.1;
       };
     };
   }

@@ -22,54 +22,56 @@ use Rattle.fluent_syntax_grammar.specs.Inline.{named_reference, inline_of, inlin
 use Rattle.fluent_syntax_grammar.specs.Variants.{variant_key, only_star, variants_end}
 use Rattle.fluent_syntax_tree.specs.declared.edition.Edition.{Edition}
 use Rattle.fluent_syntax_tree.specs.declared.spans.Span.{Span}
-use Rattle.fluent_syntax_grammar.proofs.HoareTriple.{HoareTriple, holds_weaker, holds_fails, holds_skip}
-use Rattle.fluent_syntax_grammar.proofs.HoareTriple.{holds_peek}
+use Rattle.fluent_syntax_grammar.proofs.HoareTriple.{HoareTriple, holds_weaker, holds_fails, holds_skip, holds_peek}
 use Rattle.fluent_syntax_grammar.proofs.Cuts.{AreBoundaries, ascii_byte, eol_forward, eol_place}
-use Rattle.fluent_syntax_grammar.proofs.Sound.{IsSpan, IsPlain, Inside, Ended, IsFault, Sound, sound_bind, sound_yields}
-use Rattle.fluent_syntax_grammar.proofs.Sound.{sound_fails, sound_peek, sound_branch_on, sound_inline_blank}
-use Rattle.fluent_syntax_grammar.proofs.Sound.{sound_blank, good_more, sound_many}
-use Rattle.fluent_syntax_grammar.proofs.SoundWords.{sound_optional, sound_token, sound_identifier, sound_number}
-use Rattle.fluent_syntax_grammar.proofs.SoundStrings.{sound_string}
+use Rattle.fluent_syntax_grammar.proofs.Sound.{IsSpan, IsPlain, Inside, Ended, IsFault, Sound, bind_is_sound}
+use Rattle.fluent_syntax_grammar.proofs.Sound.{yields_is_sound, fails_is_sound, peek_is_sound, branch_on_is_sound}
+use Rattle.fluent_syntax_grammar.proofs.Sound.{inline_blank_is_sound, blank_is_sound, good_more, many_is_sound}
+use Rattle.fluent_syntax_grammar.proofs.SoundWords.{optional_is_sound, token_is_sound, identifier_is_sound}
+use Rattle.fluent_syntax_grammar.proofs.SoundWords.{number_is_sound}
+use Rattle.fluent_syntax_grammar.proofs.SoundStrings.{string_is_sound}
 use Rattle.fluent_syntax_grammar.proofs.Facts.{none_holds, right_true}
 
 pub record IsSoundFamily (t : List ℕ) (P : ℕ → Type 0) (R : Family) : Type 0 where
   pub expression : (s : ℕ) → Sound t P s R.expression (expression_every (IsSpan P))
   pub argument_list : (s : ℕ) → Sound t P s R.argument_list (arguments_every (IsSpan P))
 
-sound_look : {A : Type 0} {t : List ℕ} {P : ℕ → Type 0} {s : ℕ} {look : ℕ → A} →
+look_is_sound : {A : Type 0} {t : List ℕ} {P : ℕ → Type 0} {s : ℕ} {look : ℕ → A} →
     Sound t P s (peek look yields) (λ a. Unit {0})
-sound_look = sound_peek (λ a. sound_yields tt)
+look_is_sound = peek_is_sound (λ a. yields_is_sound tt)
 
 module _ (t : List ℕ) (P : ℕ → Type 0) (cuts : AreBoundaries t P) where
-  pub sound_accessor : {s : ℕ} → Sound t P s (accessor t) (option_every (IsSpan P))
-  sound_accessor =
-      sound_bind (sound_optional t P cuts 46 refl)
-      (λ dot u. sound_branch_on (λ e. sound_bind (sound_identifier t P cuts) (λ a g. sound_yields g))
-      (λ e. sound_yields tt))
+  pub accessor_is_sound : {s : ℕ} → Sound t P s (accessor t) (option_every (IsSpan P))
+  accessor_is_sound =
+      bind_is_sound (optional_is_sound t P cuts 46 refl)
+      (λ dot u. branch_on_is_sound (λ e. bind_is_sound (identifier_is_sound t P cuts) (λ a g. yields_is_sound g))
+      (λ e. yields_is_sound tt))
 
-  pub sound_separator : {s : ℕ} → Sound t P s (separator t) (λ u. Unit {0})
-  sound_separator =
-      sound_bind (sound_blank t P cuts)
-      (λ u v. sound_bind (sound_optional t P cuts 44 refl) (λ u v. sound_blank t P cuts))
+  pub separator_is_sound : {s : ℕ} → Sound t P s (separator t) (λ u. Unit {0})
+  separator_is_sound =
+      bind_is_sound (blank_is_sound t P cuts)
+      (λ u v. bind_is_sound (optional_is_sound t P cuts 44 refl) (λ u v. blank_is_sound t P cuts))
 
-  pub sound_named : {s : ℕ} (id : Span) (a : MaybeArguments Span) → IsSpan P id → maybe_every (IsSpan P) a →
-      Sound t P s (named_reference t id a) (inline_every (IsSpan P))
-  sound_named id no_arguments g h = sound_bind sound_accessor (λ a k. sound_yields (g, k))
-  sound_named id (some_arguments a) g h =
-      sound_branch_on (λ e. sound_yields (g, h)) (λ e. sound_fails cuts.in_text tt (λ i. tt))
+  pub named_reference_is_sound : {s : ℕ} (id : Span) (a : MaybeArguments Span) → IsSpan P id → maybe_every (IsSpan P) a
+      → Sound t P s (named_reference t id a) (inline_every (IsSpan P))
+  named_reference_is_sound id no_arguments g h = bind_is_sound accessor_is_sound (λ a k. yields_is_sound (g, k))
+  named_reference_is_sound id (some_arguments a) g h =
+      branch_on_is_sound (λ e. yields_is_sound (g, h)) (λ e. fails_is_sound cuts.in_text tt (λ i. tt))
 
-  pub sound_key : {s : ℕ} → Sound t P s (variant_key t) (key_every (IsSpan P))
-  sound_key =
-      sound_peek
-      (λ n. sound_branch_on (λ e. sound_bind (sound_number t P cuts) (λ v g. sound_yields g))
-      (λ e. sound_bind (sound_identifier t P cuts) (λ v g. sound_yields g)))
+  pub key_is_sound : {s : ℕ} → Sound t P s (variant_key t) (key_every (IsSpan P))
+  key_is_sound =
+      peek_is_sound
+      (λ n. branch_on_is_sound (λ e. bind_is_sound (number_is_sound t P cuts) (λ v g. yields_is_sound g))
+      (λ e. bind_is_sound (identifier_is_sound t P cuts) (λ v g. yields_is_sound g)))
 
-  pub sound_only : {s : ℕ} (starred star : Bool) → Sound t P s (only_star starred star) (λ u. Unit {0})
-  sound_only starred star = sound_branch_on (λ e. sound_fails cuts.in_text tt (λ i. tt)) (λ e. sound_yields tt)
+  pub only_star_is_sound : {s : ℕ} (starred star : Bool) → Sound t P s (only_star starred star) (λ u. Unit {0})
+  only_star_is_sound starred star = branch_on_is_sound (λ e. fails_is_sound cuts.in_text tt (λ i. tt))
+      (λ e. yields_is_sound tt)
 
-  pub sound_end : {s : ℕ} (edition : Edition) (starred star : Bool) →
+  pub variants_end_is_sound : {s : ℕ} (edition : Edition) (starred star : Bool) →
       Sound t P s (variants_end edition starred star) (good_more (variant_every (IsSpan P)))
-  sound_end edition starred star = sound_branch_on (λ e. sound_yields tt) (λ e. sound_fails cuts.in_text tt (λ i. tt))
+  variants_end_is_sound edition starred star = branch_on_is_sound (λ e. yields_is_sound tt)
+      (λ e. fails_is_sound cuts.in_text tt (λ i. tt))
 
 -- the parts of an argument are good
 abbrev pub good_argument : (ℕ → Type 0) → Argument → Type 0
@@ -119,8 +121,8 @@ module _ (t : List ℕ) (P : ℕ → Type 0) (cuts : AreBoundaries t P) where
       holds_skip (λ i j p w. let q = p.0 in let l = q.late in let f = eol_forward t i k p.1 in let e = w.there in
       record { late = omega arith; place = subst P (sym e) (eol_place t P cuts i k p.1); good = tt })
 
-  pub sound_arrow : {s : ℕ} → Sound t P s (peek (after_eol t) arrow_line_end) (λ u. Unit {0})
-  sound_arrow {s = s} = record { holds = holds_peek (arrow_holds s) }
+  pub arrow_is_sound : {s : ℕ} → Sound t P s (peek (after_eol t) arrow_line_end) (λ u. Unit {0})
+  arrow_is_sound {s = s} = record { holds = holds_peek (arrow_holds s) }
 
   abbrev pub AtArrow : ℕ → Bool → ℕ → Type 0
   AtArrow s arrow i = Inside P s i × (has_arrow t i ≡ arrow)
@@ -139,66 +141,69 @@ module _ (t : List ℕ) (P : ℕ → Type 0) (cuts : AreBoundaries t P) where
       }
 
 module _ (t : List ℕ) (P : ℕ → Type 0) (cuts : AreBoundaries t P) (R : Family) (h : IsSoundFamily t P R) where
-  pub sound_call : {s : ℕ} → Sound t P s (call_arguments t R) (maybe_every (IsSpan P))
-  sound_call {s = s} =
-      sound_bind (sound_blank t P cuts)
-      (λ u v. sound_bind (sound_optional t P cuts 40 refl) (λ bracket u. sound_branch_on
-      (λ e. sound_bind (sound_bind (sound_blank t P cuts) (λ u v. h.argument_list s)) (λ a g. sound_yields g))
-      (λ e. sound_yields tt)))
+  pub call_is_sound : {s : ℕ} → Sound t P s (call_arguments t R) (maybe_every (IsSpan P))
+  call_is_sound {s = s} =
+      bind_is_sound (blank_is_sound t P cuts)
+      (λ u v. bind_is_sound (optional_is_sound t P cuts 40 refl) (λ bracket u. branch_on_is_sound
+      (λ e. bind_is_sound (bind_is_sound (blank_is_sound t P cuts) (λ u v. h.argument_list s))
+      (λ a g. yields_is_sound g))
+      (λ e. yields_is_sound tt)))
 
-  pub sound_placeable : {s : ℕ} → Sound t P s (placeable t R) (expression_every (IsSpan P))
-  sound_placeable =
-      sound_bind (sound_token t P cuts 123 refl)
-      (λ u v. sound_bind (sound_blank t P cuts) (λ u v. sound_bind (h.expression _) (λ e g.
-      sound_bind (sound_inline_blank t P cuts)
-      (λ u v. sound_bind (sound_token t P cuts 125 refl) (λ u v. sound_yields g)))))
+  pub placeable_is_sound : {s : ℕ} → Sound t P s (placeable t R) (expression_every (IsSpan P))
+  placeable_is_sound =
+      bind_is_sound (token_is_sound t P cuts 123 refl)
+      (λ u v. bind_is_sound (blank_is_sound t P cuts) (λ u v. bind_is_sound (h.expression _) (λ e g.
+      bind_is_sound (inline_blank_is_sound t P cuts)
+      (λ u v. bind_is_sound (token_is_sound t P cuts 125 refl) (λ u v. yields_is_sound g)))))
 
-  sound_inline_of : {s : ℕ} (x : Start) → Sound t P s (inline_of t R x) (inline_every (IsSpan P))
-  sound_inline_of quote = sound_bind (sound_string t P cuts) (λ v g. sound_yields g)
-  sound_inline_of digit = sound_bind (sound_number t P cuts) (λ v g. sound_yields g)
-  sound_inline_of minus = sound_bind (sound_number t P cuts) (λ v g. sound_yields g)
-  sound_inline_of term =
-      sound_bind (sound_token t P cuts 45 refl)
-      (λ u v. sound_bind (sound_identifier t P cuts) (λ id g. sound_bind (sound_accessor t P cuts) (λ a k.
-      sound_bind sound_call (λ c m. sound_yields (g, k, m)))))
-  sound_inline_of dollar =
-      sound_bind (sound_token t P cuts 36 refl) (λ u v. sound_bind (sound_identifier t P cuts) (λ id g. sound_yields g))
-  sound_inline_of letter =
-      sound_bind (sound_identifier t P cuts) (λ id g. sound_bind sound_call (λ a k. sound_named t P cuts id a g k))
-  sound_inline_of brace = sound_bind sound_placeable (λ e g. sound_yields g)
-  sound_inline_of other = sound_fails cuts.in_text tt (λ i. tt)
+  inline_of_is_sound : {s : ℕ} (x : Start) → Sound t P s (inline_of t R x) (inline_every (IsSpan P))
+  inline_of_is_sound quote = bind_is_sound (string_is_sound t P cuts) (λ v g. yields_is_sound g)
+  inline_of_is_sound digit = bind_is_sound (number_is_sound t P cuts) (λ v g. yields_is_sound g)
+  inline_of_is_sound minus = bind_is_sound (number_is_sound t P cuts) (λ v g. yields_is_sound g)
+  inline_of_is_sound term =
+      bind_is_sound (token_is_sound t P cuts 45 refl)
+      (λ u v. bind_is_sound (identifier_is_sound t P cuts) (λ id g. bind_is_sound (accessor_is_sound t P cuts) (λ a k.
+      bind_is_sound call_is_sound (λ c m. yields_is_sound (g, k, m)))))
+  inline_of_is_sound dollar =
+      bind_is_sound (token_is_sound t P cuts 36 refl) (λ u v. bind_is_sound (identifier_is_sound t P cuts)
+      (λ id g. yields_is_sound g))
+  inline_of_is_sound letter =
+      bind_is_sound (identifier_is_sound t P cuts) (λ id g. bind_is_sound call_is_sound
+      (λ a k. named_reference_is_sound t P cuts id a g k))
+  inline_of_is_sound brace = bind_is_sound placeable_is_sound (λ e g. yields_is_sound g)
+  inline_of_is_sound other = fails_is_sound cuts.in_text tt (λ i. tt)
 
-  pub sound_inline : {s : ℕ} → Sound t P s (inline_expression t R) (inline_every (IsSpan P))
-  sound_inline = sound_peek sound_inline_of
+  pub inline_is_sound : {s : ℕ} → Sound t P s (inline_expression t R) (inline_every (IsSpan P))
+  inline_is_sound = peek_is_sound inline_of_is_sound
 
-  sound_value : {s : ℕ} (x : Start) → Sound t P s (argument_value t R x) (inline_every (IsSpan P))
-  sound_value quote = sound_inline
-  sound_value digit = sound_inline
-  sound_value letter = sound_inline
-  sound_value minus = sound_fails cuts.in_text tt (λ i. tt)
-  sound_value term = sound_fails cuts.in_text tt (λ i. tt)
-  sound_value dollar = sound_fails cuts.in_text tt (λ i. tt)
-  sound_value brace = sound_fails cuts.in_text tt (λ i. tt)
-  sound_value other = sound_fails cuts.in_text tt (λ i. tt)
+  value_is_sound : {s : ℕ} (x : Start) → Sound t P s (argument_value t R x) (inline_every (IsSpan P))
+  value_is_sound quote = inline_is_sound
+  value_is_sound digit = inline_is_sound
+  value_is_sound letter = inline_is_sound
+  value_is_sound minus = fails_is_sound cuts.in_text tt (λ i. tt)
+  value_is_sound term = fails_is_sound cuts.in_text tt (λ i. tt)
+  value_is_sound dollar = fails_is_sound cuts.in_text tt (λ i. tt)
+  value_is_sound brace = fails_is_sound cuts.in_text tt (λ i. tt)
+  value_is_sound other = fails_is_sound cuts.in_text tt (λ i. tt)
 
-  sound_named_rest : {s : ℕ} (names : List (List ℕ)) (name : Span) → IsSpan P name →
+  named_rest_is_sound : {s : ℕ} (names : List (List ℕ)) (name : Span) → IsSpan P name →
       Sound t P s (named_rest t R names name) (good_more (good_argument P))
-  sound_named_rest names name f = sound_branch_on (λ e. sound_fails cuts.in_text tt (λ i. tt))
-      (λ y. sound_bind (sound_token t P cuts 58 refl)
-      (λ u v. sound_bind (sound_blank t P cuts) (λ u v. sound_bind (sound_peek sound_value) (λ e g.
-      sound_bind (sound_separator t P cuts) (λ u v. sound_yields (f, g))))))
+  named_rest_is_sound names name f = branch_on_is_sound (λ e. fails_is_sound cuts.in_text tt (λ i. tt))
+      (λ y. bind_is_sound (token_is_sound t P cuts 58 refl)
+      (λ u v. bind_is_sound (blank_is_sound t P cuts) (λ u v. bind_is_sound (peek_is_sound value_is_sound) (λ e g.
+      bind_is_sound (separator_is_sound t P cuts) (λ u v. yields_is_sound (f, g))))))
 
-  sound_positional_rest : {s : ℕ} (names : List (List ℕ)) (e : InlineTree Span) → inline_every (IsSpan P) e →
+  positional_rest_is_sound : {s : ℕ} (names : List (List ℕ)) (e : InlineTree Span) → inline_every (IsSpan P) e →
       Sound t P s (positional_rest t names e) (good_more (good_argument P))
-  sound_positional_rest [] e g = sound_bind (sound_separator t P cuts) (λ u v. sound_yields g)
-  sound_positional_rest (n ∷ ns) e g = sound_fails cuts.in_text tt (λ i. tt)
+  positional_rest_is_sound [] e g = bind_is_sound (separator_is_sound t P cuts) (λ u v. yields_is_sound g)
+  positional_rest_is_sound (n ∷ ns) e g = fails_is_sound cuts.in_text tt (λ i. tt)
 
-  sound_argument_rest : {s : ℕ} (names : List (List ℕ)) (e : InlineTree Span) (o : Option Span) (colon : Bool) →
+  argument_rest_is_sound : {s : ℕ} (names : List (List ℕ)) (e : InlineTree Span) (o : Option Span) (colon : Bool) →
       inline_every (IsSpan P) e → option_every (IsSpan P) o →
       Sound t P s (argument_rest t R names e o colon) (good_more (good_argument P))
-  sound_argument_rest names e None colon g k = sound_positional_rest names e g
-  sound_argument_rest names e (Some n) true g k = sound_named_rest names n k
-  sound_argument_rest names e (Some n) false g k = sound_positional_rest names e g
+  argument_rest_is_sound names e None colon g k = positional_rest_is_sound names e g
+  argument_rest_is_sound names e (Some n) true g k = named_rest_is_sound names n k
+  argument_rest_is_sound names e (Some n) false g k = positional_rest_is_sound names e g
 
   argument_holds : (s : ℕ) (names : List (List ℕ)) (o : Option ℕ) →
       HoareTriple (λ i. Inside P s i × (slice_get t i ≡ o)) (next_argument_at t R names o)
@@ -213,12 +218,12 @@ module _ (t : List ℕ) (P : ℕ → Type 0) (cuts : AreBoundaries t P) (R : Fam
         means = none_holds (λ c. c == 41) (slice_get t i) p.1;
       })
   argument_holds s names (Some b) = holds_weaker {pre = Inside P s} (λ i p. p.0) (λ a j x. x) (λ k from to x. x)
-      (sound_branch_on (λ e. sound_bind (sound_token t P cuts 41 refl) (λ u v. sound_yields tt))
-      (λ e. sound_bind sound_inline
-      (λ e g. sound_bind sound_look
-      (λ colon u. sound_argument_rest names e (argument_name e) colon g (good_name P e g))))).holds
+      (branch_on_is_sound (λ e. bind_is_sound (token_is_sound t P cuts 41 refl) (λ u v. yields_is_sound tt))
+      (λ e. bind_is_sound inline_is_sound
+      (λ e g. bind_is_sound look_is_sound
+      (λ colon u. argument_rest_is_sound names e (argument_name e) colon g (good_name P e g))))).holds
 
-  pub sound_arguments : {s : ℕ} (names : List (List ℕ)) →
+  pub arguments_are_sound : {s : ℕ} (names : List (List ℕ)) →
       Sound t P s (more_arguments t R names) (arguments_every (IsSpan P))
-  sound_arguments {s = s} names =
-      sound_many (λ names. record { holds = holds_peek (argument_holds s names) }) (tt, tt) (good_arguments P)
+  arguments_are_sound {s = s} names =
+      many_is_sound (λ names. record { holds = holds_peek (argument_holds s names) }) (tt, tt) (good_arguments P)

@@ -11,12 +11,11 @@ use Rattle.fluent_syntax_grammar.specs.Construct.{Read, Refused}
 use Rattle.fluent_syntax_grammar.specs.Strings.{HexDigits, hex_digits, all_there, too_few, escaped, string_unit}
 use Rattle.fluent_syntax_grammar.specs.Strings.{string_units, before_quote, unit_and_more, bad_unit, string_literal}
 use Rattle.fluent_syntax_grammar.proofs.HoareTriple.{HoareTriple, holds_weaker, holds_bind, holds_fails, holds_skip}
-use Rattle.fluent_syntax_grammar.proofs.HoareTriple.{holds_peek}
-use Rattle.fluent_syntax_grammar.proofs.HoareTriple.{holds_branch_on}
+use Rattle.fluent_syntax_grammar.proofs.HoareTriple.{holds_peek, holds_branch_on}
 use Rattle.fluent_syntax_grammar.proofs.Cuts.{AsciiAt, AreBoundaries, ascii_has, ascii_byte, ascii_hex}
-use Rattle.fluent_syntax_grammar.proofs.Sound.{IsSpan, Inside, Ended, IsFault, Sound, sound_bind, sound_yields}
-use Rattle.fluent_syntax_grammar.proofs.Sound.{sound_here, sound_spanned}
-use Rattle.fluent_syntax_grammar.proofs.SoundWords.{sound_token}
+use Rattle.fluent_syntax_grammar.proofs.Sound.{IsSpan, Inside, Ended, IsFault, Sound, bind_is_sound, yields_is_sound}
+use Rattle.fluent_syntax_grammar.proofs.Sound.{here_is_sound, spanned_is_sound}
+use Rattle.fluent_syntax_grammar.proofs.SoundWords.{token_is_sound}
 use Rattle.fluent_syntax_grammar.proofs.Facts.{byte_holds}
 
 -- any place of the text
@@ -127,8 +126,8 @@ module _ (t : List ℕ) (P : ℕ → Type 0) (cuts : AreBoundaries t P) where
   to_text : (s i : ℕ) → Inside P s i → Inside (InText t) s i
   to_text s i p = record { late = p.late; place = cuts.in_text i p.place }
 
-  pub sound_units : {s : ℕ} → Sound t P s (string_units t) (λ u. Unit {0})
-  sound_units {s = s} = record {
+  pub units_are_sound : {s : ℕ} → Sound t P s (string_units t) (λ u. Unit {0})
+  units_are_sound {s = s} = record {
     holds = record {
       on_read = λ i j a p x. let q = units_read t s i j a (to_text s i p) x in let r = q.0 in
           record { late = r.late; place = cuts.before j (ascii_byte t 34 j (omega arith) q.1); good = tt };
@@ -136,7 +135,8 @@ module _ (t : List ℕ) (P : ℕ → Type 0) (cuts : AreBoundaries t P) where
     };
   }
 
-  pub sound_string : {s : ℕ} → Sound t P s (string_literal t) (IsSpan P)
-  sound_string = sound_bind (sound_token t P cuts 34 refl) (λ u v. sound_here (λ m q. sound_bind sound_units (λ u v.
-      sound_bind (sound_spanned q.place)
-      (λ value good. sound_bind (sound_token t P cuts 34 refl) (λ u v. sound_yields good)))))
+  pub string_is_sound : {s : ℕ} → Sound t P s (string_literal t) (IsSpan P)
+  string_is_sound = bind_is_sound (token_is_sound t P cuts 34 refl) (λ u v. here_is_sound
+      (λ m q. bind_is_sound units_are_sound (λ u v.
+      bind_is_sound (spanned_is_sound q.place)
+      (λ value good. bind_is_sound (token_is_sound t P cuts 34 refl) (λ u v. yields_is_sound good)))))

@@ -18,9 +18,9 @@ use Rattle.fluent_syntax_grammar.specs.Tiling.{TileAt, reads, refuses, RuntimeTi
 use Rattle.fluent_syntax_tree.specs.declared.edition.Edition.{Edition}
 use Rattle.fluent_syntax_tree.specs.declared.spans.Span.{Span}
 use Rattle.fluent_syntax_grammar.proofs.Cuts.{IsAsciiSet, AreBoundaries, ascii_has, block_place}
-use Rattle.fluent_syntax_grammar.proofs.Sound.{IsSpan, Inside, Ended, sound_bind, sound_rest_of_line}
-use Rattle.fluent_syntax_grammar.proofs.Sound.{sound_optional_eol}
-use Rattle.fluent_syntax_grammar.proofs.SoundEntries.{IsEntryFault, earlier_fault, message_read, message_refused}
+use Rattle.fluent_syntax_grammar.proofs.Sound.{IsSpan, Inside, Ended, bind_is_sound, rest_of_line_is_sound}
+use Rattle.fluent_syntax_grammar.proofs.Sound.{optional_eol_is_sound}
+use Rattle.fluent_syntax_grammar.proofs.SoundEntries.{IsEntryFault, earlier_fault, message_ends_inside, message_refused}
 use Rattle.fluent_syntax_grammar.proofs.SoundEntries.{letter_refused, term_read, term_refused}
 use Rattle.fluent_syntax_grammar.proofs.SoundComments.{comment_read, comment_refused}
 use Rattle.fluent_syntax_grammar.proofs.Facts.{byte_holds, lt_or_same, right_true, byte_of}
@@ -43,12 +43,12 @@ module _ (edition : Edition) (t : List ℕ) (P : ℕ → Type 0) (cuts : AreBoun
 
   entry_read_of : (i j : ℕ) (a : EntryTree Span) (o : Option ℕ) → slice_get t i ≡ o → P i →
       entry_of edition t (family edition t) o i (Read a j) → Ended P (i + 1) EntrySpansInBounds a j
-  entry_read_of i j a None e p x = message_read edition t P cuts i j a p x
+  entry_read_of i j a None e p x = message_ends_inside edition t P cuts i j a p x
   entry_read_of i j a (Some b) e p (first f x) =
       comment_read t P cuts i j a p (byte_holds (λ c. c == 35) (slice_get t i) b e f) x
   entry_read_of i j a (Some b) e p (second f (first g x)) =
       term_read edition t P cuts i j a (byte_holds (λ c. c == 45) (slice_get t i) b e g) x
-  entry_read_of i j a (Some b) e p (second f (second g x)) = message_read edition t P cuts i j a p x
+  entry_read_of i j a (Some b) e p (second f (second g x)) = message_ends_inside edition t P cuts i j a p x
 
   -- an entry that is read passes over a byte at least, and its texts lie in the source
   pub entry_read : (i j : ℕ) (a : EntryTree Span) → P i → entry_at edition t i (Read a j) →
@@ -136,10 +136,11 @@ module _ (edition : Edition) (t : List ℕ) (P : ℕ → Type 0) (cuts : AreBoun
       let place = junk_place (failing_place k from to) j e in
       record { onward = on; place = place; good = (on, (omega arith, p, place), late, omega arith, f.means) }
 
-  pub line_end : (i j : ℕ) → P i → whole_line t i (Read tt j) → Inside P i j
-  line_end i j p x =
+  pub whole_line_inside : (i j : ℕ) → P i → whole_line t i (Read tt j) → Inside P i j
+  whole_line_inside i j p x =
       let q =
-      (sound_bind (sound_rest_of_line t P cuts) (λ s g. sound_optional_eol t P cuts {s = i})).holds.on_read i j tt
+      (bind_is_sound (rest_of_line_is_sound t P cuts) (λ s g. optional_eol_is_sound t P cuts {s = i})).holds.on_read i j
+          tt
       (record { late = omega arith; place = p }) x in
       record { late = q.late; place = q.place }
 
@@ -154,7 +155,7 @@ module _ (edition : Edition) (t : List ℕ) (P : ℕ → Type 0) (cuts : AreBoun
       list_every IsTileWellFormed tiles
   runtime_good i tiles p (done b) = tt
   runtime_good i tiles p (next {start = start} {end = end} {tiles = more} b l (drops h x) y) =
-      let q = line_end start end (block_place t P cuts i start p b) x in
+      let q = whole_line_inside start end (block_place t P cuts i start p b) x in
       (tt, runtime_good end more q.place y)
   runtime_good i tiles p (next {start = start} {end = end} {tile = tile} {tiles = more} b l (keeps_tile h x) y) =
       let q = tile_good start end tile (block_place t P cuts i start p b) l x in

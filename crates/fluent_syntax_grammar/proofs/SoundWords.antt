@@ -7,12 +7,11 @@ use Rattle.fluent_syntax_grammar.specs.Places.{has_byte}
 use Rattle.fluent_syntax_grammar.specs.Construct.{fails}
 use Rattle.fluent_syntax_grammar.specs.Tokens.{optional, token, digits, identifier, number}
 use Rattle.fluent_syntax_grammar.proofs.HoareTriple.{HoareTriple, holds_weaker, holds_bind, holds_yields, holds_fails}
-use Rattle.fluent_syntax_grammar.proofs.HoareTriple.{holds_skip}
-use Rattle.fluent_syntax_grammar.proofs.HoareTriple.{holds_peek, holds_branch_on}
+use Rattle.fluent_syntax_grammar.proofs.HoareTriple.{holds_skip, holds_peek, holds_branch_on}
 use Rattle.fluent_syntax_grammar.proofs.Cuts.{AreBoundaries, ascii_byte, ascii_digit, ascii_name}
-use Rattle.fluent_syntax_grammar.proofs.Sound.{IsSpan, Inside, IsFault, Sound, sound_bind, sound_yields, sound_fails}
-use Rattle.fluent_syntax_grammar.proofs.Sound.{sound_skip, sound_peek, sound_branch_on, sound_here, sound_spanned}
-use Rattle.fluent_syntax_grammar.proofs.Sound.{onward_word}
+use Rattle.fluent_syntax_grammar.proofs.Sound.{IsSpan, Inside, IsFault, Sound, bind_is_sound, yields_is_sound}
+use Rattle.fluent_syntax_grammar.proofs.Sound.{fails_is_sound, skip_is_sound, peek_is_sound, branch_on_is_sound}
+use Rattle.fluent_syntax_grammar.proofs.Sound.{here_is_sound, spanned_is_sound, word_is_onward}
 
 is_small : (b : ℕ) → nat_lt b 128 ≡ true → b < 128
 is_small b e = grind (arith, nat_tests)
@@ -38,16 +37,16 @@ module _ (t : List ℕ) (P : ℕ → Type 0) (cuts : AreBoundaries t P) where
       (λ u. holds_yields (λ i p. record { inside = p; missing = λ no. absurd (true_false no) })))
       (λ e. holds_yields (λ i p. record { inside = p.0; missing = λ no. p.1 ∙ e })))
 
-  pub sound_optional : {s : ℕ} (b : ℕ) → nat_lt b 128 ≡ true → Sound t P s (optional t b) (λ found. Unit {0})
-  sound_optional {s = s} b l =
+  pub optional_is_sound : {s : ℕ} (b : ℕ) → nat_lt b 128 ≡ true → Sound t P s (optional t b) (λ found. Unit {0})
+  optional_is_sound {s = s} b l =
       record {
         holds =
             holds_weaker (λ i p. p) (λ a j e. let q = e.inside in record { late = q.late; place = q.place; good = tt })
             (λ k from to e. e) (optional_holds s b l);
       }
 
-  pub sound_token : {s : ℕ} (b : ℕ) → nat_lt b 128 ≡ true → Sound t P s (token t b) (λ u. Unit {0})
-  sound_token {s = s} b l = record {
+  pub token_is_sound : {s : ℕ} (b : ℕ) → nat_lt b 128 ≡ true → Sound t P s (token t b) (λ u. Unit {0})
+  token_is_sound {s = s} b l = record {
     holds = holds_bind (optional_holds s b l) (λ found. holds_branch_on
         (λ e. holds_yields (λ i p. let q = p.inside in record { late = q.late; place = q.place; good = tt }))
         (λ e. holds_fails
@@ -61,24 +60,28 @@ module _ (t : List ℕ) (P : ℕ → Type 0) (cuts : AreBoundaries t P) where
         })));
   }
 
-  sound_range : {s : ℕ} {A : Type 0} {Good : A → Type 0} (range : List ℕ) →
+  range_is_sound : {s : ℕ} {A : Type 0} {Good : A → Type 0} (range : List ℕ) →
       Sound t P s (fails (ExpectedCharRange range)) Good
-  sound_range range = sound_fails cuts.in_text tt (λ i. tt)
+  range_is_sound range = fails_is_sound cuts.in_text tt (λ i. tt)
 
-  pub sound_digits : {s : ℕ} → Sound t P s (digits t) (λ u. Unit {0})
-  sound_digits =
-      sound_peek
-      (λ found. sound_branch_on (λ e. sound_skip (onward_word t P cuts ascii_digit)) (λ e. sound_range (codes "0-9")))
+  pub digits_are_sound : {s : ℕ} → Sound t P s (digits t) (λ u. Unit {0})
+  digits_are_sound =
+      peek_is_sound
+      (λ found. branch_on_is_sound (λ e. skip_is_sound (word_is_onward t P cuts ascii_digit))
+      (λ e. range_is_sound (codes "0-9")))
 
-  pub sound_identifier : {s : ℕ} → Sound t P s (identifier t) (IsSpan P)
-  sound_identifier =
-      sound_here (λ m q.
-      sound_bind {Mid = λ letter. Unit {0}} (sound_peek (λ letter. sound_yields tt)) (λ letter u. sound_branch_on
-      (λ e. sound_bind (sound_skip (onward_word t P cuts ascii_name)) (λ u v. sound_spanned q.place))
-      (λ e. sound_range (codes "a-zA-Z"))))
+  pub identifier_is_sound : {s : ℕ} → Sound t P s (identifier t) (IsSpan P)
+  identifier_is_sound =
+      here_is_sound (λ m q.
+      bind_is_sound {Mid = λ letter. Unit {0}} (peek_is_sound (λ letter. yields_is_sound tt))
+          (λ letter u. branch_on_is_sound
+      (λ e. bind_is_sound (skip_is_sound (word_is_onward t P cuts ascii_name)) (λ u v. spanned_is_sound q.place))
+      (λ e. range_is_sound (codes "a-zA-Z"))))
 
-  pub sound_number : {s : ℕ} → Sound t P s (number t) (IsSpan P)
-  sound_number = sound_here (λ m q. sound_bind (sound_optional 45 refl) (λ x u. sound_bind sound_digits (λ x u.
-      sound_bind (sound_optional 46 refl)
-      (λ point u. sound_bind {Mid = λ u. Unit {0}} (sound_branch_on (λ e. sound_digits) (λ e. sound_yields tt))
-      (λ x u. sound_spanned q.place)))))
+  pub number_is_sound : {s : ℕ} → Sound t P s (number t) (IsSpan P)
+  number_is_sound = here_is_sound (λ m q. bind_is_sound (optional_is_sound 45 refl)
+      (λ x u. bind_is_sound digits_are_sound (λ x u.
+      bind_is_sound (optional_is_sound 46 refl)
+      (λ point u. bind_is_sound {Mid = λ u. Unit {0}} (branch_on_is_sound (λ e. digits_are_sound)
+          (λ e. yields_is_sound tt))
+      (λ x u. spanned_is_sound q.place)))))

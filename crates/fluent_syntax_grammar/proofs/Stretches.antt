@@ -1,5 +1,5 @@
 -- Stretches found step by step: the longest run of places, the digits of an escape, and the end of junk.
-use Rattle.std.proofs.Common.{◌≡◌, ℕ, zero, suc, ◌+◌, ◌<◌, ◌≤◌, List, length, Some, Bool, true, false, refl, subst}
+use Rattle.std.proofs.Common.{◌≡◌, ℕ, zero, suc, ◌+◌, ◌<◌, ◌≤◌, List, length, Bool, true, false, refl, subst}
 use Rattle.std.proofs.Common.{arith, inl, inr}
 use Rattle.std.specs.Prelude.{slice_get, slice_range, ◌==◌}
 use Rattle.std.proofs.lemmas.Bool.Decides.{nat_tests}

@@ -121,20 +121,20 @@ suffix_each {t = t} set (x ∷ xs) ys {i = i} a h k l m = elim (here_or_on i k l
 -- ---- blanks
 
 -- a space or an LF
-abbrev pub is_blank_byte : ℕ → Bool
-is_blank_byte b = b == space || b == lf
+abbrev pub is_space_or_lf : ℕ → Bool
+is_space_or_lf b = b == space || b == lf
 
 blank_or : (x y z : Bool) → (x || y) ≡ true → (x || (y || z)) ≡ true
 blank_or true y z e = refl
 blank_or false true z e = refl
 blank_or false false z e = cc
 
-suffix_blank_place : {t : List ℕ} {i b : ℕ} {bs : List ℕ} → is_blank_byte b ≡ true → SuffixAt t i (b ∷ bs) →
+suffix_blank_place : {t : List ℕ} {i b : ℕ} {bs : List ℕ} → is_space_or_lf b ≡ true → SuffixAt t i (b ∷ bs) →
     is_blank_place t i ≡ true
 suffix_blank_place {t = t} {i = i} {b = b} e h = rw (suffix_first h) (blank_or (b == space) (b == lf) _ e)
 
 -- spaces and LFs, before a byte that begins no blank
-pub suffix_blank : {t : List ℕ} (xs ys : List ℕ) {i : ℕ} → list_all is_blank_byte xs ≡ true →
+pub suffix_blank : {t : List ℕ} (xs ys : List ℕ) {i : ℕ} → list_all is_space_or_lf xs ≡ true →
     holds is_space (first ys) ≡ false → holds (λ b. b == lf) (first ys) ≡ false →
     holds (λ b. b == cr) (first ys) ≡ false →
     SuffixAt t i (xs ++ ys) → LongestRun (is_blank_place t) i (i + length xs)
@@ -144,5 +144,6 @@ suffix_blank {t = t} (x ∷ xs) ys {i = i} a d e f h =
     let s : (i + 1) + length xs ≡ i + suc (length xs) = omega arith in
     subst (λ n. LongestRun (is_blank_place t) i n) s
     (run_goes_on (is_blank_place t) i _
-    (suffix_blank_place (left_true (is_blank_byte x) (list_all is_blank_byte xs) a) h)
-    (suffix_blank xs ys {i = i + 1} (right_true (is_blank_byte x) (list_all is_blank_byte xs) a) d e f (suffix_next h)))
+    (suffix_blank_place (left_true (is_space_or_lf x) (list_all is_space_or_lf xs) a) h)
+    (suffix_blank xs ys {i = i + 1} (right_true (is_space_or_lf x) (list_all is_space_or_lf xs) a) d e f
+        (suffix_next h)))

@@ -5,10 +5,10 @@ use Rattle.std.specs.Prelude.{◌==◌, ◌&&◌, ◌||◌, ◌⊎◌, not}
 use Rattle.fluent_syntax_grammar.proofs.Facts.{equal}
 use Rattle.fluent_syntax_grammar.specs.Bytes.{is_letter, is_name_byte}
 
--- ---- both, or one of them
+-- ---- both_true, or one of them
 
-pub both : {x y : Bool} → x ≡ true → y ≡ true → (x && y) ≡ true
-both e f = rw (e, f) refl
+pub both_true : {x y : Bool} → x ≡ true → y ≡ true → (x && y) ≡ true
+both_true e f = rw (e, f) refl
 
 pub and_false : (x : Bool) → (x && false) ≡ false
 and_false true = refl
@@ -24,20 +24,20 @@ pub or_true : (x : Bool) → (x || true) ≡ true
 or_true true = refl
 or_true false = refl
 
-pub or_left : (x y : Bool) → x ≡ true → (x || y) ≡ true
-or_left x y e = rw e refl
+pub true_by_left : (x y : Bool) → x ≡ true → (x || y) ≡ true
+true_by_left x y e = rw e refl
 
-pub or_right : (x y : Bool) → y ≡ true → (x || y) ≡ true
-or_right x y e = rw e (or_true x)
+pub true_by_right : (x y : Bool) → y ≡ true → (x || y) ≡ true
+true_by_right x y e = rw e (or_true x)
 
 pub or_first : (x y z : Bool) → x ≡ true → (x || y || z) ≡ true
-or_first x y z e = or_left (x || y) z (or_left x y e)
+or_first x y z e = true_by_left (x || y) z (true_by_left x y e)
 
 pub or_second : (x y z : Bool) → y ≡ true → (x || y || z) ≡ true
-or_second x y z e = or_left (x || y) z (or_right x y e)
+or_second x y z e = true_by_left (x || y) z (true_by_right x y e)
 
 pub or_third : (x y z : Bool) → z ≡ true → (x || y || z) ≡ true
-or_third x y z e = or_right (x || y) z e
+or_third x y z e = true_by_right (x || y) z e
 
 pub or_cases : (x y : Bool) → (x || y) ≡ true → (x ≡ true) ⊎ (y ≡ true)
 or_cases true y e = inl refl

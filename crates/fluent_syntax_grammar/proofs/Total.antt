@@ -39,42 +39,42 @@ bind_has : {A B : Type 0} (pre : ℕ → Type 0) (mid : A → ℕ → Type 0) (c
 bind_has pre mid c f h g i p (Read a j) x = let z = (g a).has j (h.on_read i j a p x) in (z.0, goes_on x z.1)
 bind_has pre mid c f h g i p (Refused k from to) x = (Refused k from to, stops x)
 
-pub total_bind : {A B : Type 0} {pre : ℕ → Type 0} {mid : A → ℕ → Type 0} {c : Construct A} {f : A → Construct B} →
+pub bind_is_total : {A B : Type 0} {pre : ℕ → Type 0} {mid : A → ℕ → Type 0} {c : Construct A} {f : A → Construct B} →
     Total pre c → HoareTriple pre c mid AnyFault → ((a : A) → Total (mid a) (f a)) → Total pre (c >>= f)
-total_bind {pre = pre} {mid = mid} {c = c} {f = f} x h g =
+bind_is_total {pre = pre} {mid = mid} {c = c} {f = f} x h g =
     record { has = λ i p. let y = x.has i p in bind_has pre mid c f h g i p y.0 y.1 }
 
 pub total_weaker : {A : Type 0} {pre pre' : ℕ → Type 0} {c : Construct A} → ((i : ℕ) → pre' i → pre i) → Total pre c →
     Total pre' c
 total_weaker w x = record { has = λ i p. x.has i (w i p) }
 
-pub total_yields : {A : Type 0} {pre : ℕ → Type 0} {a : A} → Total pre (yields a)
-total_yields {a = a} = record { has = λ i p. (Read a i, given) }
+pub yields_is_total : {A : Type 0} {pre : ℕ → Type 0} {a : A} → Total pre (yields a)
+yields_is_total {a = a} = record { has = λ i p. (Read a i, given) }
 
-pub total_here : {pre : ℕ → Type 0} → Total pre here
-total_here = record { has = λ i p. (Read i i, at_place) }
+pub here_is_total : {pre : ℕ → Type 0} → Total pre here
+here_is_total = record { has = λ i p. (Read i i, at_place) }
 
-pub total_fails : {A : Type 0} {pre : ℕ → Type 0} {k : Kind} → Total pre (fails {A = A} k)
-total_fails {k = k} = record { has = λ i p. (Refused k i (i + 1), failed refl) }
+pub fails_is_total : {A : Type 0} {pre : ℕ → Type 0} {k : Kind} → Total pre (fails {A = A} k)
+fails_is_total {k = k} = record { has = λ i p. (Refused k i (i + 1), failed refl) }
 
-total_fails_from : {A : Type 0} {pre : ℕ → Type 0} {k : Kind} {start : ℕ} → Total pre (fails_from {A = A} k start)
-total_fails_from {k = k} {start = start} = record { has = λ i p. (Refused k start i, failed_from) }
+fails_from_is_total : {A : Type 0} {pre : ℕ → Type 0} {k : Kind} {start : ℕ} → Total pre (fails_from {A = A} k start)
+fails_from_is_total {k = k} {start = start} = record { has = λ i p. (Refused k start i, failed_from) }
 
-pub total_skip : {pre : ℕ → Type 0} {W : ℕ → ℕ → Type 0} → ((i : ℕ) → pre i → (j : ℕ) × W i j) → Total pre (skip W)
-total_skip w = record { has = λ i p. let x = w i p in (Read tt x.0, passed x.1) }
+pub skip_is_total : {pre : ℕ → Type 0} {W : ℕ → ℕ → Type 0} → ((i : ℕ) → pre i → (j : ℕ) × W i j) → Total pre (skip W)
+skip_is_total w = record { has = λ i p. let x = w i p in (Read tt x.0, passed x.1) }
 
-pub total_peek : {A B : Type 0} {pre : ℕ → Type 0} {look : ℕ → A} {part : A → Construct B} →
+pub peek_is_total : {A B : Type 0} {pre : ℕ → Type 0} {look : ℕ → A} {part : A → Construct B} →
     ((a : A) → Total (λ i. pre i × (look i ≡ a)) (part a)) → Total pre (peek look part)
-total_peek {look = look} g = record { has = λ i p. let x = (g (look i)).has i (p, refl) in (x.0, chosen x.1) }
+peek_is_total {look = look} g = record { has = λ i p. let x = (g (look i)).has i (p, refl) in (x.0, chosen x.1) }
 
 branch_on_has : {A : Type 0} (pre : ℕ → Type 0) (test : Bool) (c d : Construct A) → (test ≡ true → Total pre c) →
     (test ≡ false → Total pre d) → (i : ℕ) → pre i → (o : Outcome A) × branch_on test c d i o
 branch_on_has pre true c d g h i p = let x = (g refl).has i p in (x.0, first refl x.1)
 branch_on_has pre false c d g h i p = let x = (h refl).has i p in (x.0, second refl x.1)
 
-pub total_branch_on : {A : Type 0} {pre : ℕ → Type 0} {test : Bool} {c d : Construct A} → (test ≡ true → Total pre c) →
-    (test ≡ false → Total pre d) → Total pre (branch_on test c d)
-total_branch_on {pre = pre} {test = test} {c = c} {d = d} g h = record { has = branch_on_has pre test c d g h }
+pub branch_on_is_total : {A : Type 0} {pre : ℕ → Type 0} {test : Bool} {c d : Construct A} → (test ≡ true → Total pre c)
+    → (test ≡ false → Total pre d) → Total pre (branch_on test c d)
+branch_on_is_total {pre = pre} {test = test} {c = c} {d = d} g h = record { has = branch_on_has pre test c d g h }
 
 -- ---- from a place on
 
@@ -85,77 +85,78 @@ pub record IsTotalRelation (t : List ℕ) (W : ℕ → ℕ → Type 0) : Type 0 
   pub in_text : (i j : ℕ) → i ≤ length t → W i j → j ≤ length t
 
 module _ {t : List ℕ} {s : ℕ} where
-  pub onward_bind : {A B : Type 0} {c : Construct A} {f : A → Construct B} → TotalOnward t s c →
+  pub bind_is_onward : {A B : Type 0} {c : Construct A} {f : A → Construct B} → TotalOnward t s c →
       ((a : A) → TotalOnward t s (f a)) →
       TotalOnward t s (c >>= f)
-  onward_bind x g = record { total = total_bind x.total x.on (λ a. (g a).total); on = holds_bind x.on (λ a. (g a).on) }
+  bind_is_onward x g = record
+      { total = bind_is_total x.total x.on (λ a. (g a).total); on = holds_bind x.on (λ a. (g a).on) }
 
-  pub onward_yields : {A : Type 0} {a : A} → TotalOnward t s (yields a)
-  onward_yields = record { total = total_yields; on = holds_yields (λ i p. p) }
+  pub yields_is_onward : {A : Type 0} {a : A} → TotalOnward t s (yields a)
+  yields_is_onward = record { total = yields_is_total; on = holds_yields (λ i p. p) }
 
-  pub onward_here : TotalOnward t s here
-  onward_here = record { total = total_here; on = holds_here (λ i p. p) }
+  pub here_is_onward : TotalOnward t s here
+  here_is_onward = record { total = here_is_total; on = holds_here (λ i p. p) }
 
-  pub onward_fails : {A : Type 0} {k : Kind} → TotalOnward t s (fails {A = A} k)
-  onward_fails = record { total = total_fails; on = holds_fails (λ i p. tt) }
+  pub fails_is_onward : {A : Type 0} {k : Kind} → TotalOnward t s (fails {A = A} k)
+  fails_is_onward = record { total = fails_is_total; on = holds_fails (λ i p. tt) }
 
-  pub onward_fails_from : {A : Type 0} {k : Kind} {start : ℕ} → TotalOnward t s (fails_from {A = A} k start)
-  onward_fails_from = record { total = total_fails_from; on = holds_fails_from (λ i p. tt) }
+  pub fails_from_is_onward : {A : Type 0} {k : Kind} {start : ℕ} → TotalOnward t s (fails_from {A = A} k start)
+  fails_from_is_onward = record { total = fails_from_is_total; on = holds_fails_from (λ i p. tt) }
 
-  pub onward_skip : {W : ℕ → ℕ → Type 0} → IsTotalRelation t W → TotalOnward t s (skip W)
-  onward_skip w = record {
-    total = total_skip (λ i p. w.exists i p.in_text);
+  pub skip_is_onward : {W : ℕ → ℕ → Type 0} → IsTotalRelation t W → TotalOnward t s (skip W)
+  skip_is_onward w = record {
+    total = skip_is_total (λ i p. w.exists i p.in_text);
     on =
         holds_skip (λ i j p x. let late = p.late in let f = w.forward i j x in
         record { late = omega arith; in_text = w.in_text i j p.in_text x });
   }
 
-  pub onward_peek : {A B : Type 0} {look : ℕ → A} {part : A → Construct B} → ((a : A) → TotalOnward t s (part a)) →
+  pub peek_is_onward : {A B : Type 0} {look : ℕ → A} {part : A → Construct B} → ((a : A) → TotalOnward t s (part a)) →
       TotalOnward t s (peek look part)
-  onward_peek g = record {
-    total = total_peek (λ a. total_weaker (λ i p. p.0) (g a).total);
+  peek_is_onward g = record {
+    total = peek_is_total (λ a. total_weaker (λ i p. p.0) (g a).total);
     on = holds_peek (λ a. holds_weaker (λ i p. p.0) (λ b j x. x) (λ k from to x. x) (g a).on);
   }
 
-  pub onward_branch_on : {A : Type 0} {test : Bool} {c d : Construct A} → TotalOnward t s c → TotalOnward t s d →
+  pub branch_on_is_onward : {A : Type 0} {test : Bool} {c d : Construct A} → TotalOnward t s c → TotalOnward t s d →
       TotalOnward t s (branch_on test c d)
-  onward_branch_on x y =
-      record { total = total_branch_on (λ e. x.total) (λ e. y.total); on = holds_branch_on (λ e. x.on) (λ e. y.on) }
+  branch_on_is_onward x y =
+      record { total = branch_on_is_total (λ e. x.total) (λ e. y.total); on = holds_branch_on (λ e. x.on) (λ e. y.on) }
 
   pub earlier : (i : ℕ) → From t (s + 1) i → From t s i
   earlier i p = let late = p.late in record { late = omega arith; in_text = p.in_text }
 
-  pub onward_strict : {A : Type 0} {c : Construct A} → TotalConsuming t s c → TotalOnward t s c
-  onward_strict x =
+  pub strict_is_onward : {A : Type 0} {c : Construct A} → TotalConsuming t s c → TotalOnward t s c
+  strict_is_onward x =
       record { total = x.total; on = holds_weaker (λ i p. p) (λ a j p. earlier j p) (λ k from to p. p) x.on }
 
-  pub consuming_first : {A B : Type 0} {c : Construct A} {f : A → Construct B} → TotalConsuming t s c →
+  pub bind_is_consuming_by_first : {A B : Type 0} {c : Construct A} {f : A → Construct B} → TotalConsuming t s c →
       ((a : A) → TotalOnward t (s + 1) (f a)) → TotalConsuming t s (c >>= f)
-  consuming_first x g =
-      record { total = total_bind x.total x.on (λ a. (g a).total); on = holds_bind x.on (λ a. (g a).on) }
+  bind_is_consuming_by_first x g =
+      record { total = bind_is_total x.total x.on (λ a. (g a).total); on = holds_bind x.on (λ a. (g a).on) }
 
-  pub consuming_then : {A B : Type 0} {c : Construct A} {f : A → Construct B} → TotalOnward t s c →
+  pub bind_is_consuming_by_rest : {A B : Type 0} {c : Construct A} {f : A → Construct B} → TotalOnward t s c →
       ((a : A) → TotalConsuming t s (f a)) →
       TotalConsuming t s (c >>= f)
-  consuming_then x g =
-      record { total = total_bind x.total x.on (λ a. (g a).total); on = holds_bind x.on (λ a. (g a).on) }
+  bind_is_consuming_by_rest x g =
+      record { total = bind_is_total x.total x.on (λ a. (g a).total); on = holds_bind x.on (λ a. (g a).on) }
 
-  pub consuming_fails : {A : Type 0} {k : Kind} → TotalConsuming t s (fails {A = A} k)
-  consuming_fails = record { total = total_fails; on = holds_fails (λ i p. tt) }
+  pub fails_is_consuming : {A : Type 0} {k : Kind} → TotalConsuming t s (fails {A = A} k)
+  fails_is_consuming = record { total = fails_is_total; on = holds_fails (λ i p. tt) }
 
-  pub consuming_peek : {A B : Type 0} {look : ℕ → A} {part : A → Construct B} →
+  pub peek_is_consuming : {A B : Type 0} {look : ℕ → A} {part : A → Construct B} →
       ((a : A) → TotalConsuming t s (part a)) →
       TotalConsuming t s (peek look part)
-  consuming_peek g = record {
-    total = total_peek (λ a. total_weaker (λ i p. p.0) (g a).total);
+  peek_is_consuming g = record {
+    total = peek_is_total (λ a. total_weaker (λ i p. p.0) (g a).total);
     on = holds_peek (λ a. holds_weaker (λ i p. p.0) (λ b j x. x) (λ k from to x. x) (g a).on);
   }
 
-  pub consuming_branch_on : {A : Type 0} {test : Bool} {c d : Construct A} → TotalConsuming t s c →
+  pub branch_on_is_consuming : {A : Type 0} {test : Bool} {c d : Construct A} → TotalConsuming t s c →
       TotalConsuming t s d →
       TotalConsuming t s (branch_on test c d)
-  consuming_branch_on x y =
-      record { total = total_branch_on (λ e. x.total) (λ e. y.total); on = holds_branch_on (λ e. x.on) (λ e. y.on) }
+  branch_on_is_consuming x y =
+      record { total = branch_on_is_total (λ e. x.total) (λ e. y.total); on = holds_branch_on (λ e. x.on) (λ e. y.on) }
 
 -- ---- lists
 
@@ -173,19 +174,19 @@ pub more_earlier : {A S : Type 0} (t : List ℕ) (s : ℕ) (x : More A S) (j : �
 more_earlier t s no_item j p = earlier j p
 more_earlier t s (item a r) j p = p
 
-pub consuming_item_strict : {A S : Type 0} {t : List ℕ} {s : ℕ} {c : Construct (More A S)} → TotalConsuming t s c →
+pub item_strict_is_consuming : {A S : Type 0} {t : List ℕ} {s : ℕ} {c : Construct (More A S)} → TotalConsuming t s c →
     TotalConsumingItem t s c
-consuming_item_strict {t = t} {s = s} x =
+item_strict_is_consuming {t = t} {s = s} x =
     record { total = x.total; on = holds_weaker (λ i p. p) (more_earlier t s) (λ k from to p. p) x.on }
 
-pub consuming_item_then : {A B S : Type 0} {t : List ℕ} {s : ℕ} {c : Construct A} {f : A → Construct (More B S)} →
+pub bind_is_consuming_item : {A B S : Type 0} {t : List ℕ} {s : ℕ} {c : Construct A} {f : A → Construct (More B S)} →
     TotalOnward t s c →
     ((a : A) → TotalConsumingItem t s (f a)) → TotalConsumingItem t s (c >>= f)
-consuming_item_then x g =
-    record { total = total_bind x.total x.on (λ a. (g a).total); on = holds_bind x.on (λ a. (g a).on) }
+bind_is_consuming_item x g =
+    record { total = bind_is_total x.total x.on (λ a. (g a).total); on = holds_bind x.on (λ a. (g a).on) }
 
-pub past_end : {A : Type 0} {t : List ℕ} {c : Construct A} (s : ℕ) → length t < s → TotalOnward t s c
-past_end s l = record {
+pub none_past_end : {A : Type 0} {t : List ℕ} {c : Construct A} (s : ℕ) → length t < s → TotalOnward t s c
+none_past_end s l = record {
   total = record { has = λ i p. (let late = p.late in let inside = p.in_text in absurd (omega arith)) };
   on =
       record {
@@ -223,9 +224,9 @@ module _ {A S B : Type 0} (t : List ℕ) (next : S → Construct (More A S)) (ad
     }
 
   many_from : (m s : ℕ) → low ≤ s → length t < s + m → (r : S) → TotalOnward t s (many next add none r)
-  many_from zero s l e r = past_end s (omega arith)
+  many_from zero s l e r = none_past_end s (omega arith)
   many_from (suc m) s l e r = one_both s r l (λ r. many_from m (s + 1) (omega arith) (omega arith) r)
 
   -- a list whose items go on, by induction on the bytes that are left
-  pub onward_many : (s : ℕ) → low ≤ s → (r : S) → TotalOnward t s (many next add none r)
-  onward_many s l r = many_from (length t + 1) s l (omega arith) r
+  pub many_is_onward : (s : ℕ) → low ≤ s → (r : S) → TotalOnward t s (many next add none r)
+  many_is_onward s l r = many_from (length t + 1) s l (omega arith) r

@@ -7,10 +7,8 @@ use Rattle.fluent_syntax_tree.specs.Entry.{AttributeTree, EntryTree}
 use Rattle.fluent_syntax_grammar.specs.Grammar.{family}
 use Rattle.fluent_syntax_grammar.specs.Places.{has_byte}
 use Rattle.fluent_syntax_grammar.specs.Construct.{Outcome, Read, Refused, stops, goes_on, given, chosen, branch_on}
-use Rattle.fluent_syntax_grammar.specs.Construct.{first}
-use Rattle.fluent_syntax_grammar.specs.Construct.{second}
-use Rattle.fluent_syntax_grammar.specs.Entries.{attribute_with, message_with, term_with, no_more}
-use Rattle.fluent_syntax_grammar.specs.Entries.{one_more}
+use Rattle.fluent_syntax_grammar.specs.Construct.{first, second}
+use Rattle.fluent_syntax_grammar.specs.Entries.{attribute_with, message_with, term_with, no_more, one_more}
 use Rattle.fluent_syntax_grammar.specs.Comments as comments
 use Rattle.fluent_syntax_grammar.specs.Comments.{hashes, comment_text, comment_rest, comment_line, comment_lines}
 use Rattle.fluent_syntax_grammar.specs.Comments.{other_level, no_comment_line, comment_of, comment_entry}
@@ -19,17 +17,17 @@ use Rattle.fluent_syntax_tree.specs.declared.edition.Edition.{Edition}
 use Rattle.fluent_syntax_tree.specs.declared.spans.Span.{Span}
 use Rattle.fluent_syntax_grammar.proofs.HoareTriple.{holds_skip}
 use Rattle.fluent_syntax_grammar.proofs.SoundStrings.{InText}
-use Rattle.fluent_syntax_grammar.proofs.SoundEntries.{sound_attributes}
-use Rattle.fluent_syntax_grammar.proofs.SoundComments.{after_hashes, line_from}
+use Rattle.fluent_syntax_grammar.proofs.SoundEntries.{attributes_are_sound}
+use Rattle.fluent_syntax_grammar.proofs.SoundComments.{place_after_hashes, line_from}
 use Rattle.fluent_syntax_grammar.proofs.Boundaries.{text_cuts}
 use Rattle.fluent_syntax_grammar.proofs.CommentFaults.{some_hash}
-use Rattle.fluent_syntax_grammar.proofs.Total.{From, TotalOnward, TotalConsuming, total_bind, total_skip, onward_bind}
-use Rattle.fluent_syntax_grammar.proofs.Total.{onward_yields}
-use Rattle.fluent_syntax_grammar.proofs.Total.{onward_here, onward_fails, onward_fails_from, onward_peek, onward_strict}
-use Rattle.fluent_syntax_grammar.proofs.Total.{consuming_first, consuming_then}
-use Rattle.fluent_syntax_grammar.proofs.TotalWords.{on_sound, onward_inline_blank}
-use Rattle.fluent_syntax_grammar.proofs.TotalWords.{onward_blank_block, onward_optional_eol, onward_spanned}
-use Rattle.fluent_syntax_grammar.proofs.TotalWords.{onward_rest_of_line, consuming_token, consuming_identifier}
+use Rattle.fluent_syntax_grammar.proofs.Total.{From, TotalOnward, TotalConsuming, bind_is_total, skip_is_total}
+use Rattle.fluent_syntax_grammar.proofs.Total.{bind_is_onward, yields_is_onward, here_is_onward, fails_is_onward}
+use Rattle.fluent_syntax_grammar.proofs.Total.{fails_from_is_onward, peek_is_onward, strict_is_onward}
+use Rattle.fluent_syntax_grammar.proofs.Total.{bind_is_consuming_by_first, bind_is_consuming_by_rest}
+use Rattle.fluent_syntax_grammar.proofs.TotalWords.{on_sound, inline_blank_is_onward}
+use Rattle.fluent_syntax_grammar.proofs.TotalWords.{blank_block_is_onward, optional_eol_is_onward, spanned_is_onward}
+use Rattle.fluent_syntax_grammar.proofs.TotalWords.{rest_of_line_is_onward, token_is_consuming, identifier_is_consuming}
 use Rattle.fluent_syntax_grammar.proofs.Facts.{equal, unequal}
 use Rattle.std.proofs.Common.{◌-◌}
 use Rattle.std.specs.Prelude.{◌⊎◌}
@@ -41,38 +39,39 @@ use Rattle.fluent_syntax_grammar.specs.Patterns.{pattern}
 use Rattle.fluent_syntax_grammar.specs.Tiling.{entry_in}
 use Rattle.fluent_syntax_grammar.proofs.HoareTriple.{HoareTriple}
 use Rattle.fluent_syntax_grammar.proofs.Included.{IsIncludedFamily}
-use Rattle.fluent_syntax_grammar.proofs.IncludedEntries.{included_attributes}
+use Rattle.fluent_syntax_grammar.proofs.IncludedEntries.{attributes_are_included}
 use Rattle.fluent_syntax_grammar.proofs.Nesting.{within_family}
 use Rattle.fluent_syntax_grammar.proofs.Total.{AnyFault}
 use Rattle.fluent_syntax_grammar.proofs.TotalFamily.{pattern_within}
 
-onward_with : {t : List ℕ} {s : ℕ} (id : Span) (value : Option (PatternTree Span)) →
+with_is_onward : {t : List ℕ} {s : ℕ} (id : Span) (value : Option (PatternTree Span)) →
     TotalOnward t s (attribute_with id value)
-onward_with id None = onward_fails
-onward_with id (Some value) = onward_yields
+with_is_onward id None = fails_is_onward
+with_is_onward id (Some value) = yields_is_onward
 
-onward_message_with :
+message_with_is_onward :
     {s : ℕ} (t : List ℕ) (start : ℕ) (id : Span) (value : Option (PatternTree Span))
     (rest : List (AttributeTree Span)) → TotalOnward t s (message_with t start id value rest)
-onward_message_with t start id None [] = onward_fails_from
-onward_message_with t start id None (a ∷ rest) = onward_yields
-onward_message_with t start id (Some value) rest = onward_yields
+message_with_is_onward t start id None [] = fails_from_is_onward
+message_with_is_onward t start id None (a ∷ rest) = yields_is_onward
+message_with_is_onward t start id (Some value) rest = yields_is_onward
 
-onward_term_with :
+term_with_is_onward :
     {s : ℕ} (t : List ℕ) (start : ℕ) (id : Span) (value : Option (PatternTree Span))
     (rest : List (AttributeTree Span)) → TotalOnward t s (term_with t start id value rest)
-onward_term_with t start id None rest = onward_fails_from
-onward_term_with t start id (Some value) rest = onward_yields
+term_with_is_onward t start id None rest = fails_from_is_onward
+term_with_is_onward t start id (Some value) rest = yields_is_onward
 
 module _ (edition : Edition) (t : List ℕ) (R : Family) (h : IsIncludedFamily R (family edition t)) (low : ℕ)
     (patterns : (s : ℕ) → low ≤ s → TotalOnward t s (pattern edition t R)) where
-  consuming_attribute : (s : ℕ) → low ≤ s → TotalConsuming t s (attribute_of edition t R)
-  consuming_attribute s l =
-      consuming_then (onward_inline_blank t)
-      (λ u. consuming_first (consuming_token t 46)
-      (λ u. onward_bind (onward_strict (consuming_identifier t)) (λ id. onward_bind (onward_inline_blank t) (λ u.
-      onward_bind (onward_strict (consuming_token t 61))
-      (λ u. onward_bind (patterns (s + 1) (omega arith)) (λ value. onward_with id value))))))
+  attribute_is_consuming : (s : ℕ) → low ≤ s → TotalConsuming t s (attribute_of edition t R)
+  attribute_is_consuming s l =
+      bind_is_consuming_by_rest (inline_blank_is_onward t)
+      (λ u. bind_is_consuming_by_first (token_is_consuming t 46)
+      (λ u. bind_is_onward (strict_is_onward (identifier_is_consuming t))
+      (λ id. bind_is_onward (inline_blank_is_onward t) (λ u.
+      bind_is_onward (strict_is_onward (token_is_consuming t 61))
+      (λ u. bind_is_onward (patterns (s + 1) (omega arith)) (λ value. with_is_onward id value))))))
 
   -- a list of attributes, and where it ends
   record Attributes (i : ℕ) : Type 0 where
@@ -84,31 +83,31 @@ module _ (edition : Edition) (t : List ℕ) (R : Family) (h : IsIncludedFamily R
       (o : Outcome (AttributeTree Span)) → attribute_of edition t R i o → Attributes i
   attributes_at i b l more (Refused k from to) x = record { list = []; end = i; read = no_more x }
   attributes_at i b l more (Read a j) x =
-      let p = (consuming_attribute i b).on.on_read i j a (record { late = omega arith; in_text = l }) x in
+      let p = (attribute_is_consuming i b).on.on_read i j a (record { late = omega arith; in_text = l }) x in
       let late = p.late in
       let r = more j (omega arith) p.in_text in
       record { list = a ∷ r.list; end = r.end; read = one_more x r.read }
 
   attributes_exist : (m i : ℕ) → length t ≤ i + m → low ≤ i → i ≤ length t → Attributes i
   attributes_exist zero i a b l =
-      let x = (consuming_attribute i b).total.has i (record { late = omega arith; in_text = l }) in
+      let x = (attribute_is_consuming i b).total.has i (record { late = omega arith; in_text = l }) in
       attributes_at i b l (λ j d c. absurd (omega arith)) x.0 x.1
   attributes_exist (suc m) i a b l =
-      let x = (consuming_attribute i b).total.has i (record { late = omega arith; in_text = l }) in
+      let x = (attribute_is_consuming i b).total.has i (record { late = omega arith; in_text = l }) in
       attributes_at i b l (λ j d c. attributes_exist m j (omega arith) (omega arith) c) x.0 x.1
 
   -- the list goes on as that of the grammar does
   attributes_on : (s : ℕ) → HoareTriple (From t s) (attributes_of edition t R) (λ a j. From t s j) AnyFault
   attributes_on s =
-      let part = included_attributes edition t R (family edition t) h in
-      let whole = on_sound (sound_attributes edition t (InText t) (text_cuts t) {s = s}) in
+      let part = attributes_are_included edition t R (family edition t) h in
+      let whole = on_sound (attributes_are_sound edition t (InText t) (text_cuts t) {s = s}) in
       record {
         on_read = λ i j a p x. whole.on_read i j a p (part.part i _ x);
         on_refused = λ i from to k p x. whole.on_refused i from to k p (part.part i _ x);
       }
 
-  onward_attributes : (s : ℕ) → low ≤ s → TotalOnward t s (attributes_of edition t R)
-  onward_attributes s l = record {
+  attributes_are_onward : (s : ℕ) → low ≤ s → TotalOnward t s (attributes_of edition t R)
+  attributes_are_onward s l = record {
     total =
         record {
           has = λ i p. (let late = p.late in let r =
@@ -118,42 +117,45 @@ module _ (edition : Edition) (t : List ℕ) (R : Family) (h : IsIncludedFamily R
     on = attributes_on s;
   }
 
-  onward_message : (s : ℕ) → low ≤ s → TotalOnward t s (message_of edition t R)
-  onward_message s l =
-      onward_bind onward_here
-      (λ start. onward_bind (onward_strict (consuming_identifier t))
-      (λ id. onward_bind (onward_inline_blank t) (λ u. onward_bind (onward_strict (consuming_token t 61)) (λ u.
-      onward_bind (patterns s l)
-      (λ value. onward_bind (onward_blank_block t)
-      (λ u. onward_bind (onward_attributes s l) (λ rest. onward_message_with t start id value rest)))))))
+  message_is_onward : (s : ℕ) → low ≤ s → TotalOnward t s (message_of edition t R)
+  message_is_onward s l =
+      bind_is_onward here_is_onward
+      (λ start. bind_is_onward (strict_is_onward (identifier_is_consuming t))
+      (λ id. bind_is_onward (inline_blank_is_onward t) (λ u. bind_is_onward (strict_is_onward (token_is_consuming t 61))
+      (λ u.
+      bind_is_onward (patterns s l)
+      (λ value. bind_is_onward (blank_block_is_onward t)
+      (λ u. bind_is_onward (attributes_are_onward s l) (λ rest. message_with_is_onward t start id value rest)))))))
 
-  onward_term : (s : ℕ) → low ≤ s → TotalOnward t s (term_of edition t R)
-  onward_term s l =
-      onward_bind onward_here
-      (λ start. onward_bind (onward_strict (consuming_token t 45))
-      (λ u. onward_bind (onward_strict (consuming_identifier t))
-      (λ id. onward_bind (onward_inline_blank t) (λ u. onward_bind (onward_strict (consuming_token t 61)) (λ u.
-      onward_bind (patterns s l)
-      (λ value. onward_bind (onward_blank_block t)
-      (λ u. onward_bind (onward_attributes s l) (λ rest. onward_term_with t start id value rest))))))))
+  term_is_onward : (s : ℕ) → low ≤ s → TotalOnward t s (term_of edition t R)
+  term_is_onward s l =
+      bind_is_onward here_is_onward
+      (λ start. bind_is_onward (strict_is_onward (token_is_consuming t 45))
+      (λ u. bind_is_onward (strict_is_onward (identifier_is_consuming t))
+      (λ id. bind_is_onward (inline_blank_is_onward t) (λ u. bind_is_onward (strict_is_onward (token_is_consuming t 61))
+      (λ u.
+      bind_is_onward (patterns s l)
+      (λ value. bind_is_onward (blank_block_is_onward t)
+      (λ u. bind_is_onward (attributes_are_onward s l) (λ rest. term_with_is_onward t start id value rest))))))))
 
 module _ (t : List ℕ) where
-  onward_text : {s : ℕ} (eol : Bool) → TotalOnward t s (comment_text t eol)
-  onward_text true = onward_bind onward_here (λ i. onward_spanned t)
-  onward_text false = onward_bind (onward_strict (consuming_token t 32)) (λ u. onward_rest_of_line t)
+  text_is_onward : {s : ℕ} (eol : Bool) → TotalOnward t s (comment_text t eol)
+  text_is_onward true = bind_is_onward here_is_onward (λ i. spanned_is_onward t)
+  text_is_onward false = bind_is_onward (strict_is_onward (token_is_consuming t 32)) (λ u. rest_of_line_is_onward t)
 
-  onward_rest : {s : ℕ} (b : Option ℕ) → TotalOnward t s (comment_rest t b)
-  onward_rest None = onward_yields
-  onward_rest (Some b) =
-      onward_bind (onward_peek onward_text) (λ content. onward_bind (onward_optional_eol t) (λ u. onward_yields))
+  rest_is_onward : {s : ℕ} (b : Option ℕ) → TotalOnward t s (comment_rest t b)
+  rest_is_onward None = yields_is_onward
+  rest_is_onward (Some b) =
+      bind_is_onward (peek_is_onward text_is_onward) (λ content. bind_is_onward (optional_eol_is_onward t)
+      (λ u. yields_is_onward))
 
   line_has : (i level : ℕ) → i ≤ length t → hashes t i ≡ level → (o : Outcome (List Span)) × comment_line t level i o
   line_has i level l e =
-      let inside = after_hashes t (InText t) (text_cuts t) i l in
+      let inside = place_after_hashes t (InText t) (text_cuts t) i l in
       let whole =
-      total_bind {pre = λ j. j ≡ i} {mid = λ u. From t 0} (total_skip (λ j p. (j + level, record { by = refl })))
+      bind_is_total {pre = λ j. j ≡ i} {mid = λ u. From t 0} (skip_is_total (λ j p. (j + level, record { by = refl })))
       (holds_skip (λ j m p w. let by = w.by in record { late = omega arith; in_text = omega arith }))
-      (λ u. (onward_peek onward_rest).total) in
+      (λ u. (peek_is_onward rest_is_onward).total) in
       whole.has i refl
 
   record Lines (level i : ℕ) : Type 0 where
@@ -207,10 +209,11 @@ module _ (edition : Edition) (t : List ℕ) (R : Family) (h : IsIncludedFamily R
   entry_other : (i b : ℕ) (minus : Bool) → low ≤ i → i ≤ length t → (b == 45) ≡ minus → (o : Outcome (EntryTree Span)) ×
       branch_on (b == 45) (term_of edition t R) (message_of edition t R) i o
   entry_other i b true g l e =
-      let x = (onward_term edition t R h low patterns i g).total.has i (record { late = omega arith; in_text = l }) in
+      let x = (term_is_onward edition t R h low patterns i g).total.has i (record { late = omega arith; in_text = l })
+          in
       (x.0, first e x.1)
   entry_other i b false g l e =
-      let x = (onward_message edition t R h low patterns i g).total.has i
+      let x = (message_is_onward edition t R h low patterns i g).total.has i
       (record { late = omega arith; in_text = l }) in
       (x.0, second e x.1)
 
@@ -222,7 +225,7 @@ module _ (edition : Edition) (t : List ℕ) (R : Family) (h : IsIncludedFamily R
   entry_has_of : (i : ℕ) (o : Option ℕ) → low ≤ i → i ≤ length t → slice_get t i ≡ o → (p : Outcome (EntryTree Span)) ×
       entry_of edition t R o i p
   entry_has_of i None g l e =
-      (onward_message edition t R h low patterns i g).total.has i (record { late = omega arith; in_text = l })
+      (message_is_onward edition t R h low patterns i g).total.has i (record { late = omega arith; in_text = l })
   entry_has_of i (Some b) g l e = entry_choice i b (b == 35) g l e refl
 
   pub entry_has : (i : ℕ) → low ≤ i → i ≤ length t → (o : Outcome (EntryTree Span)) × entry_in edition t R i o
@@ -256,7 +259,8 @@ module _ (edition : Edition) (t : List ℕ) (n i : ℕ) (l : i ≤ length t) whe
       elim (less_or_not n (length t - i)) [
         | inl e ↦ e
         | inr e ↦ (
-            let all = consuming_attribute edition t (within edition t n) (within_family edition t n) i (patterns_left e)
+            let all = attribute_is_consuming edition t (within edition t n) (within_family edition t n) i
+                (patterns_left e)
             i (omega arith) in
             let has = all.total.has i (record { late = omega arith; in_text = l }) in
             absurd (d has.0 has.1)

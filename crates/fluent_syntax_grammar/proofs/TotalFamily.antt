@@ -16,46 +16,43 @@ use Rattle.fluent_syntax_grammar.specs.Layout.{Line, Layout}
 use Rattle.fluent_syntax_grammar.specs.Lines.{belongs, line, next_line, more_lines, no_byte, other_line, own_line}
 use Rattle.fluent_syntax_grammar.specs.Patterns.{layout_at, layout, pattern}
 use Rattle.fluent_syntax_grammar.specs.Expressions.{arrow_line_end, expression, has_arrow, is_term_attribute}
-use Rattle.fluent_syntax_grammar.specs.Expressions.{select_with}
-use Rattle.fluent_syntax_grammar.specs.Expressions.{selector_fault, variants_of_select}
+use Rattle.fluent_syntax_grammar.specs.Expressions.{select_with, selector_fault, variants_of_select}
 use Rattle.fluent_syntax_grammar.specs.Variants.{only_star, variants_end, variant_of, variant_after, next_variant}
 use Rattle.fluent_syntax_grammar.specs.Variants.{more_variants}
 use Rattle.fluent_syntax_tree.specs.declared.edition.Edition.{Edition}
 use Rattle.fluent_syntax_tree.specs.declared.spans.Span.{Span}
 use Rattle.fluent_syntax_grammar.proofs.Functional.{longest_run_functional}
 use Rattle.fluent_syntax_grammar.proofs.HoareTriple.{HoareTriple, gave, holds_weaker, holds_bind, holds_yields}
-use Rattle.fluent_syntax_grammar.proofs.HoareTriple.{holds_fails}
-use Rattle.fluent_syntax_grammar.proofs.HoareTriple.{holds_skip, holds_peek, holds_branch_on}
+use Rattle.fluent_syntax_grammar.proofs.HoareTriple.{holds_fails, holds_skip, holds_peek, holds_branch_on}
 use Rattle.fluent_syntax_grammar.proofs.Cuts.{eol_forward, eol_text}
 use Rattle.fluent_syntax_grammar.proofs.Facts.{has_inside, right_true}
 use Rattle.fluent_syntax_grammar.proofs.SoundStrings.{InText}
-use Rattle.fluent_syntax_grammar.proofs.SoundLines.{sound_family}
+use Rattle.fluent_syntax_grammar.proofs.SoundLines.{family_is_sound}
 use Rattle.fluent_syntax_grammar.proofs.Boundaries.{text_cuts}
-use Rattle.fluent_syntax_grammar.proofs.Total.{From, AnyFault, Total, TotalOnward, total_bind, total_weaker}
-use Rattle.fluent_syntax_grammar.proofs.Total.{total_yields}
-use Rattle.fluent_syntax_grammar.proofs.Total.{total_fails, total_skip, total_peek, total_branch_on, onward_bind}
-use Rattle.fluent_syntax_grammar.proofs.Total.{onward_yields, onward_here, onward_fails, onward_branch_on}
-use Rattle.fluent_syntax_grammar.proofs.Total.{onward_strict, more_on}
-use Rattle.fluent_syntax_grammar.proofs.Total.{more_earlier, TotalConsumingItem, consuming_item_then, past_end}
-use Rattle.fluent_syntax_grammar.proofs.Total.{onward_many}
-use Rattle.fluent_syntax_grammar.proofs.TotalWords.{total_onward_blank, onward_blank_block, onward_inline_blank}
-use Rattle.fluent_syntax_grammar.proofs.TotalWords.{onward_optional}
-use Rattle.fluent_syntax_grammar.proofs.TotalWords.{on_sound, optional_on, consuming_token, total_optional}
-use Rattle.fluent_syntax_grammar.proofs.TotalWords.{word_of}
-use Rattle.fluent_syntax_grammar.proofs.TotalRules.{TotalOnwardFamily, onward_key, onward_arrow, onward_ending}
-use Rattle.fluent_syntax_grammar.proofs.TotalRules.{consuming_inline}
-use Rattle.fluent_syntax_grammar.proofs.TotalRules.{onward_arguments, onward_pieces, more_read, ending_after}
+use Rattle.fluent_syntax_grammar.proofs.Total.{From, AnyFault, Total, TotalOnward, bind_is_total, total_weaker}
+use Rattle.fluent_syntax_grammar.proofs.Total.{yields_is_total, fails_is_total, skip_is_total, peek_is_total}
+use Rattle.fluent_syntax_grammar.proofs.Total.{branch_on_is_total, bind_is_onward, yields_is_onward, here_is_onward}
+use Rattle.fluent_syntax_grammar.proofs.Total.{fails_is_onward, branch_on_is_onward, strict_is_onward, more_on}
+use Rattle.fluent_syntax_grammar.proofs.Total.{more_earlier, TotalConsumingItem, bind_is_consuming_item, none_past_end}
+use Rattle.fluent_syntax_grammar.proofs.Total.{many_is_onward}
+use Rattle.fluent_syntax_grammar.proofs.TotalWords.{blank_is_total_onward, blank_block_is_onward}
+use Rattle.fluent_syntax_grammar.proofs.TotalWords.{inline_blank_is_onward, optional_is_onward, on_sound, optional_on}
+use Rattle.fluent_syntax_grammar.proofs.TotalWords.{token_is_consuming, optional_is_total, word_of}
+use Rattle.fluent_syntax_grammar.proofs.TotalRules.{TotalOnwardFamily, key_is_onward, arrow_is_onward, ending_is_onward}
+use Rattle.fluent_syntax_grammar.proofs.TotalRules.{inline_is_consuming}
+use Rattle.fluent_syntax_grammar.proofs.TotalRules.{arguments_are_onward, pieces_are_onward, more_read, ending_after}
 
 -- from a place on, over a family that has outcomes from there on
 module _ (edition : Edition) (t : List ℕ) (R : Family) (low : ℕ) (h : (s : ℕ) → low ≤ s → TotalOnwardFamily t s R) where
   -- ---- lines
 
-  total_onward_line : (s : ℕ) → low ≤ s + 1 → TotalOnward t s (line t R)
-  total_onward_line s l =
-      onward_bind onward_here
-      (λ start. onward_bind (onward_inline_blank t)
-      (λ u. onward_bind onward_here
-      (λ first. onward_bind (onward_pieces t R low h s l) (λ ps. onward_bind (onward_ending t) (λ e. onward_yields)))))
+  line_is_total_onward : (s : ℕ) → low ≤ s + 1 → TotalOnward t s (line t R)
+  line_is_total_onward s l =
+      bind_is_onward here_is_onward
+      (λ start. bind_is_onward (inline_blank_is_onward t)
+      (λ u. bind_is_onward here_is_onward
+      (λ first. bind_is_onward (pieces_are_onward t R low h s l) (λ ps. bind_is_onward (ending_is_onward t)
+      (λ e. yields_is_onward)))))
 
   line_on : (s : ℕ) → low ≤ s + 1 → (i j k b : ℕ) (x : Line) → From t s i → InlineBlank t i k →
       slice_get t k ≡ Some b → line t R i (Read x j) → From t (s + 1) j
@@ -76,7 +73,8 @@ module _ (edition : Edition) (t : List ℕ) (R : Family) (low : ℕ) (h : (s : �
       (line t R >>= λ x. yields (item x tt)) i o
   own_total s l i p =
       let whole =
-      total_bind (total_onward_line s l).total (total_onward_line s l).on (λ x. total_yields {a = item x tt}) in
+      bind_is_total (line_is_total_onward s l).total (line_is_total_onward s l).on
+          (λ x. yields_is_total {a = item x tt}) in
       whole.has i p
 
   lines_own : (s : ℕ) → low ≤ s + 1 → (i k b : ℕ) (own : Bool) → From t s i → InlineBlank t i k →
@@ -100,8 +98,8 @@ module _ (edition : Edition) (t : List ℕ) (R : Family) (low : ℕ) (h : (s : �
       subst (λ x. more_on t s x j) same.0
       (subst (λ j. From t (s + 1) j) same.1 (line_on s l i m k b y p w e z))
 
-  consuming_item_line : (s : ℕ) → low ≤ s + 1 → TotalConsumingItem t s (next_line t R)
-  consuming_item_line s l = record {
+  item_line_is_consuming : (s : ℕ) → low ≤ s + 1 → TotalConsumingItem t s (next_line t R)
+  item_line_is_consuming s l = record {
     total =
         record {
           has =
@@ -111,22 +109,23 @@ module _ (edition : Edition) (t : List ℕ) (R : Family) (low : ℕ) (h : (s : �
     on = record { on_read = next_line_on s l; on_refused = λ i from to k p x. tt };
   }
 
-  onward_lines : (s : ℕ) → low ≤ s + 1 → TotalOnward t s (more_lines t R)
-  onward_lines s l =
-      onward_many t (λ u. next_line t R) _ _ s (λ m k u. consuming_item_line m (omega arith)) s (omega arith) tt
+  lines_are_onward : (s : ℕ) → low ≤ s + 1 → TotalOnward t s (more_lines t R)
+  lines_are_onward s l =
+      many_is_onward t (λ u. next_line t R) _ _ s (λ m k u. item_line_is_consuming m (omega arith)) s (omega arith) tt
 
   -- ---- patterns and variants
 
   layout_rest : (s : ℕ) → low ≤ s + 1 →
       TotalOnward {A = Layout} t s
       (blank_block t >>= λ u. more_lines t R >>= λ ls. yields (record { opening = None; lines = ls }))
-  layout_rest s l = onward_bind (onward_blank_block t) (λ u. onward_bind (onward_lines s l) (λ ls. onward_yields))
+  layout_rest s l = bind_is_onward (blank_block_is_onward t) (λ u. bind_is_onward (lines_are_onward s l)
+      (λ ls. yields_is_onward))
 
   layout_open : (s : ℕ) → low ≤ s + 1 → TotalOnward t s (layout_at t R None)
   layout_open s l =
-      onward_bind onward_here
-      (λ start. onward_bind (onward_pieces t R low h s l)
-      (λ ps. onward_bind (onward_ending t) (λ e. onward_bind (onward_lines s l) (λ ls. onward_yields))))
+      bind_is_onward here_is_onward
+      (λ start. bind_is_onward (pieces_are_onward t R low h s l)
+      (λ ps. bind_is_onward (ending_is_onward t) (λ e. bind_is_onward (lines_are_onward s l) (λ ls. yields_is_onward))))
 
   reach : (s k i j : ℕ) → From t s i × (after_eol t i ≡ Some k) → j ≡ k → From t s j
   reach s k i j p e = let q = p.0 in let late = q.late in let f = eol_forward t i k p.1 in
@@ -136,7 +135,7 @@ module _ (edition : Edition) (t : List ℕ) (R : Family) (low : ℕ) (h : (s : �
       Total (λ i. From t s i × (after_eol t i ≡ o)) (layout_at t R o)
   layout_total s l None = total_weaker (λ i p. p.0) (layout_open s l).total
   layout_total s l (Some k) =
-      total_bind {mid = λ u. From t s} (total_skip (λ i p. (k, record { there = refl })))
+      bind_is_total {mid = λ u. From t s} (skip_is_total (λ i p. (k, record { there = refl })))
       (holds_skip (λ i j p w. reach s k i j p w.there)) (λ u. (layout_rest s l).total)
 
   layout_on : (s : ℕ) → low ≤ s + 1 → (o : Option ℕ) →
@@ -145,27 +144,27 @@ module _ (edition : Edition) (t : List ℕ) (R : Family) (low : ℕ) (h : (s : �
   layout_on s l (Some k) =
       holds_bind {mid = λ u. From t s} (holds_skip (λ i j p w. reach s k i j p w.there)) (λ u. (layout_rest s l).on)
 
-  onward_layout : (s : ℕ) → low ≤ s + 1 → TotalOnward t s (layout t R)
-  onward_layout s l =
-      onward_bind (onward_inline_blank t)
-      (λ u. record { total = total_peek (layout_total s l); on = holds_peek (layout_on s l) })
+  layout_is_onward : (s : ℕ) → low ≤ s + 1 → TotalOnward t s (layout t R)
+  layout_is_onward s l =
+      bind_is_onward (inline_blank_is_onward t)
+      (λ u. record { total = peek_is_total (layout_total s l); on = holds_peek (layout_on s l) })
 
-  pub onward_pattern : (s : ℕ) → low ≤ s + 1 → TotalOnward t s (pattern edition t R)
-  onward_pattern s l = onward_bind (onward_layout s l) (λ y. onward_yields)
+  pub pattern_is_onward : (s : ℕ) → low ≤ s + 1 → TotalOnward t s (pattern edition t R)
+  pattern_is_onward s l = bind_is_onward (layout_is_onward s l) (λ y. yields_is_onward)
 
-  onward_variant_of : (s : ℕ) (starred star : Bool) (key : KeyTree Span) (p : Option (PatternTree Span)) →
+  variant_of_is_onward : (s : ℕ) (starred star : Bool) (key : KeyTree Span) (p : Option (PatternTree Span)) →
       TotalOnward t s (variant_of t starred star key p)
-  onward_variant_of s starred star key None = onward_fails
-  onward_variant_of s starred star key (Some p) = onward_bind (total_onward_blank t) (λ u. onward_yields)
+  variant_of_is_onward s starred star key None = fails_is_onward
+  variant_of_is_onward s starred star key (Some p) = bind_is_onward (blank_is_total_onward t) (λ u. yields_is_onward)
 
-  onward_after : (s : ℕ) → low ≤ s + 1 → (starred star : Bool) →
+  after_is_onward : (s : ℕ) → low ≤ s + 1 → (starred star : Bool) →
       TotalOnward t s (variant_after edition t R starred star)
-  onward_after s l starred star =
-      onward_bind (total_onward_blank t)
-      (λ u. onward_bind (onward_key t)
-      (λ key. onward_bind (total_onward_blank t)
-      (λ u. onward_bind (onward_strict (consuming_token t 93))
-      (λ u. onward_bind (onward_pattern s l) (λ value. onward_variant_of s starred star key value)))))
+  after_is_onward s l starred star =
+      bind_is_onward (blank_is_total_onward t)
+      (λ u. bind_is_onward (key_is_onward t)
+      (λ key. bind_is_onward (blank_is_total_onward t)
+      (λ u. bind_is_onward (strict_is_onward (token_is_consuming t 93))
+      (λ u. bind_is_onward (pattern_is_onward s l) (λ value. variant_of_is_onward s starred star key value)))))
 
   end_on : (s : ℕ) (starred star : Bool) →
       HoareTriple (From t s) (variants_end edition starred star) (more_on {S = Bool} t s) AnyFault
@@ -177,29 +176,31 @@ module _ (edition : Edition) (t : List ℕ) (R : Family) (low : ℕ) (h : (s : �
       optional t 91 >>= λ bracket.
       branch_on bracket (variant_after edition t R starred star) (variants_end edition starred star)
 
-  consuming_item_bracket : (s : ℕ) → low ≤ s + 1 → (starred star : Bool) → TotalConsumingItem t s (Bracket starred star)
-  consuming_item_bracket s l starred star = record {
-    total = total_bind (total_optional t 91) (optional_on t s 91) (λ bracket. total_branch_on
-        (λ e. total_weaker (λ i p. p.past e) (onward_after (s + 1) (omega arith) starred star).total)
-        (λ e. total_branch_on (λ y. total_yields) (λ y. total_fails)));
+  item_bracket_is_consuming : (s : ℕ) → low ≤ s + 1 → (starred star : Bool) → TotalConsumingItem t s
+      (Bracket starred star)
+  item_bracket_is_consuming s l starred star = record {
+    total = bind_is_total (optional_is_total t 91) (optional_on t s 91) (λ bracket. branch_on_is_total
+        (λ e. total_weaker (λ i p. p.past e) (after_is_onward (s + 1) (omega arith) starred star).total)
+        (λ e. branch_on_is_total (λ y. yields_is_total) (λ y. fails_is_total)));
     on = holds_bind (optional_on t s 91) (λ bracket. holds_branch_on
         (λ e. holds_weaker (λ i p. p.past e) (more_earlier t s) (λ k from to x. x)
-        (onward_after (s + 1) (omega arith) starred star).on)
+        (after_is_onward (s + 1) (omega arith) starred star).on)
         (λ e. holds_weaker (λ i p. p.at) (λ a j x. x) (λ k from to x. x) (end_on s starred star)));
   }
 
-  onward_only : (s : ℕ) (starred star : Bool) → TotalOnward t s (only_star starred star)
-  onward_only s starred star = onward_branch_on onward_fails onward_yields
+  only_is_onward : (s : ℕ) (starred star : Bool) → TotalOnward t s (only_star starred star)
+  only_is_onward s starred star = branch_on_is_onward fails_is_onward yields_is_onward
 
-  consuming_item_variant : (s : ℕ) → low ≤ s + 1 → (starred : Bool) →
+  item_variant_is_consuming : (s : ℕ) → low ≤ s + 1 → (starred : Bool) →
       TotalConsumingItem t s (next_variant edition t R starred)
-  consuming_item_variant s l starred =
-      consuming_item_then (onward_optional t 42)
-      (λ star. consuming_item_then (onward_only s starred star) (λ u. consuming_item_bracket s l starred star))
+  item_variant_is_consuming s l starred =
+      bind_is_consuming_item (optional_is_onward t 42)
+      (λ star. bind_is_consuming_item (only_is_onward s starred star) (λ u. item_bracket_is_consuming s l starred star))
 
-  onward_variants : (s : ℕ) → low ≤ s + 1 → (starred : Bool) → TotalOnward t s (more_variants edition t R starred)
-  onward_variants s l starred =
-      onward_many t (next_variant edition t R) _ _ s (λ m k starred. consuming_item_variant m (omega arith) starred) s
+  variants_are_onward : (s : ℕ) → low ≤ s + 1 → (starred : Bool) → TotalOnward t s (more_variants edition t R starred)
+  variants_are_onward s l starred =
+      many_is_onward t (next_variant edition t R) _ _ s (λ m k starred. item_variant_is_consuming m (omega arith)
+      starred) s
       (omega arith)
       starred
 
@@ -223,12 +224,13 @@ module _ (edition : Edition) (t : List ℕ) (R : Family) (low : ℕ) (h : (s : �
       (inline_blank t >>= λ u. peek (after_eol t) arrow_line_end >>= λ u. blank t >>= λ u.
       more_variants edition t R false)
   after_two s l =
-      onward_bind (onward_inline_blank t)
-      (λ u. onward_bind (onward_arrow t) (λ u. onward_bind (total_onward_blank t) (λ u. onward_variants s l false)))
+      bind_is_onward (inline_blank_is_onward t)
+      (λ u. bind_is_onward (arrow_is_onward t) (λ u. bind_is_onward (blank_is_total_onward t)
+      (λ u. variants_are_onward s l false)))
 
   variants_total : (s : ℕ) → low ≤ s + 1 → Total (AtArrow s true) (variants_of_select edition t R)
   variants_total s l =
-      total_bind (total_skip (λ i p. (i + 2, record { by = refl }))) (holds_skip (after_arrow s))
+      bind_is_total (skip_is_total (λ i p. (i + 2, record { by = refl }))) (holds_skip (after_arrow s))
       (λ u. (after_two s l).total)
 
   variants_on : (s : ℕ) → low ≤ s + 1 →
@@ -237,8 +239,8 @@ module _ (edition : Edition) (t : List ℕ) (R : Family) (low : ℕ) (h : (s : �
 
   select_total : (s : ℕ) → low ≤ s + 1 → (e : InlineTree Span) (o : Option Kind) →
       Total (AtArrow s true) (select_with edition t R e o)
-  select_total s l e None = total_bind (variants_total s l) (variants_on s l) (λ vs. total_yields)
-  select_total s l e (Some k) = total_fails
+  select_total s l e None = bind_is_total (variants_total s l) (variants_on s l) (λ vs. yields_is_total)
+  select_total s l e (Some k) = fails_is_total
 
   select_on : (s : ℕ) → low ≤ s + 1 → (e : InlineTree Span) (o : Option Kind) →
       HoareTriple (AtArrow s true) (select_with edition t R e o) (λ x. From t s) AnyFault
@@ -247,7 +249,7 @@ module _ (edition : Edition) (t : List ℕ) (R : Family) (low : ℕ) (h : (s : �
 
   no_select : (s : ℕ) (e : InlineTree Span) →
       TotalOnward t s (branch_on (is_term_attribute e) (fails TermAttributeAsPlaceable) (yields (inline e)))
-  no_select s e = onward_branch_on onward_fails onward_yields
+  no_select s e = branch_on_is_onward fails_is_onward yields_is_onward
 
   abbrev AfterBlank : InlineTree Span → Bool → Construct (ExpressionTree Span)
   AfterBlank e arrow =
@@ -258,8 +260,9 @@ module _ (edition : Edition) (t : List ℕ) (R : Family) (low : ℕ) (h : (s : �
       TotalOnward t s (peek (has_arrow t) yields >>= λ arrow. AfterBlank e arrow)
   arrow_at s l e = record {
     total =
-        total_bind {mid = AtArrow s} (total_peek (λ a. total_yields)) (holds_peek (λ a. holds_yields (λ i p. p)))
-        (λ arrow. total_branch_on
+        bind_is_total {mid = AtArrow s} (peek_is_total (λ a. yields_is_total))
+            (holds_peek (λ a. holds_yields (λ i p. p)))
+        (λ arrow. branch_on_is_total
         (λ y. total_weaker (λ i p. (p.0, p.1 ∙ y)) (select_total s l e (selector_fault e)))
         (λ y. total_weaker (λ i p. p.0) (no_select s e).total));
     on = holds_bind {mid = AtArrow s} (holds_peek (λ a. holds_yields (λ i p. p))) (λ arrow. holds_branch_on
@@ -268,23 +271,23 @@ module _ (edition : Edition) (t : List ℕ) (R : Family) (low : ℕ) (h : (s : �
         (λ y. holds_weaker (λ i p. p.0) (λ a j x. x) (λ k from to x. x) (no_select s e).on));
   }
 
-  pub onward_expression : (s : ℕ) → low ≤ s + 1 → TotalOnward t s (expression edition t R)
-  onward_expression s l =
-      onward_bind (onward_strict (consuming_inline t R low h s l))
-      (λ e. onward_bind (total_onward_blank t) (λ u. arrow_at s l e))
+  pub expression_is_onward : (s : ℕ) → low ≤ s + 1 → TotalOnward t s (expression edition t R)
+  expression_is_onward s l =
+      bind_is_onward (strict_is_onward (inline_is_consuming t R low h s l))
+      (λ e. bind_is_onward (blank_is_total_onward t) (λ u. arrow_at s l e))
 
 -- ---- the family
 
 module _ (edition : Edition) (t : List ℕ) where
   nothing_left : (s : ℕ) → length t < s → TotalOnwardFamily t s (within edition t zero)
-  nothing_left s l = record { expression = past_end s l; argument_list = past_end s l }
+  nothing_left s l = record { expression = none_past_end s l; argument_list = none_past_end s l }
 
   next_has : (n s : ℕ) → ((m : ℕ) → s + 1 ≤ m → TotalOnwardFamily t m (within edition t n)) →
       TotalOnwardFamily t s (within edition t (suc n))
   unfolding within
   next_has n s h = record {
-    expression = onward_expression edition t (within edition t n) (s + 1) h s (omega arith);
-    argument_list = onward_arguments t (within edition t n) (s + 1) h s (omega arith) [];
+    expression = expression_is_onward edition t (within edition t n) (s + 1) h s (omega arith);
+    argument_list = arguments_are_onward t (within edition t n) (s + 1) h s (omega arith) [];
   }
 
   -- What nests no deeper than a number has an outcome at each place after which no more bytes are left than the
@@ -296,14 +299,14 @@ module _ (edition : Edition) (t : List ℕ) where
   -- so a pattern has
   pub pattern_within : (n s : ℕ) → length t ≤ s + n → TotalOnward t s (pattern edition t (within edition t n))
   pattern_within n s l =
-      onward_pattern edition t (within edition t n) (s + 1) (λ m k. within_has n m (omega arith)) s (omega arith)
+      pattern_is_onward edition t (within edition t n) (s + 1) (λ m k. within_has n m (omega arith)) s (omega arith)
 
   -- what nests has an outcome at each place of the text
-  onward_family : (s : ℕ) → TotalOnwardFamily t s (family edition t)
+  family_is_onward : (s : ℕ) → TotalOnwardFamily t s (family edition t)
   unfolding family
-  onward_family s =
+  family_is_onward s =
       let w = within_has (length t + 1) s (omega arith) in
-      let u = sound_family edition t (InText t) (text_cuts t) in
+      let u = family_is_sound edition t (InText t) (text_cuts t) in
       record {
         expression = record {
           total = record { has = λ i p. (let x = w.expression.total.has i p in (x.0, (length t + 1, x.1))) };
@@ -317,4 +320,5 @@ module _ (edition : Edition) (t : List ℕ) where
 
   -- a pattern has an outcome at each place of the text
   pub pattern_everywhere : {s : ℕ} → TotalOnward t s (grammar.pattern edition t)
-  pattern_everywhere {s = s} = onward_pattern edition t (family edition t) 0 (λ s l. onward_family s) s (omega arith)
+  pattern_everywhere {s = s} = pattern_is_onward edition t (family edition t) 0 (λ s l. family_is_onward s) s
+      (omega arith)

@@ -22,24 +22,22 @@ use Rattle.fluent_syntax_grammar.specs.Lines.{more_pieces}
 use Rattle.fluent_syntax_grammar.specs.Variants.{variant_key}
 use Rattle.fluent_syntax_tree.specs.declared.spans.Span.{Span}
 use Rattle.fluent_syntax_grammar.proofs.HoareTriple.{HoareTriple, gave, holds_weaker, holds_bind, holds_yields}
-use Rattle.fluent_syntax_grammar.proofs.HoareTriple.{holds_here}
-use Rattle.fluent_syntax_grammar.proofs.HoareTriple.{holds_fails, holds_skip, holds_peek, holds_branch_on}
+use Rattle.fluent_syntax_grammar.proofs.HoareTriple.{holds_here, holds_fails, holds_skip, holds_peek, holds_branch_on}
 use Rattle.fluent_syntax_grammar.proofs.Cuts.{eol_forward, eol_text}
 use Rattle.fluent_syntax_grammar.proofs.SoundStrings.{InText}
 use Rattle.fluent_syntax_grammar.proofs.SoundLines.{ending_holds}
 use Rattle.fluent_syntax_grammar.proofs.Boundaries.{text_cuts}
-use Rattle.fluent_syntax_grammar.proofs.Total.{From, AnyFault, Total, TotalOnward, TotalConsuming, total_bind}
-use Rattle.fluent_syntax_grammar.proofs.Total.{total_weaker}
-use Rattle.fluent_syntax_grammar.proofs.Total.{total_yields, total_here, total_fails, total_skip, total_peek}
-use Rattle.fluent_syntax_grammar.proofs.Total.{total_branch_on, onward_bind, onward_yields, onward_here, onward_fails}
-use Rattle.fluent_syntax_grammar.proofs.Total.{onward_peek}
-use Rattle.fluent_syntax_grammar.proofs.Total.{onward_branch_on, onward_strict, consuming_first, consuming_fails}
-use Rattle.fluent_syntax_grammar.proofs.Total.{consuming_peek}
-use Rattle.fluent_syntax_grammar.proofs.Total.{consuming_branch_on, TotalConsumingItem, more_on, more_earlier}
-use Rattle.fluent_syntax_grammar.proofs.Total.{consuming_item_strict, onward_many}
-use Rattle.fluent_syntax_grammar.proofs.TotalWords.{total_onward_blank, onward_inline_blank, onward_optional, run_word}
-use Rattle.fluent_syntax_grammar.proofs.TotalWords.{consuming_identifier, consuming_number, consuming_string}
-use Rattle.fluent_syntax_grammar.proofs.TotalWords.{consuming_token}
+use Rattle.fluent_syntax_grammar.proofs.Total.{From, AnyFault, Total, TotalOnward, TotalConsuming, bind_is_total}
+use Rattle.fluent_syntax_grammar.proofs.Total.{total_weaker, yields_is_total, here_is_total, fails_is_total}
+use Rattle.fluent_syntax_grammar.proofs.Total.{skip_is_total, peek_is_total, branch_on_is_total, bind_is_onward}
+use Rattle.fluent_syntax_grammar.proofs.Total.{yields_is_onward, here_is_onward, fails_is_onward, peek_is_onward}
+use Rattle.fluent_syntax_grammar.proofs.Total.{branch_on_is_onward, strict_is_onward, bind_is_consuming_by_first}
+use Rattle.fluent_syntax_grammar.proofs.Total.{fails_is_consuming, peek_is_consuming, branch_on_is_consuming}
+use Rattle.fluent_syntax_grammar.proofs.Total.{TotalConsumingItem, more_on, more_earlier, item_strict_is_consuming}
+use Rattle.fluent_syntax_grammar.proofs.Total.{many_is_onward}
+use Rattle.fluent_syntax_grammar.proofs.TotalWords.{blank_is_total_onward, inline_blank_is_onward, optional_is_onward}
+use Rattle.fluent_syntax_grammar.proofs.TotalWords.{run_word, identifier_is_consuming, number_is_consuming}
+use Rattle.fluent_syntax_grammar.proofs.TotalWords.{string_is_consuming, token_is_consuming}
 use Rattle.fluent_syntax_grammar.proofs.Facts.{differs, longest_run_nonempty}
 
 -- each construct of the family has an outcome at each place from s on
@@ -47,33 +45,35 @@ pub record TotalOnwardFamily (t : List ℕ) (s : ℕ) (R : Family) : Type 0 wher
   pub expression : TotalOnward t s R.expression
   pub argument_list : TotalOnward t s R.argument_list
 
-onward_look : {A : Type 0} {t : List ℕ} {s : ℕ} {look : ℕ → A} → TotalOnward t s (peek look yields)
-onward_look = onward_peek (λ a. onward_yields)
+look_is_onward : {A : Type 0} {t : List ℕ} {s : ℕ} {look : ℕ → A} → TotalOnward t s (peek look yields)
+look_is_onward = peek_is_onward (λ a. yields_is_onward)
 
 module _ (t : List ℕ) where
-  onward_accessor : {s : ℕ} → TotalOnward t s (accessor t)
-  onward_accessor =
-      onward_bind (onward_optional t 46)
-      (λ dot. onward_branch_on (onward_bind (onward_strict (consuming_identifier t)) (λ a. onward_yields))
-      onward_yields)
+  accessor_is_onward : {s : ℕ} → TotalOnward t s (accessor t)
+  accessor_is_onward =
+      bind_is_onward (optional_is_onward t 46)
+      (λ dot. branch_on_is_onward (bind_is_onward (strict_is_onward (identifier_is_consuming t))
+      (λ a. yields_is_onward))
+      yields_is_onward)
 
-  onward_separator : {s : ℕ} → TotalOnward t s (separator t)
-  onward_separator =
-      onward_bind (total_onward_blank t) (λ u. onward_bind (onward_optional t 44) (λ u. total_onward_blank t))
+  separator_is_onward : {s : ℕ} → TotalOnward t s (separator t)
+  separator_is_onward =
+      bind_is_onward (blank_is_total_onward t) (λ u. bind_is_onward (optional_is_onward t 44)
+      (λ u. blank_is_total_onward t))
 
-  onward_named : {s : ℕ} (id : Span) (a : MaybeArguments Span) → TotalOnward t s (named_reference t id a)
-  onward_named id no_arguments = onward_bind onward_accessor (λ a. onward_yields)
-  onward_named id (some_arguments a) = onward_branch_on onward_yields onward_fails
+  named_is_onward : {s : ℕ} (id : Span) (a : MaybeArguments Span) → TotalOnward t s (named_reference t id a)
+  named_is_onward id no_arguments = bind_is_onward accessor_is_onward (λ a. yields_is_onward)
+  named_is_onward id (some_arguments a) = branch_on_is_onward yields_is_onward fails_is_onward
 
-  pub onward_key : {s : ℕ} → TotalOnward t s (variant_key t)
-  onward_key =
-      onward_peek (λ n.
-      onward_branch_on (onward_bind (onward_strict (consuming_number t)) (λ v. onward_yields))
-      (onward_bind (onward_strict (consuming_identifier t)) (λ v. onward_yields)))
+  pub key_is_onward : {s : ℕ} → TotalOnward t s (variant_key t)
+  key_is_onward =
+      peek_is_onward (λ n.
+      branch_on_is_onward (bind_is_onward (strict_is_onward (number_is_consuming t)) (λ v. yields_is_onward))
+      (bind_is_onward (strict_is_onward (identifier_is_consuming t)) (λ v. yields_is_onward)))
 
   arrow_total : (s : ℕ) (o : Option ℕ) → Total (λ i. From t s i × (after_eol t i ≡ o)) (arrow_line_end o)
-  arrow_total s None = total_fails
-  arrow_total s (Some k) = total_skip (λ i p. (k, record { there = refl }))
+  arrow_total s None = fails_is_total
+  arrow_total s (Some k) = skip_is_total (λ i p. (k, record { there = refl }))
 
   arrow_on : (s : ℕ) (o : Option ℕ) →
       HoareTriple (λ i. From t s i × (after_eol t i ≡ o)) (arrow_line_end o) (λ u. From t s) AnyFault
@@ -82,22 +82,23 @@ module _ (t : List ℕ) where
       holds_skip (λ i j p w. let q = p.0 in let late = q.late in let there = w.there in let f = eol_forward t i k p.1 in
       let l = eol_text t i k p.1 in record { late = omega arith; in_text = omega arith })
 
-  pub onward_arrow : {s : ℕ} → TotalOnward t s (peek (after_eol t) arrow_line_end)
-  onward_arrow {s = s} = record { total = total_peek (arrow_total s); on = holds_peek (arrow_on s) }
+  pub arrow_is_onward : {s : ℕ} → TotalOnward t s (peek (after_eol t) arrow_line_end)
+  arrow_is_onward {s = s} = record { total = peek_is_total (arrow_total s); on = holds_peek (arrow_on s) }
 
   -- ---- endings
 
   ending_of_total : {pre : ℕ → Type 0} (i : ℕ) (o : Option ℕ) → Total pre (ending_of t i o)
-  ending_of_total i None = total_yields
+  ending_of_total i None = yields_is_total
   ending_of_total i (Some k) =
-      total_bind {mid = λ u j. Unit {0}} (total_skip (λ j p. (k, record { there = refl }))) (holds_skip (λ j m p w. tt))
-      (λ u. total_yields)
+      bind_is_total {mid = λ u j. Unit {0}} (skip_is_total (λ j p. (k, record { there = refl })))
+          (holds_skip (λ j m p w. tt))
+      (λ u. yields_is_total)
 
-  pub onward_ending : {s : ℕ} → TotalOnward t s (ending t)
-  onward_ending {s = s} = record {
+  pub ending_is_onward : {s : ℕ} → TotalOnward t s (ending t)
+  ending_is_onward {s = s} = record {
     total =
-        total_bind {mid = λ i j. Unit {0}} total_here (holds_here (λ i p. tt))
-        (λ i. total_peek (λ o. ending_of_total i o));
+        bind_is_total {mid = λ i j. Unit {0}} here_is_total (holds_here (λ i p. tt))
+        (λ i. peek_is_total (λ o. ending_of_total i o));
     on =
         holds_weaker (λ i p. record { late = p.late; place = p.in_text })
         (λ a j e. record { late = e.late; in_text = e.place }) (λ k from to f. tt)
@@ -151,85 +152,90 @@ module _ (t : List ℕ) where
 
 -- from a place on, over a family that has outcomes from there on
 module _ (t : List ℕ) (R : Family) (low : ℕ) (h : (s : ℕ) → low ≤ s → TotalOnwardFamily t s R) where
-  onward_call : (s : ℕ) → low ≤ s → TotalOnward t s (call_arguments t R)
-  onward_call s l =
-      onward_bind (total_onward_blank t)
-      (λ u. onward_bind (onward_optional t 40)
-      (λ bracket. onward_branch_on (onward_bind (onward_bind (total_onward_blank t) (λ u. (h s l).argument_list))
-      (λ a. onward_yields))
-      onward_yields))
+  call_is_onward : (s : ℕ) → low ≤ s → TotalOnward t s (call_arguments t R)
+  call_is_onward s l =
+      bind_is_onward (blank_is_total_onward t)
+      (λ u. bind_is_onward (optional_is_onward t 40)
+      (λ bracket. branch_on_is_onward (bind_is_onward (bind_is_onward (blank_is_total_onward t)
+      (λ u. (h s l).argument_list))
+      (λ a. yields_is_onward))
+      yields_is_onward))
 
-  pub consuming_placeable : (s : ℕ) → low ≤ s + 1 → TotalConsuming t s (placeable t R)
-  consuming_placeable s l =
-      consuming_first (consuming_token t 123)
-      (λ u. onward_bind (total_onward_blank t)
-      (λ u. onward_bind (h (s + 1) l).expression
-      (λ e. onward_bind (onward_inline_blank t)
-      (λ u. onward_bind (onward_strict (consuming_token t 125)) (λ u. onward_yields)))))
+  pub placeable_is_consuming : (s : ℕ) → low ≤ s + 1 → TotalConsuming t s (placeable t R)
+  placeable_is_consuming s l =
+      bind_is_consuming_by_first (token_is_consuming t 123)
+      (λ u. bind_is_onward (blank_is_total_onward t)
+      (λ u. bind_is_onward (h (s + 1) l).expression
+      (λ e. bind_is_onward (inline_blank_is_onward t)
+      (λ u. bind_is_onward (strict_is_onward (token_is_consuming t 125)) (λ u. yields_is_onward)))))
 
-  consuming_inline_of : (s : ℕ) → low ≤ s + 1 → (x : Start) → TotalConsuming t s (inline_of t R x)
-  consuming_inline_of s l quote = consuming_first (consuming_string t) (λ v. onward_yields)
-  consuming_inline_of s l digit = consuming_first (consuming_number t) (λ v. onward_yields)
-  consuming_inline_of s l minus = consuming_first (consuming_number t) (λ v. onward_yields)
-  consuming_inline_of s l term =
-      consuming_first (consuming_token t 45)
-      (λ u. onward_bind (onward_strict (consuming_identifier t))
-      (λ id. onward_bind (onward_accessor t) (λ a. onward_bind (onward_call (s + 1) l) (λ c. onward_yields))))
-  consuming_inline_of s l dollar =
-      consuming_first (consuming_token t 36) (λ u. onward_bind (onward_strict (consuming_identifier t))
-      (λ id. onward_yields))
-  consuming_inline_of s l letter =
-      consuming_first (consuming_identifier t) (λ id. onward_bind (onward_call (s + 1) l) (λ a. onward_named t id a))
-  consuming_inline_of s l brace = consuming_first (consuming_placeable s l) (λ e. onward_yields)
-  consuming_inline_of s l other = consuming_fails
+  inline_of_is_consuming : (s : ℕ) → low ≤ s + 1 → (x : Start) → TotalConsuming t s (inline_of t R x)
+  inline_of_is_consuming s l quote = bind_is_consuming_by_first (string_is_consuming t) (λ v. yields_is_onward)
+  inline_of_is_consuming s l digit = bind_is_consuming_by_first (number_is_consuming t) (λ v. yields_is_onward)
+  inline_of_is_consuming s l minus = bind_is_consuming_by_first (number_is_consuming t) (λ v. yields_is_onward)
+  inline_of_is_consuming s l term =
+      bind_is_consuming_by_first (token_is_consuming t 45)
+      (λ u. bind_is_onward (strict_is_onward (identifier_is_consuming t))
+      (λ id. bind_is_onward (accessor_is_onward t) (λ a. bind_is_onward (call_is_onward (s + 1) l)
+      (λ c. yields_is_onward))))
+  inline_of_is_consuming s l dollar =
+      bind_is_consuming_by_first (token_is_consuming t 36) (λ u. bind_is_onward
+      (strict_is_onward (identifier_is_consuming t))
+      (λ id. yields_is_onward))
+  inline_of_is_consuming s l letter =
+      bind_is_consuming_by_first (identifier_is_consuming t) (λ id. bind_is_onward (call_is_onward (s + 1) l)
+      (λ a. named_is_onward t id a))
+  inline_of_is_consuming s l brace = bind_is_consuming_by_first (placeable_is_consuming s l) (λ e. yields_is_onward)
+  inline_of_is_consuming s l other = fails_is_consuming
 
-  pub consuming_inline : (s : ℕ) → low ≤ s + 1 → TotalConsuming t s (inline_expression t R)
-  consuming_inline s l = consuming_peek (consuming_inline_of s l)
+  pub inline_is_consuming : (s : ℕ) → low ≤ s + 1 → TotalConsuming t s (inline_expression t R)
+  inline_is_consuming s l = peek_is_consuming (inline_of_is_consuming s l)
 
   -- ---- arguments
 
-  onward_value : (s : ℕ) → low ≤ s + 1 → (x : Start) → TotalOnward t s (argument_value t R x)
-  onward_value s l quote = onward_strict (consuming_inline s l)
-  onward_value s l digit = onward_strict (consuming_inline s l)
-  onward_value s l letter = onward_strict (consuming_inline s l)
-  onward_value s l minus = onward_fails
-  onward_value s l term = onward_fails
-  onward_value s l dollar = onward_fails
-  onward_value s l brace = onward_fails
-  onward_value s l other = onward_fails
+  value_is_onward : (s : ℕ) → low ≤ s + 1 → (x : Start) → TotalOnward t s (argument_value t R x)
+  value_is_onward s l quote = strict_is_onward (inline_is_consuming s l)
+  value_is_onward s l digit = strict_is_onward (inline_is_consuming s l)
+  value_is_onward s l letter = strict_is_onward (inline_is_consuming s l)
+  value_is_onward s l minus = fails_is_onward
+  value_is_onward s l term = fails_is_onward
+  value_is_onward s l dollar = fails_is_onward
+  value_is_onward s l brace = fails_is_onward
+  value_is_onward s l other = fails_is_onward
 
-  onward_named_rest : (s : ℕ) → low ≤ s + 1 → (names : List (List ℕ)) (name : Span) →
+  named_rest_is_onward : (s : ℕ) → low ≤ s + 1 → (names : List (List ℕ)) (name : Span) →
       TotalOnward t s (named_rest t R names name)
-  onward_named_rest s l names name =
-      onward_branch_on onward_fails
-      (onward_bind (onward_strict (consuming_token t 58))
-      (λ u. onward_bind (total_onward_blank t) (λ u. onward_bind (onward_peek (onward_value s l)) (λ e.
-      onward_bind (onward_separator t) (λ u. onward_yields)))))
+  named_rest_is_onward s l names name =
+      branch_on_is_onward fails_is_onward
+      (bind_is_onward (strict_is_onward (token_is_consuming t 58))
+      (λ u. bind_is_onward (blank_is_total_onward t) (λ u. bind_is_onward (peek_is_onward (value_is_onward s l)) (λ e.
+      bind_is_onward (separator_is_onward t) (λ u. yields_is_onward)))))
 
-  onward_positional_rest : (s : ℕ) (names : List (List ℕ)) (e : InlineTree Span) →
+  positional_rest_is_onward : (s : ℕ) (names : List (List ℕ)) (e : InlineTree Span) →
       TotalOnward t s (positional_rest t names e)
-  onward_positional_rest s [] e = onward_bind (onward_separator t) (λ u. onward_yields)
-  onward_positional_rest s (m ∷ ms) e = onward_fails
+  positional_rest_is_onward s [] e = bind_is_onward (separator_is_onward t) (λ u. yields_is_onward)
+  positional_rest_is_onward s (m ∷ ms) e = fails_is_onward
 
-  onward_argument_rest : (s : ℕ) → low ≤ s + 1 → (names : List (List ℕ)) (e : InlineTree Span) (o : Option Span)
+  argument_rest_is_onward : (s : ℕ) → low ≤ s + 1 → (names : List (List ℕ)) (e : InlineTree Span) (o : Option Span)
       (colon : Bool) → TotalOnward t s (argument_rest t R names e o colon)
-  onward_argument_rest s l names e None colon = onward_positional_rest s names e
-  onward_argument_rest s l names e (Some m) true = onward_named_rest s l names m
-  onward_argument_rest s l names e (Some m) false = onward_positional_rest s names e
+  argument_rest_is_onward s l names e None colon = positional_rest_is_onward s names e
+  argument_rest_is_onward s l names e (Some m) true = named_rest_is_onward s l names m
+  argument_rest_is_onward s l names e (Some m) false = positional_rest_is_onward s names e
 
-  consuming_argument_at : (s : ℕ) → low ≤ s + 1 → (names : List (List ℕ)) (b : Option ℕ) →
+  argument_at_is_consuming : (s : ℕ) → low ≤ s + 1 → (names : List (List ℕ)) (b : Option ℕ) →
       TotalConsuming t s (next_argument_at t R names b)
-  consuming_argument_at s l names None = consuming_fails
-  consuming_argument_at s l names (Some b) =
-      consuming_branch_on (consuming_first (consuming_token t 41) (λ u. onward_yields))
-      (consuming_first (consuming_inline s l)
-      (λ e. onward_bind onward_look
-      (λ colon. onward_argument_rest (s + 1) (omega arith) names e (argument_name e) colon)))
+  argument_at_is_consuming s l names None = fails_is_consuming
+  argument_at_is_consuming s l names (Some b) =
+      branch_on_is_consuming (bind_is_consuming_by_first (token_is_consuming t 41) (λ u. yields_is_onward))
+      (bind_is_consuming_by_first (inline_is_consuming s l)
+      (λ e. bind_is_onward look_is_onward
+      (λ colon. argument_rest_is_onward (s + 1) (omega arith) names e (argument_name e) colon)))
 
-  pub onward_arguments : (s : ℕ) → low ≤ s + 1 → (names : List (List ℕ)) → TotalOnward t s (more_arguments t R names)
-  onward_arguments s l names =
-      onward_many t (next_argument t R) _ _ s
-      (λ m k names. consuming_item_strict (consuming_peek (consuming_argument_at m (omega arith) names))) s
+  pub arguments_are_onward : (s : ℕ) → low ≤ s + 1 → (names : List (List ℕ)) → TotalOnward t s
+      (more_arguments t R names)
+  arguments_are_onward s l names =
+      many_is_onward t (next_argument t R) _ _ s
+      (λ m k names. item_strict_is_consuming (peek_is_consuming (argument_at_is_consuming m (omega arith) names))) s
       (omega arith) names
 
   -- ---- pieces
@@ -243,12 +249,12 @@ module _ (t : List ℕ) (R : Family) (low : ℕ) (h : (s : ℕ) → low ≤ s �
         record { late = omega arith; in_text = (run_word t).in_text i j q.in_text w }
 
     after_run : (from : ℕ) → TotalOnward {A = Piece} t (s + 1) (here >>= λ to. yields (run from to))
-    after_run from = onward_bind onward_here (λ to. onward_yields)
+    after_run from = bind_is_onward here_is_onward (λ to. yields_is_onward)
 
     run_total : Total AtRun (text_run t)
     run_total =
-        total_bind {mid = λ from. AtRun} total_here (holds_here (λ i p. p))
-        (λ from. total_bind (total_skip (λ i p. (run_word t).exists i (p.0).in_text)) (holds_skip past_run)
+        bind_is_total {mid = λ from. AtRun} here_is_total (holds_here (λ i p. p))
+        (λ from. bind_is_total (skip_is_total (λ i p. (run_word t).exists i (p.0).in_text)) (holds_skip past_run)
         (λ u. (after_run from).total))
 
     run_read_on : HoareTriple AtRun (text_run t) (λ p. From t (s + 1)) AnyFault
@@ -257,7 +263,7 @@ module _ (t : List ℕ) (R : Family) (low : ℕ) (h : (s : ℕ) → low ≤ s �
         (λ from. holds_bind (holds_skip past_run) (λ u. (after_run from).on))
 
     placed_piece : TotalConsuming {A = More Piece (Unit {0})} t s (placeable t R >>= λ e. yields (item (placed e) tt))
-    placed_piece = consuming_first (consuming_placeable s l) (λ e. onward_yields)
+    placed_piece = bind_is_consuming_by_first (placeable_is_consuming s l) (λ e. yields_is_onward)
 
     -- there is a byte that begins no line end
     abbrev AtByte : ℕ → ℕ → Type 0
@@ -270,10 +276,10 @@ module _ (t : List ℕ) (R : Family) (low : ℕ) (h : (s : ℕ) → low ≤ s �
         (text_run t >>= λ p. yields (item p tt)))
 
     rest_total : (b : ℕ) → Total (AtByte b) (Rest b)
-    rest_total b = total_branch_on (λ x. total_fails) (λ x. total_branch_on
+    rest_total b = branch_on_is_total (λ x. fails_is_total) (λ x. branch_on_is_total
         (λ y. total_weaker (λ i p. p.0) placed_piece.total)
         (λ y. total_weaker (λ i p. (p.0, run_place t i b p.1 p.2 y x))
-        (total_bind run_total run_read_on (λ p. total_yields))))
+        (bind_is_total run_total run_read_on (λ p. yields_is_total))))
 
     rest_on : (b : ℕ) → HoareTriple (AtByte b) (Rest b) (λ p. From t (s + 1)) AnyFault
     rest_on b = holds_branch_on (λ x. holds_fails (λ i p. tt)) (λ x. holds_branch_on
@@ -282,10 +288,11 @@ module _ (t : List ℕ) (R : Family) (low : ℕ) (h : (s : ℕ) → low ≤ s �
         (holds_bind run_read_on (λ p. holds_yields (λ i q. q)))))
 
     piece_total : (o : Option ℕ) → Total (λ i. From t s i × (slice_get t i ≡ o)) (next_piece_at t R o)
-    piece_total None = total_yields
+    piece_total None = yields_is_total
     piece_total (Some b) =
-        total_peek
-        (λ eol. total_branch_on (λ e. total_yields) (λ e. total_weaker (λ i p. (p.0.0, p.0.1, p.1 ∙ e)) (rest_total b)))
+        peek_is_total
+        (λ eol. branch_on_is_total (λ e. yields_is_total) (λ e. total_weaker (λ i p. (p.0.0, p.0.1, p.1 ∙ e))
+        (rest_total b)))
 
     piece_on : (o : Option ℕ) →
         HoareTriple (λ i. From t s i × (slice_get t i ≡ o)) (next_piece_at t R o) (more_on t s) AnyFault
@@ -295,8 +302,8 @@ module _ (t : List ℕ) (R : Family) (low : ℕ) (h : (s : ℕ) → low ≤ s �
         (λ eol. holds_branch_on (λ e. holds_yields (λ i p. p.0.0))
         (λ e. holds_weaker (λ i p. (p.0.0, p.0.1, p.1 ∙ e)) (more_earlier t s) (λ k from to z. z) (rest_on b)))
 
-    consuming_item_piece : TotalConsumingItem t s (next_piece t R)
-    consuming_item_piece = record { total = total_peek piece_total; on = holds_peek piece_on }
+    item_piece_is_consuming : TotalConsumingItem t s (next_piece t R)
+    item_piece_is_consuming = record { total = peek_is_total piece_total; on = holds_peek piece_on }
 
     -- from a byte that begins no line end, a piece goes on
     piece_past : (b : ℕ) → HoareTriple (AtByte b) (next_piece_at t R (Some b)) (λ p. From t (s + 1)) AnyFault
@@ -326,20 +333,20 @@ module _ (t : List ℕ) (R : Family) (low : ℕ) (h : (s : ℕ) → low ≤ s �
     next_read i j b p q e (chosen x) =
         piece_read i j b p (has_eol t i) q e refl (subst (λ o. next_piece_at t R o i (Read p j)) e x)
 
-  pub onward_pieces : (s : ℕ) → low ≤ s + 1 → TotalOnward t s (more_pieces t R)
-  onward_pieces s l =
-      onward_many t (λ u. next_piece t R) _ _ s (λ m k u. consuming_item_piece m (omega arith)) s (omega arith) tt
+  pub pieces_are_onward : (s : ℕ) → low ≤ s + 1 → TotalOnward t s (more_pieces t R)
+  pieces_are_onward s l =
+      many_is_onward t (λ u. next_piece t R) _ _ s (λ m k u. item_piece_is_consuming m (omega arith)) s (omega arith) tt
 
   after_rest : (s : ℕ) (l : low ≤ s + 1) (m j b : ℕ) (ps : List Piece) → From t (s + 1) m →
       more_pieces t R m (Read ps j) → AfterPiece s l j
-  after_rest s l m j b ps p x = inl ((onward_pieces (s + 1) (omega arith)).on.on_read m j ps p x)
+  after_rest s l m j b ps p x = inl ((pieces_are_onward (s + 1) (omega arith)).on.on_read m j ps p x)
 
   -- after the pieces of a line with a byte: they went on, or there is a line end
   more_of_read : (u : Unit {0}) (s : ℕ) (l : low ≤ s + 1) (i j b : ℕ) (ps : List Piece) → From t s i →
       slice_get t i ≡ Some b → many (λ u. next_piece t R) (λ p ps. p ∷ ps) [] u i (Read ps j) → AfterPiece s l j
   more_of_read u s l i j b ps p e (list_ends x) = next_read s l i j b _ p e x
   more_of_read u s l i j b ps p e (item_and_more {later = v} {j = m} {rest = rest} x y) =
-      after_rest s l m j b rest ((consuming_item_piece s l).on.on_read i m _ p x) y
+      after_rest s l m j b rest ((item_piece_is_consuming s l).on.on_read i m _ p x) y
 
   pub more_read : (s : ℕ) (l : low ≤ s + 1) (i j b : ℕ) (ps : List Piece) → From t s i → slice_get t i ≡ Some b →
       more_pieces t R i (Read ps j) → AfterPiece s l j
@@ -347,5 +354,5 @@ module _ (t : List ℕ) (R : Family) (low : ℕ) (h : (s : ℕ) → low ≤ s �
 
   pub ending_after : (s : ℕ) (l : low ≤ s + 1) (i j : ℕ) (x : Ending) → AfterPiece s l i → ending t i (Read x j) →
       From t (s + 1) j
-  ending_after s l i j x (inl p) y = (onward_ending t {s = s + 1}).on.on_read i j x p y
+  ending_after s l i j x (inl p) y = (ending_is_onward t {s = s + 1}).on.on_read i j x p y
   ending_after s l i j x (inr p) y = ending_read t s i j x p.0 p.1 y

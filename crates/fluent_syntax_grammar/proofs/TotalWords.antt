@@ -14,21 +14,20 @@ use Rattle.fluent_syntax_grammar.specs.Strings.{hex_digits, all_there, escaped, 
 use Rattle.fluent_syntax_grammar.specs.Strings.{unit_and_more, bad_unit, string_literal}
 use Rattle.fluent_syntax_grammar.specs.Lines.{is_run_place}
 use Rattle.fluent_syntax_grammar.proofs.HoareTriple.{HoareTriple, holds_weaker, holds_bind, holds_yields, holds_fails}
-use Rattle.fluent_syntax_grammar.proofs.HoareTriple.{holds_skip}
-use Rattle.fluent_syntax_grammar.proofs.HoareTriple.{holds_peek, holds_branch_on}
+use Rattle.fluent_syntax_grammar.proofs.HoareTriple.{holds_skip, holds_peek, holds_branch_on}
 use Rattle.fluent_syntax_grammar.proofs.Cuts.{ascii_blank, line_inside, run_inside, eol_forward, eol_text}
 use Rattle.fluent_syntax_grammar.proofs.Cuts.{block_forward, block_place}
 use Rattle.fluent_syntax_grammar.proofs.Sound.{Sound}
-use Rattle.fluent_syntax_grammar.proofs.SoundStrings.{InText, unit_holds, sound_units}
+use Rattle.fluent_syntax_grammar.proofs.SoundStrings.{InText, unit_holds, units_are_sound}
 use Rattle.fluent_syntax_grammar.proofs.SoundEntries.{identifier_advances}
 use Rattle.fluent_syntax_grammar.proofs.Boundaries.{text_cuts}
 use Rattle.fluent_syntax_grammar.proofs.Stretches.{run_ends_here, run_goes_on, hex_digits_exist}
 use Rattle.fluent_syntax_grammar.proofs.Total.{From, AnyFault, Total, TotalOnward, TotalConsuming, IsTotalRelation}
-use Rattle.fluent_syntax_grammar.proofs.Total.{total_bind, total_yields}
-use Rattle.fluent_syntax_grammar.proofs.Total.{total_fails, total_skip, total_peek, total_branch_on, onward_bind}
-use Rattle.fluent_syntax_grammar.proofs.Total.{onward_yields, onward_here, onward_fails, onward_skip, onward_peek}
-use Rattle.fluent_syntax_grammar.proofs.Total.{onward_branch_on}
-use Rattle.fluent_syntax_grammar.proofs.Total.{onward_strict, consuming_first, consuming_then}
+use Rattle.fluent_syntax_grammar.proofs.Total.{bind_is_total, yields_is_total, fails_is_total, skip_is_total}
+use Rattle.fluent_syntax_grammar.proofs.Total.{peek_is_total, branch_on_is_total, bind_is_onward, yields_is_onward}
+use Rattle.fluent_syntax_grammar.proofs.Total.{here_is_onward, fails_is_onward, skip_is_onward, peek_is_onward}
+use Rattle.fluent_syntax_grammar.proofs.Total.{branch_on_is_onward, strict_is_onward, bind_is_consuming_by_first}
+use Rattle.fluent_syntax_grammar.proofs.Total.{bind_is_consuming_by_rest}
 use Rattle.fluent_syntax_grammar.proofs.Facts.{lt_or_same, longest_run_in_text, has_inside}
 
 true_false : {X : Type 0} → false ≡ true → X
@@ -100,14 +99,14 @@ module _ (t : List ℕ) where
 
   -- ---- marks
 
-  pub onward_inline_blank : {s : ℕ} → TotalOnward t s (inline_blank t)
-  onward_inline_blank = onward_skip (word_of is_space)
+  pub inline_blank_is_onward : {s : ℕ} → TotalOnward t s (inline_blank t)
+  inline_blank_is_onward = skip_is_onward (word_of is_space)
 
-  pub total_onward_blank : {s : ℕ} → TotalOnward t s (blank t)
-  total_onward_blank = onward_skip (longest_run_word (is_blank_place t) blank_inside)
+  pub blank_is_total_onward : {s : ℕ} → TotalOnward t s (blank t)
+  blank_is_total_onward = skip_is_onward (longest_run_word (is_blank_place t) blank_inside)
 
-  pub onward_blank_block : {s : ℕ} → TotalOnward t s (blank_block t)
-  onward_blank_block = onward_skip block_word
+  pub blank_block_is_onward : {s : ℕ} → TotalOnward t s (blank_block t)
+  blank_block_is_onward = skip_is_onward block_word
 
   -- after an optional byte that was there, the place is after it
   pub record AfterByte (s : ℕ) (found : Bool) (j : ℕ) : Type 0 where
@@ -124,33 +123,33 @@ module _ (t : List ℕ) where
       record { at = record { late = omega arith; in_text = p.in_text }; past = λ yes. p })))
       (λ e. holds_yields (λ i p. record { at = p.0; past = λ yes. true_false yes })))
 
-  pub total_optional : {pre : ℕ → Type 0} (b : ℕ) → Total pre (optional t b)
-  total_optional b =
-      total_peek
-      (λ found. total_branch_on
-      (λ e. total_bind {mid = λ u i. Unit {0}} (total_skip (λ i p. (i + 1, record { by = refl })))
-      (holds_skip (λ i j p w. tt)) (λ u. total_yields)) (λ e. total_yields))
+  pub optional_is_total : {pre : ℕ → Type 0} (b : ℕ) → Total pre (optional t b)
+  optional_is_total b =
+      peek_is_total
+      (λ found. branch_on_is_total
+      (λ e. bind_is_total {mid = λ u i. Unit {0}} (skip_is_total (λ i p. (i + 1, record { by = refl })))
+      (holds_skip (λ i j p w. tt)) (λ u. yields_is_total)) (λ e. yields_is_total))
 
-  pub onward_optional : {s : ℕ} (b : ℕ) → TotalOnward t s (optional t b)
-  onward_optional {s = s} b =
+  pub optional_is_onward : {s : ℕ} (b : ℕ) → TotalOnward t s (optional t b)
+  optional_is_onward {s = s} b =
       record {
-        total = total_optional b;
+        total = optional_is_total b;
         on = holds_weaker (λ i p. p) (λ a j x. x.at) (λ k from to x. x) (optional_on s b);
       }
 
-  pub consuming_token : {s : ℕ} (b : ℕ) → TotalConsuming t s (token t b)
-  consuming_token {s = s} b = record {
+  pub token_is_consuming : {s : ℕ} (b : ℕ) → TotalConsuming t s (token t b)
+  token_is_consuming {s = s} b = record {
     total =
-        total_bind (total_optional b) (optional_on s b)
-        (λ found. total_branch_on (λ e. total_yields) (λ e. total_fails));
+        bind_is_total (optional_is_total b) (optional_on s b)
+        (λ found. branch_on_is_total (λ e. yields_is_total) (λ e. fails_is_total));
     on =
         holds_bind (optional_on s b)
         (λ found. holds_branch_on (λ e. holds_yields (λ i p. p.past e)) (λ e. holds_fails (λ i p. tt)));
   }
 
   past_total : (s : ℕ) (o : Option ℕ) → Total (λ i. From t s i × (after_eol t i ≡ o)) (past_eol o)
-  past_total s None = total_yields
-  past_total s (Some k) = total_skip (λ i p. (k, record { there = refl }))
+  past_total s None = yields_is_total
+  past_total s (Some k) = skip_is_total (λ i p. (k, record { there = refl }))
 
   past_on : (s : ℕ) (o : Option ℕ) → HoareTriple (λ i. From t s i × (after_eol t i ≡ o)) (past_eol o)
       (λ u. From t s) AnyFault
@@ -159,28 +158,29 @@ module _ (t : List ℕ) where
       holds_skip (λ i j p w. let q = p.0 in let late = q.late in let there = w.there in let f = eol_forward t i k p.1 in
       let l = eol_text t i k p.1 in record { late = omega arith; in_text = omega arith })
 
-  pub onward_optional_eol : {s : ℕ} → TotalOnward t s (optional_eol t)
-  onward_optional_eol {s = s} = record { total = total_peek (past_total s); on = holds_peek (past_on s) }
+  pub optional_eol_is_onward : {s : ℕ} → TotalOnward t s (optional_eol t)
+  optional_eol_is_onward {s = s} = record { total = peek_is_total (past_total s); on = holds_peek (past_on s) }
 
-  pub onward_spanned : {s start : ℕ} → TotalOnward t s (spanned start)
-  onward_spanned = onward_bind onward_here (λ end. onward_yields)
+  pub spanned_is_onward : {s start : ℕ} → TotalOnward t s (spanned start)
+  spanned_is_onward = bind_is_onward here_is_onward (λ end. yields_is_onward)
 
-  pub onward_rest_of_line : {s : ℕ} → TotalOnward t s (rest_of_line t)
-  onward_rest_of_line =
-      onward_bind onward_here
-      (λ start. onward_bind (onward_skip (longest_run_word (is_line_place t) (line_inside t))) (λ u. onward_spanned))
+  pub rest_of_line_is_onward : {s : ℕ} → TotalOnward t s (rest_of_line t)
+  rest_of_line_is_onward =
+      bind_is_onward here_is_onward
+      (λ start. bind_is_onward (skip_is_onward (longest_run_word (is_line_place t) (line_inside t)))
+      (λ u. spanned_is_onward))
 
   word_on : (set : ℕ → Bool) (i j : ℕ) → has t set i ≡ true → ByteRun t set i j → i < j
   word_on set i j e w =
       elim (lt_or_same i j w.forward)
       [ inl l ↦ l | inr same ↦ absurd (false≢true (sym w.longest ∙ subst (λ k. has t set k ≡ true) same e)) ]
 
-  consuming_digits : {s : ℕ} → TotalConsuming t s (digits t)
-  consuming_digits {s = s} = record {
+  digits_are_consuming : {s : ℕ} → TotalConsuming t s (digits t)
+  digits_are_consuming {s = s} = record {
     total =
-        total_peek
-        (λ found. total_branch_on (λ e. total_skip (λ i p. (word_of is_digit).exists i (p.0).in_text))
-        (λ e. total_fails));
+        peek_is_total
+        (λ found. branch_on_is_total (λ e. skip_is_total (λ i p. (word_of is_digit).exists i (p.0).in_text))
+        (λ e. fails_is_total));
     on = holds_peek (λ found. holds_branch_on
         (λ e. holds_skip
         (λ i j p w. let q = p.0 in let late = q.late in let l = word_on is_digit i j (p.1 ∙ e) w in
@@ -188,16 +188,16 @@ module _ (t : List ℕ) where
         (λ e. holds_fails (λ i p. tt)));
   }
 
-  onward_identifier : {s : ℕ} → TotalOnward t s (identifier t)
-  onward_identifier =
-      onward_bind onward_here
-      (λ start. onward_bind (onward_peek (λ letter. onward_yields))
-      (λ letter. onward_branch_on (onward_bind (onward_skip (word_of is_name_byte)) (λ u. onward_spanned))
-      onward_fails))
+  identifier_is_onward : {s : ℕ} → TotalOnward t s (identifier t)
+  identifier_is_onward =
+      bind_is_onward here_is_onward
+      (λ start. bind_is_onward (peek_is_onward (λ letter. yields_is_onward))
+      (λ letter. branch_on_is_onward (bind_is_onward (skip_is_onward (word_of is_name_byte)) (λ u. spanned_is_onward))
+      fails_is_onward))
 
-  pub consuming_identifier : {s : ℕ} → TotalConsuming t s (identifier t)
-  consuming_identifier {s = s} = record {
-    total = onward_identifier.total;
+  pub identifier_is_consuming : {s : ℕ} → TotalConsuming t s (identifier t)
+  identifier_is_consuming {s = s} = record {
+    total = identifier_is_onward.total;
     on = record {
       on_read =
           λ i j a p x. (let q = identifier_advances t (InText t) (text_cuts t) i j a p.in_text x in let late = p.late in
@@ -206,40 +206,42 @@ module _ (t : List ℕ) where
     };
   }
 
-  pub consuming_number : {s : ℕ} → TotalConsuming t s (number t)
-  consuming_number =
-      consuming_then onward_here
-      (λ start. consuming_then (onward_optional 45)
-      (λ x. consuming_first consuming_digits (λ u. onward_bind (onward_optional 46) (λ point.
-      onward_bind (onward_branch_on (onward_strict consuming_digits) onward_yields) (λ u. onward_spanned)))))
+  pub number_is_consuming : {s : ℕ} → TotalConsuming t s (number t)
+  number_is_consuming =
+      bind_is_consuming_by_rest here_is_onward
+      (λ start. bind_is_consuming_by_rest (optional_is_onward 45)
+      (λ x. bind_is_consuming_by_first digits_are_consuming (λ u. bind_is_onward (optional_is_onward 46) (λ point.
+      bind_is_onward (branch_on_is_onward (strict_is_onward digits_are_consuming) yields_is_onward)
+      (λ u. spanned_is_onward)))))
 
   -- ---- strings
 
-  total_hex : {pre : ℕ → Type 0} (w : ℕ) → Total pre (hex_digits t w)
-  total_hex w =
+  hex_is_total : {pre : ℕ → Type 0} (w : ℕ) → Total pre (hex_digits t w)
+  hex_is_total w =
       record { has = λ i p. hex_digits_exist t w i }
 
   abbrev Always : {A : Type 0} → A → ℕ → Type 0
   Always a j = Unit {0}
 
   steps_total : {pre : ℕ → Type 0} (n : ℕ) → Total pre (skip (Steps n))
-  steps_total n = total_skip (λ i p. (i + n, record { by = refl }))
+  steps_total n = skip_is_total (λ i p. (i + n, record { by = refl }))
 
   steps_on : {pre : ℕ → Type 0} (n : ℕ) → HoareTriple pre (skip (Steps n)) Always AnyFault
   steps_on n = holds_skip (λ i j p w. tt)
 
   escaped_total : {pre : ℕ → Type 0} (o : Option ℕ) → Total pre (escaped t o)
-  escaped_total None = total_fails
+  escaped_total None = fails_is_total
   escaped_total (Some b) =
-      total_branch_on (λ e. steps_total 2)
-      (λ e. total_branch_on (λ e. total_bind (steps_total 2) (steps_on 2) (λ u. total_hex 4))
-      (λ e. total_branch_on (λ e. total_bind (steps_total 2) (steps_on 2) (λ u. total_hex 6)) (λ e. total_fails)))
+      branch_on_is_total (λ e. steps_total 2)
+      (λ e. branch_on_is_total (λ e. bind_is_total (steps_total 2) (steps_on 2) (λ u. hex_is_total 4))
+      (λ e. branch_on_is_total (λ e. bind_is_total (steps_total 2) (steps_on 2) (λ u. hex_is_total 6))
+      (λ e. fails_is_total)))
 
   unit_total : {pre : ℕ → Type 0} (o : Option ℕ) → Total pre (string_unit t o)
-  unit_total None = total_fails
+  unit_total None = fails_is_total
   unit_total (Some b) =
-      total_branch_on (λ e. total_fails)
-      (λ e. total_branch_on (λ e. total_peek (λ o. escaped_total o)) (λ e. steps_total 1))
+      branch_on_is_total (λ e. fails_is_total)
+      (λ e. branch_on_is_total (λ e. peek_is_total (λ o. escaped_total o)) (λ e. steps_total 1))
 
   abbrev At : ℕ → ℕ → Type 0
   At i j = j ≡ i
@@ -291,17 +293,17 @@ module _ (t : List ℕ) where
   units_exist zero i a l = units_at i l (has_byte t 34 i) refl (λ j b c. absurd (omega arith))
   units_exist (suc m) i a l = units_at i l (has_byte t 34 i) refl (λ j b c. units_exist m j (omega arith) c)
 
-  onward_units : {s : ℕ} → TotalOnward t s (string_units t)
-  onward_units {s = s} =
+  units_are_onward : {s : ℕ} → TotalOnward t s (string_units t)
+  units_are_onward {s = s} =
       record {
         total = record { has = λ i p. units_exist (length t) i (omega arith) p.in_text };
-        on = on_sound (sound_units t (InText t) (text_cuts t) {s = s});
+        on = on_sound (units_are_sound t (InText t) (text_cuts t) {s = s});
       }
 
-  pub consuming_string : {s : ℕ} → TotalConsuming t s (string_literal t)
-  consuming_string =
-      consuming_first (consuming_token 34)
-      (λ u. onward_bind onward_here
-      (λ start. onward_bind onward_units
-      (λ u. onward_bind onward_spanned (λ value. onward_bind (onward_strict (consuming_token 34))
-      (λ u. onward_yields)))))
+  pub string_is_consuming : {s : ℕ} → TotalConsuming t s (string_literal t)
+  string_is_consuming =
+      bind_is_consuming_by_first (token_is_consuming 34)
+      (λ u. bind_is_onward here_is_onward
+      (λ start. bind_is_onward units_are_onward
+      (λ u. bind_is_onward spanned_is_onward (λ value. bind_is_onward (strict_is_onward (token_is_consuming 34))
+      (λ u. yields_is_onward)))))

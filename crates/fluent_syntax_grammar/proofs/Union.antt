@@ -3,8 +3,7 @@ use Rattle.std.proofs.Common.{ℕ, ◌+◌, ◌≤◌, arith, List, Option, Some
 use Rattle.fluent_syntax_tree.specs.Kind.{Kind}
 use Rattle.fluent_syntax_tree.specs.Tree.{InlineTree}
 use Rattle.fluent_syntax_grammar.specs.Construct.{Outcome, Construct, ◌>>=◌, stops, goes_on, yields, peek, chosen}
-use Rattle.fluent_syntax_grammar.specs.Construct.{branch_on}
-use Rattle.fluent_syntax_grammar.specs.Construct.{first, second, More, item, many, list_ends, list_stops}
+use Rattle.fluent_syntax_grammar.specs.Construct.{branch_on, first, second, More, item, many, list_ends, list_stops}
 use Rattle.fluent_syntax_grammar.specs.Construct.{item_and_more, stops_later}
 use Rattle.fluent_syntax_grammar.specs.Family.{Family}
 use Rattle.fluent_syntax_grammar.specs.Starts.{Start, quote, digit, term, minus, dollar, letter, brace, other}
@@ -17,8 +16,8 @@ use Rattle.fluent_syntax_grammar.specs.Lines.{no_byte, other_line, own_line}
 use Rattle.fluent_syntax_grammar.specs.Layout.{Line}
 use Rattle.fluent_syntax_grammar.specs.Patterns.{layout_at, layout, pattern}
 use Rattle.fluent_syntax_grammar.specs.Variants.{next_variant, more_variants}
-use Rattle.fluent_syntax_grammar.proofs.Included.{IsIncluded, included_same, included_bind, included_peek}
-use Rattle.fluent_syntax_grammar.proofs.Included.{included_branch_on, included_many, included_next_line}
+use Rattle.fluent_syntax_grammar.proofs.Included.{IsIncluded, itself_is_included, bind_is_included, peek_is_included}
+use Rattle.fluent_syntax_grammar.proofs.Included.{branch_on_is_included, many_is_included, next_line_is_included}
 use Rattle.fluent_syntax_grammar.proofs.Included.{IsIncludedFamily}
 use Rattle.fluent_syntax_tree.specs.declared.edition.Edition.{Edition}
 use Rattle.fluent_syntax_tree.specs.declared.spans.Span.{Span}
@@ -31,7 +30,7 @@ pub record IsUnion {A : Type 0} (c : Construct A) (cs : ℕ → Construct A) : T
 -- ---- the formers
 
 pub union_same : {A : Type 0} {c : Construct A} → IsUnion c (λ n. c)
-union_same {c = c} = record { grows = λ m n l. included_same; found = λ i o x. (0, x) }
+union_same {c = c} = record { grows = λ m n l. itself_is_included; found = λ i o x. (0, x) }
 
 bind_found : {A B : Type 0} (c : Construct A) (cs : ℕ → Construct A) (f : A → Construct B) (fs : ℕ → A → Construct B) →
     IsUnion c cs → ((a : A) → IsUnion (f a) (λ n. fs n a)) → (i : ℕ) (o : Outcome B) → (c >>= f) i o → (n : ℕ) ×
@@ -49,7 +48,7 @@ pub union_bind :
     {A B : Type 0} {c : Construct A} {cs : ℕ → Construct A} {f : A → Construct B} {fs : ℕ → A → Construct B} →
     IsUnion c cs → ((a : A) → IsUnion (f a) (λ n. fs n a)) → IsUnion (c >>= f) (λ n. cs n >>= fs n)
 union_bind {c = c} {cs = cs} {f = f} {fs = fs} u v = record {
-  grows = λ m n l. included_bind (u.grows m n l) (λ a. (v a).grows m n l);
+  grows = λ m n l. bind_is_included (u.grows m n l) (λ a. (v a).grows m n l);
   found = bind_found c cs f fs u v;
 }
 
@@ -61,7 +60,7 @@ peek_found look f fs v i o (chosen x) = let m = (v (look i)).found i o x in (m.0
 pub union_peek : {A B : Type 0} {look : ℕ → A} {f : A → Construct B} {fs : ℕ → A → Construct B} →
     ((a : A) → IsUnion (f a) (λ n. fs n a)) → IsUnion (peek look f) (λ n. peek look (fs n))
 union_peek {look = look} {f = f} {fs = fs} v = record {
-  grows = λ m n l. included_peek (λ a. (v a).grows m n l);
+  grows = λ m n l. peek_is_included (λ a. (v a).grows m n l);
   found = peek_found look f fs v;
 }
 
@@ -73,14 +72,14 @@ branch_on_found b c d cs ds u v i o (second e x) = let m = v.found i o x in (m.0
 pub union_branch_on : {A : Type 0} {b : Bool} {c d : Construct A} {cs ds : ℕ → Construct A} → IsUnion c cs →
     IsUnion d ds → IsUnion (branch_on b c d) (λ n. branch_on b (cs n) (ds n))
 union_branch_on {b = b} {c = c} {d = d} {cs = cs} {ds = ds} u v = record {
-  grows = λ m n l. included_branch_on (u.grows m n l) (v.grows m n l);
+  grows = λ m n l. branch_on_is_included (u.grows m n l) (v.grows m n l);
   found = branch_on_found b c d cs ds u v;
 }
 
 module _ {A S B : Type 0} (f : S → Construct (More A S)) (fs : ℕ → S → Construct (More A S)) (add : A → B → B)
     (none : B) (v : (s : S) → IsUnion (f s) (λ n. fs n s)) where
   many_grows : (s : S) (m n : ℕ) → m ≤ n → IsIncluded (many (fs m) add none s) (many (fs n) add none s)
-  many_grows s m n l = included_many (λ s. (v s).grows m n l)
+  many_grows s m n l = many_is_included (λ s. (v s).grows m n l)
 
   many_found : (s : S) (i : ℕ) (o : Outcome B) → many f add none s i o → (n : ℕ) × many (fs n) add none s i o
   many_found s i o (list_ends x) = let m = (v s).found i _ x in (m.0, list_ends m.1)
@@ -198,7 +197,7 @@ module _ (t : List ℕ) (R : Family) (Rs : ℕ → Family) (h : IsUnionFamily R 
 
   union_next_line : IsUnion (next_line t R) (λ n. next_line t (Rs n))
   union_next_line =
-      record { grows = λ m n l. included_next_line t (Rs m) (Rs n) (h.grows m n l); found = line_found }
+      record { grows = λ m n l. next_line_is_included t (Rs m) (Rs n) (h.grows m n l); found = line_found }
 
   pub union_lines : IsUnion (more_lines t R) (λ n. more_lines t (Rs n))
   union_lines = union_many (λ u. union_next_line)

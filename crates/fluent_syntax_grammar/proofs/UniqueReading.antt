@@ -4,21 +4,22 @@ use Rattle.fluent_syntax_tree.specs.Every.{list_every}
 use Rattle.fluent_syntax_grammar.specs.Grammar.{family}
 use Rattle.fluent_syntax_grammar.specs.Tiling.{Tile, entry, refused, dropped, OneTiling, OneRuntimeTiling}
 use Rattle.fluent_syntax_grammar.specs.Body.{faults}
-use Rattle.fluent_syntax_grammar.specs.UniqueReading.{IsUnambiguous, FaultMeans, KindsMean}
-use Rattle.fluent_syntax_grammar.specs.UniqueReading.{RuntimeKindsMean, HasNoComments, SameMessagesAndTerms}
-use Rattle.fluent_syntax_grammar.specs.UniqueReading.{NoNewErrors}
+use Rattle.fluent_syntax_grammar.specs.UniqueReading.{IsUnambiguous, FaultMeans, KindsMean, RuntimeKindsMean}
+use Rattle.fluent_syntax_grammar.specs.UniqueReading.{HasNoComments, SameMessagesAndTerms, NoNewErrors}
 use Rattle.fluent_syntax_grammar.specs.UniqueReading.{SameWithoutComments, messages_and_terms}
 use Rattle.fluent_syntax_tree.specs.declared.edition.Edition.{Edition}
-use Rattle.fluent_syntax_grammar.proofs.FunctionalWords.{functional_token, functional_inline_blank, functional_blank}
-use Rattle.fluent_syntax_grammar.proofs.FunctionalWords.{functional_blank_block, functional_optional_eol}
-use Rattle.fluent_syntax_grammar.proofs.FunctionalWords.{functional_rest_of_line, functional_identifier}
-use Rattle.fluent_syntax_grammar.proofs.FunctionalWords.{functional_number, functional_string}
+use Rattle.fluent_syntax_grammar.proofs.FunctionalWords.{token_is_functional, inline_blank_is_functional}
+use Rattle.fluent_syntax_grammar.proofs.FunctionalWords.{blank_is_functional}
+use Rattle.fluent_syntax_grammar.proofs.FunctionalWords.{blank_block_is_functional, optional_eol_is_functional}
+use Rattle.fluent_syntax_grammar.proofs.FunctionalWords.{rest_of_line_is_functional, identifier_is_functional}
+use Rattle.fluent_syntax_grammar.proofs.FunctionalWords.{number_is_functional, string_is_functional}
 use Rattle.fluent_syntax_grammar.proofs.FunctionalRules as rules
-use Rattle.fluent_syntax_grammar.proofs.FunctionalEntries.{functional_pattern, functional_attribute}
-use Rattle.fluent_syntax_grammar.proofs.FunctionalEntries.{functional_attributes, functional_message, functional_term}
-use Rattle.fluent_syntax_grammar.proofs.FunctionalEntries.{functional_comment_line, functional_comment_lines}
-use Rattle.fluent_syntax_grammar.proofs.FunctionalEntries.{functional_comment, functional_entry}
-use Rattle.fluent_syntax_grammar.proofs.Nesting.{functional_family}
+use Rattle.fluent_syntax_grammar.proofs.FunctionalEntries.{pattern_is_functional, attribute_is_functional}
+use Rattle.fluent_syntax_grammar.proofs.FunctionalEntries.{attributes_are_functional, message_is_functional}
+use Rattle.fluent_syntax_grammar.proofs.FunctionalEntries.{term_is_functional}
+use Rattle.fluent_syntax_grammar.proofs.FunctionalEntries.{comment_line_is_functional, comment_lines_are_functional}
+use Rattle.fluent_syntax_grammar.proofs.FunctionalEntries.{comment_is_functional, entry_is_functional}
+use Rattle.fluent_syntax_grammar.proofs.Nesting.{family_is_functional}
 use Rattle.fluent_syntax_grammar.proofs.OneTiling as tilings
 use Rattle.fluent_syntax_grammar.proofs.SoundStrings.{InText}
 use Rattle.fluent_syntax_grammar.proofs.SoundTiling.{IsTileWellFormed, tiled_good, runtime_good}
@@ -31,48 +32,48 @@ module _ (edition : Edition) (t : List ℕ) where
   pub one_reading : IsUnambiguous edition t
   one_reading =
       let R = family edition t in
-      let h = functional_family edition t in
+      let h = family_is_functional edition t in
       record {
-        token = functional_token t;
-        inline_blank = functional_inline_blank t;
-        blank = functional_blank t;
-        blank_block = functional_blank_block t;
-        line_end = functional_optional_eol t;
-        rest_of_line = functional_rest_of_line t;
-        identifier = functional_identifier t;
-        number = functional_number t;
-        string_literal = functional_string t;
-        inline_expression = rules.functional_inline t R h;
-        attribute_accessor = rules.functional_accessor t;
-        call_arguments = rules.functional_call t R h;
-        more_arguments = rules.functional_arguments t R h;
-        expression = rules.functional_expression edition t R h;
-        placeable = rules.functional_placeable t R h;
-        variant_key = rules.functional_key t;
-        variant_list = rules.functional_variants edition t R h _;
-        more_variants = rules.functional_variants edition t R h;
-        pieces = rules.functional_pieces t R h;
-        line_ending = rules.functional_ending t;
-        line = rules.functional_line t R h;
-        lines = rules.functional_lines t R h;
-        layout = rules.functional_layout t R h;
-        pattern = functional_pattern edition t;
-        attribute = functional_attribute edition t;
-        attributes = functional_attributes edition t;
-        message = functional_message edition t;
-        term = functional_term edition t;
-        comment_line = functional_comment_line t;
-        comment_lines = functional_comment_lines t;
-        comment = functional_comment t;
-        entry = functional_entry edition t;
-        dropped_line = tilings.functional_whole_line t;
+        token = token_is_functional t;
+        inline_blank = inline_blank_is_functional t;
+        blank = blank_is_functional t;
+        blank_block = blank_block_is_functional t;
+        line_end = optional_eol_is_functional t;
+        rest_of_line = rest_of_line_is_functional t;
+        identifier = identifier_is_functional t;
+        number = number_is_functional t;
+        string_literal = string_is_functional t;
+        inline_expression = rules.inline_is_functional t R h;
+        attribute_accessor = rules.accessor_is_functional t;
+        call_arguments = rules.call_is_functional t R h;
+        more_arguments = rules.arguments_are_functional t R h;
+        expression = rules.expression_is_functional edition t R h;
+        placeable = rules.placeable_is_functional t R h;
+        variant_key = rules.key_is_functional t;
+        variant_list = rules.variants_are_functional edition t R h _;
+        more_variants = rules.variants_are_functional edition t R h;
+        pieces = rules.pieces_are_functional t R h;
+        line_ending = rules.ending_is_functional t;
+        line = rules.line_is_functional t R h;
+        lines = rules.lines_are_functional t R h;
+        layout = rules.layout_is_functional t R h;
+        pattern = pattern_is_functional edition t;
+        attribute = attribute_is_functional edition t;
+        attributes = attributes_are_functional edition t;
+        message = message_is_functional edition t;
+        term = term_is_functional edition t;
+        comment_line = comment_line_is_functional t;
+        comment_lines = comment_lines_are_functional t;
+        comment = comment_is_functional t;
+        entry = entry_is_functional edition t;
+        dropped_line = tilings.whole_line_is_functional t;
       }
 
   pub one_tiling : OneTiling edition t
-  one_tiling = tilings.one_tiling edition t
+  one_tiling = tilings.same_tilings edition t
 
   pub one_runtime_tiling : OneRuntimeTiling edition t
-  one_runtime_tiling = tilings.one_runtime_tiling edition t
+  one_runtime_tiling = tilings.same_runtime_tilings edition t
 
   faults_mean : (tiles : List Tile) → list_every (IsTileWellFormed edition t (InText t) (text_cuts t)) tiles →
       list_every (FaultMeans t) (faults tiles)

@@ -50,8 +50,8 @@ module _ (t : List ℕ) where
   past_of i j None e given = inr (e, refl)
   past_of i j (Some k) e (passed w) = inl (e ∙ ap Some (sym w.there))
 
-  pub line_of : (i j : ℕ) → whole_line t i (Read tt j) → IsLine t i j
-  line_of i j (goes_on (goes_on at_place (goes_on (passed {j = k} w) (goes_on at_place given))) (chosen y)) =
+  pub whole_line_is_line : (i j : ℕ) → whole_line t i (Read tt j) → IsLine t i j
+  whole_line_is_line i j (goes_on (goes_on at_place (goes_on (passed {j = k} w) (goes_on at_place given))) (chosen y)) =
       record { end = k; stretch = w; eol = past_of k j (after_eol t k) refl y }
 
   past_to : (i j : ℕ) (o : Option ℕ) → after_eol t i ≡ o → (after_eol t i ≡ Some j) ⊎

@@ -2,8 +2,7 @@
 use Rattle.std.specs.Prelude.{ℕ, List, Option, Some, None, Bool, true, false, codes}
 use Rattle.fluent_syntax_grammar.specs.Bytes.{hyphen, full_stop, is_letter, is_digit, is_name_byte}
 use Rattle.fluent_syntax_grammar.specs.Places.{LongestRun, Steps, JumpsTo, has, has_byte, ByteRun, after_eol}
-use Rattle.fluent_syntax_grammar.specs.Places.{is_line_place}
-use Rattle.fluent_syntax_grammar.specs.Places.{InlineBlank, Blank, BlankBlock}
+use Rattle.fluent_syntax_grammar.specs.Places.{is_line_place, InlineBlank, Blank, BlankBlock}
 use Rattle.fluent_syntax_tree.specs.Kind.{ExpectedToken, ExpectedCharRange}
 use Rattle.fluent_syntax_grammar.specs.Construct.{Construct, ◌>>=◌, ◌>>◌, yields, here, fails, skip, peek, branch_on}
 use Rattle.fluent_syntax_tree.specs.declared.spans.Span.{Span}

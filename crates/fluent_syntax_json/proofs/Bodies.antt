@@ -57,12 +57,12 @@ unclosed_text-last body e later is =
 
 module _ {W : Type 0} {text : W → List ℕ} {room : W → ℕ} where
   -- the entry that comes next, by what a writer has done with its text
-  pub HasWritten-next : {T : Type 0} {start : W} {body : BodyTree Text} {old : BodyWriter W} {a b : TextWriter T W}
+  pub HasWritten-entry : {T : Type 0} {start : W} {body : BodyTree Text} {old : BodyWriter W} {a b : TextWriter T W}
       (e : EntryTree Text) (refused : Bool) → HasWritten text room start body old → old.refused ≡ false
       → Appends text room a b (next_text old.later e) → a.sink.now ≡ old.sink → a.refused ≡ false
       → refused ≡ b.refused
       → HasWritten text room start (body ++ e ∷ []) (record { sink = b.sink.now; later = true; refused = refused })
-  HasWritten-next {T} {start} {body} {old} {a} {b} e refused (whole on took later_is) on_now h at_sink not_yet is =
+  HasWritten-entry {T} {start} {body} {old} {a} {b} e refused (whole on took later_is) on_now h at_sink not_yet is =
       next h.outcome
     where
       bytes : Text
@@ -82,7 +82,7 @@ module _ {W : Type 0} {text : W → List ℕ} {room : W → ℕ} where
           let taken = TakesBeginning-after text room took rest in
           beginning (is ∙ now) (subst (λ bs. TakesBeginning text room start b.sink.now bs) all taken)
       next (silent was now same) = cc
-  HasWritten-next e refused (beginning off began) on h at_sink not_yet is = cc
+  HasWritten-entry e refused (beginning off began) on h at_sink not_yet is = cc
 
   -- an entry that comes after a refusal
   pub HasWritten-silent : {start : W} {body : BodyTree Text} {now : BodyWriter W} (e : EntryTree Text)

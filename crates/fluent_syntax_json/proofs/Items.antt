@@ -7,13 +7,13 @@ use Rattle.serde_json.specs.View.{view, items_of, items_view}
 use Rattle.serde_json.specs.declared.value.Value.{Value}
 use Rattle.fluent_syntax_json.specs.declared.fault.ValueFault.{ValueFault}
 use Rattle.fluent_syntax_json.specs.declared.fault.ValueFault.TheVariants.{Shape, Memory}
-use Rattle.fluent_syntax_json.specs.Answer.{Answers}
+use Rattle.fluent_syntax_json.specs.Answer.{ReadsValue}
 use Rattle.fluent_syntax_json.specs.Reading.{◌>>=◌, one_more, items_by}
 
 -- a fault that is handed on: where the part is not spelled, the whole is not
 pub handed :
     {A U B : Type 0} (whole : U → B) (o : Option A) (p : Option B) (r : Result U ValueFault) (e y : ValueFault) →
-    r ≡ Err y → y ≡ e → (o ≡ None → p ≡ None) → Answers (λ (x : A). x) o (Err e) → Answers whole p r
+    r ≡ Err y → y ≡ e → (o ≡ None → p ≡ None) → ReadsValue (λ (x : A). x) o (Err e) → ReadsValue whole p r
 handed whole o p r Shape y is same none h = rw (is, same) (none h)
 handed whole o p r Memory y is same none h = rw (is, same) tt
 

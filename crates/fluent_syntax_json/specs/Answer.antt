@@ -4,7 +4,7 @@ use Rattle.fluent_syntax_json.specs.declared.fault.ValueFault.{ValueFault}
 use Rattle.fluent_syntax_json.specs.declared.fault.ValueFault.TheVariants.{Shape, Memory}
 
 -- `Ok` is what is spelled, as `view` sees it; `Shape` means that nothing is spelled
-abbrev pub Answers : {T A : Type 0} → (T → A) → Option A → Result T ValueFault → Type 0
-Answers view o (Ok x) = o ≡ Some (view x)
-Answers view o (Err Shape) = o ≡ None
-Answers view o (Err Memory) = Unit {0}
+abbrev pub ReadsValue : {T A : Type 0} → (T → A) → Option A → Result T ValueFault → Type 0
+ReadsValue view o (Ok x) = o ≡ Some (view x)
+ReadsValue view o (Err Shape) = o ≡ None
+ReadsValue view o (Err Memory) = Unit {0}

@@ -12,8 +12,7 @@ use Rattle.fluent_syntax_tree.specs.declared.edition.Edition.{Edition}
 use Rattle.fluent_syntax_tree.specs.declared.edition.Edition.TheVariants.{One, Two}
 use Rattle.fluent_syntax_tree.specs.declared.spans.Span.{Span}
 use Rattle.fluent_syntax_grammar.specs.Elements.{ItemOf, text, placeable_item, cut, is_nonblank, line_items}
-use Rattle.fluent_syntax_grammar.specs.Elements.{trimmed_end}
-use Rattle.fluent_syntax_grammar.specs.Elements.{with_ending}
+use Rattle.fluent_syntax_grammar.specs.Elements.{trimmed_end, with_ending}
 use Rattle.fluent_syntax_grammar.specs.Layout.{LineOf, PieceOf, run, placed, Ending, lf_at, crlf_at, text_end}
 use Rattle.fluent_syntax_grammar.specs.Layout.{least, counted}
 use Rattle.fluent_syntax_parser.specs.Boxed.{boxed_expression_view}

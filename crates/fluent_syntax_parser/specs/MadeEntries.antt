@@ -33,8 +33,7 @@ ends_with_comment (e ∷ d ∷ es) = ends_with_comment (d ∷ es)
 
 -- The comment is attached to the entry after it, and both are one; or it can't, and the entry is dropped.
 abbrev pub AttachedLast : {S : Type 0} → (before : List (Entry S)) → Comment S → Entry S → (new : List (Entry S)) → Bool
-    →
-    Type 0
+    → Type 0
 AttachedLast before c e new true = (x : Entry _) × (commented c e ≡ Some x) × (new ≡ before ++ x ∷ [])
 AttachedLast before c e new false = (commented c e ≡ None) × (new ≡ before ++ entries.Comment c ∷ [])
 

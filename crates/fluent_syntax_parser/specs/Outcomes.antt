@@ -69,9 +69,9 @@ IsRefusedAs t c i r = (k : Kind) (from to : ℕ) → Shows t r k from to → c i
 
 -- What a reader answers that began at i, and takes no memory, is an outcome of the construct at i. `view` is the value
 -- that an answer represents.
-abbrev pub Answers : {A X : Type 0} → List ℕ → Construct A → (X → A) → ℕ → Result (X × ℕ) Refusal → Type 0
-Answers t c view i (Ok x) = c i (Read (view x.0) x.1)
-Answers t c view i (Err r) = IsRefusedAs t c i r
+abbrev pub HasOutcome : {A X : Type 0} → List ℕ → Construct A → (X → A) → ℕ → Result (X × ℕ) Refusal → Type 0
+HasOutcome t c view i (Ok x) = c i (Read (view x.0) x.1)
+HasOutcome t c view i (Err r) = IsRefusedAs t c i r
 
 -- A construct is refused at i as the fault shows; or it nests too deeply there, and has no outcome. Of memory nothing
 -- is said.

@@ -1,6 +1,5 @@
 -- Lists of errors, and the lines that they become.
-use Rattle.std.proofs.Common.{◌≡◌, ◌∷◌, [], ℕ, List, map, Option, Some}
-use Rattle.std.proofs.Common.{None, ap, ◌∙◌, refl, sym, option_map, unwrap_or}
+use Rattle.std.proofs.Common.{◌≡◌, ◌∷◌, [], ℕ, List, map, Option, Some, None, ap, ◌∙◌, refl, sym, option_map, unwrap_or}
 use Rattle.std.proofs.lemmas.Simd.{map-map}
 use Rattle.fluent_syntax_tree.specs.declared.errors.ParserError.{ParserError}
 use Rattle.fluent_syntax_tree.specs.Kind.{Kind, kind_of}
@@ -29,19 +28,19 @@ error_fault_is : (e : ParserError) (f : Fault) → fault_of e ≡ Some f → err
 error_fault_is e f h = fault_by (kind_of e.kind) e.pos e.slice (λ r. r.start) (λ r. r.end) f h
 
 -- errors report just the faults that they are of
-pub error_faults : (errors : List ParserError) (fs : List Fault) → map fault_of errors ≡ map Some fs →
+pub faults_of_errors : (errors : List ParserError) (fs : List Fault) → map fault_of errors ≡ map Some fs →
     map error_fault errors ≡ fs
-error_faults [] [] h = refl
-error_faults [] (f ∷ fs) h = absurd cc
-error_faults (e ∷ errors) [] h = absurd cc
-error_faults (e ∷ errors) (f ∷ fs) h =
+faults_of_errors [] [] h = refl
+faults_of_errors [] (f ∷ fs) h = absurd cc
+faults_of_errors (e ∷ errors) [] h = absurd cc
+faults_of_errors (e ∷ errors) (f ∷ fs) h =
     let first : fault_of e ≡ Some f = cc in
     let others : map fault_of errors ≡ map Some fs = cc in
     let same = error_fault_is e f first in
-    let rest = error_faults errors fs others in
+    let rest = faults_of_errors errors fs others in
     cc
 
 -- what is made of what errors report is what is made of the faults
 pub made_of_faults : {X : Type 0} (made : Fault → X) (errors : List ParserError) (fs : List Fault) →
     map fault_of errors ≡ map Some fs → map (λ e. made (error_fault e)) errors ≡ map made fs
-made_of_faults made errors fs h = sym (map-map made error_fault errors) ∙ ap (map made) (error_faults errors fs h)
+made_of_faults made errors fs h = sym (map-map made error_fault errors) ∙ ap (map made) (faults_of_errors errors fs h)

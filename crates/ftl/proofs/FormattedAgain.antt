@@ -8,7 +8,7 @@ use Rattle.fluent_syntax_grammar.specs.Joined.{joined_body}
 use Rattle.fluent_syntax_grammar.specs.RoundTrip.{ReadsAs, tree_of}
 use Rattle.fluent_syntax_grammar.specs.Tiling.{Fault}
 use Rattle.fluent_syntax_grammar.specs.Written.{Text, written}
-use Rattle.fluent_syntax_grammar.proofs.OneTiling.{one_tiling}
+use Rattle.fluent_syntax_grammar.proofs.OneTiling.{same_tilings}
 use Rattle.fluent_syntax_grammar.proofs.marks.Again.{written_again}
 use Rattle.ftl.specs.Answer.{IsAnswer, outcome_with}
 use Rattle.ftl.specs.Formatted.{names, FormatsAgain}
@@ -31,7 +31,7 @@ clean_outcome (f ∷ fs) h = absurd cc
 module _ (t : Text) (tree : BodyTree Text) (reads : ReadsAs One t tree) (text : Text) (outcome : Outcome)
     (answer : IsAnswer Format t text outcome) where
   same_tiles : answer.tiles ≡ reads.tiles
-  same_tiles = one_tiling One t answer.tiles reads.tiles answer.has_tiles reads.tiling
+  same_tiles = same_tilings One t answer.tiles reads.tiles answer.has_tiles reads.tiling
 
   answered_clean : outcome ≡ Clean
   answered_clean = answer.outcome_is ∙ ap outcome_with (ap faults same_tiles ∙ reads.no_faults)

@@ -39,5 +39,5 @@ module _ {A : Type 0} (named : A → Data) where
       IsListed named (Some (array (items_of values))) things
   is_listed values things same = rw same (inr refl)
 
-pub same_some : {X : Type 0} (x y : X) → Some x ≡ Some y → x ≡ y
-same_some x y same = cc
+pub some_is_injective : {X : Type 0} (x y : X) → Some x ≡ Some y → x ≡ y
+some_is_injective x y same = cc

@@ -1,6 +1,7 @@
 -- Paths that lead through a folder next to another one.
 use Rattle.std.proofs.Common.{◌≡◌, ◌≢◌, ◌∙◌, ⊎_elim, inl, ℕ, List, [], ◌++◌, ◌∷◌, Bool, Bor, Option, None, Some}
-use Rattle.std.proofs.Common.{Result, Ok, Err, String, Global, ap, append-nil, append_assoc, arith, codes, false, get_or, true}
+use Rattle.std.proofs.Common.{Result, Ok, Err, String, Global, ap, append-nil, append_assoc, arith, codes, false}
+use Rattle.std.proofs.Common.{get_or, true}
 use Rattle.std.proofs.Common.{length, length-append, refl, sym}
 use Rattle.std.proofs.Math.Seq.{get_or-append_seam}
 use Rattle.std.proofs.lemmas.List.{append_cancel_left}

@@ -1,5 +1,6 @@
 -- Paths relative to a folder.
-use Rattle.std.proofs.Common.{◌≡◌, ◌∙◌, ℕ, List, ◌++◌, ◌∷◌, Bor, Option, Some, None, append_assoc, codes, drop, refl, sym}
+use Rattle.std.proofs.Common.{◌≡◌, ◌∙◌, ℕ, List, ◌++◌, ◌∷◌, Bor, Option, Some, None, append_assoc, codes, drop, refl}
+use Rattle.std.proofs.Common.{sym}
 use Rattle.std.proofs.lemmas.List.{append_cancel_left}
 use Rattle.std.specs.Prelude.{◌≢◌, MatchOption}
 

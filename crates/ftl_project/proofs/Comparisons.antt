@@ -6,7 +6,7 @@ use Rattle.std.specs.Prelude.{OnOk}
 use Rattle.fluent_syntax_names.specs.declared.differences.Side.{Side}
 use Rattle.fluent_syntax_names.specs.declared.name_index.NameIndex.{NameIndex}
 use Rattle.ftl_files.specs.Store.{AllUnchanged}
-use Rattle.ftl_project.proofs.Counting.{appends_nothing, on_ok}
+use Rattle.ftl_project.proofs.Counting.{appends_nothing, on_ok_given}
 use Rattle.ftl_project.specs.Comparing.{Compares, IsFileMissing, IsPairCompared, IsComparison, IsPairFault}
 use Rattle.ftl_project.specs.Comparing.{IsSideFault}
 use Rattle.ftl_project.specs.Faults.{Failing, HasStatus, IsRead}
@@ -70,7 +70,7 @@ module _ (CallFails : Failing) (reading : Reading) (options : CompareOptions) (a
       (before after : Option (List ℕ)) → IsPairFault CallFails reading options at pair fault →
       ((status : ℕ) × HasStatus fault status × (new ≡ counted old (failed status))) → after ≡ before →
       OnOk result (Compares CallFails reading options at pair old new share share before after)
-  Compares-report_text result fault old new share before after why report_text same = on_ok result (
+  Compares-report_text result fault old new share before after why report_text same = on_ok_given result (
     failed report_text.0,
     None,
     [],

@@ -30,9 +30,9 @@ pub appends_as : (before between after : Option (List ℕ)) (said text : List �
 appends_as before between after said text appends says same =
     subst (λ t. Appends before after t) says (subst (λ o. Appends before o said) (sym same) appends)
 
-pub on_ok : {A E P : Type 0} (result : Result A E) → P → OnOk result P
-on_ok (Ok value) holds = holds
-on_ok (Err error) holds = tt
+pub on_ok_given : {A E P : Type 0} (result : Result A E) → P → OnOk result P
+on_ok_given (Ok value) holds = holds
+on_ok_given (Err error) holds = tt
 
 pub on_ok_then : {A E P Q : Type 0} (result : Result A E) → (P → Q) → OnOk result P → OnOk result Q
 on_ok_then (Ok value) then holds = then holds
@@ -45,7 +45,7 @@ pub Writes-report_text : {E : Type 0} (Is : Processed → List ℕ → Type 0) (
     ((status : ℕ) → Fails Why status → Is (failed status) []) → Why fault →
     ((status : ℕ) × HasStatus fault status × (new ≡ counted old (failed status))) → after ≡ before →
     OnOk result (Writes Is old new before after)
-Writes-report_text Is Why result fault old new before after fails why report_text same = on_ok result (
+Writes-report_text Is Why result fault old new before after fails why report_text same = on_ok_given result (
   failed report_text.0,
   [],
   fails report_text.0 (fault, why, report_text.1),

@@ -5,7 +5,7 @@ use Rattle.std.proofs.Common.{refl, string_bytes, subst, sym, ⊎_elim}
 use Rattle.std.proofs.lemmas.List.Elements.{All-cons}
 use Rattle.std.specs.Global.{Global}
 use Rattle.std.specs.Prelude.{String}
-use Rattle.fluent_syntax_grammar.proofs.OneTiling.{one_tiling}
+use Rattle.fluent_syntax_grammar.proofs.OneTiling.{same_tilings}
 use Rattle.fluent_syntax_grammar.specs.Body.{faults}
 use Rattle.fluent_syntax_grammar.specs.RoundTrip.{tree_of}
 use Rattle.fluent_syntax_grammar.specs.Tiling.{Fault, Tile, Tiling}
@@ -36,10 +36,10 @@ use Rattle.ftl_project.specs.declared.lossy_entry.LossyEntry.{LossyEntry}
 one_rewriting : (edition : Edition) (bytes t u : Text) → IsRewriting edition bytes t → IsRewriting edition bytes u →
     u ≡ t
 one_rewriting One bytes t u a b =
-    let same = one_tiling One bytes b.answer.tiles a.answer.tiles b.answer.has_tiles a.answer.has_tiles in
+    let same = same_tilings One bytes b.answer.tiles a.answer.tiles b.answer.has_tiles a.answer.has_tiles in
     b.answer.text_is ∙ ap (normal_text bytes) same ∙ sym a.answer.text_is
 one_rewriting Two bytes t u a b =
-    let same = one_tiling Two bytes b.answer.tiles a.answer.tiles b.answer.has_tiles a.answer.has_tiles in
+    let same = same_tilings Two bytes b.answer.tiles a.answer.tiles b.answer.has_tiles a.answer.has_tiles in
     b.answer.text_is ∙ ap (normal_text bytes) same ∙ sym a.answer.text_is
 
 -- it is its own
@@ -50,8 +50,8 @@ settled Two bytes t u a b = (a.settles u Clean b.answer).2
 -- the tiles are those of the bytes, and have no faults
 tiles_same : (edition : Edition) (bytes t : Text) (a : IsRewriting edition bytes t) (tiles : List Tile) →
     Tiling edition bytes tiles → tiles ≡ a.answer.tiles
-tiles_same One bytes t a tiles tiling = one_tiling One bytes tiles a.answer.tiles tiling a.answer.has_tiles
-tiles_same Two bytes t a tiles tiling = one_tiling Two bytes tiles a.answer.tiles tiling a.answer.has_tiles
+tiles_same One bytes t a tiles tiling = same_tilings One bytes tiles a.answer.tiles tiling a.answer.has_tiles
+tiles_same Two bytes t a tiles tiling = same_tilings Two bytes tiles a.answer.tiles tiling a.answer.has_tiles
 
 none_of_clean : (fs : List Fault) → Clean ≡ outcome_with fs → fs ≡ []
 none_of_clean [] clean = refl

@@ -3,7 +3,7 @@ use Rattle.std.proofs.Common.{◌≡◌, ◌∙◌, IsUtf8, ap, false, subst, sy
 use Rattle.fluent_syntax_grammar.specs.Body.{faults}
 use Rattle.fluent_syntax_grammar.specs.RoundTrip.{ReadsAs, ReadsBack, tree_of}
 use Rattle.fluent_syntax_grammar.specs.Written.{Text, written}
-use Rattle.fluent_syntax_grammar.proofs.OneTiling.{one_tiling}
+use Rattle.fluent_syntax_grammar.proofs.OneTiling.{same_tilings}
 use Rattle.fluent_syntax_tree.specs.Entry.{BodyTree}
 use Rattle.fluent_syntax_tree.specs.declared.edition.Edition.{Edition}
 use Rattle.fluent_syntax_tree.specs.declared.edition.Edition.TheVariants.{One, Two}
@@ -18,7 +18,7 @@ use Rattle.ftl_project.specs.Lossless.{IsRewriting, Settles}
 settled : (text : Text) (tree : BodyTree Text) → ReadsAs Two text tree → text ≡ written false tree →
     Settles Two tree text
 settled text tree reads is_written again next second =
-    let same = one_tiling Two text second.tiles reads.tiles second.has_tiles reads.tiling in
+    let same = same_tilings Two text second.tiles reads.tiles second.has_tiles reads.tiling in
     let same_tree = ap (tree_of text) same ∙ reads.same in (
       second.outcome_is ∙ ap outcome_with (ap faults same ∙ reads.no_faults),
       same_tree,

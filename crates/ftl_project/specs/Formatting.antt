@@ -7,7 +7,7 @@ use Rattle.ftl_files.specs.Store.{AllUnchanged}
 use Rattle.ftl_project.specs.Excerpt.{shown_text}
 use Rattle.ftl_project.specs.Faults.{Failing, HasStatus}
 use Rattle.ftl_project.specs.Rewriting.{IsReplacement, Rewrites}
-use Rattle.ftl_project.specs.Runs.{Answers}
+use Rattle.ftl_project.specs.Runs.{TaskAnswers}
 use Rattle.ftl_project.specs.Lossless.{IsRewriting}
 use Rattle.ftl_project.specs.Tally.{Processed, answered, counted, failed}
 use Rattle.ftl_project.specs.declared.fault.Fault.{Fault}
@@ -71,13 +71,13 @@ name_of path (Text text) = shown_text path ++ codes "\n"
 name_of path _ = []
 
 -- of a text of which it is shown what would change: how that is shown is for people
-abbrev pub IsShown : Reading → Answers
+abbrev pub IsShown : Reading → TaskAnswers
 IsShown reading path text errors has_problems shown = (replacement : Replacement)
     × IsReplacement reading.edition text replacement × (errors ≡ errors_in replacement)
     × (has_problems ≡ is_not_normal replacement)
 
 -- of a text that is named where it would change
-abbrev pub IsNamed : Reading → Answers
+abbrev pub IsNamed : Reading → TaskAnswers
 IsNamed reading path text errors has_problems named = (replacement : Replacement)
     × IsReplacement reading.edition text replacement × (errors ≡ errors_in replacement)
     × (has_problems ≡ is_not_normal replacement) × (named ≡ name_of path replacement)

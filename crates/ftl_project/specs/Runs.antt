@@ -21,10 +21,10 @@ WritesEach Processes (file ∷ files) old new before after = (now : Tally) × (b
     × Writes (Processes file) old now before between × WritesEach Processes files now new between after
 
 -- what is said of the text of a file: how many errors it has, whether it has problems, and what is written
-abbrev pub Answers : Type 1
-Answers = (path text : List ℕ) (errors : ℕ) (has_problems : Bool) (written : List ℕ) → Type 0
+abbrev pub TaskAnswers : Type 1
+TaskAnswers = (path text : List ℕ) (errors : ℕ) (has_problems : Bool) (written : List ℕ) → Type 0
 
-module _ (CallFails : Failing) (Is : Answers) (OfText : List ℕ → Fault → Type 0) where
+module _ (CallFails : Failing) (Is : TaskAnswers) (OfText : List ℕ → Fault → Type 0) where
   -- How a file of these bytes is met: what was read of it is answered so; or it failed, and nothing is written.
   abbrev pub ProcessesFile : (path : List ℕ) → Option (List ℕ) → Processed → (written : List ℕ) → Type 0
   ProcessesFile path bytes (answered errors has_problems) written =

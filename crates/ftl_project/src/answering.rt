@@ -45,8 +45,8 @@ pub trait FileTask {
         ensures fault { IfErr result (refuses self.now (string_bytes text)) };
 }
 
-/// Reads each of the files, in their order, writes what the task says of it, and counts it. One of which nothing is said
-/// is reported, and the others are answered. No file is changed.
+/// Reads each of the files, in their order, writes what the task says of it, and counts it. One of which nothing is
+/// said is reported, and the others are answered. No file is changed.
 ///
 /// `Err` where the run stopped: `Memory`, or `Output`.
 pub fn answer_files<T: FileTask, S: Store, O: Write, E: Write>(

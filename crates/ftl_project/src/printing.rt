@@ -25,7 +25,8 @@ struct Printed {
     doubtful: Option<Edition>,
 }
 
-/// Writes the command's text of each file. A file that has errors, or whose normal form does not read back, is reported.
+/// Writes the command's text of each file. A file that has errors, or whose normal form does not read back, is
+/// reported.
 #[derive(Clone, Copy)]
 pub struct PrintTask {
     pub command: Command,
@@ -65,12 +66,7 @@ impl PrintTask {
     }
 
     /// The text's normal form.
-    fn formatted(
-        &self,
-        alloc: Global,
-        text: &str,
-        edition: Edition,
-    ) -> Result<Printed, Fault>
+    fn formatted(&self, alloc: Global, text: &str, edition: Edition) -> Result<Printed, Fault>
         ensures formatted { IfOk result (λ formatted. IsAnswer (format_of edition) text.now
             (string_bytes formatted.text) formatted.outcome) }
         ensures fault { IfErr result (IsUnparsed (NestsDeeper edition text.now self.now.nesting)) }
@@ -90,12 +86,7 @@ impl PrintTask {
     }
 
     /// The text of another command.
-    fn converted(
-        &self,
-        alloc: Global,
-        text: &str,
-        command: Command,
-    ) -> Result<Printed, Fault>
+    fn converted(&self, alloc: Global, text: &str, command: Command) -> Result<Printed, Fault>
         ensures converted { IfOk result (λ converted. IsAnswer command text.now (string_bytes converted.text)
             converted.outcome) }
         ensures fault { IfErr result (IsUnparsed (ReadsDeeper command text.now self.now.nesting)) }

@@ -22,7 +22,7 @@ use Rattle.fluent_syntax_grammar.specs.RoundTrip.{HasNoBareCr, HasNoCr, JoinedIs
 use Rattle.fluent_syntax_grammar.specs.RoundTrip.{JoinedIsCanonical, tree_of}
 use Rattle.fluent_syntax_grammar.proofs.FurtherRules.{readable_further}
 use Rattle.fluent_syntax_grammar.proofs.Facts.{differs}
-use Rattle.fluent_syntax_grammar.proofs.Tests.{both}
+use Rattle.fluent_syntax_grammar.proofs.Tests.{both_true}
 use Rattle.fluent_syntax_grammar.proofs.backward.Entries.{IsLines, IsMessage, IsTerm, IsNotJunk, ensures_entry}
 
 module _ (t : List ℕ) (Joins Junk : Type 0) where
@@ -101,18 +101,19 @@ module _ (t : List ℕ) (Joins Junk : Type 0) where
   message_obeying : (m : MessageTree Span) → IsMessage t Joins m →
       message_obeys (readable_rules One) (joined_message (message_map (bytes_at t) m)) ≡ true
   message_obeying m g = let v = g.value in let a = g.attributes in
-      both g.field (both g.comment (both g.name (both v.obeys a.obeys)))
+      both_true g.field (both_true g.comment (both_true g.name (both_true v.obeys a.obeys)))
 
   term_obeying : (m : TermTree Span) → IsTerm t Joins m →
       term_obeys (readable_rules One) (joined_term (term_map (bytes_at t) m)) ≡ true
-  term_obeying m g = let v = g.value in let a = g.attributes in both g.comment (both g.name (both v.obeys a.obeys))
+  term_obeying m g = let v = g.value in let a = g.attributes in both_true g.comment
+      (both_true g.name (both_true v.obeys a.obeys))
 
   body_obeying : (es : BodyTree Span) → list_every IsBodyEntry es →
       body_obeys (readable_rules One) (joined_body (body_map (bytes_at t) es)) ≡ true
   body_obeying [] g = refl
-  body_obeying (message m ∷ es) (g, h) = both (message_obeying m g) (body_obeying es h)
-  body_obeying (term m ∷ es) (g, h) = both (term_obeying m g) (body_obeying es h)
-  body_obeying (comment level content ∷ es) (g, h) = both g (body_obeying es h)
+  body_obeying (message m ∷ es) (g, h) = both_true (message_obeying m g) (body_obeying es h)
+  body_obeying (term m ∷ es) (g, h) = both_true (term_obeying m g) (body_obeying es h)
+  body_obeying (comment level content ∷ es) (g, h) = both_true g (body_obeying es h)
   body_obeying (junk s ∷ es) (g, h) = body_obeying es h
 
   message_same :

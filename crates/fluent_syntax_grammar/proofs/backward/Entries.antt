@@ -27,13 +27,12 @@ use Rattle.fluent_syntax_grammar.specs.Readable.{has_field, are_lines, readable_
 use Rattle.fluent_syntax_grammar.specs.Joined.{joined_pattern, joined_attribute}
 use Rattle.fluent_syntax_grammar.specs.RoundTrip.{HasNoBareCr}
 use Rattle.fluent_syntax_grammar.proofs.Facts.{left_true, right_true}
-use Rattle.fluent_syntax_grammar.proofs.Tests.{both}
+use Rattle.fluent_syntax_grammar.proofs.Tests.{both_true}
 use Rattle.fluent_syntax_grammar.proofs.backward.Lines.{range_none, range_all}
-use Rattle.fluent_syntax_grammar.proofs.backward.Words.{IsName}
+use Rattle.fluent_syntax_grammar.proofs.backward.Words.{IsNameSpan}
 use Rattle.fluent_syntax_grammar.proofs.backward.Rules.{Ensures, ensures_bind, ensures_then, ensures_yields}
 use Rattle.fluent_syntax_grammar.proofs.backward.Rules.{ensures_fails, ensures_peek, ensures_branch_on, ObeysJoined}
-use Rattle.fluent_syntax_grammar.proofs.backward.Rules.{IsPattern}
-use Rattle.fluent_syntax_grammar.proofs.backward.Rules.{ensures_name}
+use Rattle.fluent_syntax_grammar.proofs.backward.Rules.{IsPattern, ensures_name}
 use Rattle.fluent_syntax_grammar.proofs.backward.Family as family_back
 use Rattle.fluent_syntax_grammar.proofs.backward.Family.{family_obeys_joined}
 use Rattle.fluent_syntax_grammar.proofs.Tests.{neither_left, not_false, not_true}
@@ -65,13 +64,13 @@ module _ (t : List ℕ) where
 
   line_read : (i j : ℕ) (s : Span) → rest_of_line t i (Read s j) → IsLines (s ∷ [])
   line_read i j s (goes_on at_place (goes_on (passed w) (goes_on at_place given))) =
-      both (not_false (has_lf (slice_range t i j))
+      both_true (not_false (has_lf (slice_range t i j))
       (no_lf_in (slice_range t i j)
       (range_all t (λ b. not (b == lf)) i j w.forward (λ k x y. line_place k (w.each k x y))))) refl
 
   empty_read : (i j : ℕ) (s : Span) → comment_text t true i (Read s j) → IsLines (s ∷ [])
   empty_read i j s (goes_on at_place (goes_on at_place given)) =
-      both (not_false (has_lf (slice_range t j j)) (ap has_lf (range_none t j))) refl
+      both_true (not_false (has_lf (slice_range t j j)) (ap has_lf (range_none t j))) refl
 
   ensures_text : (eol : Bool) → Ensures (comment_text t eol) (λ s. IsLines (s ∷ []))
   ensures_text true = record { on_read = empty_read }
@@ -87,7 +86,7 @@ module _ (t : List ℕ) where
   lines_append : (xs ys : List Span) → IsLines xs → IsLines ys → IsLines (xs ++ ys)
   lines_append [] ys e f = f
   lines_append (x ∷ xs) ys e f =
-      both (left_true (not (has_lf (bytes_at t x))) _ e)
+      both_true (left_true (not (has_lf (bytes_at t x))) _ e)
       (lines_append xs ys (right_true (not (has_lf (bytes_at t x))) _ e) f)
 
   lines_read : (level i j : ℕ) (content : List Span) → comment_lines t level i (Read content j) → IsLines content
@@ -113,7 +112,7 @@ module _ (t : List ℕ) (Joins : Type 0) where
   IsComment o = option_obeys are_lines (option_map (map (bytes_at t)) o) ≡ true
 
   pub record IsMessage (m : MessageTree Span) : Type 0 where
-    pub name : IsName t m.id
+    pub name : IsNameSpan t m.id
     pub field :
         has_field (option_map joined_pattern (option_map (pattern_map (bytes_at t)) m.value))
         (map joined_attribute (map (attribute_map (bytes_at t)) m.attributes)) ≡ true
@@ -122,7 +121,7 @@ module _ (t : List ℕ) (Joins : Type 0) where
     pub comment : IsComment m.comment
 
   pub record IsTerm (m : TermTree Span) : Type 0 where
-    pub name : IsName t m.id
+    pub name : IsNameSpan t m.id
     pub value : IsPattern t Joins m.value
     pub attributes : IsAttributes m.attributes
     pub comment : IsComment m.comment
@@ -137,11 +136,12 @@ module _ (t : List ℕ) (Joins : Type 0) where
   value_of None g = record { obeys = refl; same = λ none. refl }
   value_of (Some p) g = record { obeys = g.obeys; same = λ none. ap Some (g.same none) }
 
-  attribute_obeys_joined : (id : Span) (p : PatternTree Span) → IsName t id → IsPattern t Joins p →
+  attribute_obeys_joined : (id : Span) (p : PatternTree Span) → IsNameSpan t id → IsPattern t Joins p →
       ObeysJoined Joins (attribute_obeys (readable_rules One)) joined_attribute
       (attribute_map (bytes_at t) (record { id = id; value = p }))
   attribute_obeys_joined id p n g =
-      record { obeys = both n g.obeys; same = λ none. ap (λ p. record { id = bytes_at t id; value = p }) (g.same none) }
+      record { obeys = both_true n g.obeys; same = λ none. ap (λ p. record { id = bytes_at t id; value = p }) (g.same
+          none) }
 
   no_attributes : IsAttributes []
   no_attributes = record { obeys = refl; same = λ none. refl }
@@ -150,7 +150,7 @@ module _ (t : List ℕ) (Joins : Type 0) where
       ObeysJoined Joins (attribute_obeys (readable_rules One)) joined_attribute (attribute_map (bytes_at t) a) →
       IsAttributes rest → IsAttributes (a ∷ rest)
   more_attributes a rest f g =
-      record { obeys = both f.obeys g.obeys; same = λ none. cons_same (f.same none) (g.same none) }
+      record { obeys = both_true f.obeys g.obeys; same = λ none. cons_same (f.same none) (g.same none) }
     where
       cons_same : {X : Type 0} {a b : X} {xs ys : List X} → a ≡ b → xs ≡ ys → a ∷ xs ≡ b ∷ ys
       cons_same e f = cc (e, f)
@@ -163,7 +163,7 @@ module _ (t : List ℕ) (bare : HasNoBareCr t) (Joins : Type 0) (crs : (i : ℕ)
   IsAttribute a =
       ObeysJoined Joins (attribute_obeys (readable_rules One)) joined_attribute (attribute_map (bytes_at t) a)
 
-  ensures_with : (id : Span) (o : Option (PatternTree Span)) → IsName t id → option_every (IsPattern t Joins) o →
+  ensures_with : (id : Span) (o : Option (PatternTree Span)) → IsNameSpan t id → option_every (IsPattern t Joins) o →
       Ensures (attribute_with id o) IsAttribute
   ensures_with id None n g = ensures_fails
   ensures_with id (Some p) n g = ensures_yields (attribute_obeys_joined t Joins id p n g)
@@ -186,7 +186,7 @@ module _ (t : List ℕ) (bare : HasNoBareCr t) (Joins : Type 0) (crs : (i : ℕ)
   ensures_attributes = record { on_read = attributes_read }
 
   ensures_message_with : (start : ℕ) (id : Span) (o : Option (PatternTree Span)) (rest : List (AttributeTree Span)) →
-      IsName t id → option_every (IsPattern t Joins) o → IsAttributes t Joins rest →
+      IsNameSpan t id → option_every (IsPattern t Joins) o → IsAttributes t Joins rest →
       Ensures (message_with t start id o rest) (IsNotJunk t Joins)
   ensures_message_with start id None [] n g k = record { on_read = λ i j a x. elim x [ ] }
   ensures_message_with start id None (a ∷ rest) n g k =
@@ -197,7 +197,7 @@ module _ (t : List ℕ) (bare : HasNoBareCr t) (Joins : Type 0) (crs : (i : ℕ)
       (record { name = n; field = refl; value = value_of t Joins (Some p) g; attributes = k; comment = refl })
 
   ensures_term_with : (start : ℕ) (id : Span) (o : Option (PatternTree Span)) (rest : List (AttributeTree Span)) →
-      IsName t id → option_every (IsPattern t Joins) o → IsAttributes t Joins rest →
+      IsNameSpan t id → option_every (IsPattern t Joins) o → IsAttributes t Joins rest →
       Ensures (term_with t start id o rest) (IsNotJunk t Joins)
   ensures_term_with start id None rest n g k = record { on_read = λ i j a x. elim x [ ] }
   ensures_term_with start id (Some p) rest n g k =

@@ -21,8 +21,7 @@ use Rattle.fluent_syntax_grammar.specs.Layout.{Piece, run, placed, Ending, lf_at
 use Rattle.fluent_syntax_grammar.specs.Elements.{Item, text, placeable_item, items, cut, spelled, if_any, pattern_of}
 use Rattle.fluent_syntax_grammar.specs.Lines as lines
 use Rattle.fluent_syntax_grammar.specs.Lines.{is_run_place, belongs, ending_of, ending, next_piece_at, next_piece}
-use Rattle.fluent_syntax_grammar.specs.Lines.{next_line}
-use Rattle.fluent_syntax_grammar.specs.Lines.{no_byte, other_line, own_line}
+use Rattle.fluent_syntax_grammar.specs.Lines.{next_line, no_byte, other_line, own_line}
 use Rattle.fluent_syntax_grammar.specs.Expressions.{selector_fault, variants_of_select, select_with, expression}
 use Rattle.fluent_syntax_grammar.specs.Patterns.{layout_at, layout, pattern}
 use Rattle.fluent_syntax_grammar.specs.Variants.{variant_key, only_star, variants_end, variant_of, variant_after}
@@ -36,12 +35,10 @@ use Rattle.fluent_syntax_grammar.specs.RoundTrip.{HasNoBareCr}
 use Rattle.fluent_syntax_grammar.proofs.HoareTriple.{gave}
 use Rattle.fluent_syntax_grammar.proofs.Cuts.{eol_cases}
 use Rattle.fluent_syntax_grammar.proofs.Functional.{longest_run_functional}
-use Rattle.fluent_syntax_grammar.proofs.Facts.{byte_holds, differs, two_on_as_one, not_next}
-use Rattle.fluent_syntax_grammar.proofs.Facts.{longest_run_nonempty}
-use Rattle.fluent_syntax_grammar.proofs.Tests.{both}
-use Rattle.fluent_syntax_grammar.proofs.backward.Shapes.{LastItemStays, kept_cut, shape_cut, tree, Well, items_well}
-use Rattle.fluent_syntax_grammar.proofs.backward.Shapes.{items_same}
-use Rattle.fluent_syntax_grammar.proofs.backward.Shapes.{Shape}
+use Rattle.fluent_syntax_grammar.proofs.Facts.{byte_holds, differs, two_on_as_one, not_next, longest_run_nonempty}
+use Rattle.fluent_syntax_grammar.proofs.Tests.{both_true}
+use Rattle.fluent_syntax_grammar.proofs.backward.Shapes.{LastItemStays, kept_cut, shape_cut, items_tree, Well}
+use Rattle.fluent_syntax_grammar.proofs.backward.Shapes.{items_well, items_same, Shape}
 use Rattle.fluent_syntax_grammar.proofs.backward.Lines.{IsEnd, PiecesAt, no_piece, a_run, a_placeable, EndingAt}
 use Rattle.fluent_syntax_grammar.proofs.backward.Lines.{lf_ends, crlf_ends, text_ends, LineAt, LinesAt}
 use Rattle.fluent_syntax_grammar.proofs.backward.Lines.{no_line as no_lines, a_line, LayoutAt, on_line, below}
@@ -50,12 +47,11 @@ use Rattle.fluent_syntax_grammar.proofs.backward.FirstLines.{spare}
 use Rattle.fluent_syntax_grammar.proofs.backward.Words.{number_inversion}
 use Rattle.fluent_syntax_grammar.proofs.backward.Rules.{Ensures, ensures_bind, ensures_then, ensures_yields}
 use Rattle.fluent_syntax_grammar.proofs.backward.Rules.{ensures_fails, ensures_peek, ensures_branch_on, ObeysJoined}
-use Rattle.fluent_syntax_grammar.proofs.backward.Rules.{IsPattern}
-use Rattle.fluent_syntax_grammar.proofs.backward.Rules.{IsKey, IsVariants, ObeysJoinedFamily, ensures_name, IsInline}
-use Rattle.fluent_syntax_grammar.proofs.backward.Rules.{ensures_placeable, inline_inversion, ensures_arguments, Adds}
-use Rattle.fluent_syntax_grammar.proofs.backward.Rules.{ensures_many}
-use Rattle.fluent_syntax_grammar.proofs.backward.Rules.{select_obeys_joined, inline_obeys_joined}
-use Rattle.fluent_syntax_grammar.proofs.backward.Shapes.{IsRead}
+use Rattle.fluent_syntax_grammar.proofs.backward.Rules.{IsPattern, IsKey, IsVariants, ObeysJoinedFamily, ensures_name}
+use Rattle.fluent_syntax_grammar.proofs.backward.Rules.{IsInline, ensures_placeable, inline_inversion}
+use Rattle.fluent_syntax_grammar.proofs.backward.Rules.{ensures_arguments, Adds, ensures_many, select_obeys_joined}
+use Rattle.fluent_syntax_grammar.proofs.backward.Rules.{inline_obeys_joined}
+use Rattle.fluent_syntax_grammar.proofs.backward.Shapes.{IsReadExpression}
 use Rattle.fluent_syntax_tree.specs.Tree.{InlineTree, VariantTree}
 use Rattle.fluent_syntax_tree.specs.Kind.{Kind}
 use Rattle.fluent_syntax_grammar.proofs.Tests.{neither_left, not_false}
@@ -85,27 +81,27 @@ joined_elements (text_element v) es = after_elements v es
 well_obeys : (p : PatternTree Text) → has_elements p ≡ true → Well (is_multiline p) opening p →
     pattern_obeys (readable_rules One) p ≡ true
 well_obeys no_elements e w = cc
-well_obeys (elements x xs) e w = both w.position w.obey
+well_obeys (elements x xs) e w = both_true w.position w.obey
 
 module _ (t : List ℕ) (bare : HasNoBareCr t) (Joins : Type 0) (crs : (i : ℕ) → has_byte t cr i ≡ true → Joins) where
-  tree_elements : (x : Item) (xs : List Item) → has_elements (joined_pattern (tree t (x ∷ xs))) ≡ true
+  tree_elements : (x : Item) (xs : List Item) → has_elements (joined_pattern (items_tree t (x ∷ xs))) ≡ true
   tree_elements (text from to) [] = refl
-  tree_elements (text from to) (y ∷ ys) = joined_elements (text_element _) (tree t (y ∷ ys))
+  tree_elements (text from to) (y ∷ ys) = joined_elements (text_element _) (items_tree t (y ∷ ys))
   tree_elements (placeable_item e) xs = refl
 
   tree_obeys_joined : (x : Item) (xs : List Item) →
-      Shape t Joins (is_multiline (joined_pattern (tree t (x ∷ xs)))) opening (x ∷ xs) → LastItemStays t (x ∷ xs) →
-      ObeysJoined Joins (pattern_obeys (readable_rules One)) joined_pattern (tree t (x ∷ xs))
+      Shape t Joins (is_multiline (joined_pattern (items_tree t (x ∷ xs)))) opening (x ∷ xs) → LastItemStays t (x ∷ xs)
+      → ObeysJoined Joins (pattern_obeys (readable_rules One)) joined_pattern (items_tree t (x ∷ xs))
   tree_obeys_joined x xs s k =
-      let m = is_multiline (joined_pattern (tree t (x ∷ xs))) in
+      let m = is_multiline (joined_pattern (items_tree t (x ∷ xs))) in
       record {
         obeys =
-            well_obeys (joined_pattern (tree t (x ∷ xs))) (tree_elements x xs)
+            well_obeys (joined_pattern (items_tree t (x ∷ xs))) (tree_elements x xs)
             (items_well t Joins m opening (x ∷ xs) tt s k);
         same = λ none. items_same t Joins m none opening (x ∷ xs) s;
       }
 
-  spelled_obeys_joined : (xs : List Item) → Shape t Joins (is_multiline (joined_pattern (tree t xs))) opening xs →
+  spelled_obeys_joined : (xs : List Item) → Shape t Joins (is_multiline (joined_pattern (items_tree t xs))) opening xs →
       LastItemStays t xs →
       option_every (IsPattern t Joins) (if_any (spelled t xs))
   spelled_obeys_joined [] s k = tt
@@ -116,7 +112,7 @@ module _ (t : List ℕ) (bare : HasNoBareCr t) (Joins : Type 0) (crs : (i : ℕ)
   -- a layout that was read spells a fine pattern, or none
   pub pattern_obeys_joined : (y : Layout) → LayoutAt t Joins y → option_every (IsPattern t Joins) (pattern_of One t y)
   pattern_obeys_joined y x =
-      let m = is_multiline (joined_pattern (tree t (cut t (items One y)))) in
+      let m = is_multiline (joined_pattern (items_tree t (cut t (items One y)))) in
       spelled_obeys_joined (cut t (items One y))
       (shape_cut t Joins m opening (items One y)
       (layout_shape t bare Joins crs m y x (spare t bare Joins crs m y x))) (kept_cut t (items One y))
@@ -162,7 +158,7 @@ module _ (t : List ℕ) (Joins : Type 0) where
   run_begins i b e f g h =
       let no_lf : (b == lf) ≡ false =
       ap (holds (λ c. c == lf)) (sym e) ∙ neither_left (has_byte t lf i) (has_byte t cr i && has_byte t lf (i + 1)) f in
-      both (byte_holds (λ b. not (b == lf || b == 123 || b == 125)) (slice_get t i) b e (rw (no_lf, h, g) refl))
+      both_true (byte_holds (λ b. not (b == lf || b == 123 || b == 125)) (slice_get t i) b e (rw (no_lf, h, g) refl))
       (not_false (has_eol t i) f)
 
 module _ (t : List ℕ) (bare : HasNoBareCr t) (Joins : Type 0) (crs : (i : ℕ) → has_byte t cr i ≡ true → Joins)
@@ -303,7 +299,7 @@ module _ (t : List ℕ) (bare : HasNoBareCr t) (Joins : Type 0) (crs : (i : ℕ)
       record {
         fine =
             record {
-              obeys = both (both k p.obeys) f.obeys;
+              obeys = both_true (both_true k p.obeys) f.obeys;
               same = λ none. pair_same key true (p.same none) (f.same none);
             };
         none = λ y. absurd cc;
@@ -314,7 +310,7 @@ module _ (t : List ℕ) (bare : HasNoBareCr t) (Joins : Type 0) (crs : (i : ℕ)
       record {
         fine =
             record {
-              obeys = both (both k p.obeys) f.obeys;
+              obeys = both_true (both_true k p.obeys) f.obeys;
               same = λ none. pair_same key false (p.same none) (f.same none);
             };
         none = λ y. g.none refl;
@@ -325,7 +321,7 @@ module _ (t : List ℕ) (bare : HasNoBareCr t) (Joins : Type 0) (crs : (i : ℕ)
       record {
         fine =
             record {
-              obeys = both (both k p.obeys) f.obeys;
+              obeys = both_true (both_true k p.obeys) f.obeys;
               same = λ none. pair_same key false (p.same none) (f.same none);
             };
         none = λ y. absurd cc;
@@ -371,12 +367,12 @@ module _ (t : List ℕ) (bare : HasNoBareCr t) (Joins : Type 0) (crs : (i : ℕ)
       ensures_then (λ u. ensures_then (λ u. ensures_then (λ u. ensures_then (λ u. ensures_variants false))))
 
   ensures_select : (e : InlineTree Span) (o : Option Kind) → IsInline t Joins e → selector_fault e ≡ o →
-      Ensures (select_with One t R e o) (IsRead t Joins)
+      Ensures (select_with One t R e o) (IsReadExpression t Joins)
   ensures_select e None f k =
       ensures_bind ensures_variants_of (λ vs g. ensures_yields (select_obeys_joined t Joins R h e vs f k g))
   ensures_select e (Some x) f k = ensures_fails
 
-  pub ensures_expression : Ensures (expression One t R) (IsRead t Joins)
+  pub ensures_expression : Ensures (expression One t R) (IsReadExpression t Joins)
   ensures_expression =
       ensures_bind (record { on_read = λ i j e x. (inline_inversion t Joins R h i j e x).0 })
       (λ e f. ensures_then (λ u. ensures_then (λ arrow. ensures_branch_on

@@ -12,20 +12,19 @@ use Rattle.fluent_syntax_grammar.specs.Places.{has_byte}
 use Rattle.fluent_syntax_grammar.specs.Layout.{Piece, run, placed, Ending, lf_at, crlf_at, text_end, Line, Layout}
 use Rattle.fluent_syntax_grammar.specs.Layout.{counted_spaces, counted, least, common_indent}
 use Rattle.fluent_syntax_grammar.specs.Elements.{Item, text, placeable_item, with_ending, common_indent_end, items_from}
-use Rattle.fluent_syntax_grammar.specs.Elements.{line_items}
-use Rattle.fluent_syntax_grammar.specs.Elements.{items, is_nonblank, stays, cut_before, cut}
+use Rattle.fluent_syntax_grammar.specs.Elements.{line_items, items, is_nonblank, stays, cut_before, cut}
 use Rattle.fluent_syntax_grammar.specs.Written.{Text, has_lf, is_select, is_multiline}
 use Rattle.fluent_syntax_grammar.specs.Joined.{joined_pattern}
 use Rattle.fluent_syntax_grammar.specs.RoundTrip.{HasNoBareCr}
 use Rattle.fluent_syntax_grammar.proofs.Facts.{append_nothing}
 use Rattle.fluent_syntax_grammar.proofs.backward.Texts.{line_end, plain_nonblank}
-use Rattle.fluent_syntax_grammar.proofs.backward.Shapes.{tree}
+use Rattle.fluent_syntax_grammar.proofs.backward.Shapes.{items_tree}
 use Rattle.fluent_syntax_grammar.proofs.backward.Lines.{range_last, byte_at, PiecesAt, no_piece, a_run, a_placeable}
 use Rattle.fluent_syntax_grammar.proofs.backward.Lines.{EndingAt, lf_ends, crlf_ends, text_ends, LineAt, LinesAt}
 use Rattle.fluent_syntax_grammar.proofs.backward.Lines.{a_line, LayoutAt, on_line, below}
 use Rattle.fluent_syntax_grammar.proofs.backward.Layouts.{LineText, HeadAt, head_at, run_text, no_line_at_end, IsSpare}
 use Rattle.fluent_syntax_grammar.proofs.JoinedLines.{multiline_same}
-use Rattle.fluent_syntax_grammar.proofs.Tests.{or_cases, or_left, or_right}
+use Rattle.fluent_syntax_grammar.proofs.Tests.{or_cases, true_by_left, true_by_right}
 
 -- ---- the cut keeps what is before an item that stays
 
@@ -66,16 +65,17 @@ module _ (t : List ℕ) where
 
   -- a text with an LF that is not the last item makes the pattern span lines
   spans_tree : (xs : List Item) (z : Item) (zs : List Item) → list_any spans xs ≡ true →
-      is_multiline (tree t (xs ++ (z ∷ zs))) ≡ true
+      is_multiline (items_tree t (xs ++ (z ∷ zs))) ≡ true
   spans_tree [] z zs e = cc
   spans_tree (text from to ∷ []) z zs e =
       elim (or_cases (has_lf (slice_range t from to)) false e)
-      [ inl f ↦ or_left (has_lf (slice_range t from to)) _ f | inr f ↦ absurd cc ]
+      [ inl f ↦ true_by_left (has_lf (slice_range t from to)) _ f | inr f ↦ absurd cc ]
   spans_tree (text from to ∷ y ∷ ys) z zs e =
-      or_step (has_lf (slice_range t from to)) (list_any spans (y ∷ ys)) (is_multiline (tree t ((y ∷ ys) ++ (z ∷ zs))))
+      or_step (has_lf (slice_range t from to)) (list_any spans (y ∷ ys))
+      (is_multiline (items_tree t ((y ∷ ys) ++ (z ∷ zs))))
       e (spans_tree (y ∷ ys) z zs)
   spans_tree (placeable_item x ∷ ys) z zs e =
-      or_right (is_select (expression_map (bytes_at t) x)) _ (spans_tree ys z zs e)
+      true_by_right (is_select (expression_map (bytes_at t) x)) _ (spans_tree ys z zs e)
 
 module _ (t : List ℕ) (bare : HasNoBareCr t) (Joins : Type 0) (crs : (i : ℕ) → has_byte t cr i ≡ true → Joins)
     (m : Bool) where
@@ -88,7 +88,8 @@ module _ (t : List ℕ) (bare : HasNoBareCr t) (Joins : Type 0) (crs : (i : ℕ)
   lf_has : (i j : ℕ) → i ≤ j → has_byte t lf j ≡ true → has_lf (slice_range t i (j + 1)) ≡ true
   lf_has i j l e =
       ap has_lf (range_last t i j lf l (byte_at t lf j e))
-      ∙ (list_any-append (λ b. b == lf) (slice_range t i j) (lf ∷ []) ∙ or_right (has_lf (slice_range t i j)) true refl)
+      ∙ (list_any-append (λ b. b == lf) (slice_range t i j) (lf ∷ []) ∙ true_by_right (has_lf (slice_range t i j)) true
+      refl)
 
   lone_has : (p : ℕ) → has_byte t lf (p + 1) ≡ true → has_lf (slice_range t (p + 1) (p + 2)) ≡ true
   lone_has p e = let s : (p + 1) + 1 ≡ p + 2 = omega arith in
@@ -98,9 +99,9 @@ module _ (t : List ℕ) (bare : HasNoBareCr t) (Joins : Type 0) (crs : (i : ℕ)
     pieces_lf : (i : ℕ) (ps : List Piece) (n : ℕ) (e : Ending) (j : ℕ) → PiecesAt t Joins i ps n →
         EndingAt t Joins n e j → IsLine e → list_any (spans t) (with_ending ps e) ≡ true
     pieces_lf i [] n e j (no_piece x) (lf_ends h) l =
-        or_left (has_lf (slice_range t n (n + 1))) false (lf_has n n (omega arith) h)
+        true_by_left (has_lf (slice_range t n (n + 1))) false (lf_has n n (omega arith) h)
     pieces_lf i [] n e j (no_piece x) (crlf_ends c h) l =
-        or_left (has_lf (slice_range t (n + 1) (n + 2))) false (lone_has n h)
+        true_by_left (has_lf (slice_range t (n + 1) (n + 2))) false (lone_has n h)
     pieces_lf i [] n e j (no_piece x) (text_ends h) l = absurd l
     pieces_lf i (run from to ∷ ps) n e j (a_run m w x) h l = run_lf i to ps n e j (omega arith) x h l
     pieces_lf i (placed z ∷ ps) n e j (a_placeable {m = k} g x) h l = pieces_lf k ps n e j x h l
@@ -108,15 +109,15 @@ module _ (t : List ℕ) (bare : HasNoBareCr t) (Joins : Type 0) (crs : (i : ℕ)
     run_lf : (kept to : ℕ) (ps : List Piece) (n : ℕ) (e : Ending) (j : ℕ) → kept ≤ to → PiecesAt t Joins to ps n →
         EndingAt t Joins n e j → IsLine e → list_any (spans t) (with_ending (run kept to ∷ ps) e) ≡ true
     run_lf kept to [] n e j m (no_piece x) (lf_ends h) l =
-        or_left (has_lf (slice_range t kept (n + 1))) false (lf_has kept n m h)
+        true_by_left (has_lf (slice_range t kept (n + 1))) false (lf_has kept n m h)
     run_lf kept to [] n e j m (no_piece x) (crlf_ends c h) l =
-        or_right (has_lf (slice_range t kept n))
-        _ (or_left (has_lf (slice_range t (n + 1) (n + 2))) false (lone_has n h))
+        true_by_right (has_lf (slice_range t kept n))
+        _ (true_by_left (has_lf (slice_range t (n + 1) (n + 2))) false (lone_has n h))
     run_lf kept to [] n e j m (no_piece x) (text_ends h) l = absurd l
     run_lf kept to (run from to' ∷ ps) n e j m (a_run o w x) h l =
-        or_right (has_lf (slice_range t kept to)) _ (run_lf to to' ps n e j (omega arith) x h l)
+        true_by_right (has_lf (slice_range t kept to)) _ (run_lf to to' ps n e j (omega arith) x h l)
     run_lf kept to (placed z ∷ ps) n e j m (a_placeable {m = k} g x) h l =
-        or_right (has_lf (slice_range t kept to)) _ (pieces_lf k ps n e j x h l)
+        true_by_right (has_lf (slice_range t kept to)) _ (pieces_lf k ps n e j x h l)
 
   -- a line with a run first gives an item that stays
   shown_stays : (kept first to b : ℕ) (c : Bool) (end : ℕ) → LineText t bare kept first to b →
@@ -128,13 +129,13 @@ module _ (t : List ℕ) (bare : HasNoBareCr t) (Joins : Type 0) (crs : (i : ℕ)
       LineText t bare kept first to b → PiecesAt t Joins to ps n → EndingAt t Joins n e j →
       list_any (stays t) (with_ending (run kept to ∷ ps) e) ≡ true
   run_stays kept first to b [] n e j l x (no_piece y) (lf_ends h) =
-      or_left _ false (shown_stays kept first to b true (n + 1) x (range_last t kept n lf l (byte_at t lf n h)))
+      true_by_left _ false (shown_stays kept first to b true (n + 1) x (range_last t kept n lf l (byte_at t lf n h)))
   run_stays kept first to b [] n e j l x (no_piece y) (crlf_ends c h) =
-      or_left _ _ (shown_stays kept first to b false n x (sym (append_nothing (slice_range t kept n))))
+      true_by_left _ _ (shown_stays kept first to b false n x (sym (append_nothing (slice_range t kept n))))
   run_stays kept first to b [] n e j l x (no_piece y) (text_ends h) =
-      or_left _ _ (shown_stays kept first to b false n x (sym (append_nothing (slice_range t kept n))))
+      true_by_left _ _ (shown_stays kept first to b false n x (sym (append_nothing (slice_range t kept n))))
   run_stays kept first to b (p ∷ ps) n e j l x y h =
-      or_left _ _ (shown_stays kept first to b false to x (sym (append_nothing (slice_range t kept to))))
+      true_by_left _ _ (shown_stays kept first to b false to x (sym (append_nothing (slice_range t kept to))))
 
   -- a line does not count, or gives an item that stays
   line_counts : (kept first byte spaces : ℕ) (ps : List Piece) (n : ℕ) (e : Ending) (j at : ℕ) →
@@ -148,10 +149,10 @@ module _ (t : List ℕ) (bare : HasNoBareCr t) (Joins : Type 0) (crs : (i : ℕ)
   line_counts kept first byte spaces (placed z ∷ ps) n e j at h x y = inr refl
 
   any_left : (xs ys : List Item) → list_any (stays t) xs ≡ true → list_any (stays t) (xs ++ ys) ≡ true
-  any_left xs ys e = list_any-append (stays t) xs ys ∙ or_left (list_any (stays t) xs) (list_any (stays t) ys) e
+  any_left xs ys e = list_any-append (stays t) xs ys ∙ true_by_left (list_any (stays t) xs) (list_any (stays t) ys) e
 
   any_right : (xs ys : List Item) → list_any (stays t) ys ≡ true → list_any (stays t) (xs ++ ys) ≡ true
-  any_right xs ys e = list_any-append (stays t) xs ys ∙ or_right (list_any (stays t) xs) (list_any (stays t) ys) e
+  any_right xs ys e = list_any-append (stays t) xs ys ∙ true_by_right (list_any (stays t) xs) (list_any (stays t) ys) e
 
   lines_count : (common : Option ℕ) (i : ℕ) (ls : List Line) (k : ℕ) (ks : List ℕ) → LinesAt t Joins i ls →
       flat_map (counted One) ls ≡ k ∷ ks → list_any (stays t) (flat_map (line_items One common) ls) ≡ true
@@ -188,7 +189,7 @@ module _ (t : List ℕ) (bare : HasNoBareCr t) (Joins : Type 0) (crs : (i : ℕ)
 
   -- the pattern that the lines below give, joined
   abbrev pub Joined : Layout → PatternTree Text
-  Joined y = joined_pattern (tree t (cut t (items One y)))
+  Joined y = joined_pattern (items_tree t (cut t (items One y)))
 
   abbrev Below : List Line → Layout
   Below ls = record { opening = None; lines = ls }
@@ -204,8 +205,8 @@ module _ (t : List ℕ) (bare : HasNoBareCr t) (Joins : Type 0) (crs : (i : ℕ)
       x.pieces x.ending (counted_more x.end l.ending j ls k ks x.ending h e) in
       let c = cut_any t (flat_map (line_items One common) ls) (lines_count common j ls k ks h e) in
       let whole = cut_append t (line_items One common l) (flat_map (line_items One common) ls) c.head c.rest c.is in
-      multiline_same (tree t (cut t (items One (Below (l ∷ ls)))))
-      ∙ (ap (λ xs. is_multiline (tree t xs)) whole ∙ spans_tree t (line_items One common l) c.head c.rest s)
+      multiline_same (items_tree t (cut t (items One (Below (l ∷ ls)))))
+      ∙ (ap (λ xs. is_multiline (items_tree t xs)) whole ∙ spans_tree t (line_items One common l) c.head c.rest s)
 
   -- the first line alone counts
   alone : (start spaces from to : ℕ) (ps qs : List Piece) (e : Ending) (ns : List ℕ) → ps ≡ run from to ∷ qs → ns ≡ [] →

@@ -13,14 +13,13 @@ use Rattle.fluent_syntax_grammar.specs.Lines.{is_run_place, belongs}
 use Rattle.fluent_syntax_grammar.specs.Elements.{Item, text, with_ending, common_indent_end, items_from, line_items}
 use Rattle.fluent_syntax_grammar.specs.Elements.{items}
 use Rattle.fluent_syntax_grammar.specs.Written.{begins_with_mark, is_leading_mark}
-use Rattle.fluent_syntax_grammar.specs.Readable.{ElementPosition, opening, after_line}
-use Rattle.fluent_syntax_grammar.specs.Readable.{after_placeable}
+use Rattle.fluent_syntax_grammar.specs.Readable.{ElementPosition, opening, after_line, after_placeable}
 use Rattle.fluent_syntax_grammar.specs.RoundTrip.{HasNoBareCr}
 use Rattle.fluent_syntax_grammar.proofs.Facts.{byte_found, byte_holds, implies, left_true, right_true, differs}
 use Rattle.fluent_syntax_grammar.proofs.Facts.{equal, two_on, lt_or_le, byte_of}
 use Rattle.fluent_syntax_grammar.proofs.Tests.{or_cases}
 use Rattle.fluent_syntax_grammar.proofs.Functional.{longest_run_functional}
-use Rattle.fluent_syntax_grammar.proofs.backward.Texts.{is_plain, shows, Begins}
+use Rattle.fluent_syntax_grammar.proofs.backward.Texts.{is_plain, shows, BeginsElement}
 use Rattle.fluent_syntax_grammar.proofs.backward.Shapes.{places, runs, ends_line, blank_line, joins, Shape, done, more}
 use Rattle.fluent_syntax_grammar.proofs.backward.Shapes.{space_plain}
 use Rattle.fluent_syntax_grammar.proofs.backward.Lines.{range_first, range_last, range_byte, range_all, byte_at}
@@ -54,10 +53,10 @@ plain_not : (b c : ℕ) → is_plain c ≡ false → (b == c) ≡ true → is_pl
 plain_not b c e f g = let same = equal b c f in let h : is_plain c ≡ true = subst (λ b. is_plain b ≡ true) same g in cc
 
 -- what may follow an ending
-abbrev pub After : (t : List ℕ) (Joins : Type 0) (m : Bool) → Ending → List Item → Type 0
-After t Joins m (lf_at p) rest = Shape t Joins m after_line rest
-After t Joins m (crlf_at p) rest = Shape t Joins m after_line rest
-After t Joins m text_end rest = rest ≡ []
+abbrev pub MayFollowEnding : (t : List ℕ) (Joins : Type 0) (m : Bool) → Ending → List Item → Type 0
+MayFollowEnding t Joins m (lf_at p) rest = Shape t Joins m after_line rest
+MayFollowEnding t Joins m (crlf_at p) rest = Shape t Joins m after_line rest
+MayFollowEnding t Joins m text_end rest = rest ≡ []
 
 module _ (t : List ℕ) (bare : HasNoBareCr t) where
   eol_of : (i : ℕ) → has_byte t cr i ≡ true → has_byte t lf (i + 1) ≡ true → has_eol t i ≡ true
@@ -155,19 +154,19 @@ module _ (t : List ℕ) (bare : HasNoBareCr t) where
 
 module _ (t : List ℕ) (bare : HasNoBareCr t) (Joins : Type 0) (crs : (i : ℕ) → has_byte t cr i ≡ true → Joins)
     (m : Bool) where
-  pub lone : (p : ℕ) → has_byte t lf (p + 1) ≡ true → slice_range t (p + 1) (p + 2) ≡ lf ∷ []
-  lone p e =
+  pub lone_lf : (p : ℕ) → has_byte t lf (p + 1) ≡ true → slice_range t (p + 1) (p + 2) ≡ lf ∷ []
+  lone_lf p e =
       subst (λ k. slice_range t (p + 1) k ≡ lf ∷ []) (two_on p) (range_byte t (p + 1) lf (byte_at t lf (p + 1) e))
 
   -- a run that ends its line
   run_end : (s : ElementPosition) (kept to : ℕ) (e : Ending) (j : ℕ) (rest : List Item) → kept ≤ to →
       list_all is_plain (slice_range t kept to) ≡ true → is_empty (slice_range t kept to) ≡ false →
-      Begins m s (slice_range t kept to) → EndingAt t Joins to e j → After t Joins m e rest →
+      BeginsElement m s (slice_range t kept to) → EndingAt t Joins to e j → MayFollowEnding t Joins m e rest →
       Shape t Joins m s (with_ending (run kept to ∷ []) e ++ rest)
   run_end s kept to e j rest l p n b (lf_ends h) a =
       more (ends_line (slice_range t kept to) (range_last t kept to lf l (byte_at t lf to h)) p b) a
   run_end s kept to e j rest l p n b (crlf_ends c h) a =
-      more (runs (slice_range t kept to) refl p n b) (more (joins (lone to h) (crs to c)) a)
+      more (runs (slice_range t kept to) refl p n b) (more (joins (lone_lf to h) (crs to c)) a)
   run_end s kept to e j rest l p n b (text_ends h) a =
       subst (λ rest. Shape t Joins m s (text kept to ∷ rest)) (sym a)
       (more (runs (slice_range t kept to) refl p n b) done)
@@ -186,10 +185,11 @@ module _ (t : List ℕ) (bare : HasNoBareCr t) (Joins : Type 0) (crs : (i : ℕ)
 
   -- after a placeable
   placed_then : (i : ℕ) (ps : List Piece) (n : ℕ) (e : Ending) (j : ℕ) (rest : List Item) → PiecesAt t Joins i ps n →
-      EndingAt t Joins n e j → After t Joins m e rest → Shape t Joins m after_placeable (with_ending ps e ++ rest)
+      EndingAt t Joins n e j → MayFollowEnding t Joins m e rest → Shape t Joins m after_placeable
+      (with_ending ps e ++ rest)
   placed_then i [] n e j rest (no_piece x) (lf_ends h) a =
       more (ends_line [] (range_byte t n lf (byte_at t lf n h)) refl tt) a
-  placed_then i [] n e j rest (no_piece x) (crlf_ends c h) a = more (ends_line [] (lone n h) refl tt) a
+  placed_then i [] n e j rest (no_piece x) (crlf_ends c h) a = more (ends_line [] (lone_lf n h) refl tt) a
   placed_then i [] n e j rest (no_piece x) (text_ends h) a = subst (Shape t Joins m after_placeable) (sym a) done
   placed_then i (run from to ∷ []) n e j rest (a_run l w (no_piece x)) y a =
       run_end after_placeable i n e j rest (omega arith) (run_all i n l w) (run_some i n l w) tt y a
@@ -205,8 +205,8 @@ module _ (t : List ℕ) (bare : HasNoBareCr t) (Joins : Type 0) (crs : (i : ℕ)
   run_first : (s : ElementPosition) (kept first to : ℕ) (ps : List Piece) (n : ℕ) (e : Ending) (j : ℕ)
       (rest : List Item) →
       kept ≤ to → list_all is_plain (slice_range t kept to) ≡ true → is_empty (slice_range t kept to) ≡ false →
-      Begins m s (slice_range t kept to) →
-      is_run_place t to ≡ false → PiecesAt t Joins to ps n → EndingAt t Joins n e j → After t Joins m e rest →
+      BeginsElement m s (slice_range t kept to) →
+      is_run_place t to ≡ false → PiecesAt t Joins to ps n → EndingAt t Joins n e j → MayFollowEnding t Joins m e rest →
       Shape t Joins m s (with_ending (run kept to ∷ ps) e ++ rest)
   run_first s kept first to [] n e j rest l p o b z (no_piece x) y a = run_end s kept n e j rest l p o b y a
   run_first s kept first to (placed v ∷ ps) n e j rest l p o b z (a_placeable {m = k} g h) y a =
@@ -232,13 +232,13 @@ module _ (t : List ℕ) (bare : HasNoBareCr t) (Joins : Type 0) (crs : (i : ℕ)
   -- a later line
   later_shape : (kept first byte : ℕ) (ps : List Piece) (n : ℕ) (e : Ending) (j : ℕ) (rest : List Item) →
       HeadAt kept first byte → (is_run_place t first ≡ true → is_leading_mark byte ≡ false) →
-      PiecesAt t Joins first ps n → EndingAt t Joins n e j → After t Joins m e rest →
+      PiecesAt t Joins first ps n → EndingAt t Joins n e j → MayFollowEnding t Joins m e rest →
       (at : ℕ) → Shape t Joins m after_line (items_from One kept at ps e ++ rest)
   later_shape kept first byte [] n e j rest h o (no_piece x) (lf_ends y) a at =
       more (blank_line (slice_range t kept n) (range_last t kept n lf h.on (byte_at t lf n y))
       (range_all t is_space kept n h.on h.leading)) a
   later_shape kept first byte [] n e j rest h o (no_piece x) (crlf_ends c y) a at =
-      more (blank_line [] (lone n y) refl) a
+      more (blank_line [] (lone_lf n y) refl) a
   later_shape kept first byte [] n e j rest h o (no_piece x) (text_ends y) a at =
       subst (Shape t Joins m after_line) (sym a) done
   later_shape kept first byte (run from to ∷ ps) n e j rest h o (a_run l w g) y a at =
@@ -253,7 +253,7 @@ module _ (t : List ℕ) (bare : HasNoBareCr t) (Joins : Type 0) (crs : (i : ℕ)
   first_shape : (kept first byte : ℕ) (ps : List Piece) (n : ℕ) (e : Ending) (j : ℕ) (rest : List Item) →
       HeadAt kept first byte → has_eol t first ≡ false →
       ((from to : ℕ) (qs : List Piece) → ps ≡ run from to ∷ qs → (m ≡ true) ⊎ (kept ≡ first)) →
-      PiecesAt t Joins first ps n → EndingAt t Joins n e j → After t Joins m e rest →
+      PiecesAt t Joins first ps n → EndingAt t Joins n e j → MayFollowEnding t Joins m e rest →
       (at : ℕ) → Shape t Joins m opening (items_from One kept at ps e ++ rest)
   first_shape kept first byte [] n e j rest h o s (no_piece x) (lf_ends y) a at = differs (lf_eol n y) o
   first_shape kept first byte [] n e j rest h o s (no_piece x) (crlf_ends c y) a at = differs (eol_of t bare n c y) o
@@ -286,7 +286,7 @@ module _ (t : List ℕ) (bare : HasNoBareCr t) (Joins : Type 0) (crs : (i : ℕ)
 
   after_of : (common : Option ℕ) (n : ℕ) (e : Ending) (j : ℕ) (ls : List Line) → EndingAt t Joins n e j →
       LinesAt t Joins j ls → Shape t Joins m after_line (flat_map (line_items One common) ls) →
-      After t Joins m e (flat_map (line_items One common) ls)
+      MayFollowEnding t Joins m e (flat_map (line_items One common) ls)
   after_of common n e j ls (lf_ends y) x s = s
   after_of common n e j ls (crlf_ends c y) x s = s
   after_of common n e j [] (text_ends y) x s = refl
@@ -342,7 +342,7 @@ module _ (t : List ℕ) (bare : HasNoBareCr t) (Joins : Type 0) (crs : (i : ℕ)
   On i ps e ls = record { opening = Some (record { start = i; spaces = 0; pieces = ps; ending = e }); lines = ls }
 
   opened_shape : (i : ℕ) (ps : List Piece) (n : ℕ) (e : Ending) (j : ℕ) (rest : List Item) → has t is_space i ≡ false →
-      has_eol t i ≡ false → PiecesAt t Joins i ps n → EndingAt t Joins n e j → After t Joins m e rest →
+      has_eol t i ≡ false → PiecesAt t Joins i ps n → EndingAt t Joins n e j → MayFollowEnding t Joins m e rest →
       Shape t Joins m opening (with_ending ps e ++ rest)
   opened_shape i [] n e j rest f g (no_piece x) (lf_ends y) a = differs (lf_eol n y) g
   opened_shape i [] n e j rest f g (no_piece x) (crlf_ends c y) a = differs (eol_of t bare n c y) g
@@ -377,8 +377,7 @@ module _ (t : List ℕ) (bare : HasNoBareCr t) (Joins : Type 0) (crs : (i : ℕ)
       x.ending a (l.start + l.spaces)
     where
       keeps : (first : ℕ) → l.start + l.spaces ≡ first → (m ≡ true) ⊎ (common_indent_end common l ≡ l.start + l.spaces)
-          →
-          (m ≡ true) ⊎ (common_indent_end common l ≡ first)
+          → (m ≡ true) ⊎ (common_indent_end common l ≡ first)
       keeps first e (inl f) = inl f
       keeps first e (inr f) = inr (f ∙ e)
 

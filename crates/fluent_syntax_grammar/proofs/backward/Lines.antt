@@ -13,7 +13,7 @@ use Rattle.fluent_syntax_grammar.specs.Lines.{is_run_place, belongs}
 use Rattle.fluent_syntax_grammar.proofs.Facts.{byte_found, equal, has_inside}
 use Rattle.fluent_syntax_grammar.proofs.SuffixAt.{SuffixAt, first, suffix_first, suffix_next}
 use Rattle.fluent_syntax_grammar.proofs.backward.Taken.{taken_all}
-use Rattle.fluent_syntax_grammar.proofs.backward.Shapes.{IsRead}
+use Rattle.fluent_syntax_grammar.proofs.backward.Shapes.{IsReadExpression}
 
 -- ---- ranges
 
@@ -100,8 +100,8 @@ module _ (t : List ℕ) (Joins : Type 0) where
     no_piece : {i : ℕ} → IsEnd t i → PiecesAt i [] i
     a_run : {i to j : ℕ} {ps : List Piece} → i < to → LongestRun (is_run_place t) i to → PiecesAt to ps j →
         PiecesAt i (run i to ∷ ps) j
-    a_placeable : {i m j : ℕ} {e : ExpressionTree Span} {ps : List Piece} → IsRead t Joins e → PiecesAt m ps j →
-        PiecesAt i (placed e ∷ ps) j
+    a_placeable : {i m j : ℕ} {e : ExpressionTree Span} {ps : List Piece} → IsReadExpression t Joins e → PiecesAt m ps j
+        → PiecesAt i (placed e ∷ ps) j
 
   -- an ending, from its place to the next line
   pub data EndingAt : ℕ → Ending → ℕ → Type 0 where

@@ -23,10 +23,9 @@ use Rattle.fluent_syntax_grammar.specs.Family.{Family}
 use Rattle.fluent_syntax_grammar.specs.Starts.{Start, quote, digit, term, minus, dollar, letter, brace, other, start_of}
 use Rattle.fluent_syntax_grammar.specs.Starts.{start}
 use Rattle.fluent_syntax_grammar.specs.Arguments.{accessor, Argument, add_argument, add_positional, add_named}
-use Rattle.fluent_syntax_grammar.specs.Arguments.{call_arguments}
-use Rattle.fluent_syntax_grammar.specs.Arguments.{argument_value, named_rest, positional_rest, argument_name}
-use Rattle.fluent_syntax_grammar.specs.Arguments.{argument_rest, next_argument_at, next_argument, more_arguments}
-use Rattle.fluent_syntax_grammar.specs.Arguments.{is_used}
+use Rattle.fluent_syntax_grammar.specs.Arguments.{call_arguments, argument_value, named_rest, positional_rest}
+use Rattle.fluent_syntax_grammar.specs.Arguments.{argument_name, argument_rest, next_argument_at, next_argument}
+use Rattle.fluent_syntax_grammar.specs.Arguments.{more_arguments, is_used}
 use Rattle.fluent_syntax_grammar.specs.Expressions.{selector_fault, is_term_attribute, placeable}
 use Rattle.fluent_syntax_grammar.specs.Inline.{named_reference, inline_of, inline_expression, is_callee_byte}
 use Rattle.fluent_syntax_grammar.specs.Written.{Text}
@@ -38,9 +37,9 @@ use Rattle.fluent_syntax_grammar.specs.Readable.{is_argument_value, are_named_we
 use Rattle.fluent_syntax_grammar.specs.Joined.{joined_inline, joined_maybe, joined_arguments, joined_inlines}
 use Rattle.fluent_syntax_grammar.specs.Joined.{joined_nameds, joined_variants, joined_pattern}
 use Rattle.fluent_syntax_grammar.proofs.Facts.{left_true}
-use Rattle.fluent_syntax_grammar.proofs.Tests.{both}
-use Rattle.fluent_syntax_grammar.proofs.backward.Shapes.{IsRead}
-use Rattle.fluent_syntax_grammar.proofs.backward.Words.{IsName, name_inversion, number_inversion, string_inversion}
+use Rattle.fluent_syntax_grammar.proofs.Tests.{both_true}
+use Rattle.fluent_syntax_grammar.proofs.backward.Shapes.{IsReadExpression}
+use Rattle.fluent_syntax_grammar.proofs.backward.Words.{IsNameSpan, name_inversion, number_inversion, string_inversion}
 use Rattle.fluent_syntax_grammar.proofs.Tests.{not_false}
 
 -- ---- what a construct gives is good, wherever it is read
@@ -147,10 +146,10 @@ module _ (t : List ℕ) (Joins : Type 0) where
   FitsStart s e = Unit {0}
 
   pub record ObeysJoinedFamily (R : Family) : Type 0 where
-    pub expression : Ensures R.expression (IsRead t Joins)
+    pub expression : Ensures R.expression (IsReadExpression t Joins)
     pub argument_list : Ensures R.argument_list (IsArguments [])
 
-  pub ensures_name : Ensures (identifier t) (IsName t)
+  pub ensures_name : Ensures (identifier t) (IsNameSpan t)
   ensures_name = record { on_read = λ i j s x. name_inversion t i j s x }
 
   abbrev IsOptionName : Option Span → Type 0
@@ -164,24 +163,25 @@ module _ (t : List ℕ) (Joins : Type 0) where
   arguments_obey_joined : (a : ArgumentsTree Span) → IsArguments [] a →
       ObeysJoined Joins (arguments_obey (readable_rules One)) joined_arguments (arguments_map (bytes_at t) a)
   arguments_obey_joined (arguments ps ns) (f, g, h) =
-      record { obeys = both h (both f.obeys g.obeys); same = λ none. cc (f.same none, g.same none) }
+      record { obeys = both_true h (both_true f.obeys g.obeys); same = λ none. cc (f.same none, g.same none) }
 
   some_obeys_joined : (a : ArgumentsTree Span) →
       ObeysJoined Joins (arguments_obey (readable_rules One)) joined_arguments (arguments_map (bytes_at t) a) →
       IsMaybe (some_arguments a)
   some_obeys_joined a f = record { obeys = f.obeys; same = λ none. ap some_arguments (f.same none) }
 
-  function_obeys_joined : (id : Span) (a : ArgumentsTree Span) → IsName t id →
+  function_obeys_joined : (id : Span) (a : ArgumentsTree Span) → IsNameSpan t id →
       list_all is_callee_byte (bytes_at t id) ≡ true →
       IsMaybe (some_arguments a) → IsInline (function_reference id a)
-  function_obeys_joined id a n c f = record { obeys = both n (both c f.obeys); same = λ none. cc (f.same none) }
+  function_obeys_joined id a n c f = record
+      { obeys = both_true n (both_true c f.obeys); same = λ none. cc (f.same none) }
 
-  term_obeys_joined : (id : Span) (o : Option Span) (a : MaybeArguments Span) → IsName t id → IsOptionName o →
+  term_obeys_joined : (id : Span) (o : Option Span) (a : MaybeArguments Span) → IsNameSpan t id → IsOptionName o →
       IsMaybe a →
       IsInline (term_reference id o a)
   term_obeys_joined id o a n p f =
       record {
-        obeys = both n (both p f.obeys);
+        obeys = both_true n (both_true p f.obeys);
         same = λ none. ap (term_reference (bytes_at t id) (option_texts (bytes_at t) o)) (f.same none);
       }
 
@@ -189,10 +189,11 @@ module _ (t : List ℕ) (Joins : Type 0) where
   abbrev IsValue : InlineTree Span → Type 0
   IsValue e = IsInline e × (is_argument_value (joined_inline (inline_map (bytes_at t) e)) ≡ true)
 
-  ensures_reference : (id : Span) (a : MaybeArguments Span) → IsName t id → IsMaybe a →
+  ensures_reference : (id : Span) (a : MaybeArguments Span) → IsNameSpan t id → IsMaybe a →
       Ensures (named_reference t id a) IsValue
   ensures_reference id no_arguments n f =
-      ensures_bind ensures_accessor (λ o g. ensures_yields (record { obeys = both n g; same = λ none. refl }, refl))
+      ensures_bind ensures_accessor (λ o g. ensures_yields (record { obeys = both_true n g; same = λ none. refl },
+          refl))
   ensures_reference id (some_arguments a) n f =
       ensures_branch_on (λ e. ensures_yields (function_obeys_joined id a n e f, refl)) (λ e. ensures_fails)
 
@@ -247,26 +248,26 @@ module _ (t : List ℕ) (Joins : Type 0) (R : Family) (h : ObeysJoinedFamily t J
 
   pub select_obeys_joined : (e : InlineTree Span) (vs : VariantTrees Span) → IsInline t Joins e →
       selector_fault e ≡ None →
-      IsVariants t Joins false vs → IsRead t Joins (select e vs)
+      IsVariants t Joins false vs → IsReadExpression t Joins (select e vs)
   select_obeys_joined e vs f k g =
       let v = g.fine in
       record {
-        obeys = both (both (ap is_none (selector_same t Joins e ∙ k)) g.one) (both f.obeys v.obeys);
+        obeys = both_true (both_true (ap is_none (selector_same t Joins e ∙ k)) g.one) (both_true f.obeys v.obeys);
         same = λ none. cc (f.same none, v.same none);
       }
 
   pub inline_obeys_joined : (e : InlineTree Span) → IsInline t Joins e → is_term_attribute e ≡ false →
-      IsRead t Joins (inline e)
+      IsReadExpression t Joins (inline e)
   inline_obeys_joined e f k =
       record {
         obeys =
-            both (not_false (is_term_attribute (joined_inline (inline_map (bytes_at t) e)))
+            both_true (not_false (is_term_attribute (joined_inline (inline_map (bytes_at t) e)))
             (attribute_same t Joins e ∙ k))
             f.obeys;
         same = λ none. ap inline (f.same none);
       }
 
-  pub ensures_placeable : Ensures (placeable t R) (IsRead t Joins)
+  pub ensures_placeable : Ensures (placeable t R) (IsReadExpression t Joins)
   ensures_placeable =
       ensures_then (λ u.
       ensures_then (λ u.
@@ -338,26 +339,26 @@ module _ (t : List ℕ) (Joins : Type 0) (R : Family) (h : ObeysJoinedFamily t J
   value_at i j e (chosen x) = value_read (start t i) i j e refl x
 
   add_named_obeys_joined : (names : List Text) (name : Span) (e : InlineTree Span) (a : ArgumentsTree Span) →
-      IsName t name →
+      IsNameSpan t name →
       is_used (bytes_at t name) names ≡ false → IsValue t Joins e → IsArguments t Joins (bytes_at t name ∷ names) a →
       IsArguments t Joins names (add_named name e a)
   add_named_obeys_joined names name e (arguments ps ns) n u (f, v) (g, k, l) = (
     g,
-    record { obeys = both (both n f.obeys) k.obeys; same = λ none. cc (f.same none, k.same none) },
-    both (not_false (is_used (bytes_at t name) names) u) (both v l),
+    record { obeys = both_true (both_true n f.obeys) k.obeys; same = λ none. cc (f.same none, k.same none) },
+    both_true (not_false (is_used (bytes_at t name) names) u) (both_true v l),
   )
 
   add_positional_obeys_joined : (e : InlineTree Span) (a : ArgumentsTree Span) → IsInline t Joins e →
       IsArguments t Joins [] a →
       IsArguments t Joins [] (add_positional e a)
   add_positional_obeys_joined e (arguments ps ns) f (g, k, l) =
-      (record { obeys = both f.obeys g.obeys; same = λ none. cc (f.same none, g.same none) }, k, l)
+      (record { obeys = both_true f.obeys g.obeys; same = λ none. cc (f.same none, g.same none) }, k, l)
 
   -- what is asked of the next argument, after these names
   abbrev IsNext : List Text → More Argument (List Text) → Type 0
   IsNext = Adds (next_argument t R) add_argument (arguments no_inlines no_named) (IsArguments t Joins)
 
-  ensures_named : (names : List Text) (name : Span) → IsName t name →
+  ensures_named : (names : List Text) (name : Span) → IsNameSpan t name →
       Ensures (named_rest t R names name) (IsNext names)
   ensures_named names name n =
       ensures_branch_on (λ y. ensures_fails)
@@ -369,12 +370,12 @@ module _ (t : List ℕ) (Joins : Type 0) (R : Family) (h : ObeysJoinedFamily t J
   ensures_positional [] e f = ensures_then (λ u. ensures_yields (λ a g. add_positional_obeys_joined e a f g))
   ensures_positional (n ∷ ns) e f = ensures_fails
 
-  name_of : (e : InlineTree Span) (s : Span) → IsInline t Joins e → argument_name e ≡ Some s → IsName t s
+  name_of : (e : InlineTree Span) (s : Span) → IsInline t Joins e → argument_name e ≡ Some s → IsNameSpan t s
   name_of (string_literal v) s f k = cc
   name_of (number_literal v) s f k = cc
   name_of (function_reference id a) s f k = cc
   name_of (message_reference id None) s f k = let same : id ≡ s = cc in
-      subst (IsName t) same (left_true (is_name (bytes_at t id)) true f.obeys)
+      subst (IsNameSpan t) same (left_true (is_name (bytes_at t id)) true f.obeys)
   name_of (message_reference id (Some a)) s f k = cc
   name_of (term_reference id o a) s f k = cc
   name_of (variable_reference id) s f k = cc

@@ -11,26 +11,24 @@ use Rattle.fluent_syntax_tree.specs.declared.edition.Edition.TheVariants.{One}
 use Rattle.fluent_syntax_grammar.specs.PatternTexts.{is_empty, is_spaces, ends_in_lf, is_lone_lf}
 use Rattle.fluent_syntax_grammar.specs.Bytes.{lf, is_space}
 use Rattle.fluent_syntax_grammar.specs.Elements.{Item, text, placeable_item, is_nonblank, stays, cut_before, cut}
-use Rattle.fluent_syntax_grammar.specs.Elements.{trimmed_end}
-use Rattle.fluent_syntax_grammar.specs.Elements.{spelled}
+use Rattle.fluent_syntax_grammar.specs.Elements.{trimmed_end, spelled}
 use Rattle.fluent_syntax_grammar.specs.Written.{Text}
 use Rattle.fluent_syntax_grammar.specs.Rules.{expression_obeys, elements_obey}
-use Rattle.fluent_syntax_grammar.specs.Readable.{is_text, ElementPosition, opening, after_line}
-use Rattle.fluent_syntax_grammar.specs.Readable.{within_line, after_placeable, position_after, may_occur_at}
-use Rattle.fluent_syntax_grammar.specs.Readable.{may_precede}
+use Rattle.fluent_syntax_grammar.specs.Readable.{is_text, ElementPosition, opening, after_line, within_line}
+use Rattle.fluent_syntax_grammar.specs.Readable.{after_placeable, position_after, may_occur_at, may_precede}
 use Rattle.fluent_syntax_grammar.specs.Readable.{are_elements, readable_rules}
 use Rattle.fluent_syntax_grammar.specs.Joined.{is_joined, joined_expression, joined_pattern, joined_after}
 use Rattle.fluent_syntax_grammar.proofs.Facts.{left_true, right_true, equal, append_nothing}
-use Rattle.fluent_syntax_grammar.proofs.Tests.{both}
+use Rattle.fluent_syntax_grammar.proofs.Tests.{both_true}
 use Rattle.fluent_syntax_grammar.proofs.backward.Texts.{is_plain, line_end, line_not_empty, plain_is_text, line_ends}
 use Rattle.fluent_syntax_grammar.proofs.backward.Texts.{plain_ends_not, shows, plain_nonblank, trimmed_of}
-use Rattle.fluent_syntax_grammar.proofs.backward.Texts.{trimmed_range, Begins, begins_kept, begin_holds, blank_holds}
-use Rattle.fluent_syntax_grammar.proofs.backward.Texts.{occurs_before_any}
+use Rattle.fluent_syntax_grammar.proofs.backward.Texts.{trimmed_range, BeginsElement, begins_kept, begin_holds}
+use Rattle.fluent_syntax_grammar.proofs.backward.Texts.{blank_holds, occurs_before_any}
 
 -- ---- expressions that were read
 
 -- The expression obeys, joined; and it is joined already, where nothing is there to join.
-pub record IsRead (t : List ℕ) (Joins : Type 0) (e : ExpressionTree Span) : Type 0 where
+pub record IsReadExpression (t : List ℕ) (Joins : Type 0) (e : ExpressionTree Span) : Type 0 where
   pub obeys : expression_obeys (readable_rules One) (joined_expression (expression_map (bytes_at t) e)) ≡ true
   pub same : (Joins → ⊥) → joined_expression (expression_map (bytes_at t) e) ≡ expression_map (bytes_at t) e
 
@@ -40,12 +38,12 @@ module _ (t : List ℕ) (Joins : Type 0) (m : Bool) where
   -- An item is where the one before it leaves off. After a run that no LF ends comes, if it is a text, the lone LF
   -- of a CRLF.
   pub data Step : ElementPosition → Item → ElementPosition → Type 0 where
-    places : {s : ElementPosition} {e : ExpressionTree Span} → IsRead t Joins e →
+    places : {s : ElementPosition} {e : ExpressionTree Span} → IsReadExpression t Joins e →
         Step s (placeable_item e) after_placeable
     runs : {s : ElementPosition} {from to : ℕ} (u : Text) → slice_range t from to ≡ u → list_all is_plain u ≡ true →
-        is_empty u ≡ false → Begins m s u → Step s (text from to) within_line
+        is_empty u ≡ false → BeginsElement m s u → Step s (text from to) within_line
     ends_line : {s : ElementPosition} {from to : ℕ} (u : Text) → slice_range t from to ≡ u ++ line_end true →
-        list_all is_plain u ≡ true → Begins m s u → Step s (text from to) after_line
+        list_all is_plain u ≡ true → BeginsElement m s u → Step s (text from to) after_line
     blank_line : {from to : ℕ} (u : Text) → slice_range t from to ≡ u ++ line_end true → is_spaces u ≡ true →
         Step after_line (text from to) after_line
     joins : {from to : ℕ} → slice_range t from to ≡ lf ∷ [] → Joins → Step within_line (text from to) after_line
@@ -93,8 +91,8 @@ module _ (t : List ℕ) where
   kept_after x (y ∷ ys) k = k
 
 -- the elements that items spell, with their bytes
-abbrev pub tree : List ℕ → List Item → PatternTree Text
-tree t xs = pattern_map (bytes_at t) (elements_of (spelled t xs))
+abbrev pub items_tree : List ℕ → List Item → PatternTree Text
+items_tree t xs = pattern_map (bytes_at t) (elements_of (spelled t xs))
 
 -- ---- joining
 
@@ -133,18 +131,17 @@ joined_more w (placeable e) es = refl
 joined_more w (text_element v) es = after_more w v es
 
 tree_more : (t : List ℕ) (w : Text) (x : Item) (xs : List Item) →
-    may_precede w (joined_pattern (tree t (x ∷ xs))) ≡ true
+    may_precede w (joined_pattern (items_tree t (x ∷ xs))) ≡ true
 tree_more t w (text from to) [] = refl
-tree_more t w (text from to) (y ∷ ys) = joined_more w (text_element (slice_range t from to)) (tree t (y ∷ ys))
+tree_more t w (text from to) (y ∷ ys) = joined_more w (text_element (slice_range t from to)) (items_tree t (y ∷ ys))
 tree_more t w (placeable_item e) xs = refl
 
 -- ---- the elements are well
 
 text_well : (m : Bool) (s : ElementPosition) (v : Text) (p : PatternTree Text) → is_text v ≡ true →
     may_occur_at One m s v no_elements ≡ true → may_precede v p ≡ true → are_elements One m (position_after v) p ≡ true
-    →
-    are_elements One m s (elements (text_element v) p) ≡ true
-text_well m s v p a b c d = both a (both (occurs_before_any m s v p no_elements ∙ b) (both c d))
+    → are_elements One m s (elements (text_element v) p) ≡ true
+text_well m s v p a b c d = both_true a (both_true (occurs_before_any m s v p no_elements ∙ b) (both_true c d))
 
 pub record Well (m : Bool) (s : ElementPosition) (p : PatternTree Text) : Type 0 where
   pub position : are_elements One m s p ≡ true
@@ -181,7 +178,7 @@ space_plain b e = let same = equal b 32 e in subst (λ b. is_plain b ≡ true) (
 spaces_plain : (u : Text) → is_spaces u ≡ true → list_all is_plain u ≡ true
 spaces_plain [] e = refl
 spaces_plain (x ∷ u) e =
-    both (space_plain x (left_true (is_space x) (is_spaces u) e))
+    both_true (space_plain x (left_true (is_space x) (is_spaces u) e))
     (spaces_plain u (right_true (is_space x) (is_spaces u) e))
 
 spaces_show_not : (u : Text) → is_spaces u ≡ true → shows u ≡ false
@@ -209,12 +206,13 @@ module _ (t : List ℕ) (Joins : Type 0) (m : Bool) where
 
   -- the last text, trimmed
   last_well : (s : ElementPosition) (u : Text) (c : Bool) (from to : ℕ) → At from to ≡ u ++ line_end c →
-      list_all is_plain u ≡ true → Begins m s u → is_nonblank (At from to) ≡ true →
+      list_all is_plain u ≡ true → BeginsElement m s u → is_nonblank (At from to) ≡ true →
       Well m s (elements (text_element (slice_range t from (trimmed_end t from to))) no_elements)
   last_well s u c from to e p b k =
       let shown : shows u ≡ true = sym (plain_nonblank u c p) ∙ (sym (ap is_nonblank e) ∙ k) in
       let r = trimmed_of u p shown in
-      let begins : Begins m s r.kept = begins_kept m s r.kept r.rest r.shown (subst (Begins m s) r.is b) in
+      let begins : BeginsElement m s r.kept = begins_kept m s r.kept r.rest r.shown (subst (BeginsElement m s) r.is b)
+          in
       let same : slice_range t from (trimmed_end t from to) ≡ r.kept = trimmed_range t u c from to e r in
       let bare : r.kept ++ line_end false ≡ r.kept = append_nothing r.kept in
       let is : is_text r.kept ≡ true =
@@ -229,22 +227,24 @@ module _ (t : List ℕ) (Joins : Type 0) (m : Bool) where
   -- a run's text before a placeable
   run_well : (s : ElementPosition) (u w : Text) (e : ExpressionTree Span) (xs : List Item) → w ≡ u
       → list_all is_plain u ≡ true →
-      is_empty u ≡ false → Begins m s u → IsRead t Joins e → Well m after_placeable (joined_pattern (tree t xs)) →
-      Well m s (joined_after w (tree t (placeable_item e ∷ xs)))
+      is_empty u ≡ false → BeginsElement m s u → IsReadExpression t Joins e → Well m after_placeable
+      (joined_pattern (items_tree t xs)) →
+      Well m s (joined_after w (items_tree t (placeable_item e ∷ xs)))
   run_well s u w e xs f p n b g h =
       let bare : u ++ line_end false ≡ u = append_nothing u in
       let is : is_text u ≡ true =
       subst (λ v. is_text v ≡ true) bare (plain_is_text u false p (subst (λ v. is_empty v ≡ false) (sym bare) n)) in
       let in_place : may_occur_at One m s u no_elements ≡ true =
       subst (λ v. may_occur_at One m s v no_elements ≡ true) bare (begin_holds m s u false p b) in
-      let rest = joined_pattern (tree t (placeable_item e ∷ xs)) in
-      subst (λ w. Well m s (joined_after w (tree t (placeable_item e ∷ xs)))) (sym f)
-      (record { position = text_well m s u rest is in_place refl h.position; obey = both g.obeys h.obey })
+      let rest = joined_pattern (items_tree t (placeable_item e ∷ xs)) in
+      subst (λ w. Well m s (joined_after w (items_tree t (placeable_item e ∷ xs)))) (sym f)
+      (record { position = text_well m s u rest is in_place refl h.position; obey = both_true g.obeys h.obey })
 
   -- a run's text with the lone LF that is joined to it
   join_well : (s : ElementPosition) (u w v : Text) (q : PatternTree Text) → w ≡ u → v ≡ lf ∷ []
       → list_all is_plain u ≡ true →
-      Begins m s u → may_precede (u ++ line_end true) (joined_pattern q) ≡ true → Well m after_line (joined_pattern q) →
+      BeginsElement m s u → may_precede (u ++ line_end true) (joined_pattern q) ≡ true → Well m after_line
+      (joined_pattern q) →
       Well m s (joined_after w (elements (text_element v) q))
   join_well s u w v q f g p b c h =
       let whole :
@@ -271,17 +271,17 @@ module _ (t : List ℕ) (Joins : Type 0) (m : Bool) where
 
   -- items of the shape whose last one stays spell well
   pub items_well : (s : ElementPosition) (xs : List Item) → IsFree s → Shape t Joins m s xs → LastItemStays t xs →
-      Well m s (joined_pattern (tree t xs))
+      Well m s (joined_pattern (items_tree t xs))
   items_well s [] r h k = record { position = refl; obey = refl }
   items_well s (placeable_item e ∷ xs) r (more (places g) h) k =
       let q = items_well after_placeable xs tt h (kept_after t (placeable_item e) xs k) in
-      record { position = q.position; obey = both g.obeys q.obey }
+      record { position = q.position; obey = both_true g.obeys q.obey }
   items_well s (text from to ∷ []) r (more e h) k = last_of_step s _ from to e k
   items_well s (text from to ∷ y ∷ ys) r (more (ends_line u e p b) h) k =
-      line_well m s u (At from to) (tree t (y ∷ ys)) e p (begin_holds m s u true p b)
+      line_well m s u (At from to) (items_tree t (y ∷ ys)) e p (begin_holds m s u true p b)
       (tree_more t (u ++ line_end true) y ys) (items_well after_line (y ∷ ys) tt h k)
   items_well s (text from to ∷ y ∷ ys) r (more (blank_line u e f) h) k =
-      line_well m after_line u (At from to) (tree t (y ∷ ys)) e (spaces_plain u f) (blank_holds m u f)
+      line_well m after_line u (At from to) (items_tree t (y ∷ ys)) e (spaces_plain u f) (blank_holds m u f)
       (tree_more t (u ++ line_end true) y ys) (items_well after_line (y ∷ ys) tt h k)
   items_well s (text from to ∷ y ∷ ys) r (more (joins e j) h) k = absurd r
   items_well s (text from to ∷ placeable_item x ∷ ys) r (more (runs u e p n b) (more (places g) h)) k =
@@ -290,7 +290,7 @@ module _ (t : List ℕ) (Joins : Type 0) (m : Bool) where
   items_well s (text from to ∷ text f g ∷ []) r (more (runs u e p n b) (more (joins i j) h)) k =
       absurd (blank_not (At f g) [] i refl k)
   items_well s (text from to ∷ text f g ∷ y ∷ ys) r (more (runs u e p n b) (more (joins i j) h)) k =
-      join_well s u (At from to) (At f g) (tree t (y ∷ ys)) e i p b (tree_more t (u ++ line_end true) y ys)
+      join_well s u (At from to) (At f g) (items_tree t (y ∷ ys)) e i p b (tree_more t (u ++ line_end true) y ys)
       (items_well after_line (y ∷ ys) tt h k)
   items_well s (text from to ∷ text f g ∷ ys) r (more (runs u e p n b) (more (runs v i q o c) h)) k = absurd c
   items_well s (text from to ∷ text f g ∷ ys) r (more (runs u e p n b) (more (ends_line v i q c) h)) k = absurd c
@@ -305,14 +305,14 @@ module _ (t : List ℕ) (Joins : Type 0) (m : Bool) where
 
   -- where nothing is there to join, they are joined already
   pub items_same : (Joins → ⊥) → (s : ElementPosition) (xs : List Item) → Shape t Joins m s xs →
-      joined_pattern (tree t xs) ≡ tree t xs
+      joined_pattern (items_tree t xs) ≡ items_tree t xs
   items_same none s [] h = refl
   items_same none s (placeable_item e ∷ xs) (more (places g) h) = cc (g.same none, items_same none after_placeable xs h)
   items_same none s (text from to ∷ []) h = refl
   items_same none s (text from to ∷ y ∷ ys) (more (ends_line u e p b) h) =
-      line_unique (At from to) u (tree t (y ∷ ys)) e (items_same none after_line (y ∷ ys) h)
+      line_unique (At from to) u (items_tree t (y ∷ ys)) e (items_same none after_line (y ∷ ys) h)
   items_same none s (text from to ∷ y ∷ ys) (more (blank_line u e f) h) =
-      line_unique (At from to) u (tree t (y ∷ ys)) e (items_same none after_line (y ∷ ys) h)
+      line_unique (At from to) u (items_tree t (y ∷ ys)) e (items_same none after_line (y ∷ ys) h)
   items_same none s (text from to ∷ y ∷ ys) (more (joins e j) h) = absurd (none j)
   items_same none s (text from to ∷ placeable_item x ∷ ys) (more (runs u e p n b) (more (places g) h)) =
       placed_same (At from to) (g.same none) (items_same none after_placeable ys h)

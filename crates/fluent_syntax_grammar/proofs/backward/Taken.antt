@@ -12,7 +12,7 @@ use Rattle.fluent_syntax_grammar.specs.Construct.{second}
 use Rattle.fluent_syntax_grammar.specs.Tokens.{identifier}
 use Rattle.fluent_syntax_grammar.specs.Spellings.{is_name}
 use Rattle.fluent_syntax_grammar.proofs.Facts.{right_true, implies}
-use Rattle.fluent_syntax_grammar.proofs.Tests.{both, letter_name}
+use Rattle.fluent_syntax_grammar.proofs.Tests.{both_true, letter_name}
 use Rattle.fluent_syntax_grammar.proofs.SuffixAt.{SuffixAt, first, suffix_next, suffix_has}
 
 -- what is left at any place of the text
@@ -25,7 +25,7 @@ pub taken_all : {t : List ℕ} (set : ℕ → Bool) (n : ℕ) (bs : List ℕ) (i
 taken_all set zero bs i l e = refl
 taken_all set (suc n) [] i l e = refl
 taken_all set (suc n) (b ∷ bs) i l e =
-    both (sym (suffix_has set l) ∙ e i (omega arith) (omega arith))
+    both_true (sym (suffix_has set l) ∙ e i (omega arith) (omega arith))
     (taken_all set n bs (i + 1) (suffix_next l) (λ k a c. e k (omega arith) (omega arith)))
 
 -- the bytes of a word
@@ -37,7 +37,7 @@ word_bytes t set i j l w = let f = w.forward in
 named_bytes : (bs : List ℕ) (n : ℕ) → holds is_letter (first bs) ≡ true →
     list_all is_name_byte (take (suc n) bs) ≡ true → is_name (take (suc n) bs) ≡ true
 named_bytes [] n e f = absurd cc
-named_bytes (b ∷ bs) n e f = both e (right_true (is_name_byte b) (list_all is_name_byte (take n bs)) f)
+named_bytes (b ∷ bs) n e f = both_true e (right_true (is_name_byte b) (list_all is_name_byte (take n bs)) f)
 
 module _ (t : List ℕ) where
   forward_one : (i j : ℕ) → i ≤ j → has t is_name_byte i ≡ true → ByteRun t is_name_byte i j → i < j

@@ -8,25 +8,24 @@ use Rattle.fluent_syntax_tree.specs.declared.spans.Span.{Span}
 use Rattle.fluent_syntax_grammar.specs.Bytes.{lf, is_letter, is_digit}
 use Rattle.fluent_syntax_grammar.specs.Places.{holds, has, has_byte, ByteRun}
 use Rattle.fluent_syntax_grammar.specs.Construct.{Read, goes_on, given, at_place, passed, chosen, first, second}
-use Rattle.fluent_syntax_grammar.specs.Construct.{branch_on}
-use Rattle.fluent_syntax_grammar.specs.Construct.{yields}
+use Rattle.fluent_syntax_grammar.specs.Construct.{branch_on, yields}
 use Rattle.fluent_syntax_grammar.specs.Tokens.{optional, digits, identifier, number}
 use Rattle.fluent_syntax_grammar.specs.Strings.{hex_digits, all_there, escaped, string_unit, string_units, before_quote}
 use Rattle.fluent_syntax_grammar.specs.Strings.{unit_and_more, string_literal}
 use Rattle.fluent_syntax_grammar.specs.Spellings.{is_name, is_digits, is_number_rest, is_unsigned, is_number, is_units}
 use Rattle.fluent_syntax_grammar.specs.Spellings.{is_escape, is_string}
 use Rattle.fluent_syntax_grammar.proofs.Facts.{byte_found, byte_holds, differs, lt_or_same, has_inside}
-use Rattle.fluent_syntax_grammar.proofs.Tests.{both}
+use Rattle.fluent_syntax_grammar.proofs.Tests.{both_true}
 use Rattle.fluent_syntax_grammar.proofs.backward.Taken.{name_was_read}
 use Rattle.fluent_syntax_grammar.proofs.backward.Lines.{range_first, range_none, range_all, byte_at}
-use Rattle.fluent_syntax_grammar.proofs.Tests.{or_first, or_left, or_right, or_second, or_third}
+use Rattle.fluent_syntax_grammar.proofs.Tests.{or_first, true_by_left, true_by_right, or_second, or_third}
 
 -- the name's bytes are a name
-abbrev pub IsName : List ℕ → Span → Type 0
-IsName t s = is_name (bytes_at t s) ≡ true
+abbrev pub IsNameSpan : List ℕ → Span → Type 0
+IsNameSpan t s = is_name (bytes_at t s) ≡ true
 
 module _ (t : List ℕ) where
-  pub name_inversion : (i j : ℕ) (s : Span) → identifier t i (Read s j) → IsName t s
+  pub name_inversion : (i j : ℕ) (s : Span) → identifier t i (Read s j) → IsNameSpan t s
   name_inversion i j s (goes_on at_place (goes_on (chosen given) (first e x))) =
       let l = has_inside is_letter t i e in
       name_was_read t i j s (omega arith) (goes_on at_place (goes_on (chosen given) (first e x)))
@@ -50,7 +49,7 @@ module _ (t : List ℕ) where
       let l = on_digit i j e w in
       let b = byte_found is_digit (slice_get t i) e in
       rw (range_first t i j b.0 l b.1)
-      (both b.2 (range_all t is_digit (i + 1) j (omega arith) (λ k x y. w.each k (omega arith) y)))
+      (both_true b.2 (range_all t is_digit (i + 1) j (omega arith) (λ k x y. w.each k (omega arith) y)))
 
   fraction_range : (i j : ℕ) → FractionAt i j → (i ≤ j) × (is_number_rest (slice_range t i j) ≡ true)
   fraction_range i j no_fraction = (omega arith, ap is_number_rest (range_none t i))
@@ -69,7 +68,7 @@ module _ (t : List ℕ) where
       let b = byte_found is_digit (slice_get t i) (e i (omega arith) (omega arith)) in
       let r = rest_range n (i + 1) j k (omega arith) (λ m x y. e m (omega arith) y) l h in
       rw (range_first t i j b.0 (omega arith) b.1)
-      (or_left (is_digit b.0 && is_number_rest (slice_range t (i + 1) j)) _ (both b.2 r))
+      (true_by_left (is_digit b.0 && is_number_rest (slice_range t (i + 1) j)) _ (both_true b.2 r))
 
   -- digits, and what follows them
   unsigned_range : (i k j : ℕ) → has t is_digit i ≡ true → ByteRun t is_digit i k → FractionAt k j →
@@ -80,11 +79,11 @@ module _ (t : List ℕ) where
       let on = r.0 in
       let b = byte_found is_digit (slice_get t i) e in
       rw (range_first t i j b.0 (omega arith) b.1)
-      (both b.2 (rest_range (k - (i + 1)) (i + 1) j k (omega arith) (λ m x y. w.each m (omega arith) y) on r.1))
+      (both_true b.2 (rest_range (k - (i + 1)) (i + 1) j k (omega arith) (λ m x y. w.each m (omega arith) y) on r.1))
 
   unsigned_number : (v : List ℕ) → is_unsigned v ≡ true → is_number v ≡ true
   unsigned_number [] e = cc
-  unsigned_number (b ∷ bs) e = or_right _ (is_unsigned (b ∷ bs)) e
+  unsigned_number (b ∷ bs) e = true_by_right _ (is_unsigned (b ∷ bs)) e
 
   -- a number's bytes are a number, and without `-` they are one where there is a digit
   pub record IsNumber (i : ℕ) (s : Span) : Type 0 where
@@ -119,7 +118,7 @@ module _ (t : List ℕ) where
       record {
         number =
             ap is_number (range_first t i j 45 (omega arith) (byte_at t 45 i e))
-            ∙ or_left (is_unsigned (slice_range t (i + 1) j)) (is_unsigned (45 ∷ slice_range t (i + 1) j)) v';
+            ∙ true_by_left (is_unsigned (slice_range t (i + 1) j)) (is_unsigned (45 ∷ slice_range t (i + 1) j)) v';
         unsigned = λ d. absurd (minus_digit i e d);
       }
 
@@ -152,7 +151,7 @@ module _ (t : List ℕ) where
   hex_range (suc n) i j k s e l h =
       let b = byte_found is_ascii_hexdigit (slice_get t i) (e i (omega arith) (omega arith)) in
       rw (range_first t i j b.0 (omega arith) b.1)
-      (both b.2 (hex_range n (i + 1) j k (omega arith) (λ m x y. e m (omega arith) y) l h))
+      (both_true b.2 (hex_range n (i + 1) j k (omega arith) (λ m x y. e m (omega arith) y) l h))
 
   hex_inversion : (w i j k : ℕ) (u : Unit {0}) → hex_digits t w i (Read u k) → k ≤ j →
       is_units 0 (slice_range t k j) ≡ true →
@@ -172,7 +171,7 @@ module _ (t : List ℕ) where
       let r : slice_range t (i + 1) j ≡ c ∷ slice_range t (i + 2) j =
       subst (λ k. slice_range t (i + 1) j ≡ c ∷ slice_range t k j) s (range_first t (i + 1) j c (omega arith) f) in
       ap (is_units 0) (range_first t i j 92 (omega arith) e)
-      ∙ or_left (is_escape (slice_range t (i + 1) j)) _ (ap is_escape r ∙ h)
+      ∙ true_by_left (is_escape (slice_range t (i + 1) j)) _ (ap is_escape r ∙ h)
 
   hex_on : (w i m : ℕ) (u : Unit {0}) → hex_digits t w i (Read u m) → m ≡ i + w
   hex_on w i m u (all_there h e) = e
@@ -189,7 +188,7 @@ module _ (t : List ℕ) where
             λ j l r. two_on i j c f e (omega arith)
             (or_first ((c == 92 || c == 34 || c == 123) && is_units 0 (slice_range t (i + 2) j))
             (c == 117 && is_units 4 (slice_range t (i + 2) j)) (c == 85 && is_units 6 (slice_range t (i + 2) j))
-            (both g (subst (λ k. is_units 0 (slice_range t k j) ≡ true) by r)));
+            (both_true g (subst (λ k. is_units 0 (slice_range t k j) ≡ true) by r)));
       }
   escape_inversion i m u (Some c) e f (second g (first h (goes_on (passed {j = k} o) y))) =
       let by = o.by in
@@ -200,7 +199,7 @@ module _ (t : List ℕ) where
             λ j l r. two_on i j c f e (omega arith)
             (or_second ((c == 92 || c == 34 || c == 123) && is_units 0 (slice_range t (i + 2) j))
             (c == 117 && is_units 4 (slice_range t (i + 2) j)) (c == 85 && is_units 6 (slice_range t (i + 2) j))
-            (both h (subst (λ k. is_units 4 (slice_range t k j) ≡ true) by (hex_inversion 4 k j m u y l r))));
+            (both_true h (subst (λ k. is_units 4 (slice_range t k j) ≡ true) by (hex_inversion 4 k j m u y l r))));
       }
   escape_inversion i m u (Some c) e f (second g (second h (first n (goes_on (passed {j = k} o) y)))) =
       let by = o.by in
@@ -211,7 +210,7 @@ module _ (t : List ℕ) where
             λ j l r. two_on i j c f e (omega arith)
             (or_third ((c == 92 || c == 34 || c == 123) && is_units 0 (slice_range t (i + 2) j))
             (c == 117 && is_units 4 (slice_range t (i + 2) j)) (c == 85 && is_units 6 (slice_range t (i + 2) j))
-            (both n (subst (λ k. is_units 6 (slice_range t k j) ≡ true) by (hex_inversion 6 k j m u y l r))));
+            (both_true n (subst (λ k. is_units 6 (slice_range t k j) ≡ true) by (hex_inversion 6 k j m u y l r))));
       }
   escape_inversion i m u (Some c) e f (second g (second h (second n x))) = elim x [ ]
 
@@ -236,8 +235,9 @@ module _ (t : List ℕ) where
         on = omega arith;
         more =
             λ j l r. ap (is_units 0) (range_first t i j b (omega arith) e)
-            ∙ or_right (b == 92 && is_escape (slice_range t (i + 1) j))
-            _ (both (other_byte b g (quote_not i b e q) f) (subst (λ k. is_units 0 (slice_range t k j) ≡ true) by r));
+            ∙ true_by_right (b == 92 && is_escape (slice_range t (i + 1) j))
+            _ (both_true (other_byte b g (quote_not i b e q) f) (subst (λ k. is_units 0 (slice_range t k j) ≡ true) by
+            r));
       }
 
   units_inversion : (i j : ℕ) (a : Unit {0}) → string_units t i (Read a j) →

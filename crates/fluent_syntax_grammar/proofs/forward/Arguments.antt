@@ -1,7 +1,6 @@
 -- Argument lists, read forwards: a list is read if its arguments are.
 use Rattle.std.proofs.Common.{◌≡◌, ℕ, List, [], ◌∷◌, ◌++◌, Option, Some, None, Bool, true, false, refl, sym, ◌∙◌, subst}
-use Rattle.std.proofs.Common.{ap, inl}
-use Rattle.std.proofs.Common.{inr}
+use Rattle.std.proofs.Common.{ap, inl, inr}
 use Rattle.std.specs.Prelude.{◌==◌, ◌||◌, ◌&&◌, ◌⊎◌, if◌then◌else◌}
 use Rattle.std.specs.List.{list_all}
 use Rattle.fluent_syntax_tree.specs.Tree.{InlineTree, inline_map, string_literal, number_literal, function_reference}
@@ -37,8 +36,8 @@ use Rattle.fluent_syntax_grammar.proofs.forward.Reading.{reads_into, reads_prese
 use Rattle.fluent_syntax_grammar.proofs.forward.Reading.{more_map, reads_end, reads_item}
 use Rattle.fluent_syntax_grammar.proofs.marks.WrittenBytes.{inline_bytes, arguments_bytes, positional_bytes}
 use Rattle.fluent_syntax_grammar.proofs.marks.WrittenBytes.{named_bytes, is_none_of}
-use Rattle.fluent_syntax_grammar.proofs.forward.Inline.{Follows, past, passes_blank, passes_blanks, starts_with}
-use Rattle.fluent_syntax_grammar.proofs.forward.Inline.{digit_start, name_start, message_reads_back}
+use Rattle.fluent_syntax_grammar.proofs.forward.Inline.{Follows, bytes_past, passes_blank, passes_blanks, starts_with}
+use Rattle.fluent_syntax_grammar.proofs.forward.Inline.{digit_start, name_start, message_name_reads_back}
 
 -- a byte that begins an inline expression
 abbrev pub is_start : ℕ → Bool
@@ -112,7 +111,7 @@ module _ (edition : Edition) where
 pub begins_other : (c : ℕ) {bs : List ℕ} → Begins bs → is_start c ≡ false → holds (λ b. b == c) (first bs) ≡ false
 begins_other c b e = rw (b.are) (differ is_start b.byte c b.start e)
 
-past_same : (e : InlineTree Text) (more : List ℕ) → past e [] more ≡ more
+past_same : (e : InlineTree Text) (more : List ℕ) → bytes_past e [] more ≡ more
 past_same e more = same (passes_blank e)
   where
     same : (b : Bool) → (if b then more else more) ≡ more
@@ -132,7 +131,7 @@ said t (named name e) = says_named (bytes_at t name) (inline_map (bytes_at t) e)
 pub record InlineReadsBack (edition : Edition) (t : List ℕ) (level : ℕ) (e : InlineTree Text) : Type 0 where
   pub obeys : inline_obeys (canonical_rules edition) e ≡ true
   pub back : (i : ℕ) (gap more : List ℕ) → Follows gap more → SuffixAt t i (inline_bytes level e (gap ++ more)) →
-      Reads t (inline_expression edition t) (inline_map (bytes_at t)) i e (past e gap more)
+      Reads t (inline_expression edition t) (inline_map (bytes_at t)) i e (bytes_past e gap more)
 
 -- The rest of an argument list is read back, after named arguments of these names.
 pub record ArgumentListReadsBack (edition : Edition) (t : List ℕ) (level : ℕ) (names : List Text)
@@ -359,7 +358,7 @@ module _ (edition : Edition) (t : List ℕ) where
       (λ j m. passes_then
       (passes_blanks (32 ∷ []) _ refl (begins_other 32 b refl) (begins_other lf b refl) (begins_other cr b refl)
       m) (λ k n.
-      reads_bind (value_at level e k rest (past e [] rest) h.obeys value n
+      reads_bind (value_at level e k rest (bytes_past e [] rest) h.obeys value n
       (h.back k [] rest (follows_positional level no_inlines ns tail) n)) (λ v p g q.
       passes_then (passes_separator level (name ∷ names) no_inlines ns p tail more (suffix_as (past_same e rest) q))
       (λ y z. reads_yields (same_item v f g) z)))))
@@ -392,7 +391,7 @@ module _ (edition : Edition) (t : List ℕ) where
         } in
         reads_item {c = says_named name e} {q = name ∷ names}
         (at_argument names i _ _ _ (name_begins name rest is) l
-        (reads_bind (message_reads_back edition t i level name [] rest is f l) (λ v j g m.
+        (reads_bind (message_name_reads_back edition t i level name [] rest is f l) (λ v j g m.
         let n = name_of v name g in
         reads_look (has_byte t 58 j) refl
         (as_named names v n.id (argument_name v) (has_byte t 58 j) j _ _ n.is (suffix_has (λ b. b == 58) m)

@@ -18,14 +18,14 @@ use Rattle.fluent_syntax_grammar.specs.Rules.{inline_obeys}
 use Rattle.fluent_syntax_grammar.specs.Canonical.{canonical_rules}
 use Rattle.fluent_syntax_grammar.specs.Grammar.{inline_expression, expression, placeable}
 use Rattle.fluent_syntax_grammar.proofs.Facts.{left_true, right_true, equal}
-use Rattle.fluent_syntax_grammar.proofs.Tests.{both}
+use Rattle.fluent_syntax_grammar.proofs.Tests.{both_true}
 use Rattle.fluent_syntax_grammar.proofs.Nesting.{into_expression}
-use Rattle.fluent_syntax_grammar.proofs.SuffixAt.{SuffixAt, suffix_first, is_blank_byte}
+use Rattle.fluent_syntax_grammar.proofs.SuffixAt.{SuffixAt, suffix_first, is_space_or_lf}
 use Rattle.fluent_syntax_grammar.proofs.forward.Reading.{Reads, Passes, reads_bind, reads_yields, passes_then}
 use Rattle.fluent_syntax_grammar.proofs.forward.Reading.{reads_peek, reads_look, reads_second, reads_into}
 use Rattle.fluent_syntax_grammar.proofs.forward.Reading.{passes_token, passes_inline_blank}
 use Rattle.fluent_syntax_grammar.proofs.marks.WrittenBytes.{expression_bytes, element_bytes, closing_indent}
-use Rattle.fluent_syntax_grammar.proofs.forward.Inline.{Follows, past, passes_blank, passes_blanks, starts_with}
+use Rattle.fluent_syntax_grammar.proofs.forward.Inline.{Follows, bytes_past, passes_blank, passes_blanks, starts_with}
 use Rattle.fluent_syntax_grammar.proofs.forward.Arguments.{Begins, InlineReadsBack, inline_begins, begins_other}
 
 -- what a tree of ranges is, its tree of texts is
@@ -51,10 +51,10 @@ same_attribute f (term_reference id (Some x) a) = refl
 same_attribute f (variable_reference id) = refl
 same_attribute f (inline_placeable e) = refl
 
-pub spaces_blank : (bs : List ℕ) → list_all is_space bs ≡ true → list_all is_blank_byte bs ≡ true
+pub spaces_blank : (bs : List ℕ) → list_all is_space bs ≡ true → list_all is_space_or_lf bs ≡ true
 spaces_blank [] e = refl
 spaces_blank (b ∷ bs) e =
-    both (ap is_blank_byte (equal b 32 (left_true (is_space b) (list_all is_space bs) e)))
+    both_true (ap is_space_or_lf (equal b 32 (left_true (is_space b) (list_all is_space bs) e)))
     (spaces_blank bs (right_true (is_space b) (list_all is_space bs) e))
 
 -- before the brace that closes a placeable
@@ -101,7 +101,7 @@ module _ (edition : Edition) (t : List ℕ) where
 
   -- the blank after an inline expression, which reading it may have passed
   pub passes_after : (e : InlineTree Text) (gap more : List ℕ) (i : ℕ) → Follows gap more →
-      SuffixAt t i (past e gap more) →
+      SuffixAt t i (bytes_past e gap more) →
       Passes t (blank t) i more
   passes_after e gap more i f l = passes_if (passes_blank e) gap more i f l
 
@@ -111,7 +111,7 @@ module _ (edition : Edition) (t : List ℕ) where
   -- an inline expression that was read, before the brace
   expression_after : (e : InlineTree Text) (gap more : List ℕ) (i : ℕ) → is_term_attribute e ≡ false →
       list_all is_space gap ≡ true →
-      Reads t (inline_expression edition t) (inline_map (bytes_at t)) i e (past e gap (125 ∷ more)) →
+      Reads t (inline_expression edition t) (inline_map (bytes_at t)) i e (bytes_past e gap (125 ∷ more)) →
       Reads t (expression edition t) (expression_map (bytes_at t)) i (inline e) (125 ∷ more)
   expression_after e gap more i a g r =
       reads_bind r
@@ -121,10 +121,10 @@ module _ (edition : Edition) (t : List ℕ) where
       (reads_second (sym (same_attribute (bytes_at t) v) ∙ ap is_term_attribute f ∙ a)
       (reads_yields (ap inline f) n)))))
 
-  pub inline_is_read_back : (level : ℕ) (e : InlineTree Text) → is_term_attribute e ≡ false →
+  pub inline_expression_reads_back : (level : ℕ) (e : InlineTree Text) → is_term_attribute e ≡ false →
       InlineReadsBack edition t level e →
       ExpressionReadsBack edition t level (inline e)
-  inline_is_read_back level e a h = record {
+  inline_expression_reads_back level e a h = record {
     begins = λ tail. inline_begins edition level e tail h.obeys;
     back = λ i gap more g l. expression_after e gap more i a g (h.back i gap (125 ∷ more) (follows_brace gap more g) l);
   }
@@ -156,10 +156,10 @@ module _ (edition : Edition) (t : List ℕ) where
       (reads_bind (placeable_reads_back level e before gap more i a g h l)
       (λ v j f m. reads_yields (ap inline_placeable f) m))
 
-  pub placeable_is_read_back : (level : ℕ) (e : ExpressionTree Text) →
+  pub inline_placeable_reads_back : (level : ℕ) (e : ExpressionTree Text) →
       inline_obeys (canonical_rules edition) (inline_placeable e) ≡ true → ExpressionReadsBack edition t level e →
       InlineReadsBack edition t level (inline_placeable e)
-  placeable_is_read_back level e o h =
+  inline_placeable_reads_back level e o h =
       record { obeys = o; back = λ i gap more f l. braced level e [] [] (gap ++ more) i refl refl h l }
 
   -- ---- placeables that are elements

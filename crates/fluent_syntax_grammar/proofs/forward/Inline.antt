@@ -24,7 +24,7 @@ use Rattle.fluent_syntax_grammar.specs.Grammar.{inline_expression, call_argument
 use Rattle.fluent_syntax_grammar.proofs.Facts.{left_true, right_true, equal}
 use Rattle.fluent_syntax_grammar.proofs.Tests.{or_cases, differ}
 use Rattle.fluent_syntax_grammar.proofs.SuffixAt.{SuffixAt, first, suffix_first, suffix_next, suffix_past, suffix_blank}
-use Rattle.fluent_syntax_grammar.proofs.SuffixAt.{is_blank_byte}
+use Rattle.fluent_syntax_grammar.proofs.SuffixAt.{is_space_or_lf}
 use Rattle.fluent_syntax_grammar.proofs.forward.Reading.{Reads, Passes, reads_bind, reads_yields, passes_then}
 use Rattle.fluent_syntax_grammar.proofs.forward.Reading.{passes_over, reads_peek, reads_first, reads_second}
 use Rattle.fluent_syntax_grammar.proofs.forward.Reading.{reads_present, reads_absent, passes_token}
@@ -34,7 +34,7 @@ use Rattle.fluent_syntax_grammar.proofs.marks.WrittenBytes.{inline_bytes}
 
 -- What may follow an inline expression: spaces and then a byte that goes on with none of its forms.
 pub record Follows (gap more : List ℕ) : Type 0 where
-  pub spaces : list_all is_blank_byte gap ≡ true
+  pub spaces : list_all is_space_or_lf gap ≡ true
   -- the next byte is in no name and is no point
   pub no_name : holds is_name_byte (first (gap ++ more)) ≡ false
   pub no_digit : holds is_digit (first (gap ++ more)) ≡ false
@@ -59,8 +59,8 @@ passes_blank (variable_reference id) = false
 passes_blank (inline_placeable e) = false
 
 -- what is left after it
-abbrev pub past : {X : Type 0} → InlineTree X → (gap more : List ℕ) → List ℕ
-past e gap more = if passes_blank e then more else gap ++ more
+abbrev pub bytes_past : {X : Type 0} → InlineTree X → (gap more : List ℕ) → List ℕ
+bytes_past e gap more = if passes_blank e then more else gap ++ more
 
 digit_no_letter : (b : ℕ) → is_digit b ≡ true → is_letter b ≡ false
 digit_no_letter b e = grind (arith, nat_tests)
@@ -83,7 +83,7 @@ letter_start b next e =
 
 module _ {t : List ℕ} where
   -- a blank, before a byte that begins none
-  pub passes_blanks : {i : ℕ} (gap more : List ℕ) → list_all is_blank_byte gap ≡ true →
+  pub passes_blanks : {i : ℕ} (gap more : List ℕ) → list_all is_space_or_lf gap ≡ true →
       holds is_space (first more) ≡ false → holds (λ b. b == lf) (first more) ≡ false →
       holds (λ b. b == cr) (first more) ≡ false →
       SuffixAt t i (gap ++ more) → Passes t (blank t) i more
@@ -197,9 +197,9 @@ module _ (edition : Edition) (t : List ℕ) where
   message_after id name attribute i left no_arguments e f r = reads_bind r (λ a j g m. reads_yields (cc) m)
   message_after id name attribute i left (some_arguments a) e f r = absurd cc
 
-  pub message_reads_back : (i level : ℕ) (id gap more : List ℕ) → is_name id ≡ true → Follows gap more →
+  pub message_name_reads_back : (i level : ℕ) (id gap more : List ℕ) → is_name id ≡ true → Follows gap more →
       SuffixAt t i (id ++ (gap ++ more)) → ReadsInline i (message_reference id None) more
-  message_reads_back i level id gap more e f l =
+  message_name_reads_back i level id gap more e f l =
       reads_peek letter (name_start i id (gap ++ more) e l)
       (reads_bind (reads_name id (gap ++ more) e f.no_name l) (λ s j g m.
       reads_bind (call_none j gap more f m)

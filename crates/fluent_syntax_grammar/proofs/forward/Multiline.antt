@@ -13,13 +13,12 @@ use Rattle.fluent_syntax_grammar.specs.PatternTexts.{is_lone_lf}
 use Rattle.fluent_syntax_grammar.specs.Bytes.{lf, cr, space, is_space}
 use Rattle.fluent_syntax_grammar.specs.Places.{holds}
 use Rattle.fluent_syntax_grammar.specs.Written.{Text, is_last, last_of, indent, begins_with_mark}
-use Rattle.fluent_syntax_grammar.specs.Readable.{ElementPosition, after_line, within_line, after_placeable}
-use Rattle.fluent_syntax_grammar.specs.Readable.{may_precede, is_text, are_elements, may_occur_at}
-use Rattle.fluent_syntax_grammar.specs.Readable.{position_after, indents}
+use Rattle.fluent_syntax_grammar.specs.Readable.{ElementPosition, after_line, within_line, after_placeable, may_precede}
+use Rattle.fluent_syntax_grammar.specs.Readable.{is_text, are_elements, may_occur_at, position_after, indents}
 use Rattle.fluent_syntax_grammar.specs.Canonical.{line_indents, are_lone, text_indents, placeable_indents}
 use Rattle.fluent_syntax_grammar.specs.Elements.{is_nonblank}
 use Rattle.fluent_syntax_grammar.proofs.Facts.{differs, left_true, right_true, equal, add_one}
-use Rattle.fluent_syntax_grammar.proofs.Tests.{both}
+use Rattle.fluent_syntax_grammar.proofs.Tests.{both_true}
 use Rattle.fluent_syntax_grammar.proofs.SuffixAt.{SuffixAt, suffix_as, first, suffix_next, suffix_past}
 use Rattle.fluent_syntax_grammar.proofs.marks.LastBytes.{last_append}
 use Rattle.fluent_syntax_grammar.proofs.forward.Spells.{spells_text}
@@ -28,8 +27,7 @@ use Rattle.fluent_syntax_grammar.proofs.forward.Runs.{without_of, is_run_byte, T
 use Rattle.fluent_syntax_grammar.proofs.forward.Runs.{run_no_lf}
 use Rattle.fluent_syntax_grammar.proofs.forward.Lines.{Ends, reads_no_pieces, is_mark_byte}
 use Rattle.fluent_syntax_grammar.proofs.forward.Pieces.{ReadsMidLine, Starts, Run, mid_end, mid_placeable, mid_run}
-use Rattle.fluent_syntax_grammar.proofs.forward.Pieces.{run_end}
-use Rattle.fluent_syntax_grammar.proofs.forward.Pieces.{run_more, run_line}
+use Rattle.fluent_syntax_grammar.proofs.forward.Pieces.{run_end, run_more, run_line}
 use Rattle.fluent_syntax_grammar.proofs.forward.LineStarts.{start_run, start_blank, start_placeable_one}
 use Rattle.fluent_syntax_grammar.proofs.forward.LineStarts.{start_placeable_two, start_spaces_two}
 use Rattle.fluent_syntax_grammar.proofs.forward.Selects.{all_append, spaces_of}
@@ -138,7 +136,8 @@ pub record Split (v : List ℕ) : Type 0 where
 
 split_at : (b : ℕ) (v : List ℕ) (x : Bool) → is_space b ≡ x → Split v → Split (b ∷ v)
 split_at b v true e s =
-    record { gap = b ∷ s.gap; more = s.more; are = ap (λ v. b ∷ v) s.are; spaces = both e s.spaces; plain = s.plain }
+    record { gap = b ∷ s.gap; more = s.more; are = ap (λ v. b ∷ v) s.are; spaces = both_true e s.spaces; plain =
+        s.plain }
 split_at b v false e s = record { gap = []; more = b ∷ v; are = refl; spaces = refl; plain = e }
 
 pub split : (v : List ℕ) → Split v

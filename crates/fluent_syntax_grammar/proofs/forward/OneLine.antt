@@ -22,9 +22,8 @@ use Rattle.fluent_syntax_grammar.specs.Patterns.{layout_at, layout}
 use Rattle.fluent_syntax_grammar.specs.Grammar.{family}
 use Rattle.fluent_syntax_grammar.specs.Grammar as grammar
 use Rattle.fluent_syntax_grammar.specs.Written.{Text, is_last, last_of, has_lf}
-use Rattle.fluent_syntax_grammar.specs.Readable.{ElementPosition, after_line, within_line, after_placeable}
-use Rattle.fluent_syntax_grammar.specs.Readable.{is_text, are_elements, may_occur_at}
-use Rattle.fluent_syntax_grammar.specs.Readable.{position_after}
+use Rattle.fluent_syntax_grammar.specs.Readable.{ElementPosition, after_line, within_line, after_placeable, is_text}
+use Rattle.fluent_syntax_grammar.specs.Readable.{are_elements, may_occur_at, position_after}
 use Rattle.fluent_syntax_grammar.proofs.Facts.{left_true, right_true}
 use Rattle.fluent_syntax_grammar.proofs.SuffixAt.{SuffixAt, suffix_as, first, suffix_byte_run, suffix_no_eol_after}
 use Rattle.fluent_syntax_grammar.proofs.forward.Reading.{Reads}

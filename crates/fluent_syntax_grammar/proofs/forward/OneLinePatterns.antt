@@ -18,10 +18,8 @@ use Rattle.fluent_syntax_grammar.proofs.SuffixAt.{SuffixAt, suffix_as, suffix_ne
 use Rattle.fluent_syntax_grammar.proofs.marks.WrittenBytes.{element_bytes, elements_bytes, pattern_bytes, line_indent}
 use Rattle.fluent_syntax_grammar.proofs.forward.Lines.{Ends}
 use Rattle.fluent_syntax_grammar.proofs.forward.OneLine.{ElementsReadBack, has_no_lf, element_brace, plain_no_cr}
-use Rattle.fluent_syntax_grammar.proofs.forward.OneLine.{no_lf_end}
-use Rattle.fluent_syntax_grammar.proofs.forward.OneLine.{text_bytes, text_after_text, line_reads_back, OpensAt}
-use Rattle.fluent_syntax_grammar.proofs.forward.OneLine.{opens_run}
-use Rattle.fluent_syntax_grammar.proofs.forward.OneLine.{opens_brace, opening_reads_back}
+use Rattle.fluent_syntax_grammar.proofs.forward.OneLine.{no_lf_end, text_bytes, text_after_text, line_reads_back}
+use Rattle.fluent_syntax_grammar.proofs.forward.OneLine.{OpensAt, opens_run, opens_brace, opening_reads_back}
 use Rattle.fluent_syntax_grammar.proofs.forward.Entries.{PatternReadsBack}
 use Rattle.fluent_syntax_grammar.proofs.Tests.{and_false, neither_left, neither_right, not_true}
 

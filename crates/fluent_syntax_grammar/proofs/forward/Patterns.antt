@@ -24,12 +24,10 @@ use Rattle.fluent_syntax_grammar.specs.Grammar as grammar
 use Rattle.fluent_syntax_grammar.specs.Written.{Text, indent, is_leading_mark, has_leading_mark, begins_with_mark}
 use Rattle.fluent_syntax_grammar.specs.Written.{is_last, last_of, is_multiline}
 use Rattle.fluent_syntax_grammar.specs.Readable.{ElementPosition, opening, after_line, after_placeable, are_elements}
-use Rattle.fluent_syntax_grammar.specs.Readable.{is_pattern}
-use Rattle.fluent_syntax_grammar.specs.Readable.{is_text}
-use Rattle.fluent_syntax_grammar.specs.Readable.{indents, may_be_first, begins_with_placeable}
+use Rattle.fluent_syntax_grammar.specs.Readable.{is_pattern, is_text, indents, may_be_first, begins_with_placeable}
 use Rattle.fluent_syntax_grammar.specs.Canonical.{line_indents, are_flush, hides_mark, first_position, is_flush}
 use Rattle.fluent_syntax_grammar.proofs.Facts.{left_true, right_true, right_false, equal}
-use Rattle.fluent_syntax_grammar.proofs.Tests.{both, differ}
+use Rattle.fluent_syntax_grammar.proofs.Tests.{both_true, differ}
 use Rattle.fluent_syntax_grammar.proofs.SuffixAt.{SuffixAt, first, suffix_as, suffix_past, suffix_byte_run, suffix_next}
 use Rattle.fluent_syntax_grammar.proofs.SuffixAt.{suffix_no_eol_after}
 use Rattle.fluent_syntax_grammar.proofs.forward.Reading.{Reads}
@@ -39,8 +37,7 @@ use Rattle.fluent_syntax_grammar.proofs.forward.Lines.{Ends, lf_after, no_spaces
 use Rattle.fluent_syntax_grammar.proofs.forward.Pieces.{Starts}
 use Rattle.fluent_syntax_grammar.proofs.forward.Spells.{spelled_pattern}
 use Rattle.fluent_syntax_grammar.proofs.forward.OneLine.{ElementsReadBack, OpensAt, opens_run, opens_brace}
-use Rattle.fluent_syntax_grammar.proofs.forward.OneLine.{element_brace}
-use Rattle.fluent_syntax_grammar.proofs.forward.OneLine.{plain_no_cr, opening_reads_back}
+use Rattle.fluent_syntax_grammar.proofs.forward.OneLine.{element_brace, plain_no_cr, opening_reads_back}
 use Rattle.fluent_syntax_grammar.proofs.forward.Multiline.{Fit, fixed, lone, lines_mid, lines_start, split}
 use Rattle.fluent_syntax_grammar.proofs.forward.Multiline.{plain_not_line, blank_of, no_spaces_end}
 use Rattle.fluent_syntax_grammar.proofs.forward.Runs.{without_of}
@@ -131,8 +128,9 @@ at_line : (edition : Edition) (e : ElementTree Text) (es : PatternTree Text) →
     are_elements edition true after_line (elements e es) ≡ true
 at_line edition (placeable x) es a b g = g
 at_line edition (text_element v) es a b g =
-    both (left_true (is_text v) _ g)
-    (both (occurs_at v (is_spaces v) refl (left_true (may_be_first edition true v es) _ (right_true (is_text v) _ g))
+    both_true (left_true (is_text v) _ g)
+    (both_true (occurs_at v (is_spaces v) refl (left_true (may_be_first edition true v es) _
+    (right_true (is_text v) _ g))
     (no_mark v a b)) (right_true (may_be_first edition true v es) _ (right_true (is_text v) _ g)))
   where
     no_mark : (v : Text) → (begins_with_space v && begins_with_mark (after_spaces v)) ≡ false →
@@ -151,7 +149,7 @@ at_line edition (text_element v) es a b g =
         ((not (is_spaces v) || indents edition v es) && not (begins_with_mark (after_spaces v))) ≡ true
     occurs_at v false e f m = rw (e, m) refl
     occurs_at v true e f m =
-        rw (e, m) (both (sym (ap (λ b. b || indents edition v es) (spaces_blank_text v e)) ∙ f) refl)
+        rw (e, m) (both_true (sym (ap (λ b. b || indents edition v es) (spaces_blank_text v e)) ∙ f) refl)
 
 flush_at : (edition : Edition) (e : ElementTree Text) (es : PatternTree Text) (o : Option ℕ) →
     are_flush o opening (elements e es) ≡ true → are_flush o after_line (elements e es) ≡ true

@@ -26,10 +26,9 @@ use Rattle.fluent_syntax_grammar.proofs.forward.Reading.{reads_first, passes_tok
 use Rattle.fluent_syntax_grammar.proofs.forward.Words.{reads_name}
 use Rattle.fluent_syntax_grammar.proofs.marks.WrittenBytes.{attribute_bytes, maybe_bytes}
 use Rattle.fluent_syntax_grammar.proofs.forward.Inline.{Follows, starts_with, name_start, string_reads_back}
-use Rattle.fluent_syntax_grammar.proofs.forward.Inline.{variable_reads_back}
-use Rattle.fluent_syntax_grammar.proofs.forward.Inline.{number_reads_back, message_reads_back}
-use Rattle.fluent_syntax_grammar.proofs.forward.Inline.{message_attribute_reads_back, call_none}
-use Rattle.fluent_syntax_grammar.proofs.forward.Inline.{no_accessor, some_accessor}
+use Rattle.fluent_syntax_grammar.proofs.forward.Inline.{variable_reads_back, number_reads_back, message_name_reads_back}
+use Rattle.fluent_syntax_grammar.proofs.forward.Inline.{message_attribute_reads_back, call_none, no_accessor}
+use Rattle.fluent_syntax_grammar.proofs.forward.Inline.{some_accessor}
 use Rattle.fluent_syntax_grammar.proofs.forward.Arguments.{InlineReadsBack, ArgumentListReadsBack, call_reads_back}
 
 -- What may follow a reference's arguments follows the arguments, if there are none.
@@ -54,31 +53,33 @@ pub record MaybeArgumentsReadBack (edition : Edition) (t : List ℕ) (level : �
       Reads t (call_arguments edition t) (maybe_map (bytes_at t)) i a (after_maybe a gap more)
 
 module _ (edition : Edition) (t : List ℕ) where
-  pub string_is_read_back : (level : ℕ) (v : Text) → inline_obeys (canonical_rules edition) (string_literal v) ≡ true →
+  pub string_literal_reads_back : (level : ℕ) (v : Text) → inline_obeys (canonical_rules edition) (string_literal v) ≡
+      true →
       InlineReadsBack edition t level (string_literal v)
-  string_is_read_back level v h =
+  string_literal_reads_back level v h =
       record { obeys = h; back = λ i gap more f l. string_reads_back edition t i level v (gap ++ more) h l }
 
-  pub number_is_read_back : (level : ℕ) (v : Text) → inline_obeys (canonical_rules edition) (number_literal v) ≡ true →
+  pub number_literal_reads_back : (level : ℕ) (v : Text) → inline_obeys (canonical_rules edition) (number_literal v) ≡
+      true →
       InlineReadsBack edition t level (number_literal v)
-  number_is_read_back level v h =
+  number_literal_reads_back level v h =
       record { obeys = h; back = λ i gap more f l. number_reads_back edition t i level v gap more h f l }
 
-  pub variable_is_read_back : (level : ℕ) (id : Text) →
+  pub variable_reference_reads_back : (level : ℕ) (id : Text) →
       inline_obeys (canonical_rules edition) (variable_reference id) ≡ true →
       InlineReadsBack edition t level (variable_reference id)
-  variable_is_read_back level id h =
+  variable_reference_reads_back level id h =
       record { obeys = h; back = λ i gap more f l. variable_reads_back edition t i level id gap more h f l }
 
-  pub message_is_read_back : (level : ℕ) (id : Text) (attribute : Option Text) →
+  pub message_reference_reads_back : (level : ℕ) (id : Text) (attribute : Option Text) →
       inline_obeys (canonical_rules edition) (message_reference id attribute) ≡ true →
       InlineReadsBack edition t level (message_reference id attribute)
-  message_is_read_back level id None h =
+  message_reference_reads_back level id None h =
       record {
         obeys = h;
-        back = λ i gap more f l. message_reads_back edition t i level id gap more (left_true (is_name id) _ h) f l;
+        back = λ i gap more f l. message_name_reads_back edition t i level id gap more (left_true (is_name id) _ h) f l;
       }
-  message_is_read_back level id (Some a) h =
+  message_reference_reads_back level id (Some a) h =
       record {
         obeys = h;
         back =
@@ -98,11 +99,11 @@ module _ (edition : Edition) (t : List ℕ) where
   function_after id name x i left (some_arguments a) e f g l =
       reads_first (ap (list_all is_callee_byte) e ∙ g) (reads_yields (cc) l)
 
-  pub function_is_read_back : (level : ℕ) (id : Text) (ps : InlineTrees Text) (ns : NamedTrees Text) →
+  pub function_reference_reads_back : (level : ℕ) (id : Text) (ps : InlineTrees Text) (ns : NamedTrees Text) →
       inline_obeys (canonical_rules edition) (function_reference id (arguments ps ns)) ≡ true →
       ArgumentListReadsBack edition t level [] ps ns →
       InlineReadsBack edition t level (function_reference id (arguments ps ns))
-  function_is_read_back level id ps ns h more = record {
+  function_reference_reads_back level id ps ns h more = record {
     obeys = h;
     back = λ i gap rest f l.
         let is : is_name id ≡ true = left_true (is_name id) _ h in
@@ -161,11 +162,11 @@ module _ (edition : Edition) (t : List ℕ) where
       reads_bind (accessor_reads_back level attribute a k gap more accessor_is f n)
       (λ x p d o. reads_bind (b.back p gap more f o) (λ y q w r. reads_yields (cc) r)))))
 
-  pub term_is_read_back : (level : ℕ) (id : Text) (attribute : Option Text) (a : MaybeArguments Text) →
+  pub term_reference_reads_back : (level : ℕ) (id : Text) (attribute : Option Text) (a : MaybeArguments Text) →
       inline_obeys (canonical_rules edition) (term_reference id attribute a) ≡ true →
       MaybeArgumentsReadBack edition t level a →
       InlineReadsBack edition t level (term_reference id attribute a)
-  term_is_read_back level id attribute no_arguments h b =
+  term_reference_reads_back level id attribute no_arguments h b =
       record { obeys = h; back = λ i gap more f l. term_at level id attribute no_arguments i gap more h b f l }
-  term_is_read_back level id attribute (some_arguments x) h b =
+  term_reference_reads_back level id attribute (some_arguments x) h b =
       record { obeys = h; back = λ i gap more f l. term_at level id attribute (some_arguments x) i gap more h b f l }

@@ -11,7 +11,7 @@ use Rattle.fluent_syntax_grammar.specs.Elements.{without_last_lf}
 use Rattle.fluent_syntax_grammar.specs.Written.{last_of, is_last, has_lf}
 use Rattle.fluent_syntax_grammar.specs.Readable.{is_text}
 use Rattle.fluent_syntax_grammar.proofs.Facts.{left_true, right_true, equal}
-use Rattle.fluent_syntax_grammar.proofs.Tests.{both, and_right}
+use Rattle.fluent_syntax_grammar.proofs.Tests.{both_true, and_right}
 use Rattle.fluent_syntax_grammar.proofs.Stretches.{run_ends_here, run_goes_on}
 use Rattle.fluent_syntax_grammar.proofs.SuffixAt.{SuffixAt, first, suffix_first, suffix_next}
 use Rattle.fluent_syntax_grammar.proofs.forward.Spells.{last_from}
@@ -86,7 +86,7 @@ without_other (x ∷ y ∷ u) b e = ap (λ v. x ∷ v) (without_other (y ∷ u) 
 pub run_all : (v : List ℕ) → list_any is_brace v ≡ false → has_lf v ≡ false → list_all is_run_byte v ≡ true
 run_all [] e f = refl
 run_all (b ∷ v) e f =
-    both (byte_of (b == lf) (b == 123) (b == 125) (neither_left (b == lf) (has_lf v) f)
+    both_true (byte_of (b == lf) (b == 123) (b == 125) (neither_left (b == lf) (has_lf v) f)
     (neither_left (is_brace b) (list_any is_brace v) e))
     (run_all v (neither_right (is_brace b) (list_any is_brace v) e) (neither_right (b == lf) (has_lf v) f))
   where

@@ -16,17 +16,15 @@ use Rattle.fluent_syntax_grammar.specs.Construct.{peek, More, no_item, item}
 use Rattle.fluent_syntax_grammar.specs.Written.{Text, indent, star_indent, key_text}
 use Rattle.fluent_syntax_grammar.specs.Spellings.{is_name, is_number, is_number_rest, is_unsigned}
 use Rattle.fluent_syntax_grammar.specs.Expressions.{arrow_line_end, has_arrow, selector_fault, select_with}
-use Rattle.fluent_syntax_grammar.specs.Variants.{is_number_start, variant_key, variants_end, variant_of}
-use Rattle.fluent_syntax_grammar.specs.Variants.{variant_after}
+use Rattle.fluent_syntax_grammar.specs.Variants.{is_number_start, variant_key, variants_end, variant_of, variant_after}
 use Rattle.fluent_syntax_grammar.specs.Grammar as grammar
 use Rattle.fluent_syntax_grammar.specs.Grammar.{family}
 use Rattle.fluent_syntax_grammar.proofs.Facts.{left_true, right_true, equal, some_same}
-use Rattle.fluent_syntax_grammar.proofs.Tests.{both, or_cases, differ}
+use Rattle.fluent_syntax_grammar.proofs.Tests.{both_true, or_cases, differ}
 use Rattle.fluent_syntax_grammar.proofs.SuffixAt.{SuffixAt, suffix_as, suffix_first, suffix_next, suffix_has}
 use Rattle.fluent_syntax_grammar.proofs.forward.Reading.{Reads, Passes, reads_bind, reads_yields, passes_nothing}
-use Rattle.fluent_syntax_grammar.proofs.forward.Reading.{passes_then, passes_over, reads_peek, reads_look}
-use Rattle.fluent_syntax_grammar.proofs.forward.Reading.{reads_first, reads_second, reads_present, more_map, reads_end}
-use Rattle.fluent_syntax_grammar.proofs.forward.Reading.{reads_item}
+use Rattle.fluent_syntax_grammar.proofs.forward.Reading.{passes_then, passes_over, reads_peek, reads_look, reads_first}
+use Rattle.fluent_syntax_grammar.proofs.forward.Reading.{reads_second, reads_present, more_map, reads_end, reads_item}
 use Rattle.fluent_syntax_grammar.proofs.forward.Reading.{reads_absent, passes_token, passes_two, passes_inline_blank}
 use Rattle.fluent_syntax_grammar.proofs.forward.Words.{reads_name, reads_number}
 use Rattle.fluent_syntax_grammar.proofs.marks.WrittenBytes.{inline_bytes, variants_bytes, pattern_bytes}
@@ -38,7 +36,7 @@ use Rattle.fluent_syntax_grammar.proofs.forward.Expressions.{spaces_blank}
 use Rattle.fluent_syntax_grammar.proofs.forward.Lines.{lf_after, stop, EndsPattern, column, indented, is_mark_byte}
 use Rattle.fluent_syntax_grammar.proofs.forward.Lines.{is_column_byte}
 use Rattle.fluent_syntax_grammar.proofs.forward.Entries.{PatternReadsBack}
-use Rattle.fluent_syntax_grammar.proofs.Tests.{and_false, or_left, or_right}
+use Rattle.fluent_syntax_grammar.proofs.Tests.{and_false, true_by_left, true_by_right}
 
 -- a line that begins, perhaps after spaces, with a mark that is no pattern's
 stops_gap : (gap : List ℕ) (b : ℕ) (bs : List ℕ) → list_all is_space gap ≡ true → is_mark_byte b ≡ true →
@@ -57,7 +55,7 @@ pub all_append : (xs ys : List ℕ) → list_all is_space xs ≡ true → list_a
     list_all is_space (xs ++ ys) ≡ true
 all_append [] ys e f = f
 all_append (x ∷ xs) ys e f =
-    both (left_true (is_space x) (list_all is_space xs) e)
+    both_true (left_true (is_space x) (list_all is_space xs) e)
     (all_append xs ys (right_true (is_space x) (list_all is_space xs) e) f)
 
 -- the variants from the first one's mark on
@@ -153,8 +151,8 @@ module _ (edition : Edition) (t : List ℕ) where
     where
       starts_number : (b : ℕ) (bs : List ℕ) → is_number (b ∷ bs) ≡ true → is_number_start b ≡ true
       starts_number b bs e = elim (or_cases (b == 45 && is_unsigned bs) (is_unsigned (b ∷ bs)) e) [
-        | inl f ↦ or_right (is_digit b) (b == 45) (left_true (b == 45) (is_unsigned bs) f)
-        | inr f ↦ or_left (is_digit b) (b == 45) (left_true (is_digit b) (is_number_rest bs) f)
+        | inl f ↦ true_by_right (is_digit b) (b == 45) (left_true (b == 45) (is_unsigned bs) f)
+        | inr f ↦ true_by_left (is_digit b) (b == 45) (left_true (is_digit b) (is_number_rest bs) f)
       ]
 
   key_begins : (key : KeyTree Text) (tail : Text) → key_obeys' key ≡ true → Begins (key_text key ++ tail)
@@ -287,11 +285,11 @@ module _ (edition : Edition) (t : List ℕ) where
           expression_map (bytes_at t) (select v ws) ≡ select e vs
       same_select ws d = cc
 
-  pub select_is_read_back : (level : ℕ) (e : InlineTree Text) (vs : VariantTrees Text) →
+  pub select_reads_back : (level : ℕ) (e : InlineTree Text) (vs : VariantTrees Text) →
       is_none (selector_fault e) ≡ true →
       InlineReadsBack edition t level e → VariantsReadBack edition t (level + 1) false vs →
       ExpressionReadsBack edition t level (select e vs)
-  select_is_read_back level e vs g h k = record {
+  select_reads_back level e vs g h k = record {
     begins = λ tail. inline_begins edition level e _ h.obeys;
     back = λ i gap more a l.
         let close = indent level ++ gap in

@@ -12,7 +12,7 @@ use Rattle.fluent_syntax_grammar.specs.Strings.{HexDigits, hex_digits, all_there
 use Rattle.fluent_syntax_grammar.specs.Strings.{before_quote, unit_and_more, string_literal}
 use Rattle.fluent_syntax_grammar.specs.Spellings.{is_units, is_escape, is_string}
 use Rattle.fluent_syntax_grammar.proofs.Facts.{left_true, right_true, equal}
-use Rattle.fluent_syntax_grammar.proofs.Tests.{both, or_cases}
+use Rattle.fluent_syntax_grammar.proofs.Tests.{both_true, or_cases}
 use Rattle.fluent_syntax_grammar.proofs.SuffixAt.{SuffixAt, suffix_as, suffix_first, suffix_next, suffix_past}
 use Rattle.fluent_syntax_grammar.proofs.SuffixAt.{suffix_has, suffix_each}
 use Rattle.fluent_syntax_grammar.proofs.forward.Reading.{Reads, Passes, reads_bind, reads_yields, passes_then}
@@ -38,15 +38,15 @@ hex_then (suc n) (b ∷ bs) e =
       more = r.more;
       joins = ap (λ v. b ∷ v) r.joins;
       count = ap suc r.count;
-      digits = both (left_true (is_ascii_hexdigit b) (is_units n bs) e) r.digits;
+      digits = both_true (left_true (is_ascii_hexdigit b) (is_units n bs) e) r.digits;
       units = r.units;
     }
 
-pub neither : (x y z : Bool) → not (x || y || z) ≡ true → (x ≡ false) × (y ≡ false) × (z ≡ false)
-neither false false false e = (refl, refl, refl)
-neither true y z e = cc
-neither false true z e = cc
-neither false false true e = cc
+pub none_of_three : (x y z : Bool) → not (x || y || z) ≡ true → (x ≡ false) × (y ≡ false) × (z ≡ false)
+none_of_three false false false e = (refl, refl, refl)
+none_of_three true y z e = cc
+none_of_three false true z e = cc
+none_of_three false false true e = cc
 
 -- texts no longer than the number are read as units
 pub record UnitsPass (t : List ℕ) (m : ℕ) : Type 0 where
@@ -151,7 +151,7 @@ module _ {t : List ℕ} where
         | inl f ↦ escape_then m h b bs more i l (equal b 92 (left_true (b == 92) (is_escape bs) f))
             (right_true (b == 92) (is_escape bs) f) x
         | inr f ↦ let n =
-            neither (b == 92) (b == 34) (b == lf)
+            none_of_three (b == 92) (b == 34) (b == lf)
             (left_true (not (b == 92 || b == 34 || b == lf)) (is_units zero bs) f) in
             unit_then x n.1 (passes_plain n.2 n.0 x)
             (λ j y. h.passes bs more j l (right_true (not (b == 92 || b == 34 || b == lf)) (is_units zero bs) f) y)

@@ -16,27 +16,24 @@ use Rattle.fluent_syntax_grammar.specs.Inline.{is_callee_byte}
 use Rattle.fluent_syntax_grammar.specs.Arguments.{is_used}
 use Rattle.fluent_syntax_grammar.specs.Expressions.{is_term_attribute, selector_fault}
 use Rattle.fluent_syntax_grammar.specs.Rules.{inline_obeys, optional_arguments_obey, arguments_obey, inlines_obey}
-use Rattle.fluent_syntax_grammar.specs.Rules.{named_arguments_obey}
-use Rattle.fluent_syntax_grammar.specs.Rules.{named_obeys, expression_obeys, variants_obey, variant_obeys, key_obeys}
-use Rattle.fluent_syntax_grammar.specs.Rules.{option_obeys, elements_obey, pattern_obeys}
+use Rattle.fluent_syntax_grammar.specs.Rules.{named_arguments_obey, named_obeys, expression_obeys, variants_obey}
+use Rattle.fluent_syntax_grammar.specs.Rules.{variant_obeys, key_obeys, option_obeys, elements_obey, pattern_obeys}
 use Rattle.fluent_syntax_grammar.specs.Readable.{are_named_well, is_argument_value, is_expression, is_pattern, defaults}
 use Rattle.fluent_syntax_grammar.specs.Canonical.{canonical_rules, is_flush}
 use Rattle.fluent_syntax_grammar.proofs.Obeys.{inline_part, select_parts}
 use Rattle.fluent_syntax_grammar.proofs.Facts.{left_true, right_true, equal}
 use Rattle.fluent_syntax_grammar.proofs.forward.Arguments.{InlineReadsBack, ArgumentListReadsBack, nothing_reads_back}
-use Rattle.fluent_syntax_grammar.proofs.forward.Arguments.{positional_reads_back}
-use Rattle.fluent_syntax_grammar.proofs.forward.Arguments.{named_reads_back}
-use Rattle.fluent_syntax_grammar.proofs.forward.References.{MaybeArgumentsReadBack, string_is_read_back}
-use Rattle.fluent_syntax_grammar.proofs.forward.References.{number_is_read_back, variable_is_read_back}
-use Rattle.fluent_syntax_grammar.proofs.forward.References.{message_is_read_back, function_is_read_back}
-use Rattle.fluent_syntax_grammar.proofs.forward.References.{term_is_read_back}
+use Rattle.fluent_syntax_grammar.proofs.forward.Arguments.{positional_reads_back, named_reads_back}
+use Rattle.fluent_syntax_grammar.proofs.forward.References.{MaybeArgumentsReadBack, string_literal_reads_back}
+use Rattle.fluent_syntax_grammar.proofs.forward.References.{number_literal_reads_back, variable_reference_reads_back}
+use Rattle.fluent_syntax_grammar.proofs.forward.References.{message_reference_reads_back, function_reference_reads_back}
+use Rattle.fluent_syntax_grammar.proofs.forward.References.{term_reference_reads_back}
 use Rattle.fluent_syntax_grammar.proofs.forward.References.{no_arguments_read_back, some_arguments_read_back}
-use Rattle.fluent_syntax_grammar.proofs.forward.Expressions.{ExpressionReadsBack, inline_is_read_back}
-use Rattle.fluent_syntax_grammar.proofs.forward.Expressions.{placeable_is_read_back}
+use Rattle.fluent_syntax_grammar.proofs.forward.Expressions.{ExpressionReadsBack, inline_expression_reads_back}
+use Rattle.fluent_syntax_grammar.proofs.forward.Expressions.{inline_placeable_reads_back}
 use Rattle.fluent_syntax_grammar.proofs.forward.Expressions.{placeable_reads_back, double_reads_back}
-use Rattle.fluent_syntax_grammar.proofs.forward.Selects.{VariantsReadBack, select_is_read_back, variants_end_reads_back}
-use Rattle.fluent_syntax_grammar.proofs.forward.Selects.{variant_reads_back}
-use Rattle.fluent_syntax_grammar.proofs.forward.Selects.{default_reads_back, key_obeys'}
+use Rattle.fluent_syntax_grammar.proofs.forward.Selects.{VariantsReadBack, select_reads_back, variants_end_reads_back}
+use Rattle.fluent_syntax_grammar.proofs.forward.Selects.{variant_reads_back, default_reads_back, key_obeys'}
 use Rattle.fluent_syntax_grammar.proofs.forward.OneLine.{ElementReadsBack, ElementsReadBack}
 use Rattle.fluent_syntax_grammar.proofs.forward.OneLinePatterns.{one_line_reads_back}
 use Rattle.fluent_syntax_grammar.proofs.forward.Patterns.{multiline_reads_back}
@@ -71,7 +68,7 @@ module _ (edition : Edition) (t : List ℕ) where
         back =
             λ i tail l. placeable_reads_back edition t level (inline (string_literal v)) (32 ∷ [])
             (32 ∷ []) tail i refl refl
-            (inline_is_read_back edition t level (string_literal v) refl h) l;
+            (inline_expression_reads_back edition t level (string_literal v) refl h) l;
       }
 
   number_element : (level : ℕ) (v : Text) → InlineReadsBack edition t level (number_literal v) →
@@ -81,7 +78,7 @@ module _ (edition : Edition) (t : List ℕ) where
         back =
             λ i tail l. placeable_reads_back edition t level (inline (number_literal v)) (32 ∷ [])
             (32 ∷ []) tail i refl refl
-            (inline_is_read_back edition t level (number_literal v) refl h) l;
+            (inline_expression_reads_back edition t level (number_literal v) refl h) l;
       }
 
   function_element : (level : ℕ) (id : Text) (a : ArgumentsTree Text) →
@@ -93,7 +90,7 @@ module _ (edition : Edition) (t : List ℕ) where
             λ i tail l. placeable_reads_back edition t level (inline (function_reference id a)) (32 ∷ [])
             (32 ∷ []) tail i
             refl
-            refl (inline_is_read_back edition t level (function_reference id a) refl h) l;
+            refl (inline_expression_reads_back edition t level (function_reference id a) refl h) l;
       }
 
   message_element : (level : ℕ) (id : Text) (a : Option Text) →
@@ -104,7 +101,7 @@ module _ (edition : Edition) (t : List ℕ) where
         back =
             λ i tail l. placeable_reads_back edition t level (inline (message_reference id a)) (32 ∷ [])
             (32 ∷ []) tail i refl
-            refl (inline_is_read_back edition t level (message_reference id a) refl h) l;
+            refl (inline_expression_reads_back edition t level (message_reference id a) refl h) l;
       }
 
   term_element : (level : ℕ) (id : Text) (a : Option Text) (c : MaybeArguments Text) →
@@ -116,7 +113,7 @@ module _ (edition : Edition) (t : List ℕ) where
             λ i tail l. placeable_reads_back edition t level (inline (term_reference id a c)) (32 ∷ [])
             (32 ∷ []) tail i refl
             refl
-            (inline_is_read_back edition t level (term_reference id a c) e h) l;
+            (inline_expression_reads_back edition t level (term_reference id a c) e h) l;
       }
 
   variable_element : (level : ℕ) (id : Text) → InlineReadsBack edition t level (variable_reference id) →
@@ -127,7 +124,7 @@ module _ (edition : Edition) (t : List ℕ) where
             λ i tail l. placeable_reads_back edition t level (inline (variable_reference id)) (32 ∷ [])
             (32 ∷ []) tail i refl
             refl
-            (inline_is_read_back edition t level (variable_reference id) refl h) l;
+            (inline_expression_reads_back edition t level (variable_reference id) refl h) l;
       }
 
   -- what an expression is asked
@@ -169,12 +166,12 @@ module _ (edition : Edition) (t : List ℕ) where
         expression_obeys (canonical_rules edition) e ≡ true →
         ExpressionReadsBack edition t level e
     expression_reads_back level (inline e) h =
-        inline_is_read_back edition t level e
+        inline_expression_reads_back edition t level e
         (not_true (is_term_attribute e)
         (left_true (not (is_term_attribute e)) true (left_true (not (is_term_attribute e) && true) _ h)))
         (inline_reads_back level e (right_true (not (is_term_attribute e) && true) _ h))
     expression_reads_back level (select e vs) h =
-        select_is_read_back edition t level e vs (select_simple e vs h)
+        select_reads_back edition t level e vs (select_simple e vs h)
         (inline_reads_back level e (left_true (inline_obeys (canonical_rules edition) e) _
         (select_parts edition e vs h)))
         (one_reads_back (level + 1) vs (select_one e vs h)
@@ -182,19 +179,19 @@ module _ (edition : Edition) (t : List ℕ) where
 
     inline_reads_back : (level : ℕ) (e : InlineTree Text) → inline_obeys (canonical_rules edition) e ≡ true →
         InlineReadsBack edition t level e
-    inline_reads_back level (string_literal v) h = string_is_read_back edition t level v h
-    inline_reads_back level (number_literal v) h = number_is_read_back edition t level v h
+    inline_reads_back level (string_literal v) h = string_literal_reads_back edition t level v h
+    inline_reads_back level (number_literal v) h = number_literal_reads_back edition t level v h
     inline_reads_back level (function_reference id (arguments ps ns)) h =
-        function_is_read_back edition t level id ps ns h
+        function_reference_reads_back edition t level id ps ns h
         (list_reads_back level (arguments ps ns) (right_true (list_all is_callee_byte id) _
         (right_true (is_name id) _ h)))
-    inline_reads_back level (message_reference id a) h = message_is_read_back edition t level id a h
+    inline_reads_back level (message_reference id a) h = message_reference_reads_back edition t level id a h
     inline_reads_back level (term_reference id a c) h =
-        term_is_read_back edition t level id a c h
+        term_reference_reads_back edition t level id a c h
         (maybe_reads_back level c (right_true (option_obeys is_name a) _ (right_true (is_name id) _ h)))
-    inline_reads_back level (variable_reference id) h = variable_is_read_back edition t level id h
+    inline_reads_back level (variable_reference id) h = variable_reference_reads_back edition t level id h
     inline_reads_back level (inline_placeable e) h =
-        placeable_is_read_back edition t level e h (expression_reads_back level e h)
+        inline_placeable_reads_back edition t level e h (expression_reads_back level e h)
 
     maybe_reads_back : (level : ℕ) (a : MaybeArguments Text) →
         optional_arguments_obey (canonical_rules edition) a ≡ true →
@@ -294,33 +291,33 @@ module _ (edition : Edition) (t : List ℕ) where
         ElementReadsBack edition t level e
     element_reads_back (select e vs) h level =
         select_element level e vs
-        (select_is_read_back edition t level e vs (select_simple e vs h)
+        (select_reads_back edition t level e vs (select_simple e vs h)
         (inline_reads_back level e (left_true (inline_obeys (canonical_rules edition) e) _
         (select_parts edition e vs h)))
         (one_reads_back (level + 1) vs (select_one e vs h)
         (right_true (inline_obeys (canonical_rules edition) e) _ (select_parts edition e vs h))))
     element_reads_back (inline (string_literal v)) h level =
-        string_element level v (string_is_read_back edition t level v (inline_part edition (string_literal v) h))
+        string_element level v (string_literal_reads_back edition t level v (inline_part edition (string_literal v) h))
     element_reads_back (inline (number_literal v)) h level =
-        number_element level v (number_is_read_back edition t level v (inline_part edition (number_literal v) h))
+        number_element level v (number_literal_reads_back edition t level v (inline_part edition (number_literal v) h))
     element_reads_back (inline (function_reference id (arguments ps ns))) h level =
         function_element level id (arguments ps ns)
-        (function_is_read_back edition t level id ps ns
+        (function_reference_reads_back edition t level id ps ns
         (inline_part edition (function_reference id (arguments ps ns)) h)
         (list_reads_back level (arguments ps ns)
         (right_true (list_all is_callee_byte id)
         _ (right_true (is_name id) _ (inline_part edition (function_reference id (arguments ps ns)) h)))))
     element_reads_back (inline (message_reference id a)) h level =
         message_element level id a
-        (message_is_read_back edition t level id a (inline_part edition (message_reference id a) h))
+        (message_reference_reads_back edition t level id a (inline_part edition (message_reference id a) h))
     element_reads_back (inline (term_reference id a c)) h level =
         term_element level id a c (no_attribute (term_reference id a c) h)
-        (term_is_read_back edition t level id a c (inline_part edition (term_reference id a c) h)
+        (term_reference_reads_back edition t level id a c (inline_part edition (term_reference id a c) h)
         (maybe_reads_back level c
         (right_true (option_obeys is_name a)
         _ (right_true (is_name id) _ (inline_part edition (term_reference id a c) h)))))
     element_reads_back (inline (variable_reference id)) h level =
-        variable_element level id (variable_is_read_back edition t level id
+        variable_element level id (variable_reference_reads_back edition t level id
         (inline_part edition (variable_reference id) h))
     element_reads_back (inline (inline_placeable e)) h level =
         double_element level e (expression_reads_back level e (inline_part edition (inline_placeable e) h))

@@ -1,6 +1,5 @@
 -- Names, numbers and strings, read forwards.
-use Rattle.std.proofs.Common.{◌≡◌, ℕ, List, [], ◌∷◌, ◌++◌, true, false, refl, sym, ◌∙◌, ap, append_assoc, inl}
-use Rattle.std.proofs.Common.{inr}
+use Rattle.std.proofs.Common.{◌≡◌, ℕ, List, [], ◌∷◌, ◌++◌, true, false, refl, sym, ◌∙◌, ap, append_assoc, inl, inr}
 use Rattle.std.specs.Prelude.{◌==◌, ◌&&◌}
 use Rattle.std.specs.List.{list_all}
 use Rattle.fluent_syntax_tree.specs.Spans.{bytes_at}
@@ -10,12 +9,11 @@ use Rattle.fluent_syntax_grammar.specs.Construct.{Construct, ◌>>=◌, yields, 
 use Rattle.fluent_syntax_grammar.specs.Tokens.{optional, digits, identifier, number}
 use Rattle.fluent_syntax_grammar.specs.Spellings.{is_name, is_digits, is_number_rest, is_unsigned, is_number}
 use Rattle.fluent_syntax_grammar.proofs.Facts.{left_true, right_true, equal}
-use Rattle.fluent_syntax_grammar.proofs.Tests.{both, or_cases, differ, letter_name}
+use Rattle.fluent_syntax_grammar.proofs.Tests.{both_true, or_cases, differ, letter_name}
 use Rattle.fluent_syntax_grammar.proofs.SuffixAt.{SuffixAt, suffix_as, first, suffix_past, suffix_has, suffix_byte_run}
 use Rattle.fluent_syntax_grammar.proofs.forward.Reading.{Reads, Passes, reads_bind, passes_nothing, passes_then}
-use Rattle.fluent_syntax_grammar.proofs.forward.Reading.{reads_here, passes_over, reads_peek, reads_look}
-use Rattle.fluent_syntax_grammar.proofs.forward.Reading.{reads_first, reads_second, reads_present, reads_absent}
-use Rattle.fluent_syntax_grammar.proofs.forward.Reading.{reads_spanned}
+use Rattle.fluent_syntax_grammar.proofs.forward.Reading.{reads_here, passes_over, reads_peek, reads_look, reads_first}
+use Rattle.fluent_syntax_grammar.proofs.forward.Reading.{reads_second, reads_present, reads_absent, reads_spanned}
 
 pub name_bytes : (bs : List ℕ) → is_name bs ≡ true → list_all is_name_byte bs ≡ true
 name_bytes [] e = refl
@@ -109,7 +107,7 @@ module _ {t : List ℕ} where
       let parts : (b ∷ r.whole) ++ (r.fraction ++ more) ≡ (b ∷ bs) ++ more =
       ap (λ v. b ∷ v) (sym (append_assoc r.whole r.fraction more) ∙ ap (λ v. v ++ more) r.joins) in
       passes_then (passes_digits (b ∷ r.whole) (r.fraction ++ more)
-      (both (left_true (is_digit b) (is_number_rest bs) e) r.digits) (fraction_begins r.fraction more r.is f)
+      (both_true (left_true (is_digit b) (is_number_rest bs) e) r.digits) (fraction_begins r.fraction more r.is f)
       (suffix_as (sym parts) l)) (λ j m. then_fraction r.fraction more r.is f g m k)
 
   -- a number, before a byte that is no digit and no point

@@ -10,12 +10,11 @@ use Rattle.fluent_syntax_grammar.specs.Tiling.{Tile, Tiling}
 use Rattle.fluent_syntax_grammar.specs.Body.{body, faults}
 use Rattle.fluent_syntax_grammar.specs.UniqueReading.{junk_slice, fault_slice}
 use Rattle.fluent_syntax_grammar.specs.Written.{Text, text_after, message_marks, term_marks, free_comment_marks}
-use Rattle.fluent_syntax_grammar.specs.Written.{hashes_of}
-use Rattle.fluent_syntax_grammar.specs.Written.{body_marks, written}
+use Rattle.fluent_syntax_grammar.specs.Written.{hashes_of, body_marks, written}
 use Rattle.fluent_syntax_grammar.specs.Joined.{joined_message, joined_term, joined_body}
 use Rattle.fluent_syntax_grammar.specs.RoundTrip.{ReadsAs, tree_of, WrittenApart, WrittenAgain}
 use Rattle.fluent_syntax_grammar.proofs.Facts.{append_nothing}
-use Rattle.fluent_syntax_grammar.proofs.OneTiling.{one_tiling}
+use Rattle.fluent_syntax_grammar.proofs.OneTiling.{same_tilings}
 use Rattle.fluent_syntax_grammar.proofs.JunkAndSpans.{junk_of_errors}
 use Rattle.fluent_syntax_grammar.proofs.marks.Entries.{written_back}
 use Rattle.fluent_syntax_grammar.proofs.marks.JoinedTrees.{SameText, same, same_append, message_text, term_text}
@@ -25,7 +24,7 @@ use Rattle.fluent_syntax_grammar.proofs.marks.JoinedTrees.{joined_back}
 reads_one : (edition : Edition) (t : Text) (r other : BodyTree Text) → ReadsAs edition t r →
     ReadsAs edition t other → r ≡ other
 reads_one edition t r other a b =
-    sym a.same ∙ (ap (tree_of t) (one_tiling edition t a.tiles b.tiles a.tiling b.tiling) ∙ b.same)
+    sym a.same ∙ (ap (tree_of t) (same_tilings edition t a.tiles b.tiles a.tiling b.tiling) ∙ b.same)
 
 -- Two canonical trees that are written as one text are equal.
 pub serialize_is_injective : (edition : Edition) (r other : BodyTree Text) → WrittenApart edition r other

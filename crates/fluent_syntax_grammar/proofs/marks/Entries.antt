@@ -10,11 +10,10 @@ use Rattle.fluent_syntax_tree.specs.declared.edition.Edition.{Edition}
 use Rattle.fluent_syntax_grammar.specs.Bytes.{lf, cr}
 use Rattle.fluent_syntax_grammar.specs.Spellings.{is_name}
 use Rattle.fluent_syntax_grammar.specs.Written.{Text, Mark, literal, line_end, last_of, is_last, text_after}
-use Rattle.fluent_syntax_grammar.specs.Written.{is_nonblank_line}
-use Rattle.fluent_syntax_grammar.specs.Written.{comment_line_marks, comment_marks, hashes_of, own_comment_marks}
-use Rattle.fluent_syntax_grammar.specs.Written.{attribute_line_marks, attributes_marks, value_marks, pattern_marks}
-use Rattle.fluent_syntax_grammar.specs.Written.{message_marks, term_marks, gap_marks, free_comment_marks, body_marks}
-use Rattle.fluent_syntax_grammar.specs.Written.{written}
+use Rattle.fluent_syntax_grammar.specs.Written.{is_nonblank_line, comment_line_marks, comment_marks, hashes_of}
+use Rattle.fluent_syntax_grammar.specs.Written.{own_comment_marks, attribute_line_marks, attributes_marks, value_marks}
+use Rattle.fluent_syntax_grammar.specs.Written.{pattern_marks, message_marks, term_marks, gap_marks, free_comment_marks}
+use Rattle.fluent_syntax_grammar.specs.Written.{body_marks, written}
 use Rattle.fluent_syntax_grammar.specs.Rules.{option_obeys, pattern_obeys, attribute_obeys, message_obeys, term_obeys}
 use Rattle.fluent_syntax_grammar.specs.Rules.{entry_obeys, body_obeys}
 use Rattle.fluent_syntax_grammar.specs.Readable.{has_field}
@@ -24,70 +23,73 @@ use Rattle.fluent_syntax_grammar.proofs.Facts.{left_true, right_true}
 use Rattle.fluent_syntax_grammar.proofs.marks.WrittenBytes.{pattern_bytes}
 use Rattle.fluent_syntax_grammar.proofs.marks.WrittenEntries.{doubled, after_hashes, comment_bytes, own_comment_bytes}
 use Rattle.fluent_syntax_grammar.proofs.marks.WrittenEntries.{more_attributes, value_bytes, message_bytes, term_bytes}
-use Rattle.fluent_syntax_grammar.proofs.marks.LastBytes.{literal_then}
+use Rattle.fluent_syntax_grammar.proofs.marks.LastBytes.{literal_is_written}
 use Rattle.fluent_syntax_grammar.proofs.marks.Words.{id_plain}
-use Rattle.fluent_syntax_grammar.proofs.marks.Trees.{after_byte, pattern_marks_then}
+use Rattle.fluent_syntax_grammar.proofs.marks.Trees.{after_byte, whole_pattern_is_written}
 use Rattle.fluent_syntax_grammar.proofs.forward.Bodies.{IsWritten, nothing, a_message, a_term, a_comment, gap_bytes}
 use Rattle.fluent_syntax_grammar.proofs.forward.Bodies.{reads_back}
 
 -- ---- comments
 
 -- a line end after a byte
-end_then : (last : Option ℕ) (after_cr : Bool) (ms : List Mark) → is_last cr last ≡ after_cr →
+line_end_mark_is_written : (last : Option ℕ) (after_cr : Bool) (ms : List Mark) → is_last cr last ≡ after_cr →
     text_after last (line_end ∷ ms) ≡ doubled after_cr (text_after (Some lf) ms)
-end_then last true ms e = rw e refl
-end_then last false ms e = rw e refl
+line_end_mark_is_written last true ms e = rw e refl
+line_end_mark_is_written last false ms e = rw e refl
 
 same_last : (line : Text) → is_last cr (last_of (Some 32) line) ≡ is_last cr (last_of None line)
 same_last [] = refl
 same_last (b ∷ bs) = refl
 
-shown_then : (line : Text) (shown : Bool) (b : ℕ) (ms : List Mark) → (b == lf) ≡ false → (b == cr) ≡ false →
+comment_text_is_written : (line : Text) (shown : Bool) (b : ℕ) (ms : List Mark) → (b == lf) ≡ false → (b == cr) ≡ false
+    →
     text_after (Some b) (((if shown then literal 0 (codes " ") ∷ literal 0 line ∷ [] else []) ++ (line_end ∷ [])) ++ ms)
     ≡ after_hashes shown line (text_after (Some lf) ms)
-shown_then line true b ms e f =
+comment_text_is_written line true b ms e f =
     rw e (ap (λ x. 32 ∷ (line ++ x))
-    (end_then (last_of (Some 32) line) (is_last cr (last_of None line)) ms (same_last line)))
-shown_then line false b ms e f = end_then (Some b) false ms f
+    (line_end_mark_is_written (last_of (Some 32) line) (is_last cr (last_of None line)) ms (same_last line)))
+comment_text_is_written line false b ms e f = line_end_mark_is_written (Some b) false ms f
 
-comment_line_then : (level : Level) (line : Text) (ms : List Mark) →
+comment_line_is_written : (level : Level) (line : Text) (ms : List Mark) →
     text_after (Some lf) (comment_line_marks (hashes_of level) line ++ ms)
     ≡ hashes_of level ++ after_hashes (is_nonblank_line line) line (text_after (Some lf) ms)
-comment_line_then regular line ms = ap (λ x. 35 ∷ x) (shown_then line (is_nonblank_line line) 35 ms refl refl)
-comment_line_then group line ms = ap (λ x. 35 ∷ 35 ∷ x) (shown_then line (is_nonblank_line line) 35 ms refl refl)
-comment_line_then resource line ms =
-    ap (λ x. 35 ∷ 35 ∷ 35 ∷ x) (shown_then line (is_nonblank_line line) 35 ms refl refl)
+comment_line_is_written regular line ms = ap (λ x. 35 ∷ x) (comment_text_is_written line (is_nonblank_line line) 35 ms
+    refl refl)
+comment_line_is_written group line ms = ap (λ x. 35 ∷ 35 ∷ x) (comment_text_is_written line (is_nonblank_line line) 35
+    ms refl refl)
+comment_line_is_written resource line ms =
+    ap (λ x. 35 ∷ 35 ∷ 35 ∷ x) (comment_text_is_written line (is_nonblank_line line) 35 ms refl refl)
 
-comment_then : (level : Level) (content : List Text) (ms : List Mark) →
+comment_is_written : (level : Level) (content : List Text) (ms : List Mark) →
     text_after (Some lf) (comment_marks (hashes_of level) content ++ ms)
     ≡ comment_bytes (hashes_of level) content (text_after (Some lf) ms)
-comment_then level [] ms = refl
-comment_then level (line ∷ lines) ms =
+comment_is_written level [] ms = refl
+comment_is_written level (line ∷ lines) ms =
     ap (text_after (Some lf))
     (append_assoc (comment_line_marks (hashes_of level) line) (comment_marks (hashes_of level) lines) ms)
-    ∙ comment_line_then level line (comment_marks (hashes_of level) lines ++ ms)
-    ∙ ap (λ x. hashes_of level ++ after_hashes (is_nonblank_line line) line x) (comment_then level lines ms)
+    ∙ comment_line_is_written level line (comment_marks (hashes_of level) lines ++ ms)
+    ∙ ap (λ x. hashes_of level ++ after_hashes (is_nonblank_line line) line x) (comment_is_written level lines ms)
 
-own_then : (content : Option (List Text)) (ms : List Mark) →
+own_comment_is_written : (content : Option (List Text)) (ms : List Mark) →
     text_after (Some lf) (own_comment_marks content ++ ms) ≡ own_comment_bytes content (text_after (Some lf) ms)
-own_then None ms = refl
-own_then (Some content) ms = comment_then regular content ms
+own_comment_is_written None ms = refl
+own_comment_is_written (Some content) ms = comment_is_written regular content ms
 
 -- ---- messages and terms
 
 module _ (edition : Edition) where
-  value_then : (value : Option (PatternTree Text)) (ms : List Mark) →
+  value_is_written : (value : Option (PatternTree Text)) (ms : List Mark) →
       option_obeys (pattern_obeys (canonical_rules edition)) value ≡ true →
       text_after None (value_marks value ++ ms) ≡ value_bytes value (text_after None ms)
-  value_then None ms h = refl
-  value_then (Some p) ms h = pattern_marks_then edition 0 p h ms
+  value_is_written None ms h = refl
+  value_is_written (Some p) ms h = whole_pattern_is_written edition 0 p h ms
 
-  attributes_then : (more : List (AttributeTree Text)) (ms : List Mark) →
+  attributes_are_written : (more : List (AttributeTree Text)) (ms : List Mark) →
       list_all (attribute_obeys (canonical_rules edition)) more ≡ true →
       text_after None ((attributes_marks more ++ (line_end ∷ [])) ++ ms)
       ≡ lf ∷ more_attributes more (text_after (Some lf) ms)
-  attributes_then [] ms h = refl
-  attributes_then (a ∷ more) ms h =
+  attributes_are_written [] ms h = refl
+  attributes_are_written (a ∷ more) ms h =
       let this = left_true (attribute_obeys (canonical_rules edition) a) _ h in
       let others = right_true (attribute_obeys (canonical_rules edition) a) _ h in
       let end = line_end ∷ [] in
@@ -100,105 +102,106 @@ module _ (edition : Edition) where
       ap (text_after None) parts
       ∙ ap (λ x. lf ∷ 32 ∷ 32 ∷ 32 ∷ 32 ∷ 46 ∷ x)
       (after_byte 46 (literal 1 a.id ∷ literal 1 (codes " =") ∷ (p ++ rest)) refl refl
-      ∙ literal_then 1 a.id (literal 1 (codes " =") ∷ (p ++ rest))
+      ∙ literal_is_written 1 a.id (literal 1 (codes " =") ∷ (p ++ rest))
       (id_plain a.id (left_true (is_name a.id) _ this))
       ∙ ap (λ x. a.id ++ (32 ∷ 61 ∷ x))
       (after_byte 61 (p ++ rest) refl refl
-      ∙ pattern_marks_then edition 1 a.value (right_true (is_name a.id) _ this) rest
-      ∙ ap (pattern_bytes 1 a.value) (attributes_then more ms others)))
+      ∙ whole_pattern_is_written edition 1 a.value (right_true (is_name a.id) _ this) rest
+      ∙ ap (pattern_bytes 1 a.value) (attributes_are_written more ms others)))
 
   -- from ` =` on
-  fields_then : (value : List Mark) (bytes : Text → Text) (more : List (AttributeTree Text)) (ms : List Mark) →
+  fields_are_written : (value : List Mark) (bytes : Text → Text) (more : List (AttributeTree Text)) (ms : List Mark) →
       ((ms : List Mark) → text_after None (value ++ ms) ≡ bytes (text_after None ms)) →
       list_all (attribute_obeys (canonical_rules edition)) more ≡ true →
       text_after None ((literal 0 (codes " =") ∷ (value ++ (attributes_marks more ++ (line_end ∷ [])))) ++ ms)
       ≡ 32 ∷ 61 ∷ bytes (lf ∷ more_attributes more (text_after (Some lf) ms))
-  fields_then value bytes more ms k h =
+  fields_are_written value bytes more ms k h =
       let rest = attributes_marks more ++ (line_end ∷ []) in
       ap (λ x. 32 ∷ 61 ∷ x)
       (after_byte 61 ((value ++ rest) ++ ms) refl refl ∙ ap (text_after None) (append_assoc value rest ms)
-      ∙ k (rest ++ ms) ∙ ap bytes (attributes_then more ms h))
+      ∙ k (rest ++ ms) ∙ ap bytes (attributes_are_written more ms h))
 
-  id_then : (id : Text) (ms : List Mark) → is_name id ≡ true →
+  identifier_is_written : (id : Text) (ms : List Mark) → is_name id ≡ true →
       text_after (Some lf) (literal 0 id ∷ ms) ≡ id ++ text_after None ms
-  id_then [] ms h = absurd cc
-  id_then (b ∷ bs) ms h = literal_then 0 (b ∷ bs) ms (id_plain (b ∷ bs) h)
+  identifier_is_written [] ms h = absurd cc
+  identifier_is_written (b ∷ bs) ms h = literal_is_written 0 (b ∷ bs) ms (id_plain (b ∷ bs) h)
 
-  pub message_then : (m : MessageTree Text) (ms : List Mark) → message_obeys (canonical_rules edition) m ≡ true →
+  pub message_is_written : (m : MessageTree Text) (ms : List Mark) → message_obeys (canonical_rules edition) m ≡ true →
       text_after (Some lf) (message_marks m ++ ms)
       ≡ own_comment_bytes m.comment (message_bytes m.id m.value m.attributes (text_after (Some lf) ms))
-  message_then m ms h =
+  message_is_written m ms h =
       let y = right_true (has_field m.value m.attributes) _ h in
       let z = right_true (option_obeys (canonical_rules edition).comment m.comment) _ y in
       let q = right_true (is_name m.id) _ z in
       let fields =
       literal 0 (codes " =") ∷ (value_marks m.value ++ (attributes_marks m.attributes ++ (line_end ∷ []))) in
       ap (text_after (Some lf)) (append_assoc (own_comment_marks m.comment) (literal 0 m.id ∷ fields) ms)
-      ∙ own_then m.comment (literal 0 m.id ∷ (fields ++ ms))
-      ∙ ap (own_comment_bytes m.comment) (id_then m.id (fields ++ ms) (left_true (is_name m.id) _ z)
+      ∙ own_comment_is_written m.comment (literal 0 m.id ∷ (fields ++ ms))
+      ∙ ap (own_comment_bytes m.comment) (identifier_is_written m.id (fields ++ ms) (left_true (is_name m.id) _ z)
       ∙ ap (λ x. m.id ++ x)
-      (fields_then (value_marks m.value) (value_bytes m.value) m.attributes ms
-      (λ ms. value_then m.value ms
+      (fields_are_written (value_marks m.value) (value_bytes m.value) m.attributes ms
+      (λ ms. value_is_written m.value ms
       (left_true (option_obeys (pattern_obeys (canonical_rules edition)) m.value) _ q))
       (right_true (option_obeys (pattern_obeys (canonical_rules edition)) m.value) _ q)))
 
-  pub term_then : (m : TermTree Text) (ms : List Mark) → term_obeys (canonical_rules edition) m ≡ true →
+  pub term_is_written : (m : TermTree Text) (ms : List Mark) → term_obeys (canonical_rules edition) m ≡ true →
       text_after (Some lf) (term_marks m ++ ms)
       ≡ own_comment_bytes m.comment (term_bytes m.id m.value m.attributes (text_after (Some lf) ms))
-  term_then m ms h =
+  term_is_written m ms h =
       let z = right_true (option_obeys (canonical_rules edition).comment m.comment) _ h in
       let q = right_true (is_name m.id) _ z in
       let fields =
       literal 0 (codes " =") ∷ (pattern_marks 0 m.value ++ (attributes_marks m.attributes ++ (line_end ∷ []))) in
       ap (text_after (Some lf))
       (append_assoc (own_comment_marks m.comment) (literal 0 (codes "-") ∷ literal 0 m.id ∷ fields) ms)
-      ∙ own_then m.comment (literal 0 (codes "-") ∷ literal 0 m.id ∷ (fields ++ ms))
+      ∙ own_comment_is_written m.comment (literal 0 (codes "-") ∷ literal 0 m.id ∷ (fields ++ ms))
       ∙ ap (λ x. own_comment_bytes m.comment (45 ∷ x))
       (after_byte 45 (literal 0 m.id ∷ (fields ++ ms)) refl refl
-      ∙ literal_then 0 m.id (fields ++ ms) (id_plain m.id (left_true (is_name m.id) _ z))
+      ∙ literal_is_written 0 m.id (fields ++ ms) (id_plain m.id (left_true (is_name m.id) _ z))
       ∙ ap (λ x. m.id ++ x)
-      (fields_then (pattern_marks 0 m.value) (pattern_bytes 0 m.value) m.attributes ms
-      (λ ms. pattern_marks_then edition 0 m.value
+      (fields_are_written (pattern_marks 0 m.value) (pattern_bytes 0 m.value) m.attributes ms
+      (λ ms. whole_pattern_is_written edition 0 m.value
       (left_true (pattern_obeys (canonical_rules edition) m.value) _ q) ms)
       (right_true (pattern_obeys (canonical_rules edition) m.value) _ q)))
 
   -- ---- bodies
 
-  gap_then : (follows : Bool) (ms : List Mark) →
+  gap_is_written : (follows : Bool) (ms : List Mark) →
       text_after (Some lf) (gap_marks follows ++ ms) ≡ gap_bytes follows (text_after (Some lf) ms)
-  gap_then true ms = refl
-  gap_then false ms = refl
+  gap_is_written true ms = refl
+  gap_is_written false ms = refl
 
-  pub free_then : (follows : Bool) (level : Level) (content : List Text) (ms : List Mark) →
+  pub free_comment_is_written : (follows : Bool) (level : Level) (content : List Text) (ms : List Mark) →
       text_after (Some lf) (free_comment_marks follows (hashes_of level) content ++ ms)
       ≡ gap_bytes follows (comment_bytes (hashes_of level) content (lf ∷ text_after (Some lf) ms))
-  free_then follows level content ms =
+  free_comment_is_written follows level content ms =
       let c = comment_marks (hashes_of level) content in
       ap (text_after (Some lf)) (append_assoc (gap_marks follows) (c ++ (line_end ∷ [])) ms)
-      ∙ gap_then follows ((c ++ (line_end ∷ [])) ++ ms)
+      ∙ gap_is_written follows ((c ++ (line_end ∷ [])) ++ ms)
       ∙ ap (gap_bytes follows)
-      (ap (text_after (Some lf)) (append_assoc c (line_end ∷ []) ms) ∙ comment_then level content (line_end ∷ ms))
+      (ap (text_after (Some lf)) (append_assoc c (line_end ∷ []) ms) ∙ comment_is_written level content (line_end ∷ ms))
 
-  body_then : (es : BodyTree Text) (follows : Bool) → body_obeys (canonical_rules edition) es ≡ true →
+  body_is_written : (es : BodyTree Text) (follows : Bool) → body_obeys (canonical_rules edition) es ≡ true →
       IsWritten es (text_after (Some lf) (body_marks false follows es))
-  body_then [] follows h = nothing
-  body_then (message m ∷ es) follows h =
+  body_is_written [] follows h = nothing
+  body_is_written (message m ∷ es) follows h =
       let rest = body_marks false true es in
       subst (IsWritten (message m ∷ es))
-      (sym (message_then m rest (left_true (message_obeys (canonical_rules edition) m) _ h)))
+      (sym (message_is_written m rest (left_true (message_obeys (canonical_rules edition) m) _ h)))
       (a_message m es (text_after (Some lf) rest)
-      (body_then es true (right_true (message_obeys (canonical_rules edition) m) _ h)))
-  body_then (term m ∷ es) follows h =
+      (body_is_written es true (right_true (message_obeys (canonical_rules edition) m) _ h)))
+  body_is_written (term m ∷ es) follows h =
       let rest = body_marks false true es in
-      subst (IsWritten (term m ∷ es)) (sym (term_then m rest (left_true (term_obeys (canonical_rules edition) m) _ h)))
+      subst (IsWritten (term m ∷ es)) (sym (term_is_written m rest (left_true (term_obeys (canonical_rules edition) m) _
+      h)))
       (a_term m es (text_after (Some lf) rest)
-      (body_then es true (right_true (term_obeys (canonical_rules edition) m) _ h)))
-  body_then (comment level content ∷ es) follows h =
+      (body_is_written es true (right_true (term_obeys (canonical_rules edition) m) _ h)))
+  body_is_written (comment level content ∷ es) follows h =
       let rest = body_marks false true es in
-      subst (IsWritten (comment level content ∷ es)) (sym (free_then follows level content rest))
+      subst (IsWritten (comment level content ∷ es)) (sym (free_comment_is_written follows level content rest))
       (a_comment follows level content es (text_after (Some lf) rest)
-      (body_then es true (right_true (entry_obeys (canonical_rules edition) (comment level content)) _ h)))
-  body_then (junk x ∷ es) follows h = absurd cc
+      (body_is_written es true (right_true (entry_obeys (canonical_rules edition) (comment level content)) _ h)))
+  body_is_written (junk x ∷ es) follows h = absurd cc
 
 -- ---- the start of the text, which is written as a line's start
 
@@ -262,7 +265,8 @@ body_starts edition (junk x ∷ es) h = absurd cc
 canonical_written : (edition : Edition) (es : BodyTree Text) → is_canonical edition es ≡ true →
     IsWritten es (written false es)
 unfolding written
-canonical_written edition es h = subst (IsWritten es) (sym (body_starts edition es h)) (body_then edition es false h)
+canonical_written edition es h = subst (IsWritten es) (sym (body_starts edition es h))
+    (body_is_written edition es false h)
 
 -- ---- with junk or without
 

@@ -16,14 +16,13 @@ use Rattle.fluent_syntax_grammar.specs.PatternTexts.{ends_in_lf, is_empty, is_lo
 use Rattle.fluent_syntax_grammar.specs.Bytes.{lf, space}
 use Rattle.fluent_syntax_grammar.specs.Spellings.{is_name}
 use Rattle.fluent_syntax_grammar.specs.Written.{Text, Mark, literal, line_end, last_of, is_last, mark_text, text_after}
-use Rattle.fluent_syntax_grammar.specs.Written.{begins_with_mark}
-use Rattle.fluent_syntax_grammar.specs.Written.{has_leading_mark, opening_mark, inner_level, attribute_marks}
-use Rattle.fluent_syntax_grammar.specs.Written.{default_marks, key_text, joined, more_joined, expression_marks}
-use Rattle.fluent_syntax_grammar.specs.Written.{variants_marks, variant_marks, inline_marks, maybe_marks}
-use Rattle.fluent_syntax_grammar.specs.Written.{arguments_marks, positional_marks, named_marks, argument_marks}
-use Rattle.fluent_syntax_grammar.specs.Written.{elements_marks, element_marks, pattern_marks, own_comment_marks}
-use Rattle.fluent_syntax_grammar.specs.Written.{attribute_line_marks, attributes_marks, value_marks, message_marks}
-use Rattle.fluent_syntax_grammar.specs.Written.{term_marks, body_marks, written}
+use Rattle.fluent_syntax_grammar.specs.Written.{begins_with_mark, has_leading_mark, opening_mark, inner_level}
+use Rattle.fluent_syntax_grammar.specs.Written.{attribute_marks, default_marks, key_text, joined, more_joined}
+use Rattle.fluent_syntax_grammar.specs.Written.{expression_marks, variants_marks, variant_marks, inline_marks}
+use Rattle.fluent_syntax_grammar.specs.Written.{maybe_marks, arguments_marks, positional_marks, named_marks}
+use Rattle.fluent_syntax_grammar.specs.Written.{argument_marks, elements_marks, element_marks, pattern_marks}
+use Rattle.fluent_syntax_grammar.specs.Written.{own_comment_marks, attribute_line_marks, attributes_marks, value_marks}
+use Rattle.fluent_syntax_grammar.specs.Written.{message_marks, term_marks, body_marks, written}
 use Rattle.fluent_syntax_grammar.specs.Readable.{has_field}
 use Rattle.fluent_syntax_grammar.specs.Rules.{option_obeys, message_obeys, term_obeys, entry_obeys, body_obeys}
 use Rattle.fluent_syntax_grammar.specs.Canonical.{canonical_rules, is_canonical}
@@ -38,8 +37,8 @@ use Rattle.fluent_syntax_grammar.proofs.marks.WrittenBytes.{line_indent}
 use Rattle.fluent_syntax_grammar.proofs.JoinedLines.{multiline_same}
 use Rattle.fluent_syntax_grammar.proofs.marks.LastBytes.{last_append}
 use Rattle.fluent_syntax_grammar.proofs.marks.Words.{literal_after, literal_at}
-use Rattle.fluent_syntax_grammar.proofs.marks.Entries.{message_then, term_then, free_then, Starting, message_starts}
-use Rattle.fluent_syntax_grammar.proofs.marks.Entries.{term_starts, free_starts}
+use Rattle.fluent_syntax_grammar.proofs.marks.Entries.{message_is_written, term_is_written, free_comment_is_written}
+use Rattle.fluent_syntax_grammar.proofs.marks.Entries.{Starting, message_starts, term_starts, free_starts}
 use Rattle.fluent_syntax_grammar.proofs.Tests.{not_true}
 
 -- ---- marks that give the same text, whatever comes before and after them
@@ -106,7 +105,7 @@ spaces_end zero = refl
 spaces_end (suc n) = spaces_end n
 
 -- after nothing
-nothing_then : (at_line : Bool) (n : ℕ) (last : Option ℕ) (ms : List Mark) → is_last lf last ≡ at_line →
+empty_literal_is_written : (at_line : Bool) (n : ℕ) (last : Option ℕ) (ms : List Mark) → is_last lf last ≡ at_line →
     ((if at_line then replicate n space else []) ++ []) ++
     (((if is_last lf (last_of last ((if at_line then replicate n space else []) ++ [])) then replicate n space else
     []) ++ (lf ∷ [])) ++
@@ -115,16 +114,16 @@ nothing_then : (at_line : Bool) (n : ℕ) (last : Option ℕ) (ms : List Mark) �
     else []) ++ (lf ∷ []))) ms)
     ≡ ((if at_line then replicate n space else []) ++ (lf ∷ [])) ++
     text_after (last_of last ((if at_line then replicate n space else []) ++ (lf ∷ []))) ms
-nothing_then false n last ms e = rw e refl
-nothing_then true zero last ms e = rw e refl
-nothing_then true (suc n) last ms e =
+empty_literal_is_written false n last ms e = rw e refl
+empty_literal_is_written true zero last ms e = rw e refl
+empty_literal_is_written true (suc n) last ms e =
     rw (append_nothing (replicate n space), spaces_end n, last_append (replicate n space) (Some space) lf [])
     (ap (λ t. space ∷ t) (sym (append_assoc (replicate n space) (lf ∷ []) (text_after (Some lf) ms))))
 
 two_as_one : (level : ℕ) (v : Text) (ms : List Mark) (last : Option ℕ) → ends_in_lf v ≡ false →
     text_after last (literal level v ∷ literal level (lf ∷ []) ∷ ms)
     ≡ text_after last (literal level (v ++ (lf ∷ [])) ∷ ms)
-two_as_one level [] ms last e = nothing_then (is_last lf last) (4 * level) last ms refl
+two_as_one level [] ms last e = empty_literal_is_written (is_last lf last) (4 * level) last ms refl
 two_as_one level (c ∷ v) ms last e =
     let at_line = is_last lf last in
     literal_at last at_line level c v (literal level (lf ∷ []) ∷ ms) refl
@@ -429,29 +428,31 @@ term_text m =
 -- ---- bodies, without junk
 
 module _ (edition : Edition) where
-  joined_then : (es : BodyTree Text) (follows : Bool) → body_obeys (canonical_rules edition) (joined_body es) ≡ true →
+  joined_is_written : (es : BodyTree Text) (follows : Bool) → body_obeys (canonical_rules edition) (joined_body es) ≡
+      true →
       IsWritten (joined_body es) (text_after (Some lf) (body_marks false follows es))
-  joined_then [] follows h = nothing
-  joined_then (message m ∷ es) follows h =
+  joined_is_written [] follows h = nothing
+  joined_is_written (message m ∷ es) follows h =
       let rest = body_marks false true es in
       let this = left_true (message_obeys (canonical_rules edition) (joined_message m)) _ h in
       subst (IsWritten (joined_body (message m ∷ es)))
-      (sym (message_text m (Some lf) rest ∙ message_then edition (joined_message m) rest this))
+      (sym (message_text m (Some lf) rest ∙ message_is_written edition (joined_message m) rest this))
       (a_message (joined_message m) (joined_body es) (text_after (Some lf) rest)
-      (joined_then es true (right_true (message_obeys (canonical_rules edition) (joined_message m)) _ h)))
-  joined_then (term m ∷ es) follows h =
+      (joined_is_written es true (right_true (message_obeys (canonical_rules edition) (joined_message m)) _ h)))
+  joined_is_written (term m ∷ es) follows h =
       let rest = body_marks false true es in
       let this = left_true (term_obeys (canonical_rules edition) (joined_term m)) _ h in
       subst (IsWritten (joined_body (term m ∷ es)))
-      (sym (term_text m (Some lf) rest ∙ term_then edition (joined_term m) rest this))
+      (sym (term_text m (Some lf) rest ∙ term_is_written edition (joined_term m) rest this))
       (a_term (joined_term m) (joined_body es) (text_after (Some lf) rest)
-      (joined_then es true (right_true (term_obeys (canonical_rules edition) (joined_term m)) _ h)))
-  joined_then (comment level content ∷ es) follows h =
+      (joined_is_written es true (right_true (term_obeys (canonical_rules edition) (joined_term m)) _ h)))
+  joined_is_written (comment level content ∷ es) follows h =
       let rest = body_marks false true es in
-      subst (IsWritten (joined_body (comment level content ∷ es))) (sym (free_then edition follows level content rest))
+      subst (IsWritten (joined_body (comment level content ∷ es))) (sym
+      (free_comment_is_written edition follows level content rest))
       (a_comment follows level content (joined_body es) (text_after (Some lf) rest)
-      (joined_then es true (right_true (entry_obeys (canonical_rules edition) (comment level content)) _ h)))
-  joined_then (junk x ∷ es) follows h = joined_then es false h
+      (joined_is_written es true (right_true (entry_obeys (canonical_rules edition) (comment level content)) _ h)))
+  joined_is_written (junk x ∷ es) follows h = joined_is_written es false h
 
   joined_starts : (es : BodyTree Text) → body_obeys (canonical_rules edition) (joined_body es) ≡ true →
       Starting (body_marks false false es)
@@ -470,7 +471,8 @@ module _ (edition : Edition) where
 joined_written : (es : BodyTree Text) → is_canonical One (joined_body es) ≡ true →
     IsWritten (joined_body es) (written false es)
 unfolding written
-joined_written es h = subst (IsWritten (joined_body es)) (sym (joined_starts One es h)) (joined_then One es false h)
+joined_written es h = subst (IsWritten (joined_body es)) (sym (joined_starts One es h))
+    (joined_is_written One es false h)
 
 pub joined_back : (es : BodyTree Text) → ReadsBackJoined es
 joined_back es h = reads_back One (joined_body es) (written false es) h (joined_written es h)

@@ -22,12 +22,10 @@ use Rattle.fluent_syntax_grammar.specs.Written.{variant_marks, inline_marks, may
 use Rattle.fluent_syntax_grammar.specs.Written.{positional_marks, named_marks, argument_marks, elements_marks}
 use Rattle.fluent_syntax_grammar.specs.Written.{element_marks, pattern_marks}
 use Rattle.fluent_syntax_grammar.specs.Rules.{inline_obeys, optional_arguments_obey, arguments_obey, inlines_obey}
-use Rattle.fluent_syntax_grammar.specs.Rules.{named_arguments_obey}
-use Rattle.fluent_syntax_grammar.specs.Rules.{named_obeys, expression_obeys, variants_obey, variant_obeys, key_obeys}
-use Rattle.fluent_syntax_grammar.specs.Rules.{option_obeys, elements_obey, pattern_obeys}
+use Rattle.fluent_syntax_grammar.specs.Rules.{named_arguments_obey, named_obeys, expression_obeys, variants_obey}
+use Rattle.fluent_syntax_grammar.specs.Rules.{variant_obeys, key_obeys, option_obeys, elements_obey, pattern_obeys}
 use Rattle.fluent_syntax_grammar.specs.Readable.{ElementPosition, opening, position_after, after_placeable}
-use Rattle.fluent_syntax_grammar.specs.Readable.{are_named_well}
-use Rattle.fluent_syntax_grammar.specs.Readable.{may_precede, is_pattern, is_text, may_occur_at}
+use Rattle.fluent_syntax_grammar.specs.Readable.{are_named_well, may_precede, is_pattern, is_text, may_occur_at}
 use Rattle.fluent_syntax_grammar.specs.Readable.{are_elements}
 use Rattle.fluent_syntax_grammar.specs.Canonical.{canonical_rules, is_flush}
 use Rattle.fluent_syntax_grammar.proofs.Obeys.{inline_part, select_parts}
@@ -37,10 +35,10 @@ use Rattle.fluent_syntax_grammar.proofs.marks.WrittenBytes.{expression_bytes, va
 use Rattle.fluent_syntax_grammar.proofs.marks.WrittenBytes.{inline_bytes, maybe_bytes, arguments_bytes}
 use Rattle.fluent_syntax_grammar.proofs.marks.WrittenBytes.{positional_bytes, named_bytes, argument_bytes}
 use Rattle.fluent_syntax_grammar.proofs.marks.WrittenBytes.{elements_bytes, element_bytes, pattern_bytes}
-use Rattle.fluent_syntax_grammar.proofs.marks.LastBytes.{Plain, none_plain, plain_same, literal_then, literal_at_line}
-use Rattle.fluent_syntax_grammar.proofs.marks.LastBytes.{last_append, plain_text}
+use Rattle.fluent_syntax_grammar.proofs.marks.LastBytes.{Plain, none_plain, plain_same, literal_is_written}
+use Rattle.fluent_syntax_grammar.proofs.marks.LastBytes.{literal_at_line, last_append, plain_text}
 use Rattle.fluent_syntax_grammar.proofs.marks.Words.{id_plain, number_plain, key_plain, string_last, literal_after}
-use Rattle.fluent_syntax_grammar.proofs.marks.Words.{literal_at, ending, closing_then, plain_byte}
+use Rattle.fluent_syntax_grammar.proofs.marks.Words.{literal_at, ending, closing_is_written, plain_byte}
 use Rattle.fluent_syntax_grammar.proofs.forward.Trees.{key_is}
 
 -- a space, an LF and a CR differ from the byte that these marks end with
@@ -120,38 +118,38 @@ string_marks level v e ms =
     ∙ ap (λ x. 34 ∷ x) (after_byte 34 ms refl refl)))
 
 number_marks : (level : ℕ) (v : Text) → Plain (last_of None v) → InlineMarks level (number_literal v)
-number_marks level v p ms = literal_then level v ms p
+number_marks level v p ms = literal_is_written level v ms p
 
-attribute_then : (level : ℕ) (a : Option Text) (ms : List Mark) → option_obeys is_name a ≡ true →
+attribute_is_written : (level : ℕ) (a : Option Text) (ms : List Mark) → option_obeys is_name a ≡ true →
     text_after None (attribute_marks level a ++ ms) ≡ attribute_bytes a (text_after None ms)
-attribute_then level None ms h = refl
-attribute_then level (Some a) ms h =
-    ap (λ x. 46 ∷ x) (after_byte 46 (literal level a ∷ ms) refl refl ∙ literal_then level a ms (id_plain a h))
+attribute_is_written level None ms h = refl
+attribute_is_written level (Some a) ms h =
+    ap (λ x. 46 ∷ x) (after_byte 46 (literal level a ∷ ms) refl refl ∙ literal_is_written level a ms (id_plain a h))
 
 message_marks : (level : ℕ) (id : Text) (a : Option Text) → is_name id ≡ true → option_obeys is_name a ≡ true →
     InlineMarks level (message_reference id a)
 message_marks level id a h g ms =
-    literal_then level id (attribute_marks level a ++ ms) (id_plain id h)
-    ∙ ap (λ x. id ++ x) (attribute_then level a ms g)
+    literal_is_written level id (attribute_marks level a ++ ms) (id_plain id h)
+    ∙ ap (λ x. id ++ x) (attribute_is_written level a ms g)
 
 function_marks : (level : ℕ) (id : Text) (a : ArgumentsTree Text) → is_name id ≡ true → ArgumentsMarks level a →
     InlineMarks level (function_reference id a)
 function_marks level id a h k ms =
-    literal_then level id (arguments_marks level a ++ ms) (id_plain id h) ∙ ap (λ x. id ++ x) (k ms)
+    literal_is_written level id (arguments_marks level a ++ ms) (id_plain id h) ∙ ap (λ x. id ++ x) (k ms)
 
 term_marks : (level : ℕ) (id : Text) (a : Option Text) (c : MaybeArguments Text) → is_name id ≡ true →
     option_obeys is_name a ≡ true → MaybeMarks level c → InlineMarks level (term_reference id a c)
 term_marks level id a c h g k ms =
     ap (λ x. 45 ∷ x)
     (after_byte 45 (literal level id ∷ ((attribute_marks level a ++ maybe_marks level c) ++ ms)) refl refl
-    ∙ literal_then level id ((attribute_marks level a ++ maybe_marks level c) ++ ms) (id_plain id h)
+    ∙ literal_is_written level id ((attribute_marks level a ++ maybe_marks level c) ++ ms) (id_plain id h)
     ∙ ap (λ x. id ++ x)
     (ap (text_after None) (append_assoc (attribute_marks level a) (maybe_marks level c) ms)
-    ∙ attribute_then level a (maybe_marks level c ++ ms) g ∙ ap (attribute_bytes a) (k ms)))
+    ∙ attribute_is_written level a (maybe_marks level c ++ ms) g ∙ ap (attribute_bytes a) (k ms)))
 
 variable_marks : (level : ℕ) (id : Text) → is_name id ≡ true → InlineMarks level (variable_reference id)
 variable_marks level id h ms =
-    ap (λ x. 36 ∷ x) (after_byte 36 (literal level id ∷ ms) refl refl ∙ literal_then level id ms (id_plain id h))
+    ap (λ x. 36 ∷ x) (after_byte 36 (literal level id ∷ ms) refl refl ∙ literal_is_written level id ms (id_plain id h))
 
 braces_marks : (level : ℕ) (e : ExpressionTree Text) → ExpressionMarks level e → InlineMarks level (inline_placeable e)
 braces_marks level e k ms =
@@ -159,7 +157,7 @@ braces_marks level e k ms =
     ap (λ x. 123 ∷ x)
     (after_byte 123 ((expression_marks level e ++ (close ∷ [])) ++ ms) refl refl
     ∙ ap (text_after None) (append_assoc (expression_marks level e) (close ∷ []) ms) ∙ k (close ∷ ms)
-    ∙ ap (expression_bytes level e) (closing_then level e 125 [] ms (plain_byte 125 refl refl)))
+    ∙ ap (expression_bytes level e) (closing_is_written level e 125 [] ms (plain_byte 125 refl refl)))
 
 -- ---- arguments
 
@@ -185,7 +183,7 @@ named_more level n ns h k ms =
 one_marks : (level : ℕ) (name : Text) (e : InlineTree Text) → is_name name ≡ true → InlineMarks level e →
     NamedArgumentMarks level (named_argument name e)
 one_marks level name e h k ms =
-    literal_then level name (literal level (58 ∷ 32 ∷ []) ∷ (inline_marks level e ++ ms)) (id_plain name h)
+    literal_is_written level name (literal level (58 ∷ 32 ∷ []) ∷ (inline_marks level e ++ ms)) (id_plain name h)
     ∙ ap (λ x. name ++ (58 ∷ 32 ∷ x)) (after_byte 32 (inline_marks level e ++ ms) refl refl ∙ k ms)
 
 -- the list between its parentheses
@@ -242,21 +240,21 @@ bracket level key value ms p k =
     ap (λ x. 91 ∷ x)
     (after_byte 91 (literal level (key_text key) ∷ literal level (codes "]") ∷ (pattern_marks level value ++ ms))
     refl refl
-    ∙ literal_then level (key_text key) (literal level (codes "]") ∷ (pattern_marks level value ++ ms)) p
+    ∙ literal_is_written level (key_text key) (literal level (codes "]") ∷ (pattern_marks level value ++ ms)) p
     ∙ ap (λ x. key_text key ++ (93 ∷ x)) (after_byte 93 (pattern_marks level value ++ ms) refl refl ∙ k ms))
 
-variant_then : (level : ℕ) (key : KeyTree Text) (value : PatternTree Text) (default : Bool) (ms : List Mark) →
+variant_is_written : (level : ℕ) (key : KeyTree Text) (value : PatternTree Text) (default : Bool) (ms : List Mark) →
     Plain (last_of None (key_text key)) → PatternMarks level value →
     text_after (Some lf) (variant_marks level (variant key value default) ++ ms)
     ≡ variant_bytes level (variant key value default) (text_after None ms)
-variant_then level key value false ms p k =
+variant_is_written level key value false ms p k =
     let rest = literal level (key_text key) ∷ literal level (codes "]") ∷ (pattern_marks level value ++ ms) in
     literal_at_line level 91 [] rest (plain_byte 91 refl refl)
     ∙ ap (λ x. indent level ++ x) (bracket_same rest ∙ bracket level key value ms p k)
   where
     bracket_same : (rest : List Mark) → 91 ∷ text_after None rest ≡ text_after None (literal level (91 ∷ []) ∷ rest)
     bracket_same rest = ap (λ x. 91 ∷ x) (sym (after_byte 91 rest refl refl))
-variant_then level key value true ms p k =
+variant_is_written level key value true ms p k =
     let rest =
     literal level (codes "[") ∷ literal level (key_text key) ∷ literal level (codes "]") ∷
     (pattern_marks level value ++ ms) in
@@ -270,7 +268,7 @@ variants_more : (level : ℕ) (key : KeyTree Text) (value : PatternTree Text) (d
 variants_more level key value default vs p k h ms =
     let v = variant key value default in
     ap (text_after (Some lf)) (append_assoc (variant_marks level v) (line_end ∷ variants_marks level vs) ms)
-    ∙ variant_then level key value default (line_end ∷ (variants_marks level vs ++ ms)) p k
+    ∙ variant_is_written level key value default (line_end ∷ (variants_marks level vs ++ ms)) p k
     ∙ ap (λ x. variant_bytes level v (lf ∷ x)) (h ms)
 
 -- ---- elements
@@ -284,7 +282,8 @@ select_element level e vs k last at_line ms s =
     ∙ ap (λ y. line_indent level at_line ++ (123 ∷ 32 ∷ y))
     (after_byte 32 ((x ++ (close ∷ [])) ++ ms) refl refl ∙ ap (text_after None) (append_assoc x (close ∷ []) ms)
     ∙ k (close ∷ ms)
-    ∙ ap (expression_bytes level (select e vs)) (closing_then level (select e vs) 125 [] ms (plain_byte 125 refl refl)))
+    ∙ ap (expression_bytes level (select e vs)) (closing_is_written level (select e vs) 125 [] ms
+    (plain_byte 125 refl refl)))
 
 double_element : (level : ℕ) (e : ExpressionTree Text) → ExpressionMarks level e →
     PlaceableMarks level (inline (inline_placeable e))
@@ -295,7 +294,7 @@ double_element level e k last at_line ms s =
     ∙ ap (λ y. line_indent level at_line ++ (123 ∷ 123 ∷ 32 ∷ y))
     (after_byte 32 ((x ++ (close ∷ [])) ++ ms) refl refl ∙ ap (text_after None) (append_assoc x (close ∷ []) ms)
     ∙ k (close ∷ ms)
-    ∙ ap (expression_bytes level e) (closing_then level e 32 (125 ∷ 125 ∷ []) ms (plain_byte 125 refl refl)))
+    ∙ ap (expression_bytes level e) (closing_is_written level e 32 (125 ∷ 125 ∷ []) ms (plain_byte 125 refl refl)))
 
 -- any other inline expression between its braces
 spaced : (level : ℕ) (e : InlineTree Text) → InlineMarks level e → (last : Option ℕ) (at_line : Bool) (ms : List Mark) →
@@ -350,9 +349,9 @@ opened_last : (opens : Bool) → is_last lf (if opens then Some lf else None) �
 opened_last true = refl
 opened_last false = refl
 
-pattern_then : (level : ℕ) (e : ElementTree Text) (es : PatternTree Text) →
+pattern_is_written : (level : ℕ) (e : ElementTree Text) (es : PatternTree Text) →
     ((l : ℕ) → ElementsMarks l (elements e es)) → PatternMarks level (elements e es)
-pattern_then level e es k ms =
+pattern_is_written level e es k ms =
     let p = elements e es in
     opened level (opens_line p) (elements_marks (inner_level level p) p ++ ms)
     ∙ ap (λ x. opening_byte (opens_line p) ∷ x)
@@ -368,151 +367,160 @@ module _ (edition : Edition) where
       (left_true (may_precede (b ∷ bs) es) _ m, right_true (may_precede (b ∷ bs) es) _ m)
 
   mutual
-    expression_then : (level : ℕ) (e : ExpressionTree Text) → expression_obeys (canonical_rules edition) e ≡ true →
-        ExpressionMarks level e
-    expression_then level (inline e) h = inline_then level e (inline_part edition e h)
-    expression_then level (select e vs) h =
+    expression_is_written : (level : ℕ) (e : ExpressionTree Text) → expression_obeys (canonical_rules edition) e ≡ true
+        → ExpressionMarks level e
+    expression_is_written level (inline e) h = inline_is_written level e (inline_part edition e h)
+    expression_is_written level (select e vs) h =
         select_marks level e vs
-        (inline_then level e (left_true (inline_obeys (canonical_rules edition) e) _ (select_parts edition e vs h)))
-        (variants_then (level + 1) vs
+        (inline_is_written level e (left_true (inline_obeys (canonical_rules edition) e) _
+        (select_parts edition e vs h)))
+        (variants_are_written (level + 1) vs
         (right_true (inline_obeys (canonical_rules edition) e) _ (select_parts edition e vs h)))
 
-    inline_then : (level : ℕ) (e : InlineTree Text) → inline_obeys (canonical_rules edition) e ≡ true →
+    inline_is_written : (level : ℕ) (e : InlineTree Text) → inline_obeys (canonical_rules edition) e ≡ true →
         InlineMarks level e
-    inline_then level (string_literal v) h = string_marks level v (string_last v h)
-    inline_then level (number_literal v) h = number_marks level v (number_plain v h)
-    inline_then level (function_reference id a) h =
+    inline_is_written level (string_literal v) h = string_marks level v (string_last v h)
+    inline_is_written level (number_literal v) h = number_marks level v (number_plain v h)
+    inline_is_written level (function_reference id a) h =
         function_marks level id a (left_true (is_name id) _ h)
-        (arguments_then level a (right_true (list_all is_callee_byte id) _ (right_true (is_name id) _ h)))
-    inline_then level (message_reference id a) h =
+        (arguments_are_written level a (right_true (list_all is_callee_byte id) _ (right_true (is_name id) _ h)))
+    inline_is_written level (message_reference id a) h =
         message_marks level id a (left_true (is_name id) _ h) (right_true (is_name id) _ h)
-    inline_then level (term_reference id a c) h =
+    inline_is_written level (term_reference id a c) h =
         term_marks level id a c (left_true (is_name id) _ h)
         (left_true (option_obeys is_name a) _ (right_true (is_name id) _ h))
-        (maybe_then level c (right_true (option_obeys is_name a) _ (right_true (is_name id) _ h)))
-    inline_then level (variable_reference id) h = variable_marks level id h
-    inline_then level (inline_placeable e) h = braces_marks level e (expression_then level e h)
+        (optional_arguments_are_written level c (right_true (option_obeys is_name a) _ (right_true (is_name id) _ h)))
+    inline_is_written level (variable_reference id) h = variable_marks level id h
+    inline_is_written level (inline_placeable e) h = braces_marks level e (expression_is_written level e h)
 
-    maybe_then : (level : ℕ) (a : MaybeArguments Text) → optional_arguments_obey (canonical_rules edition) a ≡ true →
+    optional_arguments_are_written : (level : ℕ) (a : MaybeArguments Text) → optional_arguments_obey
+        (canonical_rules edition) a ≡ true →
         MaybeMarks level a
-    maybe_then level no_arguments h = λ ms. refl
-    maybe_then level (some_arguments a) h = arguments_then level a h
+    optional_arguments_are_written level no_arguments h = λ ms. refl
+    optional_arguments_are_written level (some_arguments a) h = arguments_are_written level a h
 
-    arguments_then : (level : ℕ) (a : ArgumentsTree Text) → arguments_obey (canonical_rules edition) a ≡ true →
+    arguments_are_written : (level : ℕ) (a : ArgumentsTree Text) → arguments_obey (canonical_rules edition) a ≡ true →
         ArgumentsMarks level a
-    arguments_then level (arguments no_inlines no_named) h = nothing_marks level
-    arguments_then level (arguments no_inlines (nameds n ns)) h =
+    arguments_are_written level (arguments no_inlines no_named) h = nothing_marks level
+    arguments_are_written level (arguments no_inlines (nameds n ns)) h =
         let rest = right_true (are_named_well [] (nameds n ns)) _ h in
-        named_first level n ns (one_then level n (left_true (named_obeys (canonical_rules edition) n) _ rest))
-        (nameds_then level ns (right_true (named_obeys (canonical_rules edition) n) _ rest))
-    arguments_then level (arguments (inlines e es) ns) h =
+        named_first level n ns (named_argument_is_written level n (left_true (named_obeys (canonical_rules edition) n) _
+        rest))
+        (named_arguments_are_written level ns (right_true (named_obeys (canonical_rules edition) n) _ rest))
+    arguments_are_written level (arguments (inlines e es) ns) h =
         let rest = right_true (are_named_well [] ns) _ h in
         let ps = left_true (inlines_obey (canonical_rules edition) (inlines e es)) _ rest in
-        positional_first level e es ns (inline_then level e (left_true (inline_obeys (canonical_rules edition) e) _ ps))
-        (inlines_then level es (right_true (inline_obeys (canonical_rules edition) e) _ ps))
-        (nameds_then level ns (right_true (inlines_obey (canonical_rules edition) (inlines e es)) _ rest))
+        positional_first level e es ns (inline_is_written level e (left_true (inline_obeys (canonical_rules edition) e)
+        _ ps))
+        (inlines_are_written level es (right_true (inline_obeys (canonical_rules edition) e) _ ps))
+        (named_arguments_are_written level ns (right_true (inlines_obey (canonical_rules edition) (inlines e es)) _
+        rest))
 
-    inlines_then : (level : ℕ) (es : InlineTrees Text) → inlines_obey (canonical_rules edition) es ≡ true →
+    inlines_are_written : (level : ℕ) (es : InlineTrees Text) → inlines_obey (canonical_rules edition) es ≡ true →
         MoreMarks level es
-    inlines_then level no_inlines h = λ rest ms. refl
-    inlines_then level (inlines e es) h =
-        more_marks level e es (inline_then level e (left_true (inline_obeys (canonical_rules edition) e) _ h))
-        (inlines_then level es (right_true (inline_obeys (canonical_rules edition) e) _ h))
+    inlines_are_written level no_inlines h = λ rest ms. refl
+    inlines_are_written level (inlines e es) h =
+        more_marks level e es (inline_is_written level e (left_true (inline_obeys (canonical_rules edition) e) _ h))
+        (inlines_are_written level es (right_true (inline_obeys (canonical_rules edition) e) _ h))
 
-    nameds_then : (level : ℕ) (ns : NamedTrees Text) → named_arguments_obey (canonical_rules edition) ns ≡ true →
+    named_arguments_are_written : (level : ℕ) (ns : NamedTrees Text) → named_arguments_obey (canonical_rules edition) ns
+        ≡ true →
         NamedMarks level ns
-    nameds_then level no_named h = λ ms. refl
-    nameds_then level (nameds n ns) h =
-        named_more level n ns (one_then level n (left_true (named_obeys (canonical_rules edition) n) _ h))
-        (nameds_then level ns (right_true (named_obeys (canonical_rules edition) n) _ h))
+    named_arguments_are_written level no_named h = λ ms. refl
+    named_arguments_are_written level (nameds n ns) h =
+        named_more level n ns (named_argument_is_written level n (left_true (named_obeys (canonical_rules edition) n) _
+        h))
+        (named_arguments_are_written level ns (right_true (named_obeys (canonical_rules edition) n) _ h))
 
-    one_then : (level : ℕ) (n : NamedTree Text) → named_obeys (canonical_rules edition) n ≡ true →
+    named_argument_is_written : (level : ℕ) (n : NamedTree Text) → named_obeys (canonical_rules edition) n ≡ true →
         NamedArgumentMarks level n
-    one_then level (named_argument name e) h =
-        one_marks level name e (left_true (is_name name) _ h) (inline_then level e (right_true (is_name name) _ h))
+    named_argument_is_written level (named_argument name e) h =
+        one_marks level name e (left_true (is_name name) _ h) (inline_is_written level e
+        (right_true (is_name name) _ h))
 
-    variants_then : (level : ℕ) (vs : VariantTrees Text) → variants_obey (canonical_rules edition) vs ≡ true →
+    variants_are_written : (level : ℕ) (vs : VariantTrees Text) → variants_obey (canonical_rules edition) vs ≡ true →
         VariantsMarks level vs
-    variants_then level no_variants h = λ ms. refl
-    variants_then level (variants (variant key value default) vs) h =
+    variants_are_written level no_variants h = λ ms. refl
+    variants_are_written level (variants (variant key value default) vs) h =
         let this = left_true (variant_obeys (canonical_rules edition) (variant key value default)) _ h in
         variants_more level key value default vs
         (key_plain key (key_is edition [] key (left_true (key_obeys (canonical_rules edition) key) _ this)))
-        (pattern_marks_then level value (right_true (key_obeys (canonical_rules edition) key) _ this))
-        (variants_then level vs
+        (whole_pattern_is_written level value (right_true (key_obeys (canonical_rules edition) key) _ this))
+        (variants_are_written level vs
         (right_true (variant_obeys (canonical_rules edition) (variant key value default)) _ h))
 
-    pub pattern_marks_then : (level : ℕ) (p : PatternTree Text) → pattern_obeys (canonical_rules edition) p ≡ true →
-        PatternMarks level p
-    pattern_marks_then level no_elements h = absurd cc
-    pattern_marks_then level (elements (placeable x) es) h =
+    pub whole_pattern_is_written : (level : ℕ) (p : PatternTree Text) → pattern_obeys (canonical_rules edition) p ≡ true
+        → PatternMarks level p
+    whole_pattern_is_written level no_elements h = absurd cc
+    whole_pattern_is_written level (elements (placeable x) es) h =
         let p = elements (placeable x) es in
         let are =
         left_true (is_pattern edition p) (is_flush edition p)
         (left_true (is_pattern edition p && is_flush edition p) _ h) in
         let rest = right_true (is_pattern edition p && is_flush edition p) _ h in
-        pattern_then level (placeable x) es
+        pattern_is_written level (placeable x) es
         (λ l. placeable_more l x es
-        (placeable_then l x (left_true (expression_obeys (canonical_rules edition) x) _ rest))
-        (elements_then l es (is_multiline p) after_placeable are
+        (placeable_is_written l x (left_true (expression_obeys (canonical_rules edition) x) _ rest))
+        (elements_are_written l es (is_multiline p) after_placeable are
         (right_true (expression_obeys (canonical_rules edition) x) _ rest)))
-    pattern_marks_then level (elements (text_element []) es) h = absurd cc
-    pattern_marks_then level (elements (text_element (b ∷ bs)) es) h =
+    whole_pattern_is_written level (elements (text_element []) es) h = absurd cc
+    whole_pattern_is_written level (elements (text_element (b ∷ bs)) es) h =
         let p = elements (text_element (b ∷ bs)) es in
         let are =
         left_true (is_pattern edition p) (is_flush edition p)
         (left_true (is_pattern edition p && is_flush edition p) _ h) in
         let rest = right_true (is_pattern edition p && is_flush edition p) _ h in
         let more = elements_rest (is_multiline p) opening b bs es are in
-        pattern_then level (text_element (b ∷ bs)) es
+        pattern_is_written level (text_element (b ∷ bs)) es
         (λ l. text_more l b bs es (text_closes (b ∷ bs) es more.0)
-        (elements_then l es (is_multiline p) (position_after (b ∷ bs)) more.1 rest))
+        (elements_are_written l es (is_multiline p) (position_after (b ∷ bs)) more.1 rest))
 
-    elements_then : (level : ℕ) (es : PatternTree Text) (multiline : Bool) (s : ElementPosition) →
+    elements_are_written : (level : ℕ) (es : PatternTree Text) (multiline : Bool) (s : ElementPosition) →
         are_elements edition multiline s es ≡ true → elements_obey (canonical_rules edition) es ≡ true →
         ElementsMarks level es
-    elements_then level no_elements multiline s g h = nothing_more level
-    elements_then level (elements (placeable x) es) multiline s g h =
+    elements_are_written level no_elements multiline s g h = nothing_more level
+    elements_are_written level (elements (placeable x) es) multiline s g h =
         placeable_more level x es
-        (placeable_then level x (left_true (expression_obeys (canonical_rules edition) x) _ h))
-        (elements_then level es multiline after_placeable g
+        (placeable_is_written level x (left_true (expression_obeys (canonical_rules edition) x) _ h))
+        (elements_are_written level es multiline after_placeable g
         (right_true (expression_obeys (canonical_rules edition) x) _ h))
-    elements_then level (elements (text_element []) es) multiline s g h = absurd cc
-    elements_then level (elements (text_element (b ∷ bs)) es) multiline s g h =
+    elements_are_written level (elements (text_element []) es) multiline s g h = absurd cc
+    elements_are_written level (elements (text_element (b ∷ bs)) es) multiline s g h =
         let more = elements_rest multiline s b bs es g in
         text_more level b bs es (text_closes (b ∷ bs) es more.0)
-        (elements_then level es multiline (position_after (b ∷ bs)) more.1 h)
+        (elements_are_written level es multiline (position_after (b ∷ bs)) more.1 h)
 
-    placeable_then : (level : ℕ) (x : ExpressionTree Text) → expression_obeys (canonical_rules edition) x ≡ true →
+    placeable_is_written : (level : ℕ) (x : ExpressionTree Text) → expression_obeys (canonical_rules edition) x ≡ true →
         PlaceableMarks level x
-    placeable_then level (select e vs) h =
+    placeable_is_written level (select e vs) h =
         select_element level e vs
         (select_marks level e vs
-        (inline_then level e (left_true (inline_obeys (canonical_rules edition) e) _ (select_parts edition e vs h)))
-        (variants_then (level + 1) vs
+        (inline_is_written level e (left_true (inline_obeys (canonical_rules edition) e) _
+        (select_parts edition e vs h)))
+        (variants_are_written (level + 1) vs
         (right_true (inline_obeys (canonical_rules edition) e) _ (select_parts edition e vs h))))
-    placeable_then level (inline (string_literal v)) h =
+    placeable_is_written level (inline (string_literal v)) h =
         spaced level (string_literal v)
         (string_marks level v (string_last v (inline_part edition (string_literal v) h)))
-    placeable_then level (inline (number_literal v)) h =
+    placeable_is_written level (inline (number_literal v)) h =
         spaced level (number_literal v)
         (number_marks level v (number_plain v (inline_part edition (number_literal v) h)))
-    placeable_then level (inline (function_reference id a)) h =
+    placeable_is_written level (inline (function_reference id a)) h =
         let i = inline_part edition (function_reference id a) h in
         spaced level (function_reference id a)
         (function_marks level id a (left_true (is_name id) _ i)
-        (arguments_then level a (right_true (list_all is_callee_byte id) _ (right_true (is_name id) _ i))))
-    placeable_then level (inline (message_reference id a)) h =
+        (arguments_are_written level a (right_true (list_all is_callee_byte id) _ (right_true (is_name id) _ i))))
+    placeable_is_written level (inline (message_reference id a)) h =
         let i = inline_part edition (message_reference id a) h in
         spaced level (message_reference id a)
         (message_marks level id a (left_true (is_name id) _ i) (right_true (is_name id) _ i))
-    placeable_then level (inline (term_reference id a c)) h =
+    placeable_is_written level (inline (term_reference id a c)) h =
         let i = inline_part edition (term_reference id a c) h in
         spaced level (term_reference id a c)
         (term_marks level id a c (left_true (is_name id) _ i)
         (left_true (option_obeys is_name a) _ (right_true (is_name id) _ i))
-        (maybe_then level c (right_true (option_obeys is_name a) _ (right_true (is_name id) _ i))))
-    placeable_then level (inline (variable_reference id)) h =
+        (optional_arguments_are_written level c (right_true (option_obeys is_name a) _ (right_true (is_name id) _ i))))
+    placeable_is_written level (inline (variable_reference id)) h =
         spaced level (variable_reference id) (variable_marks level id (inline_part edition (variable_reference id) h))
-    placeable_then level (inline (inline_placeable e)) h =
-        double_element level e (expression_then level e (inline_part edition (inline_placeable e) h))
+    placeable_is_written level (inline (inline_placeable e)) h =
+        double_element level e (expression_is_written level e (inline_part edition (inline_placeable e) h))

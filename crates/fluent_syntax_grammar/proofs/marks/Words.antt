@@ -11,14 +11,14 @@ use Rattle.fluent_syntax_grammar.specs.Written.{key_text}
 use Rattle.fluent_syntax_grammar.specs.Spellings.{is_name, is_digits, is_number_rest, is_unsigned, is_number, is_units}
 use Rattle.fluent_syntax_grammar.specs.Spellings.{is_escape, is_string}
 use Rattle.fluent_syntax_grammar.proofs.Facts.{left_true, right_true}
-use Rattle.fluent_syntax_grammar.proofs.Tests.{both, or_cases, differ}
+use Rattle.fluent_syntax_grammar.proofs.Tests.{both_true, or_cases, differ}
 use Rattle.fluent_syntax_grammar.proofs.forward.Words.{name_bytes}
-use Rattle.fluent_syntax_grammar.proofs.forward.Strings.{neither}
+use Rattle.fluent_syntax_grammar.proofs.forward.Strings.{none_of_three}
 use Rattle.fluent_syntax_grammar.proofs.forward.Selects.{key_obeys'}
 use Rattle.fluent_syntax_grammar.proofs.marks.WrittenBytes.{line_indent, closing_indent}
-use Rattle.fluent_syntax_grammar.proofs.marks.LastBytes.{Plain, none_plain, literal_then, literal_at_line, last_append}
-use Rattle.fluent_syntax_grammar.proofs.marks.LastBytes.{name_plain}
-use Rattle.fluent_syntax_grammar.proofs.Tests.{neither_left, neither_right, or_left, or_right}
+use Rattle.fluent_syntax_grammar.proofs.marks.LastBytes.{Plain, none_plain, literal_is_written, literal_at_line}
+use Rattle.fluent_syntax_grammar.proofs.marks.LastBytes.{last_append, name_plain}
+use Rattle.fluent_syntax_grammar.proofs.Tests.{neither_left, neither_right, true_by_left, true_by_right}
 
 -- ---- how words end
 
@@ -40,7 +40,7 @@ is_number_byte b = is_digit b || (b == 46 || b == 45)
 digits_all : (v : Text) → list_all is_digit v ≡ true → list_all is_number_byte v ≡ true
 digits_all [] e = refl
 digits_all (b ∷ v) e =
-    both (or_left (is_digit b) (b == 46 || b == 45) (left_true (is_digit b) (list_all is_digit v) e))
+    both_true (true_by_left (is_digit b) (b == 46 || b == 45) (left_true (is_digit b) (list_all is_digit v) e))
     (digits_all v (right_true (is_digit b) (list_all is_digit v) e))
 
 fraction_all : (v : Text) → is_digits v ≡ true → list_all is_number_byte v ≡ true
@@ -50,25 +50,26 @@ fraction_all (b ∷ v) e = digits_all (b ∷ v) e
 rest_all : (v : Text) → is_number_rest v ≡ true → list_all is_number_byte v ≡ true
 rest_all [] e = refl
 rest_all (b ∷ v) e = elim (or_cases (is_digit b && is_number_rest v) (b == 46 && is_digits v) e) [
-  | inl f ↦ both (or_left (is_digit b) (b == 46 || b == 45) (left_true (is_digit b) (is_number_rest v) f))
+  | inl f ↦ both_true (true_by_left (is_digit b) (b == 46 || b == 45) (left_true (is_digit b) (is_number_rest v) f))
       (rest_all v (right_true (is_digit b) (is_number_rest v) f))
-  | inr f ↦ both
-      (or_right (is_digit b) (b == 46 || b == 45) (or_left (b == 46) (b == 45) (left_true (b == 46) (is_digits v) f)))
+  | inr f ↦ both_true
+      (true_by_right (is_digit b) (b == 46 || b == 45) (true_by_left (b == 46) (b == 45)
+      (left_true (b == 46) (is_digits v) f)))
       (fraction_all v (right_true (b == 46) (is_digits v) f))
 ]
 
 unsigned_all : (v : Text) → is_unsigned v ≡ true → list_all is_number_byte v ≡ true
 unsigned_all [] e = cc
 unsigned_all (b ∷ v) e =
-    both (or_left (is_digit b) (b == 46 || b == 45) (left_true (is_digit b) (is_number_rest v) e))
+    both_true (true_by_left (is_digit b) (b == 46 || b == 45) (left_true (is_digit b) (is_number_rest v) e))
     (rest_all v (right_true (is_digit b) (is_number_rest v) e))
 
 number_all : (v : Text) → is_number v ≡ true → list_all is_number_byte v ≡ true
 number_all [] e = cc
 number_all (b ∷ v) e = elim (or_cases (b == 45 && is_unsigned v) (is_unsigned (b ∷ v)) e) [
-  | inl f ↦ both
-      (or_right (is_digit b) (b == 46 || b == 45)
-      (or_right (b == 46) (b == 45) (left_true (b == 45) (is_unsigned v) f)))
+  | inl f ↦ both_true
+      (true_by_right (is_digit b) (b == 46 || b == 45)
+      (true_by_right (b == 46) (b == 45) (left_true (b == 45) (is_unsigned v) f)))
       (unsigned_all v (right_true (b == 45) (is_unsigned v) f))
   | inr f ↦ unsigned_all (b ∷ v) f
 ]
@@ -99,7 +100,7 @@ mutual
         | inl f ↦ no_lf_more b bs (differ (λ c. c == 92) b lf (left_true (b == 92) (is_escape bs) f) refl)
             (escape_no_lf bs (right_true (b == 92) (is_escape bs) f))
         | inr f ↦ let n =
-            neither (b == 92) (b == 34) (b == lf)
+            none_of_three (b == 92) (b == 34) (b == lf)
             (left_true (not (b == 92 || b == 34 || b == lf)) (is_units zero bs) f) in
             no_lf_more b bs n.2
             (units_no_lf bs zero (right_true (not (b == 92 || b == 34 || b == lf)) (is_units zero bs) f))
@@ -157,11 +158,11 @@ ending (select e vs) = Some lf
 ending (inline e) = None
 
 -- what closes an expression
-pub closing_then : (level : ℕ) (e : ExpressionTree Text) (b : ℕ) (bs : Text) (ms : List Mark) →
+pub closing_is_written : (level : ℕ) (e : ExpressionTree Text) (b : ℕ) (bs : Text) (ms : List Mark) →
     Plain (last_of None (b ∷ bs)) →
     text_after (ending e) (literal level (b ∷ bs) ∷ ms) ≡ closing_indent level e ++ ((b ∷ bs) ++ text_after None ms)
-closing_then level (select e vs) b bs ms p = literal_at_line level b bs ms p
-closing_then level (inline e) b bs ms p = literal_then level (b ∷ bs) ms p
+closing_is_written level (select e vs) b bs ms p = literal_at_line level b bs ms p
+closing_is_written level (inline e) b bs ms p = literal_is_written level (b ∷ bs) ms p
 
 -- ASCII marks are plain
 pub plain_byte : (b : ℕ) → (b == lf) ≡ false → (b == cr) ≡ false → Plain (Some b)

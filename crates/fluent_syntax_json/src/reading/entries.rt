@@ -6,7 +6,7 @@ ghost use Rattle.fluent_syntax_tree.specs.View.{entry_view, resource_view};
 ghost use Rattle.fluent_syntax_tree.specs.Entry.{BodyTree};
 ghost use Rattle.fluent_syntax_json.specs.Object.{Text};
 ghost use Rattle.fluent_syntax_json.specs.Json.{JsonReads};
-ghost use Rattle.fluent_syntax_json.specs.Answer.{Answers};
+ghost use Rattle.fluent_syntax_json.specs.Answer.{ReadsValue};
 ghost use Rattle.fluent_syntax_json.specs.Reading.{list_by, value_in, attached_in, attribute_in, message_in, term_in};
 ghost use Rattle.fluent_syntax_json.specs.Reading.{entry_in, body_in};
 
@@ -30,7 +30,7 @@ pub fn from_value(alloc: Global, v: &Value) -> Result<Resource<String>, ValueFau
 }
 
 fn resource(alloc: Global, v: &Value) -> Result<Resource<String>, ValueFault>
-    ensures { Answers (resource_view string_bytes) (body_in (view v.now)) result }
+    ensures { ReadsValue (resource_view string_bytes) (body_in (view v.now)) result }
 {
     let mut body = Vec::new(alloc);
     for item in list(field(v, "body")?)? {
@@ -40,7 +40,7 @@ fn resource(alloc: Global, v: &Value) -> Result<Resource<String>, ValueFault>
 }
 
 fn entry(alloc: Global, v: &Value) -> Result<Entry<String>, ValueFault>
-    ensures { Answers (entry_view string_bytes) (entry_in (view v.now)) result }
+    ensures { ReadsValue (entry_view string_bytes) (entry_in (view v.now)) result }
 {
     match type_name(v)? {
         "Message" => Ok(Entry::Message(message(alloc, v)?)),
@@ -56,7 +56,7 @@ fn entry(alloc: Global, v: &Value) -> Result<Entry<String>, ValueFault>
 }
 
 fn message(alloc: Global, v: &Value) -> Result<Message<String>, ValueFault>
-    ensures { Answers (message_view string_bytes) (message_in (view v.now)) result }
+    ensures { ReadsValue (message_view string_bytes) (message_in (view v.now)) result }
 {
     Ok(Message {
         id: identifier(alloc, field(v, "id")?)?,
@@ -67,7 +67,7 @@ fn message(alloc: Global, v: &Value) -> Result<Message<String>, ValueFault>
 }
 
 fn term(alloc: Global, v: &Value) -> Result<Term<String>, ValueFault>
-    ensures { Answers (term_view string_bytes) (term_in (view v.now)) result }
+    ensures { ReadsValue (term_view string_bytes) (term_in (view v.now)) result }
 {
     Ok(Term {
         id: identifier(alloc, field(v, "id")?)?,
@@ -79,7 +79,7 @@ fn term(alloc: Global, v: &Value) -> Result<Term<String>, ValueFault>
 
 /// The value of a message, which may have none.
 fn value(alloc: Global, v: &Value) -> Result<Option<Pattern<String>>, ValueFault>
-    ensures { Answers (option_map (pattern_view string_bytes)) (value_in (view v.now)) result }
+    ensures { ReadsValue (option_map (pattern_view string_bytes)) (value_in (view v.now)) result }
 {
     match optional(v, "value") {
         None => Ok(None),
@@ -88,7 +88,7 @@ fn value(alloc: Global, v: &Value) -> Result<Option<Pattern<String>>, ValueFault
 }
 
 fn attributes(alloc: Global, v: &Value) -> Result<Vec<Attribute<String>>, ValueFault>
-    ensures { Answers (λ l. map (attribute_view string_bytes) l.items) (list_by attribute_in (view v.now)) result }
+    ensures { ReadsValue (λ l. map (attribute_view string_bytes) l.items) (list_by attribute_in (view v.now)) result }
 {
     let mut attributes = Vec::new(alloc);
     for item in list(v)? {
@@ -98,7 +98,7 @@ fn attributes(alloc: Global, v: &Value) -> Result<Vec<Attribute<String>>, ValueF
 }
 
 fn attribute(alloc: Global, v: &Value) -> Result<Attribute<String>, ValueFault>
-    ensures { Answers (attribute_view string_bytes) (attribute_in (view v.now)) result }
+    ensures { ReadsValue (attribute_view string_bytes) (attribute_in (view v.now)) result }
 {
     Ok(Attribute {
         id: identifier(alloc, field(v, "id")?)?,
@@ -108,7 +108,7 @@ fn attribute(alloc: Global, v: &Value) -> Result<Attribute<String>, ValueFault>
 
 /// The comment of a message or a term.
 fn comment_of(alloc: Global, v: &Value) -> Result<Option<Comment<String>>, ValueFault>
-    ensures { Answers (option_map (comment_view string_bytes)) (attached_in (view v.now)) result }
+    ensures { ReadsValue (option_map (comment_view string_bytes)) (attached_in (view v.now)) result }
 {
     match optional(v, "comment") {
         None => Ok(None),

@@ -2,7 +2,7 @@
 ghost use Rattle.std.specs.Prelude.{option_map, string_bytes};
 ghost use Rattle.serde_json.specs.View.{view};
 ghost use Rattle.fluent_syntax_tree.specs.View.{identifier_view, key_view, comment_view};
-ghost use Rattle.fluent_syntax_json.specs.Answer.{Answers};
+ghost use Rattle.fluent_syntax_json.specs.Answer.{ReadsValue};
 ghost use Rattle.fluent_syntax_json.specs.Reading.{name_in, attribute_name_in, key_in, comment_in};
 
 use super::fields::{field, list, optional, text, type_name};
@@ -12,7 +12,7 @@ use serde_json::Value;
 use std::alloc::Global;
 
 pub fn identifier(alloc: Global, v: &Value) -> Result<Identifier<String>, ValueFault>
-    ensures { Answers (identifier_view string_bytes) (name_in (view v.now)) result }
+    ensures { ReadsValue (identifier_view string_bytes) (name_in (view v.now)) result }
 {
     Ok(Identifier {
         name: text(alloc, field(v, "name")?)?,
@@ -20,7 +20,7 @@ pub fn identifier(alloc: Global, v: &Value) -> Result<Identifier<String>, ValueF
 }
 
 pub fn attribute_name(alloc: Global, v: &Value) -> Result<Option<Identifier<String>>, ValueFault>
-    ensures { Answers (option_map (identifier_view string_bytes)) (attribute_name_in (view v.now)) result }
+    ensures { ReadsValue (option_map (identifier_view string_bytes)) (attribute_name_in (view v.now)) result }
 {
     match optional(v, "attribute") {
         None => Ok(None),
@@ -29,7 +29,7 @@ pub fn attribute_name(alloc: Global, v: &Value) -> Result<Option<Identifier<Stri
 }
 
 pub fn key(alloc: Global, v: &Value) -> Result<VariantKey<String>, ValueFault>
-    ensures { Answers (key_view string_bytes) (key_in (view v.now)) result }
+    ensures { ReadsValue (key_view string_bytes) (key_in (view v.now)) result }
 {
     match type_name(v)? {
         "Identifier" => Ok(VariantKey::Identifier {
@@ -44,7 +44,7 @@ pub fn key(alloc: Global, v: &Value) -> Result<VariantKey<String>, ValueFault>
 
 /// A comment, whose content is a list of lines or one line.
 pub fn comment(alloc: Global, v: &Value) -> Result<Comment<String>, ValueFault>
-    ensures { Answers (comment_view string_bytes) (comment_in (view v.now)) result }
+    ensures { ReadsValue (comment_view string_bytes) (comment_in (view v.now)) result }
 {
     let content = field(v, "content")?;
     let mut lines = Vec::new(alloc);

@@ -3,7 +3,7 @@ ghost use Rattle.std.specs.Prelude.{string_bytes};
 ghost use Rattle.serde_json.specs.View.{view};
 ghost use Rattle.fluent_syntax_tree.specs.View.{expression_view, inline_view, element_view, arguments_view, named_view};
 ghost use Rattle.fluent_syntax_tree.specs.View.{pattern_view, variant_view};
-ghost use Rattle.fluent_syntax_json.specs.Answer.{Answers};
+ghost use Rattle.fluent_syntax_json.specs.Answer.{ReadsValue};
 ghost use Rattle.fluent_syntax_json.specs.Reading.{expression_in, inline_in, element_in, arguments_in, named_in};
 ghost use Rattle.fluent_syntax_json.specs.Reading.{pattern_in, variant_in};
 
@@ -16,7 +16,7 @@ use std::alloc::Global;
 
 #[cycle(reading)]
 pub fn pattern(alloc: Global, v: &Value) -> Result<Pattern<String>, ValueFault>
-    ensures { Answers (pattern_view string_bytes) (pattern_in (view v.now)) result }
+    ensures { ReadsValue (pattern_view string_bytes) (pattern_in (view v.now)) result }
 {
     let mut elements = Vec::new(alloc);
     for item in list(field(v, "elements")?)? {
@@ -27,7 +27,7 @@ pub fn pattern(alloc: Global, v: &Value) -> Result<Pattern<String>, ValueFault>
 
 #[cycle(reading)]
 fn element(alloc: Global, v: &Value) -> Result<PatternElement<String>, ValueFault>
-    ensures { Answers (element_view string_bytes) (element_in (view v.now)) result }
+    ensures { ReadsValue (element_view string_bytes) (element_in (view v.now)) result }
 {
     match type_name(v)? {
         "TextElement" => Ok(PatternElement::TextElement {
@@ -43,7 +43,7 @@ fn element(alloc: Global, v: &Value) -> Result<PatternElement<String>, ValueFaul
 /// An expression: a select where there is a key `selector`, whatever else is there.
 #[cycle(reading)]
 fn expression(alloc: Global, v: &Value) -> Result<Expression<String>, ValueFault>
-    ensures { Answers (expression_view string_bytes) (expression_in (view v.now)) result }
+    ensures { ReadsValue (expression_view string_bytes) (expression_in (view v.now)) result }
 {
     match v.get("selector") {
         None => Ok(Expression::Inline(inline(alloc, v)?)),
@@ -60,7 +60,7 @@ fn expression(alloc: Global, v: &Value) -> Result<Expression<String>, ValueFault
 
 #[cycle(reading)]
 fn variant(alloc: Global, v: &Value) -> Result<Variant<String>, ValueFault>
-    ensures { Answers (variant_view string_bytes) (variant_in (view v.now)) result }
+    ensures { ReadsValue (variant_view string_bytes) (variant_in (view v.now)) result }
 {
     Ok(Variant {
         key: key(alloc, field(v, "key")?)?,
@@ -71,7 +71,7 @@ fn variant(alloc: Global, v: &Value) -> Result<Variant<String>, ValueFault>
 
 #[cycle(reading)]
 fn named_argument(alloc: Global, v: &Value) -> Result<NamedArgument<String>, ValueFault>
-    ensures { Answers (named_view string_bytes) (named_in (view v.now)) result }
+    ensures { ReadsValue (named_view string_bytes) (named_in (view v.now)) result }
 {
     Ok(NamedArgument {
         name: identifier(alloc, field(v, "name")?)?,
@@ -81,7 +81,7 @@ fn named_argument(alloc: Global, v: &Value) -> Result<NamedArgument<String>, Val
 
 #[cycle(reading)]
 fn arguments(alloc: Global, v: &Value) -> Result<CallArguments<String>, ValueFault>
-    ensures { Answers (arguments_view string_bytes) (arguments_in (view v.now)) result }
+    ensures { ReadsValue (arguments_view string_bytes) (arguments_in (view v.now)) result }
 {
     let mut positional = Vec::new(alloc);
     for item in list(field(v, "positional")?)? {
@@ -99,7 +99,7 @@ fn arguments(alloc: Global, v: &Value) -> Result<CallArguments<String>, ValueFau
 
 #[cycle(reading)]
 fn inline(alloc: Global, v: &Value) -> Result<InlineExpression<String>, ValueFault>
-    ensures { Answers (inline_view string_bytes) (inline_in (view v.now)) result }
+    ensures { ReadsValue (inline_view string_bytes) (inline_in (view v.now)) result }
 {
     match type_name(v)? {
         "StringLiteral" => Ok(InlineExpression::StringLiteral {

@@ -11,7 +11,7 @@ use Rattle.fluent_syntax_grammar.specs.Places.{BlankBlock}
 use Rattle.fluent_syntax_grammar.specs.Tiling.{Tile, entry, entry_at, Tiled, done, next, TileAt, reads, refuses}
 use Rattle.fluent_syntax_grammar.proofs.Facts.{equal, same_number}
 use Rattle.fluent_syntax_grammar.proofs.Functional.{single_block}
-use Rattle.fluent_syntax_grammar.proofs.FunctionalEntries.{functional_entry}
+use Rattle.fluent_syntax_grammar.proofs.FunctionalEntries.{entry_is_functional}
 use Rattle.fluent_syntax_parser.specs.Outcomes.{IsRefusedAs}
 use Rattle.fluent_syntax_parser.specs.Rest.{Attaches}
 use Rattle.fluent_syntax_parser.specs.declared.fault.Refusal.{Refusal}
@@ -59,19 +59,20 @@ module _ (edition : Edition) (t : List ℕ) (content : List Span) (ptr : ℕ) wh
 
   -- ---- where it is not attached
 
-  pub beyond_blank : (start : ℕ) → BlankBlock t ptr start → (start ≡ ptr → ⊥) → AttachesNot
-  beyond_blank start block other = λ none e j read. absurd (other (single_block.same ptr start ptr block none))
+  pub attaches_not_after_blank : (start : ℕ) → BlankBlock t ptr start → (start ≡ ptr → ⊥) → AttachesNot
+  attaches_not_after_blank start block other = λ none e j read. absurd (other
+      (single_block.same ptr start ptr block none))
 
   pub other_entry : (e : EntryTree Span) (j : ℕ) → entry_at edition t ptr (Read e j) → attached content e ≡ None
       → AttachesNot
   other_entry e j read none = λ block x k there.
-      let same = functional_entry edition t in
+      let same = entry_is_functional edition t in
       let equal : Read e j ≡ Read x k = same.same ptr (Read e j) (Read x k) read there in
       let e_is_x : e ≡ x = cc in
       rw (← e_is_x) none
 
   pub no_entry : (r : Refusal) → IsRefusedAs t (entry_at edition t) ptr r → AttachesNot
   no_entry r refused = λ block x k there.
-      let same = functional_entry edition t in
+      let same = entry_is_functional edition t in
       let equal = same.same ptr (Read x k) _ there (refused _ _ _ (refl, refl, refl)) in
       cc

@@ -6,13 +6,13 @@ use Rattle.fluent_syntax_grammar.specs.Entries.{attribute, attribute_of}
 use Rattle.fluent_syntax_grammar.specs.Grammar.{family, within}
 use Rattle.fluent_syntax_grammar.proofs.Boundaries.{text_cuts}
 use Rattle.fluent_syntax_grammar.proofs.Nesting.{within_family}
-use Rattle.fluent_syntax_grammar.proofs.SoundEntries.{sound_attribute}
+use Rattle.fluent_syntax_grammar.proofs.SoundEntries.{attribute_is_sound}
 use Rattle.fluent_syntax_grammar.proofs.SoundStrings.{InText}
 use Rattle.fluent_syntax_parser.specs.Outcomes.{Fails, kind_at, from_of, to_of}
 use Rattle.fluent_syntax_parser.specs.declared.fault.Fault.{Fault}
 use Rattle.fluent_syntax_parser.specs.declared.fault.Fault.TheVariants as fault
 use Rattle.fluent_syntax_parser.specs.declared.fault.ReadFault.TheVariants as faults
-use Rattle.fluent_syntax_parser.proofs.entry_forms.ExtentForms.{included_attribute}
+use Rattle.fluent_syntax_parser.proofs.entry_forms.ExtentForms.{attribute_is_included}
 use Rattle.fluent_syntax_parser.proofs.readers.Fails.{shown}
 
 -- the place is not after the end of what the fault says
@@ -26,18 +26,18 @@ module _ (edition : Edition) (t : List ℕ) (n i : ℕ) (f : Fault) (from place 
   pub attribute_refused :
       attribute edition t i (Refused (kind_at t f from place) (from_of f from place) (to_of f place))
   attribute_refused =
-      (included_attribute edition t (within edition t n) (family edition t) (within_family edition t n)).part i _
+      (attribute_is_included edition t (within edition t n) (family edition t) (within_family edition t n)).part i _
       (shown fails)
 
   pub refusal_starts_in_text : from_of f from place ≤ length t
   refusal_starts_in_text =
-      ((sound_attribute edition t (InText t) (text_cuts t) {s = i}).holds.on_refused i _ _ _
+      ((attribute_is_sound edition t (InText t) (text_cuts t) {s = i}).holds.on_refused i _ _ _
       (record { late = omega arith; place = inside }) attribute_refused).in_text
 
   -- so the place is not after the one after the text's end
   pub refusal_place_in_text : place ≤ length t + 1
   refusal_place_in_text =
       let fault =
-      (sound_attribute edition t (InText t) (text_cuts t) {s = i}).holds.on_refused i _ _ _
+      (attribute_is_sound edition t (InText t) (text_cuts t) {s = i}).holds.on_refused i _ _ _
       (record { late = omega arith; place = inside }) attribute_refused in
       omega (arith, place_before_end f place, fault.one, fault.in_text)

@@ -17,16 +17,15 @@ use Rattle.fluent_syntax_grammar.specs.Places.{has_byte}
 use Rattle.fluent_syntax_grammar.specs.Tiling.{entry_at, entry_in}
 use Rattle.fluent_syntax_grammar.proofs.HoareTriple.{gave}
 use Rattle.fluent_syntax_grammar.proofs.Facts.{append_nothing}
-use Rattle.fluent_syntax_grammar.proofs.FunctionalEntries.{functional_entry}
-use Rattle.fluent_syntax_grammar.proofs.Included.{IsIncluded, IsIncludedFamily, included_pattern, inclusions}
-use Rattle.fluent_syntax_grammar.proofs.IncludedEntries.{included_entry}
+use Rattle.fluent_syntax_grammar.proofs.FunctionalEntries.{entry_is_functional}
+use Rattle.fluent_syntax_grammar.proofs.Included.{IsIncluded, IsIncludedFamily, pattern_is_included, inclusions}
+use Rattle.fluent_syntax_grammar.proofs.IncludedEntries.{entry_is_included}
 use Rattle.fluent_syntax_grammar.proofs.Nesting.{within_family}
 use Rattle.fluent_syntax_parser.proofs.entry_forms.EntryForms.{of_hash}
 use Rattle.fluent_syntax_parser.specs.PartRanges.{HasAttributeParts, HaveAttributeParts, no_attribute_parts}
-use Rattle.fluent_syntax_parser.specs.PartRanges.{more_attribute_parts}
-use Rattle.fluent_syntax_parser.specs.PartRanges.{HaveFieldParts, HasEntryParts, message_has_parts, term_has_parts}
-use Rattle.fluent_syntax_parser.specs.PartRanges.{EntryWithParts}
-use Rattle.fluent_syntax_parser.specs.PartRanges.{FindsEntry, HasRanges}
+use Rattle.fluent_syntax_parser.specs.PartRanges.{more_attribute_parts, HaveFieldParts, HasEntryParts}
+use Rattle.fluent_syntax_parser.specs.PartRanges.{message_has_parts, term_has_parts, EntryWithParts, FindsEntry}
+use Rattle.fluent_syntax_parser.specs.PartRanges.{HasRanges}
 use Rattle.fluent_syntax_parser.specs.Fields.{FieldTrees, fields}
 use Rattle.fluent_syntax_parser.specs.declared.ranges.AttributeRanges.{AttributeRanges}
 use Rattle.fluent_syntax_parser.specs.declared.ranges.EntryRanges.{EntryRanges}
@@ -71,10 +70,10 @@ module _ (edition : Edition) (t : List ℕ) (R : Family) where
     without_value None (Some v, rest) s e = let h = s.there in cc
     without_value (Some p) f s e = cc
 
-  pub no_attributes : {i end : ℕ} {xs : List AttributeRanges} {rest : List (AttributeTree Span)} →
+  pub no_attribute_trees : {i end : ℕ} {xs : List AttributeRanges} {rest : List (AttributeTree Span)} →
       HaveAttributeParts edition t R i xs rest end → xs ≡ [] → rest ≡ []
-  no_attributes (no_attribute_parts x) e = refl
-  no_attributes (more_attribute_parts begins s more) e = cc
+  no_attribute_trees (no_attribute_parts x) e = refl
+  no_attribute_trees (more_attribute_parts begins s more) e = cc
 
   pub no_attribute_ranges : {i end : ℕ} {xs : List AttributeRanges} {rest : List (AttributeTree Span)} →
       HaveAttributeParts edition t R i xs rest end → rest ≡ [] → xs ≡ []
@@ -112,13 +111,13 @@ module _ (edition : Edition) (t : List ℕ) (R : Family) where
 -- ---- within a family that is included in another
 
 module _ (edition : Edition) (t : List ℕ) (R S : Family) (h : IsIncludedFamily R S) where
-  pub included_attribute : IsIncluded (attribute_of edition t R) (attribute_of edition t S)
-  included_attribute = search (inclusions, included_pattern) depth 30
+  pub attribute_is_included : IsIncluded (attribute_of edition t R) (attribute_of edition t S)
+  attribute_is_included = search (inclusions, pattern_is_included) depth 30
 
   attribute_included : {x : AttributeRanges} {a : AttributeTree Span} → HasAttributeParts edition t R x a →
       HasAttributeParts edition t S x a
   attribute_included s = record {
-    whole = included_attribute.part _ _ s.whole;
+    whole = attribute_is_included.part _ _ s.whole;
     dot = s.dot;
     before = s.before;
     point = s.point;
@@ -127,13 +126,13 @@ module _ (edition : Edition) (t : List ℕ) (R S : Family) (h : IsIncludedFamily
     equals = s.equals;
     beyond = s.beyond;
     sign = s.sign;
-    value = (included_pattern edition t R S h).part _ _ s.value;
+    value = (pattern_is_included edition t R S h).part _ _ s.value;
     ends = s.ends;
   }
 
   attributes_included : {i end : ℕ} {xs : List AttributeRanges} {rest : List (AttributeTree Span)} →
       HaveAttributeParts edition t R i xs rest end → HaveAttributeParts edition t S i xs rest end
-  attributes_included (no_attribute_parts x) = no_attribute_parts (included_attribute.part _ _ x)
+  attributes_included (no_attribute_parts x) = no_attribute_parts (attribute_is_included.part _ _ x)
   attributes_included (more_attribute_parts begins s more) =
       more_attribute_parts begins (attribute_included s) (attributes_included more)
 
@@ -144,7 +143,7 @@ module _ (edition : Edition) (t : List ℕ) (R S : Family) (h : IsIncludedFamily
     beyond = s.beyond;
     place = s.place;
     sign = s.sign;
-    value = (included_pattern edition t R S h).part _ _ s.value;
+    value = (pattern_is_included edition t R S h).part _ _ s.value;
     there = s.there;
     line = s.line;
     blank = s.blank;
@@ -160,7 +159,7 @@ module _ (edition : Edition) (t : List ℕ) (R S : Family) (h : IsIncludedFamily
   found_included i x s = record {
     tree = s.tree;
     end = s.end;
-    read = (included_entry edition t R S h).part _ _ s.read;
+    read = (entry_is_included edition t R S h).part _ _ s.read;
     parts = parts_included s.parts;
   }
 
@@ -181,8 +180,9 @@ module _ (t : List ℕ) (i j : ℕ) (e : EntryTree Span) where
       entry_in edition t (within edition t n) i (Refused k from to) → entry_at edition t i (Read e j) → IsComment
   none_is_read edition n from to k x read =
       let same =
-      (functional_entry edition t).same i _ _
-      ((included_entry edition t (within edition t n) (family edition t) (within_family edition t n)).part i _ x) read
+      (entry_is_functional edition t).same i _ _
+      ((entry_is_included edition t (within edition t n) (family edition t) (within_family edition t n)).part i _ x)
+      read
       in cc
 
 module _ (edition : Edition) (t : List ℕ) (n i : ℕ) where

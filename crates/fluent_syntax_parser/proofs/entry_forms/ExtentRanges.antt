@@ -16,18 +16,14 @@ use Rattle.fluent_syntax_grammar.specs.Places.{InlineBlank, has}
 use Rattle.fluent_syntax_grammar.specs.Tokens.{identifier, token}
 use Rattle.fluent_syntax_grammar.proofs.Boundaries.{boundary_cuts}
 use Rattle.fluent_syntax_grammar.proofs.Cuts.{AreBoundaries, ascii_has, ascii_name}
-use Rattle.fluent_syntax_grammar.proofs.Sound.{Ended, IsSpan, Sound, sound_blank_block, sound_inline_blank}
-use Rattle.fluent_syntax_grammar.proofs.SoundEntries.{sound_attribute, sound_pattern}
-use Rattle.fluent_syntax_grammar.proofs.SoundWords.{sound_identifier, sound_token}
+use Rattle.fluent_syntax_grammar.proofs.Sound.{Ended, IsSpan, Sound, blank_block_is_sound, inline_blank_is_sound}
+use Rattle.fluent_syntax_grammar.proofs.SoundEntries.{attribute_is_sound, pattern_is_sound}
+use Rattle.fluent_syntax_grammar.proofs.SoundWords.{identifier_is_sound, token_is_sound}
 use Rattle.fluent_syntax_grammar.proofs.Facts.{implies}
 use Rattle.fluent_syntax_grammar.proofs.Tests.{letter_name}
 use Rattle.fluent_syntax_parser.specs.PartRanges.{HasAttributeParts, HaveAttributeParts, HasEntryParts, HaveFieldParts}
-use Rattle.fluent_syntax_parser.specs.PartRanges.{HasRanges}
-use Rattle.fluent_syntax_parser.specs.PartRanges.{ReadAt}
-use Rattle.fluent_syntax_parser.specs.PartRanges.{each_attribute_range, message_has_parts, no_attribute_parts}
-use Rattle.fluent_syntax_parser.specs.PartRanges.{more_attribute_parts}
-use Rattle.fluent_syntax_parser.specs.PartRanges.{each_range}
-use Rattle.fluent_syntax_parser.specs.PartRanges.{term_has_parts}
+use Rattle.fluent_syntax_parser.specs.PartRanges.{HasRanges, ReadAt, each_attribute_range, message_has_parts}
+use Rattle.fluent_syntax_parser.specs.PartRanges.{no_attribute_parts, more_attribute_parts, each_range, term_has_parts}
 use Rattle.fluent_syntax_parser.specs.Fields.{FieldTrees}
 use Rattle.fluent_syntax_parser.specs.declared.ranges.AttributeRanges.{AttributeRanges}
 use Rattle.fluent_syntax_parser.specs.declared.ranges.EntryRanges.{EntryRanges}
@@ -51,20 +47,20 @@ module _ (edition : Edition) (t : List ℕ) (P : ℕ → Type 0) (cuts : AreBoun
   name_range name read =
       let there = implies is_letter is_name_byte (slice_get t name.start) letter_name (letter_there t _ _ _ read) in
       let begins = cuts.before name.start (ascii_has t is_name_byte name.start ascii_name there) in
-      (beyond (sound_identifier t P cuts) begins read).good
+      (beyond (identifier_is_sound t P cuts) begins read).good
 
   value_range : (i equals : ℕ) (place : Span) (v : Option (PatternTree Span)) → P i → InlineBlank t i equals →
       token t equals_sign equals (Read tt place.start) → ReadAt (pattern edition t) v place → IsSpan P place
   value_range i equals place v p blank sign value =
-      let a = beyond (sound_inline_blank t P cuts) p (passed blank) in
-      let b = beyond (sound_token t P cuts 61 refl) a.place sign in
-      let c = beyond (sound_pattern edition t P cuts) b.place value in
+      let a = beyond (inline_blank_is_sound t P cuts) p (passed blank) in
+      let b = beyond (token_is_sound t P cuts 61 refl) a.place sign in
+      let c = beyond (pattern_is_sound edition t P cuts) b.place value in
       (c.late, b.place, c.place)
 
   attribute_in_text : (x : AttributeRanges) (a : AttributeTree Span) →
       HasAttributeParts edition t (family edition t) x a → P x.span.start → each_attribute_range (IsSpan P) x
   attribute_in_text x a s p =
-      let whole = beyond (sound_attribute edition t P cuts) p s.whole in
+      let whole = beyond (attribute_is_sound edition t P cuts) p s.whole in
       let name = name_range x.name s.name in
       ((whole.late, p, whole.place), name, value_range _ _ x.value _ name.2 s.beyond s.sign s.value)
 
@@ -80,7 +76,7 @@ module _ (edition : Edition) (t : List ℕ) (P : ℕ → Type 0) (cuts : AreBoun
   fields_in_text x f end name s =
       let n = name_range x.name name in
       let v = value_range _ _ s.place _ n.2 s.beyond s.sign s.value in
-      let line = beyond (sound_blank_block t P cuts) v.2 (passed s.blank) in
+      let line = beyond (blank_block_is_sound t P cuts) v.2 (passed s.blank) in
       (n, if_any (IsSpan P) s.place x.value f.0 s.there v, attributes_in_text s.attributes line.place)
 
   entry_in_text : (i end : ℕ) (x : EntryRanges) (e : EntryTree Span) →

@@ -32,9 +32,10 @@ module _ (edition : Edition) (t : List ℕ) (R : Family)
     rest ← attributes_of edition t R
     last value rest
 
-  pub fields_then : (i j : ℕ) (f : FieldTrees Span) (o : Outcome (EntryTree Span)) → fields edition t R i (Read f j) →
+  pub fields_are_written : (i j : ℕ) (f : FieldTrees Span) (o : Outcome (EntryTree Span)) → fields edition t R i
+      (Read f j) →
       last f.0 f.1 j o → EntryAfterName i o
-  fields_then i j f o (goes_on blank (goes_on equals (goes_on value (goes_on block (goes_on rest given))))) end =
+  fields_are_written i j f o (goes_on blank (goes_on equals (goes_on value (goes_on block (goes_on rest given))))) end =
       goes_on blank (goes_on equals (goes_on value (goes_on block (goes_on rest end))))
 
   pub fields_refused : (i from to : ℕ) (k : Kind) → fields edition t R i (Refused k from to) →
@@ -79,16 +80,16 @@ module _ (t : List ℕ) (start j : ℕ) (id : Span) where
       message_with t start id v rest j
       (Read (message (record { id = id; value = v; attributes = rest; comment = None })) j)
 
-  pub message_of_value : (v : Option (PatternTree Span)) (rest : List (AttributeTree Span)) → is_some v ≡ true →
+  pub message_form_of_value : (v : Option (PatternTree Span)) (rest : List (AttributeTree Span)) → is_some v ≡ true →
       MessageOf v rest
-  message_of_value None rest some = cc
-  message_of_value (Some v) rest some = given
+  message_form_of_value None rest some = cc
+  message_form_of_value (Some v) rest some = given
 
-  pub message_of_attributes : (v : Option (PatternTree Span)) (rest : List (AttributeTree Span)) → (rest ≡ [] → ⊥) →
-      MessageOf v rest
-  message_of_attributes v [] some = absurd (some refl)
-  message_of_attributes None (a ∷ rest) some = given
-  message_of_attributes (Some v) (a ∷ rest) some = given
+  pub message_form_of_attributes : (v : Option (PatternTree Span)) (rest : List (AttributeTree Span)) → (rest ≡ [] → ⊥)
+      → MessageOf v rest
+  message_form_of_attributes v [] some = absurd (some refl)
+  message_form_of_attributes None (a ∷ rest) some = given
+  message_form_of_attributes (Some v) (a ∷ rest) some = given
 
 -- ---- whether there is a value, and whether there are attributes
 
@@ -119,9 +120,9 @@ module _ {A B C : Type 0} (g : A → C) (c : Construct (Option A × List B)) {i 
   no_field (None, rest) h e = h
   no_field (Some a, rest) h e = cc
 
-pub no_items : {X : Type 0} (xs : List X) (n : ℕ) → length xs ≡ n → true ≡ (n == 0) → xs ≡ []
-no_items [] n e h = refl
-no_items (x ∷ xs) n e h = grind (arith, nat_tests)
+pub empty_by_length : {X : Type 0} (xs : List X) (n : ℕ) → length xs ≡ n → true ≡ (n == 0) → xs ≡ []
+empty_by_length [] n e h = refl
+empty_by_length (x ∷ xs) n e h = grind (arith, nat_tests)
 
 pub some_items : {X : Type 0} (xs : List X) (n : ℕ) → length xs ≡ n → false ≡ (n == 0) → xs ≡ [] → ⊥
 some_items [] n e h f = grind (arith, nat_tests)

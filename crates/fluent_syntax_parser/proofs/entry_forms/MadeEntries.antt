@@ -15,8 +15,7 @@ use Rattle.fluent_syntax_tree.specs.declared.spans.Span.{Span}
 use Rattle.fluent_syntax_grammar.specs.Body.{attached}
 use Rattle.fluent_syntax_grammar.specs.Tiling.{Fault}
 use Rattle.fluent_syntax_parser.specs.Faults.{fault_of}
-use Rattle.fluent_syntax_parser.specs.MadeEntries.{MadeBody, NextMade, commented, ends_with_comment}
-use Rattle.fluent_syntax_parser.specs.MadeEntries.{is_comment}
+use Rattle.fluent_syntax_parser.specs.MadeEntries.{MadeBody, NextMade, commented, ends_with_comment, is_comment}
 use Rattle.fluent_syntax_parser.specs.Rest.{EntryAt, EntryTo, NextTo, Rest, faults_of, may_attach, tree_of}
 use Rattle.fluent_syntax_parser.specs.declared.options.Comments.{Comments}
 use Rattle.fluent_syntax_parser.specs.declared.options.Halt.{Halt}
@@ -172,7 +171,7 @@ module _ {S X : Type 0} (f : Span → X) (v : S → X) where
       sym (mapped_may f tree) ∙ ap may_attach (sym same) ∙ viewed_may v e ∙ h
 
   -- The entry is a comment of level 1, and so is the tree that it represents.
-  pub record IsComment (e : Entry S) (tree : EntryTree Span) : Type 0 where
+  pub record IsCommentEntry (e : Entry S) (tree : EntryTree Span) : Type 0 where
     pub lines : Comment S
     pub is : e ≡ entries.Comment lines
     pub content : List Span
@@ -184,7 +183,7 @@ module _ {S X : Type 0} (f : Span → X) (v : S → X) where
     last_is : (b : Bool) → ends_with_comment body ≡ b → is_comment e ≡ b
     last_is b h = sym (ends_with before e) ∙ ap ends_with_comment (sym added) ∙ h
 
-    pub comment_added : ends_with_comment body ≡ true → IsComment e tree
+    pub comment_added : ends_with_comment body ≡ true → IsCommentEntry e tree
     comment_added h =
         let seen = comment_seen e (last_is true h) in
         let of_tree = comment_tree tree _ (sym (ap (entry_view v) seen.1) ∙ same) in
@@ -210,20 +209,20 @@ module _ {S X : Type 0} (f : Span → X) (v : S → X) where
         (read : MadeTo comments edition t i body errors)
       where
         -- with nothing left, all was read
-        pub all_read : Rest comments edition t i [] [] → MadeBody f v comments edition t body errors
-        all_read none = record {
+        pub whole_body_made : Rest comments edition t i [] [] → MadeBody f v comments edition t body errors
+        whole_body_made none = record {
           trees = read.trees;
           same = read.same;
           rest = rw (← append-nil read.trees, ← append-nil (map fault_of errors)) (read.rest [] [] none);
         }
 
         -- with the next entry and its error, what was read reaches to where that ends
-        pub read_on : (j : ℕ) (e : Entry S) (tree : EntryTree Span) (faults : List (Option Fault)) →
+        pub body_read_on : (j : ℕ) (e : Entry S) (tree : EntryTree Span) (faults : List (Option Fault)) →
             EntryTo comments edition t i j tree faults → entry_view v e ≡ entry_map f tree → (longer : List (Entry S)) →
             longer ≡ body ++ e ∷ [] → (stated : List ParserError) →
             map fault_of stated ≡ map fault_of errors ++ faults →
             MadeTo comments edition t j longer stated
-        read_on j e tree faults next same longer all stated more = record {
+        body_read_on j e tree faults next same longer all stated more = record {
           trees = read.trees ++ tree ∷ [];
           same =
               ap (map (entry_view v)) all ∙ map-append (entry_view v) body (e ∷ [])

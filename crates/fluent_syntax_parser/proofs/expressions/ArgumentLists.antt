@@ -26,8 +26,8 @@ use Rattle.fluent_syntax_grammar.specs.Places.{Blank, has_byte}
 use Rattle.fluent_syntax_grammar.specs.Starts.{start}
 use Rattle.fluent_syntax_grammar.specs.Tokens.{token}
 use Rattle.fluent_syntax_grammar.proofs.Facts.{byte_found}
-use Rattle.fluent_syntax_grammar.proofs.FunctionalRules.{IsFunctionalFamily, functional_inline}
-use Rattle.fluent_syntax_grammar.proofs.FunctionalRules.{functional_next_argument}
+use Rattle.fluent_syntax_grammar.proofs.FunctionalRules.{IsFunctionalFamily, inline_is_functional}
+use Rattle.fluent_syntax_grammar.proofs.FunctionalRules.{next_argument_is_functional}
 use Rattle.fluent_syntax_parser.specs.Gathered.{names_in}
 use Rattle.fluent_syntax_parser.proofs.expressions.GatheredArguments.{arguments_mapped, put_arguments, put_named}
 use Rattle.fluent_syntax_parser.proofs.expressions.GatheredArguments.{put_none, put_positional, put_whole}
@@ -35,8 +35,8 @@ use Rattle.fluent_syntax_parser.proofs.scanning.Names.{names_added}
 use Rattle.fluent_syntax_parser.specs.Outcomes.{Fails}
 use Rattle.fluent_syntax_parser.specs.declared.fault.ReadFault.{ReadFault}
 use Rattle.fluent_syntax_parser.specs.Made.{IsMade, made}
-use Rattle.fluent_syntax_parser.proofs.readers.ContinuesFrom.{ContinuesFrom, list_read, one_after}
-use Rattle.fluent_syntax_parser.proofs.readers.Fails.{fails_first, fails_next, fails_no, fails_seen, functional_look}
+use Rattle.fluent_syntax_parser.proofs.readers.ContinuesFrom.{ContinuesFrom, whole_list_read, one_after}
+use Rattle.fluent_syntax_parser.proofs.readers.Fails.{fails_first, fails_next, fails_no, fails_seen, look_is_functional}
 
 pub token_there : (t : List ℕ) (b i : ℕ) → has_byte t b i ≡ true → token t b i (Read tt (i + 1))
 token_there t b i there =
@@ -63,8 +63,7 @@ module _ (t : List ℕ) (R : Family) where
       begins : (o : Outcome (More Argument (List (List ℕ)))) →
           (inline_expression t R >>= λ e.
           peek (has_byte t colon) yields >>= λ is_named. argument_rest t R names e (argument_name e) is_named) i o
-          →
-          next_argument t R names i o
+          → next_argument t R names i o
       begins o h =
           let byte = slice_get-get_or t i 0 within in
           let test = rw byte at no_end in
@@ -73,8 +72,7 @@ module _ (t : List ℕ) (R : Family) where
       begins_fails : {f : ReadFault} →
           Fails t (inline_expression t R >>= λ e.
           peek (has_byte t colon) yields >>= λ is_named. argument_rest t R names e (argument_name e) is_named) i f
-          →
-          Fails t (next_argument t R names) i f
+          → Fails t (next_argument t R names) i f
       begins_fails h =
           let byte = slice_get-get_or t i 0 within in
           let test = rw byte at no_end in
@@ -92,8 +90,8 @@ module _ (t : List ℕ) (R : Family) where
             has_byte t colon j ≡ true → {f : ReadFault} → Fails t (named_rest t R names name) j f →
             Fails t (next_argument t R names) i f
         named_fails g name is mark {f = f} h =
-            begins_fails (fails_next (functional_inline t R g) read
-            (fails_next (functional_look (has_byte t colon)) (chosen given) (rw (is, mark) h)))
+            begins_fails (fails_next (inline_is_functional t R g) read
+            (fails_next (look_is_functional (has_byte t colon)) (chosen given) (rw (is, mark) h)))
 
         unmarked : (name : Option Span) (o : Outcome (More Argument (List (List ℕ)))) →
             positional_rest t names e j o → argument_rest t R names e name false j o
@@ -143,7 +141,7 @@ module _ {S X : Type 0} (t : List ℕ) (R : Family) (f : Span → X) (v : S → 
       IsMade (arguments_map f) (more_arguments t R []) from
       (arguments (inlines_of (map (inline_view v) ps)) (nameds_of (map (named_view v) ns))) m
   all_arguments ps ns names j m g x =
-      made (list_read (arguments (inlines_of g.ps) (nameds_of g.ns)) m g.beyond (put_whole g.ps g.ns) x)
+      made (whole_list_read (arguments (inlines_of g.ps) (nameds_of g.ns)) m g.beyond (put_whole g.ps g.ns) x)
       (rw (g.same_ps, g.same_ns) (arguments_mapped f g.ps g.ns))
 
   module _ (h : IsFunctionalFamily R) (ps : List (InlineExpression S)) (ns : List (NamedArgument S)) (i : ℕ)
@@ -174,7 +172,7 @@ module _ {S X : Type 0} (t : List ℕ) (R : Family) (f : Span → X) (v : S → 
               ∙ sym (map-append (named_map f) g.ns (tree ∷ []));
           beyond =
               one_after (put_arguments g.ps (g.ns ++ tree ∷ [])) added (bytes_at t name ∷ names_in t names) next
-              g.beyond (functional_next_argument t R h (names_in t names)) (put_named g.ps g.ns name value)
+              g.beyond (next_argument_is_functional t R h (names_in t names)) (put_named g.ps g.ns name value)
               (named t R (names_in t names) i within no_end e j read name is mark
               (Read (item added (bytes_at t name ∷ names_in t names)) next)
               (second new
@@ -202,7 +200,7 @@ module _ {S X : Type 0} (t : List ℕ) (R : Family) (f : Span → X) (v : S → 
           same_ns = g.same_ns;
           beyond =
               one_after (put_arguments (g.ps ++ e ∷ []) g.ns) added [] next g.beyond
-              (functional_next_argument t R h (names_in t names)) (put_positional g.ps g.ns e)
+              (next_argument_is_functional t R h (names_in t names)) (put_positional g.ps g.ns e)
               (positional t R (names_in t names) i within no_end e j read is (Read (item added []) next)
               (subst (λ xs. positional_rest t xs e j (Read (item added []) next)) (sym all)
               (goes_on after given)));

@@ -1,6 +1,5 @@
 -- The name of an argument that is a message reference, by where it begins.
-use Rattle.std.proofs.Common.{◌≡◌, ℕ, List, Option, Some, None, Bool, true, false, refl, sym, ap, ◌∙◌}
-use Rattle.std.proofs.Common.{true≢false}
+use Rattle.std.proofs.Common.{◌≡◌, ℕ, List, Option, Some, None, Bool, true, false, refl, sym, ap, ◌∙◌, true≢false}
 use Rattle.fluent_syntax_tree.specs.Kind.{Kind}
 use Rattle.fluent_syntax_tree.specs.Tree.{InlineTree, inline_map, string_literal, number_literal, function_reference}
 use Rattle.fluent_syntax_tree.specs.Tree.{message_reference, term_reference, variable_reference, inline_placeable}
@@ -8,13 +7,12 @@ use Rattle.fluent_syntax_tree.specs.Tree.{MaybeArguments, no_arguments, some_arg
 use Rattle.fluent_syntax_tree.specs.Spans.{bytes_at}
 use Rattle.fluent_syntax_tree.specs.declared.spans.Span.{Span}
 use Rattle.fluent_syntax_grammar.specs.Arguments.{argument_name}
-use Rattle.fluent_syntax_grammar.specs.Construct.{Outcome, Read, Refused, yields, given, goes_on, chosen, first}
-use Rattle.fluent_syntax_grammar.specs.Construct.{second}
+use Rattle.fluent_syntax_grammar.specs.Construct.{Outcome, Read, Refused, yields, given, goes_on, chosen, first, second}
 use Rattle.fluent_syntax_grammar.specs.Family.{Family}
 use Rattle.fluent_syntax_grammar.specs.Inline.{inline_expression, inline_of, named_reference}
 use Rattle.fluent_syntax_grammar.specs.Starts.{Start, brace, digit, dollar, letter, minus, other, quote, start, term}
 use Rattle.fluent_syntax_grammar.specs.Tokens.{identifier}
-use Rattle.fluent_syntax_grammar.proofs.FunctionalWords.{functional_identifier}
+use Rattle.fluent_syntax_grammar.proofs.FunctionalWords.{identifier_is_functional}
 use Rattle.fluent_syntax_parser.specs.Outcomes.{name_text}
 use Rattle.fluent_syntax_parser.proofs.scanning.NameTexts.{identifier_text}
 
@@ -29,15 +27,15 @@ is_name (term_reference id attribute a) = false
 is_name (variable_reference id) = false
 is_name (inline_placeable e) = false
 
-pub same_name : {X Y : Type 0} (f : X → Y) (e : InlineTree X) → is_name (inline_map f e) ≡ is_name e
-same_name f (string_literal x) = refl
-same_name f (number_literal x) = refl
-same_name f (function_reference x a) = refl
-same_name f (message_reference x None) = refl
-same_name f (message_reference x (Some a)) = refl
-same_name f (term_reference x a c) = refl
-same_name f (variable_reference x) = refl
-same_name f (inline_placeable e) = refl
+pub is_name_mapped : {X Y : Type 0} (f : X → Y) (e : InlineTree X) → is_name (inline_map f e) ≡ is_name e
+is_name_mapped f (string_literal x) = refl
+is_name_mapped f (number_literal x) = refl
+is_name_mapped f (function_reference x a) = refl
+is_name_mapped f (message_reference x None) = refl
+is_name_mapped f (message_reference x (Some a)) = refl
+is_name_mapped f (term_reference x a c) = refl
+is_name_mapped f (variable_reference x) = refl
+is_name_mapped f (inline_placeable e) = refl
 
 pub no_argument_name : (e : InlineTree Span) → is_name e ≡ false → argument_name e ≡ None
 no_argument_name (string_literal x) h = refl
@@ -113,8 +111,8 @@ value_of (Refused k from to) = None
 
 pub name_found : (t : List ℕ) {i j m : ℕ} {a b : Span} → identifier t i (Read a j) → identifier t i (Read b m) →
     Some a ≡ Some b
-name_found t h r = let f = functional_identifier t in ap value_of (f.same _ _ _ h r)
+name_found t h r = let f = identifier_is_functional t in ap value_of (f.same _ _ _ h r)
 
 pub none_found : (t : List ℕ) {i m from to : ℕ} {k : Kind} {b : Span} → identifier t i (Refused k from to) →
     identifier t i (Read b m) → None ≡ Some b
-none_found t h r = let f = functional_identifier t in ap value_of (f.same _ _ _ h r)
+none_found t h r = let f = identifier_is_functional t in ap value_of (f.same _ _ _ h r)

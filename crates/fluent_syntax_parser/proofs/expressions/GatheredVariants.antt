@@ -10,7 +10,7 @@ use Rattle.fluent_syntax_grammar.specs.Construct.{Construct, Read, More, no_item
 use Rattle.fluent_syntax_grammar.specs.UniqueReading.{IsFunctional}
 use Rattle.fluent_syntax_parser.specs.Gathered.{variants_view}
 use Rattle.fluent_syntax_parser.specs.Made.{IsMade, made}
-use Rattle.fluent_syntax_parser.proofs.readers.ContinuesFrom.{ContinuesFrom, list_read, one_after}
+use Rattle.fluent_syntax_parser.proofs.readers.ContinuesFrom.{ContinuesFrom, whole_list_read, one_after}
 
 abbrev pub put_variants : List (VariantTree Span) → VariantTrees Span → VariantTrees Span
 put_variants [] vs = vs
@@ -65,9 +65,9 @@ module _ {S X : Type 0} {t : List ℕ} {next : Bool → Construct (More (Variant
     }
 
     -- the list ends
-    pub all_variants : (xs : List (Variant S)) → MadeVariants t next f v i xs starred j →
+    pub variants_end : (xs : List (Variant S)) → MadeVariants t next f v i xs starred j →
         next starred j (Read no_item m) →
         IsMade (variants_map f) (many next variants no_variants false) i (variants_view v xs) m
-    all_variants xs g x =
-        made (list_read (variants_of g.items) m g.beyond (variants_whole g.items) x)
+    variants_end xs g x =
+        made (whole_list_read (variants_of g.items) m g.beyond (variants_whole g.items) x)
         (ap variants_of g.same ∙ variants_mapped f g.items)

@@ -120,8 +120,8 @@ module _ {S X : Type 0} (v : S → X) where
   no_fault_by_form (layer.VariableReference i) h k l = by_view selector_fault None (layer.VariableReference i) refl
   no_fault_by_form (layer.InlineExpression::Placeable e) h k l = absurd (l e refl)
 
-  pub no_name : (e : InlineExpression S) → IsNoMessage e → is_name (inline_view v e) ≡ false
-  no_name = by_form (λ e. IsNoMessage e → is_name (inline_view v e) ≡ false) no_name_by_form
+  pub no_message_name : (e : InlineExpression S) → IsNoMessage e → is_name (inline_view v e) ≡ false
+  no_message_name = by_form (λ e. IsNoMessage e → is_name (inline_view v e) ≡ false) no_name_by_form
 
   pub no_term : (e : InlineExpression S) → IsNoTerm e → is_term_attribute (inline_view v e) ≡ false
   no_term = by_form (λ e. IsNoTerm e → is_term_attribute (inline_view v e) ≡ false) no_term_by_form

@@ -6,14 +6,13 @@ use Rattle.fluent_syntax_tree.specs.Tree.{ExpressionTree, InlineTree, MaybeArgum
 use Rattle.fluent_syntax_tree.specs.declared.ast.PatternElement.{PatternElement}
 use Rattle.fluent_syntax_tree.specs.declared.spans.Span.{Span}
 use Rattle.fluent_syntax_grammar.specs.Arguments.{argument_value}
-use Rattle.fluent_syntax_grammar.specs.Construct.{Outcome, Read, Refused, ◌>>=◌, yields, peek, chosen, failed}
-use Rattle.fluent_syntax_grammar.specs.Construct.{goes_on}
+use Rattle.fluent_syntax_grammar.specs.Construct.{Outcome, Read, Refused, ◌>>=◌, yields, peek, chosen, failed, goes_on}
 use Rattle.fluent_syntax_grammar.specs.Family.{Family, call_arguments}
 use Rattle.fluent_syntax_grammar.specs.Inline.{inline_expression, inline_of, named_reference}
 use Rattle.fluent_syntax_grammar.specs.Starts.{Start, digit, letter, minus, quote, start}
 use Rattle.fluent_syntax_grammar.specs.Tokens.{identifier, number}
-use Rattle.fluent_syntax_grammar.proofs.FunctionalRules.{IsFunctionalFamily, functional_call}
-use Rattle.fluent_syntax_grammar.proofs.FunctionalWords.{functional_identifier}
+use Rattle.fluent_syntax_grammar.proofs.FunctionalRules.{IsFunctionalFamily, call_is_functional}
+use Rattle.fluent_syntax_grammar.proofs.FunctionalWords.{identifier_is_functional}
 use Rattle.fluent_syntax_parser.specs.Last.{Pushes}
 use Rattle.fluent_syntax_parser.specs.Outcomes.{Fails}
 use Rattle.fluent_syntax_parser.specs.Starts.{start_view}
@@ -89,4 +88,4 @@ referred v t R i f old new (Ok k) (e, read, added) s n c g =
     (e, by_start t R i letter _ s (goes_on n (goes_on c read)), added)
 referred v t R i f old new (Err e) h s n c g =
     fails_seen (inline_of t R) letter s
-    (fails_next (functional_identifier t) n (fails_next (functional_call t R g) c h))
+    (fails_next (identifier_is_functional t) n (fails_next (call_is_functional t R g) c h))

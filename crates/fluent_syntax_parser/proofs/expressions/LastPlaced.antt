@@ -2,8 +2,7 @@
 use Rattle.std.proofs.Common.{◌≡◌, List, [], ◌∷◌, ◌++◌, ◌-◌, length, None, Some, Option, refl, sym, ap, ◌∙◌, arith}
 use Rattle.std.specs.Prelude.{slice_get}
 use Rattle.std.proofs.lemmas.List.{length_push}
-use Rattle.fluent_syntax_tree.specs.Tree.{ElementTree, ExpressionTree, InlineTree, inline, placeable}
-use Rattle.fluent_syntax_tree.specs.Tree.{text_element}
+use Rattle.fluent_syntax_tree.specs.Tree.{ElementTree, ExpressionTree, InlineTree, inline, placeable, text_element}
 use Rattle.fluent_syntax_tree.specs.View.{element_view, expression_view, inline_view}
 use Rattle.fluent_syntax_tree.proofs.Views.{view-Inline, view-Placeable, view-TextElement}
 use Rattle.fluent_syntax_tree.specs.declared.ast.Expression.{Expression, Inline}

@@ -14,15 +14,15 @@ use Rattle.fluent_syntax_grammar.specs.Expressions.{expression, has_arrow, selec
 use Rattle.fluent_syntax_grammar.specs.Expressions.{variants_of_select}
 use Rattle.fluent_syntax_grammar.specs.Places.{Blank}
 use Rattle.fluent_syntax_grammar.specs.UniqueReading.{IsFunctional}
-use Rattle.fluent_syntax_grammar.proofs.Functional.{functional_bind, functional_fails}
-use Rattle.fluent_syntax_grammar.proofs.FunctionalRules.{IsFunctionalFamily, functional_inline}
-use Rattle.fluent_syntax_grammar.proofs.FunctionalWords.{functional_blank, functional_inline_blank}
+use Rattle.fluent_syntax_grammar.proofs.Functional.{bind_is_functional, fails_is_functional}
+use Rattle.fluent_syntax_grammar.proofs.FunctionalRules.{IsFunctionalFamily, inline_is_functional}
+use Rattle.fluent_syntax_grammar.proofs.FunctionalWords.{blank_is_functional, inline_blank_is_functional}
 use Rattle.fluent_syntax_parser.specs.Last.{Pushes}
 use Rattle.fluent_syntax_parser.specs.Outcomes.{Fails, no_memory, refused, too_deep}
 use Rattle.fluent_syntax_parser.specs.Selects.{arrow_variants, select_start}
 use Rattle.fluent_syntax_parser.specs.declared.fault.ReadFault.{ReadFault}
 use Rattle.fluent_syntax_parser.proofs.readers.Fails.{fails_next, fails_yes}
-use Rattle.fluent_syntax_parser.proofs.readers.Fails.{functional_arrow_end, functional_look, functional_steps}
+use Rattle.fluent_syntax_parser.proofs.readers.Fails.{arrow_end_is_functional, look_is_functional, steps_are_functional}
 use Rattle.fluent_syntax_parser.proofs.readers.Made.{same_selector_fault}
 
 -- what is no selector
@@ -36,12 +36,12 @@ pub some_select_start : (t : List ℕ) {i : ℕ} (fault : Option Kind) (o : Outc
     select_start t None i o → select_start t fault i o
 some_select_start t {i = i} fault o is h = subst (λ x. select_start t x i o) (sym is) h
 
-pub functional_start : (t : List ℕ) (fault : Option Kind) → IsFunctional (select_start t fault)
-functional_start t (Some kind) = functional_fails
-functional_start t None =
-    functional_bind functional_steps (λ u.
-    functional_bind (functional_inline_blank t) (λ u.
-    functional_bind (functional_arrow_end t) (λ u. functional_blank t)))
+pub start_is_functional : (t : List ℕ) (fault : Option Kind) → IsFunctional (select_start t fault)
+start_is_functional t (Some kind) = fails_is_functional
+start_is_functional t None =
+    bind_is_functional steps_are_functional (λ u.
+    bind_is_functional (inline_blank_is_functional t) (λ u.
+    bind_is_functional (arrow_end_is_functional t) (λ u. blank_is_functional t)))
 
 module _ (edition : Edition) (t : List ℕ) (R : Family) (e : InlineTree Span) (i : ℕ) where
   -- the same outcome, with the select that the variants make
@@ -103,12 +103,13 @@ pub beyond_blank : {S X : Type 0} (v : S → X) (edition : Edition) (t : List �
 beyond_blank v edition t R f old new (Ok x) read blank arrow g (b, there, added) =
     (b, goes_on read (goes_on (passed blank) (goes_on (chosen given) (first arrow there))), added)
 beyond_blank v edition t R f old new (Err _) read blank arrow g h =
-    fails_next (functional_inline t R g) read
-    (fails_next (functional_blank t) (passed blank)
-    (fails_next (functional_look (has_arrow t)) (chosen given)
+    fails_next (inline_is_functional t R g) read
+    (fails_next (blank_is_functional t) (passed blank)
+    (fails_next (look_is_functional (has_arrow t)) (chosen given)
     (fails_yes arrow h)))
 
 -- Why an expression is no selector is reported alike of what represents it.
-pub same_fault : {X : Type 0} (f : Span → X) (b : InlineTree X) (e : InlineTree Span) → b ≡ inline_map f e →
+pub same_selector_fault_of_tree : {X : Type 0} (f : Span → X) (b : InlineTree X) (e : InlineTree Span) → b ≡ inline_map
+    f e →
     selector_fault b ≡ selector_fault e
-same_fault f b e same = ap selector_fault same ∙ same_selector_fault f e
+same_selector_fault_of_tree f b e same = ap selector_fault same ∙ same_selector_fault f e

@@ -19,7 +19,7 @@ use Rattle.fluent_syntax_grammar.specs.Places.{BlankBlock, InlineBlank, after_eo
 use Rattle.fluent_syntax_grammar.proofs.Facts.{byte_found, equal}
 use Rattle.fluent_syntax_grammar.proofs.LineEnds.{eol_none}
 use Rattle.fluent_syntax_grammar.proofs.Tests.{neither_left}
-use Rattle.fluent_syntax_parser.proofs.patterns.LineEndings.{ends_line}
+use Rattle.fluent_syntax_parser.proofs.patterns.LineEndings.{line_ending_read}
 use Rattle.fluent_syntax_parser.specs.OneLine.{EndsBlank}
 
 -- ---- line ends
@@ -159,7 +159,7 @@ module _ (edition : Edition) (t : List ℕ) where
       (goes_on (passed blank)
       (goes_on at_place
       (goes_on (no_piece t R k (slice_get t k) refl there)
-      (goes_on (ends_line t k m eol)
+      (goes_on (line_ending_read t k m eol)
       given)))))
       given))
       (blanks_read R m j end more last)

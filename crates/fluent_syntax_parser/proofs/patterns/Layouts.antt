@@ -7,8 +7,7 @@ use Rattle.std.proofs.lemmas.List.{map-append}
 use Rattle.fluent_syntax_tree.specs.declared.edition.Edition.{Edition}
 use Rattle.fluent_syntax_tree.specs.declared.edition.Edition.TheVariants.{One, Two}
 use Rattle.fluent_syntax_grammar.specs.Elements.{ItemOf, text, placeable_item, with_ending, common_indent_end, indented}
-use Rattle.fluent_syntax_grammar.specs.Elements.{items_from}
-use Rattle.fluent_syntax_grammar.specs.Elements.{line_items, opening_items, items, stays, cut_before, cut}
+use Rattle.fluent_syntax_grammar.specs.Elements.{items_from, line_items, opening_items, items, stays, cut_before, cut}
 use Rattle.fluent_syntax_grammar.specs.Layout.{PieceOf, run, placed, Ending, lf_at, crlf_at, text_end, LineOf, LayoutOf}
 use Rattle.fluent_syntax_grammar.specs.Layout.{counted_spaces, counted, least, common_indent}
 use Rattle.fluent_syntax_parser.specs.Layouts.{piece_map, line_map, item_map}

@@ -13,8 +13,9 @@ module _ (t : List ℕ) where
   pub ends_text : (i : ℕ) → after_eol t i ≡ None → ending t i (Read text_end i)
   ends_text i e = goes_on at_place (chosen (subst (λ o. ending_of t i o i (Read text_end i)) (sym e) given))
 
-  pub ends_line : (i j : ℕ) → after_eol t i ≡ Some j → ending t i (Read (if j == i + 1 then lf_at i else crlf_at i) j)
-  ends_line i j e =
+  pub line_ending_read : (i j : ℕ) → after_eol t i ≡ Some j → ending t i
+      (Read (if j == i + 1 then lf_at i else crlf_at i) j)
+  line_ending_read i j e =
       goes_on at_place
       (chosen
       (subst (λ o. ending_of t i o i (Read (if j == i + 1 then lf_at i else crlf_at i) j)) (sym e)

@@ -23,7 +23,7 @@ use Rattle.fluent_syntax_grammar.specs.Places.{BlankBlock, LongestRun, after_eol
 use Rattle.fluent_syntax_grammar.proofs.Facts.{left_true, byte_found}
 use Rattle.fluent_syntax_grammar.proofs.Tests.{without}
 use Rattle.fluent_syntax_grammar.proofs.LineEnds.{eol_none}
-use Rattle.fluent_syntax_parser.proofs.patterns.LineEndings.{ends_line, ends_text}
+use Rattle.fluent_syntax_parser.proofs.patterns.LineEndings.{line_ending_read, ends_text}
 use Rattle.fluent_syntax_parser.proofs.patterns.BlankLines.{blank_rest, crlf_byte, eol_there, lf_blank, no_piece}
 use Rattle.fluent_syntax_parser.proofs.patterns.BlankLines.{range_cons}
 use Rattle.fluent_syntax_parser.specs.OneLine.{EndsBlank, EndsLine, text_pattern, with_lf, with_crlf, with_text}
@@ -97,7 +97,8 @@ module _ (t : List ℕ) (R : Family) where
       let test : (stop == to + 1) ≡ true = grind (arith, nat_tests) in
       record {
         ends_by = lf_at to;
-        ends = subst (λ b. ending t to (Read (if b then lf_at to else crlf_at to) stop)) test (ends_line t to stop eol);
+        ends = subst (λ b. ending t to (Read (if b then lf_at to else crlf_at to) stop)) test
+            (line_ending_read t to stop eol);
         pieces = no_piece t R to (slice_get t to) refl there;
         text_stays = λ from stays.
             let same = subst (λ k. is_nonblank (slice_range t from k) ≡ true) e stays in rw (same, e) refl;
@@ -109,7 +110,8 @@ module _ (t : List ℕ) (R : Family) where
       (crlf_byte (has_byte t lf to) (has_byte t cr to) _ to next eol e) in
       record {
         ends_by = crlf_at to;
-        ends = subst (λ b. ending t to (Read (if b then lf_at to else crlf_at to) next)) test (ends_line t to next eol);
+        ends = subst (λ b. ending t to (Read (if b then lf_at to else crlf_at to) next)) test
+            (line_ending_read t to next eol);
         pieces = no_piece t R to (slice_get t to) refl there;
         text_stays = λ from stays. rw (blank, stays) refl;
       }
@@ -180,13 +182,13 @@ module _ (edition : Edition) (t : List ℕ) (n : ℕ) where
         (chosen (subst (λ o. layout_at t R o start (Read empty end)) (sym eol) laid)) in
         goes_on whole given
 
-  pub none_read : (start ptr stop next end : ℕ) → InlineBlank t ptr start → EndsLine t start stop next →
+  pub blank_pattern_read : (start ptr stop next end : ℕ) → InlineBlank t ptr start → EndsLine t start stop next →
       EndsBlank edition t next end → pattern edition t R ptr (Read None end)
   unfolding line_ended
-  none_read start ptr stop next end blank (with_lf eol e) lines =
+  blank_pattern_read start ptr stop next end blank (with_lf eol e) lines =
       empty_read start stop lines.place end eol lines.block (lines.none n) ptr blank
-  none_read start ptr stop next end blank (with_crlf eol e) lines =
+  blank_pattern_read start ptr stop next end blank (with_crlf eol e) lines =
       empty_read start next lines.place end eol lines.block (lines.none n) ptr blank
-  none_read start ptr stop next end blank (with_text eol e) lines =
+  blank_pattern_read start ptr stop next end blank (with_text eol e) lines =
       let ended = line_ended t R start start start (with_text eol e) in
       opening_read start eol [] start ended.pieces text_end' start ended.ends ptr end blank lines

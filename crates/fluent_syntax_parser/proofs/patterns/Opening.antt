@@ -22,13 +22,14 @@ use Rattle.fluent_syntax_parser.specs.Opened.{Settled, as_item, none, piece_elem
 use Rattle.fluent_syntax_parser.specs.Outcomes.{Fails}
 use Rattle.fluent_syntax_parser.specs.declared.fault.ReadFault.{ReadFault}
 use Rattle.fluent_syntax_parser.proofs.patterns.BlankLines.{crlf_byte, lf_blank}
-use Rattle.fluent_syntax_grammar.proofs.FunctionalRules.{functional_ending}
-use Rattle.fluent_syntax_parser.proofs.patterns.LineEndings.{ends_line, ends_text}
+use Rattle.fluent_syntax_grammar.proofs.FunctionalRules.{ending_is_functional}
+use Rattle.fluent_syntax_parser.proofs.patterns.LineEndings.{line_ending_read, ends_text}
 use Rattle.fluent_syntax_parser.proofs.patterns.OneLine.{run_item}
 use Rattle.fluent_syntax_parser.proofs.patterns.Pieces.{end_pieces, no_pieces, run_there}
 use Rattle.fluent_syntax_parser.proofs.patterns.Rest.{run_mapped}
-use Rattle.fluent_syntax_parser.proofs.patterns.Settled.{placed_after, run_after, settled_ending, settled_mapped}
-use Rattle.fluent_syntax_parser.proofs.readers.ContinuesFrom.{ContinuesFrom, item_fails, list_read, one_after}
+use Rattle.fluent_syntax_parser.proofs.patterns.Settled.{placed_after, run_and_placed_settled, settled_ending}
+use Rattle.fluent_syntax_parser.proofs.patterns.Settled.{settled_mapped}
+use Rattle.fluent_syntax_parser.proofs.readers.ContinuesFrom.{ContinuesFrom, item_fails, whole_list_read, one_after}
 
 -- The elements are those of pieces up to a placeable, and what there is at the place comes after them.
 pub record MadeOpening {S X : Type 0} (t : List ℕ) (R : Family) (f : Span → X) (v : S → X) (i : ℕ)
@@ -77,13 +78,14 @@ module _ {S X : Type 0} (t : List ℕ) (R : Family) (f : Span → X) (v : S → 
 
       pub opening_read : next_piece t R to (Read no_item to) →
           list_of (next_piece t R) i (Read (pieces ++ run_of span) to)
-      opening_read x = list_read (pieces ++ run_of span) to beyond_run (append-nil (pieces ++ run_of span)) x
+      opening_read x = whole_list_read (pieces ++ run_of span) to beyond_run (append-nil (pieces ++ run_of span)) x
 
       -- one more placeable
       placed_settled : (e : ExpressionTree Span) (b : Bool) → Settled pieces →
           Settled ((pieces ++ (if b then run place to ∷ [] else [])) ++ placed e ∷ [])
       placed_settled e true s =
-          subst Settled (sym (append_assoc pieces (run place to ∷ []) (placed e ∷ []))) (run_after place to e s)
+          subst Settled (sym (append_assoc pieces (run place to ∷ []) (placed e ∷ [])))
+          (run_and_placed_settled place to e s)
       placed_settled e false s =
           subst (λ ps. Settled (ps ++ placed e ∷ [])) (sym (append-nil pieces)) (placed_after e s)
 
@@ -146,10 +148,10 @@ pub no_byte_there : {o : Option ℕ} {n : ℕ} → o ≡ None → o ≡ Some n �
 no_byte_there is e = let f = sym is ∙ e in cc
 
 -- what neither continues a run nor is a brace
-pub line_ends : (t : List ℕ) (R : Family) (place to : ℕ) → LongestRun (is_run_place t) place to →
+pub run_ends_line : (t : List ℕ) (R : Family) (place to : ℕ) → LongestRun (is_run_place t) place to →
     (slice_get t to ≡ Some left_brace → ⊥) → (slice_get t to ≡ Some right_brace → ⊥) →
     next_piece t R to (Read no_item to)
-line_ends t R place to w opening close = by (slice_get t to) refl (has_eol t to) refl
+run_ends_line t R place to w opening close = by (slice_get t to) refl (has_eol t to) refl
   where
     by : (o : Option ℕ) → slice_get t to ≡ o → (eol : Bool) → has_eol t to ≡ eol → next_piece t R to (Read no_item to)
     by None e eol f = end_pieces t R to e
@@ -173,12 +175,12 @@ ends_at t to e next read = by (after_eol t to) refl
         (crlf_byte (has_byte t lf to) (has_byte t cr to) _ to k eol (grind (arith, nat_tests)))
 
     same : (d : Ending) (j : ℕ) → ending t to (Read d j) → d ≡ e
-    same d j other = ap (ending_or d) ((functional_ending t).same to (Read d j) (Read e next) other read)
+    same d j other = ap (ending_or d) ((ending_is_functional t).same to (Read d j) (Read e next) other read)
 
     by : (o : Option ℕ) → after_eol t to ≡ o → EndsAt t to e
     by None eol = subst (λ x. EndsAt t to x) (same text_end to (ends_text t to eol)) tt
     by (Some k) eol =
-        subst (λ x. EndsAt t to x) (same (if k == to + 1 then lf_at to else crlf_at to) k (ends_line t to k eol))
+        subst (λ x. EndsAt t to x) (same (if k == to + 1 then lf_at to else crlf_at to) k (line_ending_read t to k eol))
         (test k eol (k == to + 1) refl)
 
 -- ---- with f of each text in its place

@@ -15,11 +15,11 @@ module _ {E : Type 0} where
   placed_after e (by_placeable s) = by_placeable (placed_after e s)
   placed_after e (by_run s) = by_run (placed_after e s)
 
-  pub run_after : {ps : List (PieceOf E)} (from to : ℕ) (e : E) → Settled ps →
+  pub run_and_placed_settled : {ps : List (PieceOf E)} (from to : ℕ) (e : E) → Settled ps →
       Settled (ps ++ run from to ∷ placed e ∷ [])
-  run_after from to e none = by_run (by_placeable none)
-  run_after from to e (by_placeable s) = by_placeable (run_after from to e s)
-  run_after from to e (by_run s) = by_run (run_after from to e s)
+  run_and_placed_settled from to e none = by_run (by_placeable none)
+  run_and_placed_settled from to e (by_placeable s) = by_placeable (run_and_placed_settled from to e s)
+  run_and_placed_settled from to e (by_run s) = by_run (run_and_placed_settled from to e s)
 
   -- they are items, before those of what follows them
   pub settled_ending : {ps : List (PieceOf E)} → Settled ps → (qs : List (PieceOf E)) (end : Ending) →

@@ -7,8 +7,7 @@ use Rattle.fluent_syntax_tree.specs.declared.edition.Edition.TheVariants.{One, T
 use Rattle.fluent_syntax_grammar.specs.Layout.{Ending, lf_at, crlf_at, text_end, LineOf, PieceOf, placed, run}
 use Rattle.fluent_syntax_parser.specs.Elements.{blank_line_items, flushed, indent_of, kept_place, leading, pending_run}
 use Rattle.fluent_syntax_grammar.specs.Elements.{ItemOf, placeable_item, items_from, common_indent_end, line_items}
-use Rattle.fluent_syntax_grammar.specs.Elements.{text}
-use Rattle.fluent_syntax_grammar.specs.Elements.{with_ending}
+use Rattle.fluent_syntax_grammar.specs.Elements.{text, with_ending}
 
 module _ {E : Type 0} where
   pub none_leads : (led : Option ℕ) → leading {E = E} led [] ≡ []
@@ -38,11 +37,11 @@ module _ {E : Type 0} where
         flush xs pending (run (unwrap_or led from) to) ps
         ∙ ap (λ qs. xs ++ with_ending (pending_run pending qs) end) (sym (run_leads led from to ps))
 
-    pub placed_added : (xs : List (ItemOf E)) (pending : Option (ℕ × ℕ)) (led : Option ℕ) (e : E)
+    pub waiting_placed_added : (xs : List (ItemOf E)) (pending : Option (ℕ × ℕ)) (led : Option ℕ) (e : E)
         (ps : List (PieceOf E)) →
         (flushed xs pending ++ placeable_item e ∷ []) ++ with_ending ps end
         ≡ xs ++ with_ending (pending_run pending (leading led (placed e ∷ ps))) end
-    placed_added xs pending led e ps =
+    waiting_placed_added xs pending led e ps =
         append_assoc (flushed xs pending) (placeable_item e ∷ []) (with_ending ps end)
         ∙ flush xs pending (placed e) ps
         ∙ ap (λ qs. xs ++ with_ending (pending_run pending qs) end) (sym (placed_leads led e ps))

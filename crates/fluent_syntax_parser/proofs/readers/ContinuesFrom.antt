@@ -44,9 +44,9 @@ module _ {A S B : Type 0} {t : List ℕ} {next : S → Construct (More A S)} {ad
   }
 
   -- the list ends
-  pub list_read : (whole : B) (m : ℕ) → ContinuesFrom t next add none s i put r j → put none ≡ whole →
+  pub whole_list_read : (whole : B) (m : ℕ) → ContinuesFrom t next add none s i put r j → put none ≡ whole →
       next r j (Read no_item m) → many next add none s i (Read whole m)
-  list_read whole m g same x =
+  whole_list_read whole m g same x =
       subst (λ b. many next add none s i (Read b m)) same (g.read none m (list_ends x))
 
 -- ---- plain lists
@@ -83,4 +83,4 @@ module _ {A B X : Type 0} {t : List ℕ} {next : Construct (More A (Unit {0}))} 
     -- the list ends
     pub all_made : (xs : List X) → MadeItems t next f view i xs j → next j (Read no_item m) →
         IsMade (map f) (list_of next) i (map view xs) m
-    all_made xs g x = made (list_read g.items m g.beyond (append_nothing g.items) x) g.same
+    all_made xs g x = made (whole_list_read g.items m g.beyond (append_nothing g.items) x) g.same

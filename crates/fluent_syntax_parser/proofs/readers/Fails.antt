@@ -19,9 +19,10 @@ use Rattle.fluent_syntax_grammar.specs.Variants.{only_star}
 use Rattle.fluent_syntax_grammar.specs.Tokens.{optional, token}
 use Rattle.fluent_syntax_grammar.proofs.Deeper.{deeper_first, deeper_next, deeper_yes, deeper_no, deeper_peek}
 use Rattle.fluent_syntax_grammar.proofs.Deeper.{none_inside, no_list_inside}
-use Rattle.fluent_syntax_grammar.proofs.Functional.{functional, functional_peek}
-use Rattle.fluent_syntax_grammar.proofs.FunctionalRules.{functional_arrow}
-use Rattle.fluent_syntax_grammar.proofs.FunctionalWords.{functional_blank, functional_optional, functional_token}
+use Rattle.fluent_syntax_grammar.proofs.Functional.{functional, peek_is_functional}
+use Rattle.fluent_syntax_grammar.proofs.FunctionalRules.{arrow_is_functional}
+use Rattle.fluent_syntax_grammar.proofs.FunctionalWords.{blank_is_functional, optional_is_functional}
+use Rattle.fluent_syntax_grammar.proofs.FunctionalWords.{token_is_functional}
 use Rattle.fluent_syntax_parser.specs.declared.fault.ReadFault.{ReadFault}
 use Rattle.fluent_syntax_parser.specs.declared.fault.ReadFault.TheVariants as faults
 use Rattle.fluent_syntax_parser.specs.declared.fault.Fault.{Fault}
@@ -89,23 +90,20 @@ fails_seen {t = t} part {i = i} {f = f} a e h = fails_peek (subst (λ a. Fails t
 
 -- ---- parts with one outcome at most
 
-pub functional_here : IsFunctional here
-functional_here = search functional depth 30
+pub look_is_functional : {A : Type 0} (look : ℕ → A) → IsFunctional (peek look yields)
+look_is_functional look = search functional depth 30
 
-pub functional_look : {A : Type 0} (look : ℕ → A) → IsFunctional (peek look yields)
-functional_look look = search functional depth 30
+pub steps_are_functional : {n : ℕ} → IsFunctional (skip (Steps n))
+steps_are_functional = search functional depth 30
 
-pub functional_steps : {n : ℕ} → IsFunctional (skip (Steps n))
-functional_steps = search functional depth 30
+pub jump_is_functional : {k : ℕ} → IsFunctional (skip (JumpsTo k))
+jump_is_functional = search functional depth 30
 
-pub functional_reaches : {k : ℕ} → IsFunctional (skip (JumpsTo k))
-functional_reaches = search functional depth 30
+pub star_is_functional : (starred star : Bool) → IsFunctional (only_star starred star)
+star_is_functional starred star = search functional depth 30
 
-pub functional_star : (starred star : Bool) → IsFunctional (only_star starred star)
-functional_star starred star = search functional depth 30
-
-pub functional_arrow_end : (t : List ℕ) → IsFunctional (peek (after_eol t) arrow_line_end)
-functional_arrow_end t = functional_peek functional_arrow
+pub arrow_end_is_functional : (t : List ℕ) → IsFunctional (peek (after_eol t) arrow_line_end)
+arrow_end_is_functional t = peek_is_functional arrow_is_functional
 
 -- ---- what is inside, within one more
 
@@ -165,11 +163,12 @@ module _ (edition : Edition) (t : List ℕ) where
   pub no_placeable : (n i j : ℕ) → n ≡ 0 → token t left_brace i (Read tt j) →
       TooDeep (placeable t (within edition t n)) i
   no_placeable n i j e x = subst (λ n. TooDeep (placeable t (within edition t n)) i) (sym e)
-      (deeper_next (functional_token t left_brace) tt j x
+      (deeper_next (token_is_functional t left_brace) tt j x
       (deeper_skip (λ k w. deeper_first (none_inside edition t k))))
 
   pub no_call : (n i j k : ℕ) (found : Bool) → n ≡ 0 → Blank t i j → optional t left_parenthesis j (Read found k) →
       found ≡ true → TooDeep (call_arguments t (within edition t n)) i
   no_call n i j k found e w x f = subst (λ n. TooDeep (call_arguments t (within edition t n)) i) (sym e)
-      (deeper_next (functional_blank t) tt j (passed w) (deeper_next (functional_optional t left_parenthesis) found k x
+      (deeper_next (blank_is_functional t) tt j (passed w) (deeper_next (optional_is_functional t left_parenthesis)
+      found k x
       (deeper_yes f (deeper_first (deeper_skip (λ m v. no_list_inside edition t m))))))

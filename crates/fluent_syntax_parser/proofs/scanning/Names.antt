@@ -26,8 +26,8 @@ module _ (t : List ℕ) where
     abbrev is_name : Span → Bool
     is_name a = pointwise nat_eq name (bytes_at t a)
 
-    pub name_found : is_name (get_or named i d) ≡ true → is_used name (names_in_order t named) ≡ true
-    name_found e = list_any-map (pointwise nat_eq name) (bytes_at t) named ∙ list_any_at is_name named i d l e
+    pub name_is_used : is_name (get_or named i d) ≡ true → is_used name (names_in_order t named) ≡ true
+    name_is_used e = list_any-map (pointwise nat_eq name) (bytes_at t) named ∙ list_any_at is_name named i d l e
 
     pub name_not_yet : is_used name (names_in_order t (take i named)) ≡ false → is_name (get_or named i d) ≡ false →
         is_used name (names_in_order t (take (i + 1) named)) ≡ false

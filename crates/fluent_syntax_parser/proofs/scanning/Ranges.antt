@@ -1,6 +1,5 @@
 -- A part of a text that is trimmed is no longer than it was.
-use Rattle.std.proofs.Common.{ℕ, ◌-◌, ◌≤◌, List, length}
-use Rattle.std.proofs.Common.{arith, length-drop}
+use Rattle.std.proofs.Common.{ℕ, ◌-◌, ◌≤◌, List, length, arith, length-drop}
 use Rattle.std.specs.Prelude.{slice_range}
 use Rattle.std.proofs.lemmas.List.{length-take}
 use Rattle.fluent_syntax_tree.specs.Text.{trimmed_len}

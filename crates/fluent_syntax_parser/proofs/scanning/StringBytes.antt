@@ -20,16 +20,16 @@ simple b (inl e) = rw e refl
 simple b (inr (inl e)) = rw e refl
 simple b (inr (inr e)) = rw e refl
 
-pub unequal : (b n : ℕ) → (b ≡ n → ⊥) → (b == n) ≡ false
-unequal b n e = grind (arith, nat_tests)
+pub unequal_by_test : (b n : ℕ) → (b ≡ n → ⊥) → (b == n) ≡ false
+unequal_by_test b n e = grind (arith, nat_tests)
 
 pub not_simple : (b : ℕ) → ((b ≡ double_quote) ⊎ ((b ≡ backslash) ⊎ (b ≡ left_brace)) → ⊥) →
     (b == backslash || b == double_quote || b == left_brace) ≡ false
 not_simple b none =
     rw (
-      unequal b backslash (λ e. none (inr (inl e))),
-      unequal b double_quote (λ e. none (inl e)),
-      unequal b left_brace
+      unequal_by_test b backslash (λ e. none (inr (inl e))),
+      unequal_by_test b double_quote (λ e. none (inl e)),
+      unequal_by_test b left_brace
           (λ e. none (inr (inr e))),
     ) refl
 

@@ -13,7 +13,7 @@ use Rattle.fluent_syntax_grammar.specs.Tiling as tiling
 use Rattle.fluent_syntax_grammar.specs.Tiling.{Tile, Tiled, done, next, drops, entry_in, reads, refuses, keeps_tile}
 use Rattle.fluent_syntax_grammar.specs.Tiling.{whole_line}
 use Rattle.fluent_syntax_grammar.proofs.Functional.{single_block}
-use Rattle.fluent_syntax_grammar.proofs.Nesting.{functional_within}
+use Rattle.fluent_syntax_grammar.proofs.Nesting.{within_is_functional}
 use Rattle.fluent_syntax_grammar.proofs.OneTiling.{IsOneTile, one_runtime_tile_in, one_tile_in}
 use Rattle.fluent_syntax_parser.specs.Rest.{GivesTile, TiledHere, TileDeeper, TileIn, are_dropped, at_end, at_tile}
 use Rattle.fluent_syntax_parser.specs.declared.options.Comments.{Comments}
@@ -33,8 +33,8 @@ module _ (t : List ℕ) (at : (i j : ℕ) → Tile → Type 0) where
 
 module _ (edition : Edition) (t : List ℕ) (n : ℕ) where
   one_within : (comments : Comments) → IsOneTile (TileIn comments edition t (within edition t n))
-  one_within Kept = one_tile_in edition t (within edition t n) (functional_within edition t n)
-  one_within Dropped = one_runtime_tile_in edition t (within edition t n) (functional_within edition t n)
+  one_within Kept = one_tile_in edition t (within edition t n) (within_is_functional edition t n)
+  one_within Dropped = one_runtime_tile_in edition t (within edition t n) (within_is_functional edition t n)
 
   module _ (comments : Comments) (i j : ℕ) where
     -- a blank block holds no entry

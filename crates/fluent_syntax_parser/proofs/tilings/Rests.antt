@@ -15,15 +15,13 @@ use Rattle.fluent_syntax_grammar.specs.Family.{Family}
 use Rattle.fluent_syntax_grammar.specs.Grammar.{family, within}
 use Rattle.fluent_syntax_grammar.specs.Tiling as tiling
 use Rattle.fluent_syntax_grammar.specs.Tiling.{Fault, Tile, entry, refused, dropped, Tiled, done, next, TileAt}
-use Rattle.fluent_syntax_grammar.specs.Tiling.{entry_at, entry_in, reads}
-use Rattle.fluent_syntax_grammar.specs.Tiling.{refuses, drops, keeps_tile, whole_line}
+use Rattle.fluent_syntax_grammar.specs.Tiling.{entry_at, entry_in, reads, refuses, drops, keeps_tile, whole_line}
 use Rattle.fluent_syntax_grammar.proofs.BareEntries.{bare_tile_at}
 use Rattle.fluent_syntax_grammar.proofs.Runtime.{IsBareTile}
-use Rattle.fluent_syntax_grammar.proofs.IncludedEntries.{included_entry, tile_part}
+use Rattle.fluent_syntax_grammar.proofs.IncludedEntries.{entry_is_included, tile_part}
 use Rattle.fluent_syntax_grammar.proofs.Nesting.{within_family}
 use Rattle.fluent_syntax_parser.specs.Rest.{EntryAt, EntryTo, GivesTile, Attaches, ReadSoFar, Rest, RestAt, TiledHere}
-use Rattle.fluent_syntax_parser.specs.Rest.{TileIn}
-use Rattle.fluent_syntax_parser.specs.Rest.{are_dropped, at_end, at_tile, faults_of, may_attach}
+use Rattle.fluent_syntax_parser.specs.Rest.{TileIn, are_dropped, at_end, at_tile, faults_of, may_attach}
 use Rattle.fluent_syntax_parser.specs.declared.options.Comments.{Comments}
 use Rattle.fluent_syntax_parser.specs.declared.options.Comments.TheVariants.{Kept, Dropped}
 
@@ -42,10 +40,10 @@ attaches_none (entry s (junk x)) y e same other = refl
 attaches_none (refused f) y e same other = refl
 attaches_none dropped y e same other = refl
 
-body_then : (x : Tile) (more : List Tile) (e : EntryTree Span) → alone x ≡ e ∷ [] → may_attach e ≡ false →
+body_is_written : (x : Tile) (more : List Tile) (e : EntryTree Span) → alone x ≡ e ∷ [] → may_attach e ≡ false →
     body (x ∷ more) ≡ e ∷ body more
-body_then x [] e same other = same
-body_then x (y ∷ more) e same other = rw (attaches_none x y e same other, same) refl
+body_is_written x [] e same other = same
+body_is_written x (y ∷ more) e same other = rw (attaches_none x y e same other, same) refl
 
 dropped_then : (more : List Tile) → body (dropped ∷ more) ≡ body more
 dropped_then [] = refl
@@ -65,8 +63,8 @@ module _ (t : List ℕ) (at : (i j : ℕ) → Tile → Type 0) where
   after_block i j tiles block (at_tile l x more) = next block l x more
 
 module _ (comments : Comments) (edition : Edition) (t : List ℕ) where
-  pub none_left : (i : ℕ) → i ≡ length t → RestAt comments edition t i [] []
-  none_left i end = record { tiles = []; tiled_here = at_end end; yields = refl; errors_are = refl }
+  pub text_ends : (i : ℕ) → i ≡ length t → RestAt comments edition t i [] []
+  text_ends i end = record { tiles = []; tiled_here = at_end end; yields = refl; errors_are = refl }
 
   pub rest_after : (i j : ℕ) (entries : BodyTree Span) (errors : List (Option Fault)) → BlankBlock t i j →
       RestAt comments edition t j entries errors → Rest comments edition t i entries errors
@@ -91,7 +89,7 @@ at_any_depth edition t n = tile_part edition t (within edition t n) (family edit
 pub at_any_depth_entry : (edition : Edition) (t : List ℕ) (n i : ℕ) {o : Outcome (EntryTree Span)} →
     entry_in edition t (within edition t n) i o → entry_at edition t i o
 at_any_depth_entry edition t n i x =
-    (included_entry edition t (within edition t n) (family edition t) (within_family edition t n)).part i _ x
+    (entry_is_included edition t (within edition t n) (family edition t) (within_family edition t n)).part i _ x
 
 module _ (edition : Edition) (t : List ℕ) (i j : ℕ) (inside : i < length t) where
   pub rest_dropped : (comments : Comments) → are_dropped comments ≡ true → has_byte t hash i ≡ true →
@@ -114,7 +112,7 @@ module _ (edition : Edition) (t : List ℕ) (i j : ℕ) (inside : i < length t) 
       tiles = tile.tile ∷ rest.tiles;
       tiled_here = at_tile inside (in_mode comments edition t (family edition t) i j tile.tile none
           (at_any_depth edition t n i j tile.tile tile.in_place)) rest.tiled;
-      yields = body_then tile.tile rest.tiles e tile.entry other ∙ ap (λ b. e ∷ b) rest.yields;
+      yields = body_is_written tile.tile rest.tiles e tile.entry other ∙ ap (λ b. e ∷ b) rest.yields;
       errors_are = rw (faults_then tile.tile rest.tiles, tile.errors, rest.errors_are) refl;
     }
 
@@ -129,7 +127,7 @@ module _ (edition : Edition) (t : List ℕ) (i j : ℕ) (inside : i < length t) 
           tiles = tile ∷ rest.tiles;
           tiled_here = at_tile inside
               (in_mode comments edition t (family edition t) i j tile none (reads read)) rest.tiled;
-          yields = body_then tile rest.tiles e refl other ∙ ap (λ b. e ∷ b) rest.yields;
+          yields = body_is_written tile rest.tiles e refl other ∙ ap (λ b. e ∷ b) rest.yields;
           errors_are = rest.errors_are;
         }
 

@@ -10,7 +10,7 @@ use Rattle.fluent_syntax_grammar.specs.Tiling.{entry_in, Tile, JunkEnd, failing_
 use Rattle.fluent_syntax_grammar.proofs.Boundaries.{text_cuts}
 use Rattle.fluent_syntax_grammar.proofs.SoundStrings.{InText}
 use Rattle.fluent_syntax_grammar.proofs.SoundTiling.{entry_refused, tile_good}
-use Rattle.fluent_syntax_grammar.proofs.IncludedEntries.{included_entry}
+use Rattle.fluent_syntax_grammar.proofs.IncludedEntries.{entry_is_included}
 use Rattle.fluent_syntax_grammar.proofs.Nesting.{within_family}
 use Rattle.fluent_syntax_parser.specs.Faults.{fault_of, refused_as}
 use Rattle.fluent_syntax_parser.specs.Outcomes.{IsRefusedAs, kind_at, from_of, to_of}
@@ -40,7 +40,7 @@ module _ (edition : Edition) (t : List ℕ) (i j : ℕ) (inside : i < length t) 
     refused_in_text =
         let same = fails_there t r.fault r.from r.place in
         let here = entry_refused edition t (InText t) (text_cuts t) i _ _ _ (omega (arith, inside))
-        ((included_entry edition t (within edition t n) (family edition t) (within_family edition t n)).part i _
+        ((entry_is_included edition t (within edition t n) (family edition t) (within_family edition t n)).part i _
         (refused _ _ _ (refl, refl, refl))) in
         omega (arith, same, here.in_text)
 

@@ -5,7 +5,7 @@ ghost use Rattle.fluent_syntax_tree.specs.View.{entry_view};
 ghost use Rattle.fluent_syntax_grammar.specs.Comments.{comment_entry, comment_line, comment_of, hashes, level_of};
 ghost use Rattle.fluent_syntax_parser.specs.CommentLines.{line_of};
 ghost use Rattle.fluent_syntax_parser.specs.Made.{AddsParsed, Parses};
-ghost use Rattle.fluent_syntax_parser.specs.Outcomes.{Answers};
+ghost use Rattle.fluent_syntax_parser.specs.Outcomes.{HasOutcome};
 
 use crate::fault::{ReadFault, Refusal};
 use crate::lists::add;
@@ -38,7 +38,7 @@ impl<'s> Source<'s> {
     /// Hashes at the very end of the text add no line.
     fn get_comment_line(&self, level: usize, ptr: usize) -> Result<(Option<Span>, usize), Refusal>
         requires { ptr + level ≤ length self.now.bytes.now }
-        ensures parses { Answers self.now.bytes.now (comment_line self.now.bytes.now level) line_of ptr result }
+        ensures parses { HasOutcome self.now.bytes.now (comment_line self.now.bytes.now level) line_of ptr result }
         ensures within { IfOk result (λ read. (ptr + level ≤ read.1) × (read.1 ≤ length self.now.bytes.now)) }
     {
         let ptr = ptr + level;

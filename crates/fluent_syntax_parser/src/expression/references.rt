@@ -10,7 +10,7 @@ ghost use Rattle.fluent_syntax_grammar.specs.Inline.{is_callee_byte, named_refer
 ghost use Rattle.fluent_syntax_parser.specs.Boxed.{mapped_inline};
 ghost use Rattle.fluent_syntax_parser.specs.Gathered.{maybe_view};
 ghost use Rattle.fluent_syntax_parser.specs.Last.{AddsPlaced, Pushes};
-ghost use Rattle.fluent_syntax_parser.specs.Outcomes.{Answers};
+ghost use Rattle.fluent_syntax_parser.specs.Outcomes.{HasOutcome};
 
 use crate::expression::last::add_inline;
 use crate::fault::{Fault, ReadFault, Refusal};
@@ -39,7 +39,7 @@ impl<'s> Source<'s> {
     ) -> Result<(Option<Identifier<Span>>, usize), Refusal>
         requires { ptr ≤ length self.now.bytes.now }
         ensures parses { let t = self.now.bytes.now in
-            Answers t (accessor t) (option_map (identifier_view (λ s. s))) ptr result }
+            HasOutcome t (accessor t) (option_map (identifier_view (λ s. s))) ptr result }
         ensures within { IfOk result (λ read. (ptr ≤ read.1) × (read.1 ≤ length self.now.bytes.now)) }
     {
         let (dot, start) = self.take_byte_if(b'.', ptr);

@@ -8,7 +8,7 @@ ghost use Rattle.fluent_syntax_grammar.specs.Places.{has};
 ghost use Rattle.fluent_syntax_grammar.specs.Variants.{has_default, is_number_start, more_variants, variant_key};
 ghost use Rattle.fluent_syntax_parser.specs.Gathered.{variants_view};
 ghost use Rattle.fluent_syntax_parser.specs.Made.{Fills};
-ghost use Rattle.fluent_syntax_parser.specs.Outcomes.{Answers};
+ghost use Rattle.fluent_syntax_parser.specs.Outcomes.{HasOutcome};
 
 use crate::fault::{Fault, ReadFault, Refusal};
 use crate::lists::add;
@@ -40,7 +40,7 @@ impl<'s> Source<'s> {
     pub(crate) fn get_variant_key(&self, ptr: usize) -> Result<(VariantKey<Span>, usize), Refusal>
         requires { ptr ≤ length self.now.bytes.now }
         ensures parses { let t = self.now.bytes.now in
-            Answers t (variant_key t) (key_view (λ s. s)) ptr result }
+            HasOutcome t (variant_key t) (key_view (λ s. s)) ptr result }
         ensures within { IfOk result (λ read. (ptr < read.1) × (read.1 ≤ length self.now.bytes.now)) }
     {
         if self.is_number_start(ptr) {

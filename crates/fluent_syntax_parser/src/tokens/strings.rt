@@ -2,7 +2,7 @@
 ghost use Rattle.std.specs.Prelude.{◌<◌, ◌≤◌, length, IfOk};
 ghost use Rattle.fluent_syntax_grammar.specs.Places.{ByteRun};
 ghost use Rattle.fluent_syntax_grammar.specs.Strings.{hex_digits, HexDigits, string_literal, string_units};
-ghost use Rattle.fluent_syntax_parser.specs.Outcomes.{Answers, ParsesEnd};
+ghost use Rattle.fluent_syntax_parser.specs.Outcomes.{HasOutcome, ParsesEnd};
 ghost use Rattle.fluent_syntax_parser.specs.Strings.{escape, is_plain};
 
 use crate::fault::{Fault, Refusal};
@@ -102,7 +102,7 @@ impl<'s> Source<'s> {
 
     pub(crate) fn get_string_literal(&self, ptr: usize) -> Result<(Span, usize), Refusal>
         requires { ptr ≤ length self.now.bytes.now }
-        ensures parses { Answers self.now.bytes.now (string_literal self.now.bytes.now) (λ s. s) ptr result }
+        ensures parses { HasOutcome self.now.bytes.now (string_literal self.now.bytes.now) (λ s. s) ptr result }
         ensures within { IfOk result (λ read. (ptr < read.1) × (read.1 ≤ length self.now.bytes.now)) }
     {
         let start = self.expect_byte(b'"', ptr)?;

@@ -25,9 +25,8 @@ use Rattle.fluent_syntax_grammar.specs.Rules.{entry_obeys}
 use Rattle.fluent_syntax_writer.specs.RuleSets.{number}
 use Rattle.fluent_syntax_writer.specs.SingleRule.{every_rule, asks, single_rule, entry_keeps, has_line, comment_keeps}
 use Rattle.fluent_syntax_writer.specs.SingleRule.{may_begin, is_tight, may_begin_line, spelling_keeps, place_keeps}
-use Rattle.fluent_syntax_writer.specs.SingleRule.{texts_keep, has_element, flush_keeps, lines_keep}
-use Rattle.fluent_syntax_writer.specs.SingleRule.{pattern_keeps, expression_keeps, have_values, have_new_names}
-use Rattle.fluent_syntax_writer.specs.SingleRule.{arguments_keep}
+use Rattle.fluent_syntax_writer.specs.SingleRule.{texts_keep, has_element, flush_keeps, lines_keep, pattern_keeps}
+use Rattle.fluent_syntax_writer.specs.SingleRule.{expression_keeps, have_values, have_new_names, arguments_keep}
 use Rattle.fluent_syntax_writer.specs.declared.canonical.rules.Rule.{Rule}
 use Rattle.fluent_syntax_writer.specs.declared.canonical.rules.Rule.TheVariants as rule
 use Rattle.fluent_syntax_writer.proofs.rules.Named.{nameds_whole}

@@ -1,6 +1,5 @@
 -- The least number of the lines of a pattern.
-use Rattle.std.proofs.Common.{◌≡◌, ℕ, min, List, ◌++◌, Option, Some, None, refl, sym}
-use Rattle.std.proofs.Common.{ap, ◌∙◌, arith}
+use Rattle.std.proofs.Common.{◌≡◌, ℕ, min, List, ◌++◌, Option, Some, None, refl, sym, ap, ◌∙◌, arith}
 use Rattle.std.specs.Prelude.{option_to_list}
 use Rattle.fluent_syntax_tree.specs.Tree.{ElementTree, text_element, placeable, PatternTree, elements}
 use Rattle.fluent_syntax_tree.specs.declared.edition.Edition.{Edition}

@@ -18,7 +18,7 @@ use Rattle.fluent_syntax_writer.specs.Texts.{is_plain_pattern, is_plain_text}
 use Rattle.fluent_syntax_writer.specs.declared.canonical.rules.Rule.{Rule}
 use Rattle.fluent_syntax_writer.specs.declared.canonical.rules.Rule.TheVariants as rule
 use Rattle.fluent_syntax_grammar.proofs.Facts.{left_true, right_true}
-use Rattle.fluent_syntax_grammar.proofs.Tests.{both, differ, not_true, or_right}
+use Rattle.fluent_syntax_grammar.proofs.Tests.{both_true, differ, not_true, true_by_right}
 
 -- a text that ends plainly
 record Ends (v : Text) : Type 0 where
@@ -35,7 +35,7 @@ ends_by (b ∷ []) ends =
     }
 ends_by (b ∷ c ∷ bs) ends =
     let rest = ends_by (c ∷ bs) ends in
-    record { no_lf = ap (λ t. b ∷ t) rest.no_lf; shown = or_right (not (is_space b)) _ rest.shown }
+    record { no_lf = ap (λ t. b ∷ t) rest.no_lf; shown = true_by_right (not (is_space b)) _ rest.shown }
 
 if_true : (b : Bool) → (if b then true else true) ≡ true
 if_true true = refl
@@ -48,7 +48,7 @@ pub text_spelled : (k : Rule) (v : Text) → is_text v ≡ true → spelling_kee
 text_spelled k v text =
     let later = right_true (not (is_empty v)) _ text in
     let no_crlf = right_true (not (list_any is_brace v)) _ later in
-    both (both (both (asked_true rule.EmptyText k _ (left_true (not (is_empty v)) _ text))
+    both_true (both_true (both_true (asked_true rule.EmptyText k _ (left_true (not (is_empty v)) _ text))
     (asked_true rule.BraceInText k _ (left_true (not (list_any is_brace v)) _ later)))
     (asked_true rule.CrBeforeLf k _ (left_true (not (has_crlf v)) _ no_crlf)))
     (asked_true rule.LfWithinText k _ (right_true (not (has_crlf v)) _ no_crlf))
@@ -68,12 +68,13 @@ plain_text_keeps edition k v plain =
     let on_one_line : (has_lf v || false) ≡ false =
     ap (λ u. has_lf u || false) (sym ends.no_lf) ∙ ap (λ b. b || false) no_lf in
     let shown = ap (list_any (λ b. not (is_space b))) ends.no_lf ∙ ends.shown in
-    let place = both (asked_true rule.BlankFirstText k _ (ap (λ b. b || false) shown))
+    let place = both_true (asked_true rule.BlankFirstText k _ (ap (λ b. b || false) shown))
     (asked_true rule.LeadingSpace k _ tight) in
-    let texts = both (both (both (text_spelled k v text) place) (asked_true rule.BlankEnd k _ plainly)) refl in
+    let texts = both_true (both_true (both_true (text_spelled k v text) place) (asked_true rule.BlankEnd k _ plainly))
+        refl in
     ap (λ multiline. (asks rule.EmptyPattern k true && texts_keep edition k multiline opening p)
     && lines_keep edition k multiline p) on_one_line
-    ∙ both (both (asked_true rule.EmptyPattern k true refl) texts) refl
+    ∙ both_true (both_true (asked_true rule.EmptyPattern k true refl) texts) refl
 
 -- A pattern that is one text on one line keeps each rule.
 pub plain_pattern_keeps : (edition : Edition) (k : Rule) (p : PatternTree Text) → is_plain_pattern p ≡ true

@@ -11,8 +11,7 @@ use Rattle.fluent_syntax_grammar.specs.Readable.{ElementPosition, is_line_start,
 use Rattle.fluent_syntax_grammar.specs.Canonical.{hides_mark, are_lone}
 use Rattle.fluent_syntax_grammar.specs.Written.{Text, is_multiline, spans_lines}
 use Rattle.fluent_syntax_writer.specs.SingleRule.{has_element, texts_keep}
-use Rattle.fluent_syntax_writer.specs.Places.{position_past, element_keeps, is_placeable}
-use Rattle.fluent_syntax_writer.specs.Places.{element_hides_mark}
+use Rattle.fluent_syntax_writer.specs.Places.{position_past, element_keeps, is_placeable, element_hides_mark}
 use Rattle.fluent_syntax_writer.specs.Places.{is_lone_lf_at_line_start}
 use Rattle.fluent_syntax_writer.specs.declared.canonical.rules.Rule.{Rule}
 

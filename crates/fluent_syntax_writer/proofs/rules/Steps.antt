@@ -1,6 +1,5 @@
 -- Loops over a list, by what a function gives of what is left.
-use Rattle.std.proofs.Common.{◌≡◌, ℕ, ◌+◌, ◌<◌, List, ◌∷◌, length, get_or, drop, Bool, true, false, ◌&&◌, sym}
-use Rattle.std.proofs.Common.{ap, ◌∙◌}
+use Rattle.std.proofs.Common.{◌≡◌, ℕ, ◌+◌, ◌<◌, List, ◌∷◌, length, get_or, drop, Bool, true, false, ◌&&◌, sym, ap, ◌∙◌}
 use Rattle.std.proofs.lemmas.List.{at_drop_more}
 use Rattle.fluent_syntax_writer.proofs.rules.Sets.{and_assoc}
 
@@ -19,9 +18,9 @@ module _ {S X : Type 0} (all : S → List X → Bool) (one : S → X → List X 
       next_of (all s) xs i x within is ∙ step s x others ∙ ap (λ b. b && all (next s x) others) passes in
       sym same ∙ rest
 
-  pub item_fails : (s : S) (xs : List X) (i : ℕ) (x : X) (whole : Bool) → i < length xs → x ≡ get_or xs i x
+  pub item_breaks : (s : S) (xs : List X) (i : ℕ) (x : X) (whole : Bool) → i < length xs → x ≡ get_or xs i x
       → one s x (drop (i + 1) xs) ≡ false → all s (drop i xs) ≡ whole → false ≡ whole
-  item_fails s xs i x whole within is fails rest =
+  item_breaks s xs i x whole within is fails rest =
       let others = drop (i + 1) xs in
       let same : all s (drop i xs) ≡ false =
       next_of (all s) xs i x within is ∙ step s x others ∙ ap (λ b. b && all (next s x) others) fails in

@@ -1,5 +1,5 @@
 use Rattle.std.proofs.Common.{Some, None, ap, refl, subst, sym, ◌∙◌}
-use Rattle.fluent_syntax_edits.specs.Edits.{Answers}
+use Rattle.fluent_syntax_edits.specs.Edits.{IsEditResult}
 use Rattle.fluent_syntax_c.specs.Edits.{not_found, not_one_entry, refused}
 use Rattle.fluent_syntax_c.proofs.PartsRead.{place_read}
 use Rattle.fluent_syntax_c.proofs.edits.edited_text.Goals as goal
@@ -21,7 +21,7 @@ returns-in-Some-Ok-clause-edited c = λ edition t p read is.
         spells = x.1;
       };
       made = c.in-Some-Ok.text;
-      answers = subst (λ r. Answers edition t c.in-Some.index x.0 r) c.in-Some-Ok.field-0-is x.2;
+      answers = subst (λ r. IsEditResult edition t c.in-Some.index x.0 r) c.in-Some-Ok.field-0-is x.2;
       text_is = ap (λ bytes. bytes.items) c.into_bytes.ensures.value;
       outcome_is = read.outcome_is;
     }
@@ -38,7 +38,7 @@ returns-in-Some-edit_refusal-clause-not_edited c = λ edition t p read is.
           (Some c.in-Some.index) c.place_of.ensures c.in-Some.is;
       spells = x.1;
     })
-    (subst (λ r. Answers edition t c.in-Some.index x.0 r) c.in-Some-Err.field-0-is x.2)
+    (subst (λ r. IsEditResult edition t c.in-Some.index x.0 r) c.in-Some-Err.field-0-is x.2)
     (sym c.edit_refusal.ensures ∙ c.in-Some-edit_refusal.is)
 
 pub returns-in-None-edited_source-clause-not_edited : goal.returns-in-None-edited_source-clause-not_edited

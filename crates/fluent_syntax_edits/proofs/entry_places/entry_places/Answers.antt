@@ -4,7 +4,7 @@ use Rattle.std.specs.Global.{Global}
 use Rattle.std.proofs.Common.{Vec}
 use Rattle.fluent_syntax_edits.specs.EntryPlaces.{entry_places_after}
 use Rattle.fluent_syntax_edits.specs.declared.entry_places.EntryPlace.{EntryPlace}
-use Rattle.fluent_syntax_edits.proofs.EntryPlacesRead.{read_all, read_on}
+use Rattle.fluent_syntax_edits.proofs.EntryPlacesRead.{read_all, places_read_on}
 use Rattle.fluent_syntax_edits.proofs.entry_places.entry_places.Goals as goal
 use Rattle.fluent_syntax_edits.proofs.entry_places.entry_places.Goals.{in-Some+in_ok-push-in-Ok-None, in_default}
 
@@ -18,7 +18,7 @@ loop-found-preserved c =
     record {
       text = ap (λ source. source.bytes.now) here.text ∙ inv.text;
       edition = here.edition ∙ inv.edition;
-      read = read_on c.new-tiles.result.edition t c.loop-found.tiles.ptr c.next_tile.new.self.ptr ps _
+      read = places_read_on c.new-tiles.result.edition t c.loop-found.tiles.ptr c.next_tile.new.self.ptr ps _
           c.loop-found.last _
           c.in-Ok-Some.found inv.read next
           (λ tile more place. c.in_ok-add_place-in-Ok-Some.ensures tile more (place ∙ sym c.entry_place.ensures));

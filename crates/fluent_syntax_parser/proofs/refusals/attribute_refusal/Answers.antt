@@ -6,7 +6,7 @@ use Rattle.fluent_syntax_grammar.proofs.Nesting.{within_family}
 use Rattle.fluent_syntax_grammar.proofs.TotalEntries.{attribute_too_deep_left}
 use Rattle.fluent_syntax_parser.proofs.entry_forms.AttributeRefusals.{attribute_refused, refusal_place_in_text}
 use Rattle.fluent_syntax_parser.proofs.entry_forms.AttributeRefusals.{refusal_starts_in_text}
-use Rattle.fluent_syntax_parser.proofs.entry_forms.ExtentForms.{included_attribute}
+use Rattle.fluent_syntax_parser.proofs.entry_forms.ExtentForms.{attribute_is_included}
 use Rattle.fluent_syntax_parser.proofs.readers.Fails.{too_deep_there}
 use Rattle.fluent_syntax_parser.proofs.refusals.attribute_refusal.Goals as goal
 use Rattle.fluent_syntax_parser.proofs.refusals.attribute_refusal.Goals.{in-Err-Memory, in-Err-TooDeep, in-Ok}
@@ -31,7 +31,7 @@ returns-clause-refusal c =
           rw w.result-is (
             a,
             _,
-            (included_attribute edition t R (family edition t) (within_family edition t n)).part _ _
+            (attribute_is_included edition t R (family edition t) (within_family edition t n)).part _ _
                 (subst (λ i. attribute_of edition t R i (Read a w.in-Ok.field-0.0.span.end)) begins parts.whole),
           )
       | in-Err-Refused+in_ok-kind-in-Err-Refused w ↦

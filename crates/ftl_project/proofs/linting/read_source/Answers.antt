@@ -1,7 +1,7 @@
 use Rattle.std.proofs.Common.{◌≡◌, arith, ap, inl, inr, refl, subst, sym}
 use Rattle.std.specs.Prelude.{IfSome}
 use Rattle.ftl_project.specs.declared.tally.Tally.{Tally}
-use Rattle.ftl_project.proofs.Counting.{on_ok}
+use Rattle.ftl_project.proofs.Counting.{on_ok_given}
 use Rattle.ftl_project.proofs.Statuses.{status_least}
 use Rattle.ftl_project.proofs.linting.read_source.Goals as goal
 
@@ -10,7 +10,7 @@ returns-in-Err-clause-read g c =
     let report_text = c.report_fault.ensures.counted in
     let least = status_least c.in-Err.fault report_text.0 report_text.1 in
     let fault = ap (λ (t : Tally). t.fault) report_text.2 in
-    on_ok c.report_fault.result (record {
+    on_ok_given c.report_fault.result (record {
       one = inr (omega arith, omega (arith, least, fault));
       files_same = ap (λ (t : Tally). t.files) report_text.2;
     })

@@ -7,7 +7,7 @@ use Rattle.fluent_syntax_parser.specs.Elements.{flushed, item_shape, leading, pe
 use Rattle.fluent_syntax_grammar.specs.Elements.{placeable_item, with_ending}
 use Rattle.fluent_syntax_grammar.specs.Layout.{placed, run}
 use Rattle.fluent_syntax_parser.specs.Lines.{ending_view, piece_shape}
-use Rattle.fluent_syntax_parser.proofs.patterns.Waiting.{none_leads, placed_added, run_waits}
+use Rattle.fluent_syntax_parser.proofs.patterns.Waiting.{none_leads, waiting_placed_added, run_waits}
 use Rattle.fluent_syntax_parser.proofs.pattern.elements.add_pieces.Goals as goal
 
 pub loop-piece-preserved-in-Run : goal.loop-piece-preserved-in-Run
@@ -43,7 +43,7 @@ loop-piece-preserved g c =
     record {
       whole =
           ap (λ ys. ys ++ with_ending rest end) added
-          ∙ placed_added end xs old.pending old.led e rest
+          ∙ waiting_placed_added end xs old.pending old.led e rest
           ∙ ap (λ ps. xs ++ with_ending (pending_run old.pending (leading old.led ps)) end) (sym found)
           ∙ old.invariant.whole;
     }

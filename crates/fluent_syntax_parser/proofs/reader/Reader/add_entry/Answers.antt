@@ -3,9 +3,7 @@ use Rattle.std.proofs.Common.{sym}
 use Rattle.fluent_syntax_tree.specs.Entry.{entry_map}
 use Rattle.fluent_syntax_tree.specs.View.{entry_view}
 use Rattle.fluent_syntax_parser.proofs.entry_forms.EntryForms.{comment_fails, comment_there, message_fails}
-use Rattle.fluent_syntax_parser.proofs.entry_forms.EntryForms.{message_there}
-use Rattle.fluent_syntax_parser.proofs.entry_forms.EntryForms.{adds_as, term_fails}
-use Rattle.fluent_syntax_parser.proofs.entry_forms.EntryForms.{term_there}
+use Rattle.fluent_syntax_parser.proofs.entry_forms.EntryForms.{message_there, adds_as, term_fails, term_there}
 use Rattle.fluent_syntax_parser.proofs.reader.Reader.add_entry.Goals as goal
 
 pub returns-then-is_byte_at-clause-adds : goal.returns-then-is_byte_at-clause-adds

@@ -5,18 +5,18 @@ use Rattle.fluent_syntax_tree.specs.Kind.{ExpectedMessageField}
 use Rattle.fluent_syntax_tree.specs.declared.spans.Span.{Span}
 use Rattle.fluent_syntax_grammar.specs.Construct.{stops, goes_on, at_place}
 use Rattle.fluent_syntax_grammar.specs.Entries.{message_with}
-use Rattle.fluent_syntax_parser.proofs.entry_forms.FieldForms.{fields_fail, fields_then, is_some_of}
-use Rattle.fluent_syntax_parser.proofs.entry_forms.FieldForms.{message_of_attributes}
-use Rattle.fluent_syntax_parser.proofs.entry_forms.FieldForms.{message_of_value, message_without, no_items, none_of}
-use Rattle.fluent_syntax_parser.proofs.entry_forms.FieldForms.{some_items}
+use Rattle.fluent_syntax_parser.proofs.entry_forms.FieldForms.{fields_fail, fields_are_written, is_some_of}
+use Rattle.fluent_syntax_parser.proofs.entry_forms.FieldForms.{message_form_of_attributes, message_form_of_value}
+use Rattle.fluent_syntax_parser.proofs.entry_forms.FieldForms.{message_without, empty_by_length, none_of, some_items}
 use Rattle.fluent_syntax_parser.proofs.reader.Reader.add_message.Goals.{else-is_none-via-then-is_none+else-is_empty}
 use Rattle.fluent_syntax_parser.proofs.reader.Reader.add_message.Goals.{else-is_none-via-else-is_none}
-use Rattle.fluent_syntax_grammar.proofs.FunctionalWords.{functional_identifier}
+use Rattle.fluent_syntax_grammar.proofs.FunctionalWords.{identifier_is_functional}
 use Rattle.fluent_syntax_parser.specs.Outcomes.{no_memory, refused}
 use Rattle.fluent_syntax_parser.specs.declared.fault.Fault.TheVariants as fault
 use Rattle.fluent_syntax_parser.specs.Made.{made}
 use Rattle.fluent_syntax_parser.proofs.readers.Made.{on_made}
-use Rattle.fluent_syntax_parser.proofs.readers.Fails.{fails_next, functional_here, out_of_memory}
+use Rattle.fluent_syntax_grammar.proofs.Functional.{here_is_functional}
+use Rattle.fluent_syntax_parser.proofs.readers.Fails.{fails_next, out_of_memory}
 use Rattle.fluent_syntax_parser.proofs.scanning.NameTexts.{identifier_text}
 use Rattle.fluent_syntax_parser.proofs.reader.Reader.add_message.Goals as goal
 
@@ -31,8 +31,8 @@ returns-in_err-fields-clause-adds g c =
     let name : Span = record { start = c.args.start; end = c.in_ok-end.end } in
     let p = err_from_is_err_and c.from_residual-in_err-fields.result c.from_residual-in_err-fields.ensures.1 in
     rw (p.1, p.2) (
-      fails_next functional_here at_place
-          (fails_next (functional_identifier t) c.in_ok-end.ensures.parses
+      fails_next here_is_functional at_place
+          (fails_next (identifier_is_functional t) c.in_ok-end.ensures.parses
           (fields_fail c.args.self.now.edition t _ (message_with t c.args.start name) c.in_err-fields.ensures.parses)),
       refl,
     )
@@ -43,14 +43,14 @@ returns-then-is_empty-clause-adds g c =
     let name : Span = record { start = c.args.start; end = c.in_ok-end.end } in
     let found = c.in_ok-fields.fields in
     let size : length found.attributes.items ≡ vec_len found.attributes = omega (arith, found.attributes.ok.0) in
-    let none = no_items found.attributes.items _ size c.if-is_empty.ensures in
+    let none = empty_by_length found.attributes.items _ size c.if-is_empty.ensures in
     let text = sym (identifier_text t c.in_ok-end.ensures.parses) in
     on_made c.in_ok-fields.ensures.parses (λ x read same. (
       refused {f = fault.MessageField} {from = c.args.start} {place = c.in_ok-fields.place} (λ k from to (a, b, d).
           rw (a ∙ ap ExpectedMessageField text, b, d)
           (goes_on at_place
           (goes_on c.in_ok-end.ensures.parses
-          (fields_then c.args.self.now.edition t _ (message_with t c.args.start name) _ _ x _ read
+          (fields_are_written c.args.self.now.edition t _ (message_with t c.args.start name) _ _ x _ read
           (message_without t c.args.start _ name x.0 x.1
           (is_some_of _ _ found.value x.0 (ap (λ y. y.0) same) ∙ c.if-is_none.ensures)
           (none_of _ _ found.attributes.items x.1 (ap (λ y. y.1) same) none)))))),
@@ -80,14 +80,14 @@ returns-clause-adds g c =
       made
           (goes_on at_place
           (goes_on c.in_ok-end.ensures.parses
-          (fields_then c.args.self.now.edition t _ (message_with t c.args.start name) _ _ x _ read
+          (fields_are_written c.args.self.now.edition t _ (message_with t c.args.start name) _ _ x _ read
           (elim c.else-is_none.branch [
             | else-is_none-via-then-is_none+else-is_empty w ↦
-                message_of_attributes t c.args.start place name x.0 x.1
+                message_form_of_attributes t c.args.start place name x.0 x.1
                 (λ none. some_items rest _ size w.if-is_empty.ensures
                 (none_of _ _ x.1 rest (sym (ap (λ y. y.1) same)) none))
             | else-is_none-via-else-is_none w ↦
-                message_of_value t c.args.start place name x.0 x.1
+                message_form_of_value t c.args.start place name x.0 x.1
                 (is_some_of _ _ found.value x.0 (ap (λ y. y.0) same) ∙ w.if-is_none.ensures)
           ]))))
           (rw (c.in_ok-id.ensures, ap (λ y. y.0) same, ap (λ y. y.1) same) refl),

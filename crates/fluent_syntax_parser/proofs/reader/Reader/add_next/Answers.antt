@@ -1,11 +1,10 @@
 use Rattle.std.proofs.Common.{◌<◌, ◌∷◌, ◌++◌, ◌∙◌, [], length, refl, sym, ap, arith}
 use Rattle.std.proofs.lemmas.Result.{err_from_is_err_and}
 use Rattle.fluent_syntax_parser.proofs.tilings.DeeperTiles.{after_comment, after_attached, after_one, entry_deeper}
-use Rattle.fluent_syntax_parser.proofs.tilings.DeeperTiles.{attached_led}
-use Rattle.fluent_syntax_parser.proofs.tilings.DeeperTiles.{one_led, tile_at_end}
+use Rattle.fluent_syntax_parser.proofs.tilings.DeeperTiles.{attached_led, one_led, tile_at_end}
 use Rattle.fluent_syntax_parser.proofs.entry_forms.MadeEntries.{comment_added, other_added}
 use Rattle.fluent_syntax_parser.specs.MadeEntries.{ends_with_comment}
-use Rattle.fluent_syntax_parser.proofs.tilings.Rests.{in_mode, none_left, rest_comment, rest_tile}
+use Rattle.fluent_syntax_parser.proofs.tilings.Rests.{in_mode, text_ends, rest_comment, rest_tile}
 use Rattle.fluent_syntax_parser.proofs.reader.Reader.add_next.Goals as goal
 
 -- ---- what is added
@@ -13,7 +12,7 @@ use Rattle.fluent_syntax_parser.proofs.reader.Reader.add_next.Goals as goal
 pub returns-then-start-self-clause-next : goal.returns-then-start-self-clause-next
 returns-then-start-self-clause-next g c = (
   c.tile_start-start.ensures.rest c.args.self.now.edition _ _
-      (none_left c.args.comments c.args.self.now.edition c.args.self.now.source.bytes.now _ c.if-start-self.true),
+      (text_ends c.args.comments c.args.self.now.edition c.args.self.now.source.bytes.now _ c.if-start-self.true),
   refl,
   refl,
 )

@@ -7,14 +7,15 @@ use Rattle.fluent_syntax_tree.specs.Tree.{pattern_map}
 use Rattle.fluent_syntax_grammar.specs.Entries.{term_with}
 use Rattle.fluent_syntax_grammar.specs.Grammar.{within}
 use Rattle.fluent_syntax_parser.specs.Fields.{fields}
-use Rattle.fluent_syntax_parser.proofs.entry_forms.FieldForms.{fields_fail, fields_then, no_field, some_field}
+use Rattle.fluent_syntax_parser.proofs.entry_forms.FieldForms.{fields_fail, fields_are_written, no_field, some_field}
 use Rattle.fluent_syntax_grammar.specs.Bytes.{hyphen}
-use Rattle.fluent_syntax_grammar.proofs.FunctionalWords.{functional_identifier, functional_token}
+use Rattle.fluent_syntax_grammar.proofs.FunctionalWords.{identifier_is_functional, token_is_functional}
 use Rattle.fluent_syntax_parser.specs.Outcomes.{no_memory, refused}
 use Rattle.fluent_syntax_parser.specs.declared.fault.Fault.TheVariants as fault
 use Rattle.fluent_syntax_parser.specs.Made.{made}
 use Rattle.fluent_syntax_parser.proofs.readers.Made.{on_made}
-use Rattle.fluent_syntax_parser.proofs.readers.Fails.{fails_next, functional_here, out_of_memory}
+use Rattle.fluent_syntax_grammar.proofs.Functional.{here_is_functional}
+use Rattle.fluent_syntax_parser.proofs.readers.Fails.{fails_next, out_of_memory}
 use Rattle.fluent_syntax_parser.proofs.scanning.NameTexts.{identifier_text, mark_before}
 use Rattle.fluent_syntax_parser.proofs.reader.Reader.add_term.Goals as goal
 
@@ -40,9 +41,9 @@ returns-in_err-fields-clause-adds g c =
     let name : Span = record { start = c.in_ok-letter.letter; end = c.in_ok-end.end } in
     let p = err_from_is_err_and c.from_residual-in_err-fields.result c.from_residual-in_err-fields.ensures.1 in
     rw (p.1, p.2) (
-      fails_next functional_here at_place
-          (fails_next (functional_token t hyphen) c.in_ok-letter.ensures.parses
-          (fails_next (functional_identifier t) c.in_ok-end.ensures.parses
+      fails_next here_is_functional at_place
+          (fails_next (token_is_functional t hyphen) c.in_ok-letter.ensures.parses
+          (fails_next (identifier_is_functional t) c.in_ok-end.ensures.parses
           (fields_fail c.args.self.now.edition t _ (term_with t c.args.start name) c.in_err-fields.ensures.parses))),
       refl,
     )
@@ -72,7 +73,7 @@ returns-in_ok-add-in-Some-clause-adds g c =
           (goes_on at_place
           (goes_on c.in_ok-letter.ensures.parses
           (goes_on c.in_ok-end.ensures.parses
-          (fields_then edition t _ (term_with t c.args.start name) _ _ (Some value, x.1) _ there given))))
+          (fields_are_written edition t _ (term_with t c.args.start name) _ _ (Some value, x.1) _ there given))))
           (rw (c.in_ok-id-in-Some.ensures, same_value, ap (λ y. y.1) same) refl),
     )))
 
@@ -91,7 +92,7 @@ returns-in-None-clause-adds g c =
           (goes_on at_place
           (goes_on c.in_ok-letter.ensures.parses
           (goes_on c.in_ok-end.ensures.parses
-          (fields_then c.args.self.now.edition t _ (term_with t c.args.start name) _ _ (None, x.1) _
+          (fields_are_written c.args.self.now.edition t _ (term_with t c.args.start name) _ _ (None, x.1) _
           (no_field (pattern_map (g.M.MakeTexts.source c.args.self.now.texts.now))
           (fields edition t (within edition t c.args.nesting)) x read (ap (λ y. y.0) same)) failed_from))))),
       refl,

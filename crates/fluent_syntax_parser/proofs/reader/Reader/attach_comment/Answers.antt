@@ -3,8 +3,8 @@ use Rattle.fluent_syntax_tree.specs.Entry.{comment, regular}
 use Rattle.fluent_syntax_tree.specs.declared.ast.Entry.TheVariants as entries
 use Rattle.fluent_syntax_grammar.specs.Tiling.{reads}
 use Rattle.fluent_syntax_parser.proofs.entry_forms.EntryForms.{hash_attaches_not}
-use Rattle.fluent_syntax_parser.proofs.entry_forms.AttachesOn.{beyond_blank, attaches_not, attaches_to, no_entry}
-use Rattle.fluent_syntax_parser.proofs.entry_forms.AttachesOn.{other_entry}
+use Rattle.fluent_syntax_parser.proofs.entry_forms.AttachesOn.{attaches_not_after_blank, attaches_not, attaches_to}
+use Rattle.fluent_syntax_parser.proofs.entry_forms.AttachesOn.{no_entry, other_entry}
 use Rattle.fluent_syntax_grammar.proofs.TotalEntries.{too_deep_left}
 use Rattle.fluent_syntax_parser.proofs.tilings.DeeperTiles.{after_one, entry_deeper, one_led, text_deeper, tile_deeper}
 use Rattle.fluent_syntax_parser.proofs.readers.Fails.{refuses_there, too_deep_there}
@@ -30,7 +30,7 @@ returns-then-is_byte_at-clause-attaches g c = λ before comm last.
           | then-is_byte_at-via-then-is_byte_at w ↦
               (λ block e j read. hash_attaches_not edition t content c.args.ptr j e (sym w.if-is_byte_at.ensures) read)
           | then-is_byte_at-via-else-is_byte_at+then-skip_blank_block-ptr w ↦
-              beyond_blank edition t content c.args.ptr _ w.skip_blank_block.ensures.blank
+              attaches_not_after_blank edition t content c.args.ptr _ w.skip_blank_block.ensures.blank
               w.if-skip_blank_block-ptr.true
         ]),
         ap (comment regular) lines,

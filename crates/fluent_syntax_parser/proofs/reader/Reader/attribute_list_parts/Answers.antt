@@ -3,7 +3,7 @@ use Rattle.fluent_syntax_grammar.specs.Construct.{Read}
 use Rattle.fluent_syntax_grammar.specs.Entries.{attribute_of}
 use Rattle.fluent_syntax_grammar.specs.Grammar.{within}
 use Rattle.fluent_syntax_grammar.proofs.DeeperEntries.{deeper_attribute, deeper_attributes}
-use Rattle.fluent_syntax_grammar.proofs.Nesting.{functional_within}
+use Rattle.fluent_syntax_grammar.proofs.Nesting.{within_is_functional}
 use Rattle.fluent_syntax_parser.specs.Outcomes.{no_memory, too_deep}
 use Rattle.fluent_syntax_parser.proofs.entry_forms.ExtentForms.{all_ranges, no_ranges, one_extent}
 use Rattle.fluent_syntax_parser.proofs.readers.Fails.{out_of_memory, shown, too_deep_there}
@@ -23,7 +23,7 @@ loop-ranges-preserved-in_ok-add-in-Ok g c =
       gathered =
           one_extent edition t R c.args.ptr _ _ _ _ c.in_ok-add-in-Ok.ensures.added old.gathered a parts begins;
       deeper = λ h. old.deeper
-          (deeper_attributes edition t R (functional_within edition t c.args.nesting)
+          (deeper_attributes edition t R (within_is_functional edition t c.args.nesting)
           (subst (λ i. attribute_of edition t R i (Read a c.in-Ok.ranges.span.end)) begins parts.whole) h);
     }
 

@@ -5,8 +5,8 @@ use Rattle.fluent_syntax_tree.specs.Tree.{pattern_map}
 use Rattle.fluent_syntax_grammar.specs.Bytes.{equals_sign, full_stop}
 use Rattle.fluent_syntax_grammar.specs.Grammar.{within}
 use Rattle.fluent_syntax_grammar.specs.Patterns.{pattern}
-use Rattle.fluent_syntax_grammar.proofs.FunctionalWords.{functional_identifier, functional_inline_blank}
-use Rattle.fluent_syntax_grammar.proofs.FunctionalWords.{functional_token}
+use Rattle.fluent_syntax_grammar.proofs.FunctionalWords.{identifier_is_functional, inline_blank_is_functional}
+use Rattle.fluent_syntax_grammar.proofs.FunctionalWords.{token_is_functional}
 use Rattle.fluent_syntax_parser.specs.Outcomes.{refused}
 use Rattle.fluent_syntax_parser.proofs.readers.Made.{no_value_read, on_made, on_value}
 use Rattle.fluent_syntax_parser.proofs.readers.Fails.{fails_first, fails_next}
@@ -42,11 +42,11 @@ returns-in_err-value-clause-finds g c =
     let t = c.args.self.now.source.bytes.now in
     let p = err_from_is_err_and c.from_residual-in_err-value.result c.from_residual-in_err-value.ensures.1 in
     rw (p.1, p.2)
-    (fails_next (functional_inline_blank t) (passed c.skip_blank_inline-dot.ensures.blank)
-    (fails_next (functional_token t full_stop) c.in_ok-letter.ensures.parses
-    (fails_next (functional_identifier t) c.in_ok-name_end.ensures.parses
-    (fails_next (functional_inline_blank t) (passed c.skip_blank_inline-equals.ensures.blank)
-    (fails_next (functional_token t equals_sign) c.in_ok-start.ensures.parses
+    (fails_next (inline_blank_is_functional t) (passed c.skip_blank_inline-dot.ensures.blank)
+    (fails_next (token_is_functional t full_stop) c.in_ok-letter.ensures.parses
+    (fails_next (identifier_is_functional t) c.in_ok-name_end.ensures.parses
+    (fails_next (inline_blank_is_functional t) (passed c.skip_blank_inline-equals.ensures.blank)
+    (fails_next (token_is_functional t equals_sign) c.in_ok-start.ensures.parses
     (fails_first c.in_err-value.ensures.parses))))))
 
 pub returns-in-Some-clause-finds : goal.returns-in-Some-clause-finds

@@ -1,6 +1,6 @@
 use Rattle.std.proofs.Common.{rules}
 use Rattle.fluent_syntax_parser.specs.Rest.{faults_of}
-use Rattle.fluent_syntax_parser.proofs.entry_forms.MadeEntries.{all_read, none_read, read_on, error_faults}
+use Rattle.fluent_syntax_parser.proofs.entry_forms.MadeEntries.{whole_body_made, none_read, body_read_on, error_faults}
 use Rattle.fluent_syntax_parser.proofs.tilings.Rests.{entry_to}
 use Rattle.fluent_syntax_parser.proofs.reader.Reader.get_body.Goals as goal
 
@@ -26,7 +26,8 @@ loop-errors-preserved g c =
     let nested = rw c.in-Some.is at c.in_ok-span.ensures.shallow in
     record {
       within = search rules;
-      read = read_on f g.M.MakeTexts.made c.args.comments c.args.self.now.edition c.args.self.now.source.bytes.now _ _ _
+      read = body_read_on f g.M.MakeTexts.made c.args.comments c.args.self.now.edition c.args.self.now.source.bytes.now
+          _ _ _
           old.invariant.read _ next.entry next.tree (faults_of next.error) in_place next.same _ next.added _
           (error_faults _ _ next.error next.errors_are);
       deeper = λ h. old.invariant.deeper (nested.1 h);
@@ -39,5 +40,5 @@ returns-in_default-clause-read g c =
     let f = g.M.MakeTexts.source c.args.self.now.texts.now in
     let none = rw c.in_default.is at c.in_ok-span.ensures.next in
     rw (none.1, none.2)
-    (all_read f g.M.MakeTexts.made c.args.comments c.args.self.now.edition c.args.self.now.source.bytes.now _ _ _
+    (whole_body_made f g.M.MakeTexts.made c.args.comments c.args.self.now.edition c.args.self.now.source.bytes.now _ _ _
     c.loop-errors.invariant.read none.0)

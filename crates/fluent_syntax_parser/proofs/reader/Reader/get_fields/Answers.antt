@@ -2,10 +2,10 @@ use Rattle.std.proofs.Common.{refl}
 use Rattle.std.proofs.lemmas.Result.{err_from_is_err_and}
 use Rattle.fluent_syntax_grammar.specs.Construct.{stops, goes_on, given, passed}
 use Rattle.fluent_syntax_grammar.specs.Bytes.{equals_sign}
-use Rattle.fluent_syntax_grammar.proofs.FunctionalRules.{functional_pattern}
-use Rattle.fluent_syntax_grammar.proofs.FunctionalWords.{functional_blank_block, functional_inline_blank}
-use Rattle.fluent_syntax_grammar.proofs.FunctionalWords.{functional_token}
-use Rattle.fluent_syntax_grammar.proofs.Nesting.{functional_within}
+use Rattle.fluent_syntax_grammar.proofs.FunctionalRules.{pattern_over_is_functional}
+use Rattle.fluent_syntax_grammar.proofs.FunctionalWords.{blank_block_is_functional, inline_blank_is_functional}
+use Rattle.fluent_syntax_grammar.proofs.FunctionalWords.{token_is_functional}
+use Rattle.fluent_syntax_grammar.proofs.Nesting.{within_is_functional}
 use Rattle.fluent_syntax_parser.specs.Outcomes.{refused}
 use Rattle.fluent_syntax_parser.specs.Made.{made}
 use Rattle.fluent_syntax_parser.proofs.readers.Made.{on_made}
@@ -24,8 +24,8 @@ returns-in_err-value-clause-parses g c =
     let t = c.args.self.now.source.bytes.now in
     let p = err_from_is_err_and c.from_residual-in_err-value.result c.from_residual-in_err-value.ensures.1 in
     rw (p.1, p.2)
-    (fails_next (functional_inline_blank t) (passed c.skip_blank_inline-equals.ensures.blank)
-    (fails_next (functional_token t equals_sign) c.in_ok-start.ensures.parses
+    (fails_next (inline_blank_is_functional t) (passed c.skip_blank_inline-equals.ensures.blank)
+    (fails_next (token_is_functional t equals_sign) c.in_ok-start.ensures.parses
     (fails_first c.in_err-value.ensures.parses)))
 
 pub returns-in_err-attributes-clause-parses : goal.returns-in_err-attributes-clause-parses
@@ -35,10 +35,10 @@ returns-in_err-attributes-clause-parses g c =
     let p = err_from_is_err_and c.from_residual-in_err-attributes.result c.from_residual-in_err-attributes.ensures.1 in
     rw (p.1, p.2)
     (on_made c.in_ok-value.ensures.parses (λ value read same.
-    fails_next (functional_inline_blank t) (passed c.skip_blank_inline-equals.ensures.blank)
-    (fails_next (functional_token t equals_sign) c.in_ok-start.ensures.parses
-    (fails_next (functional_pattern edition t _ (functional_within edition t _)) read
-    (fails_next (functional_blank_block t) (passed c.in_ok-value.ensures.beyond)
+    fails_next (inline_blank_is_functional t) (passed c.skip_blank_inline-equals.ensures.blank)
+    (fails_next (token_is_functional t equals_sign) c.in_ok-start.ensures.parses
+    (fails_next (pattern_over_is_functional edition t _ (within_is_functional edition t _)) read
+    (fails_next (blank_block_is_functional t) (passed c.in_ok-value.ensures.beyond)
     (fails_first c.in_err-attributes.ensures.parses))))))
 
 pub returns-clause-parses : goal.returns-clause-parses

@@ -5,7 +5,7 @@ use Rattle.fluent_syntax_parser.proofs.readers.Gathers as gathers
 use Rattle.fluent_syntax_grammar.specs.Entries.{attributes_of}
 use Rattle.fluent_syntax_grammar.specs.Grammar.{within}
 use Rattle.fluent_syntax_grammar.proofs.DeeperEntries.{deeper_attribute, deeper_attributes}
-use Rattle.fluent_syntax_grammar.proofs.Nesting.{functional_within}
+use Rattle.fluent_syntax_grammar.proofs.Nesting.{within_is_functional}
 use Rattle.fluent_syntax_parser.specs.Outcomes.{no_memory, too_deep}
 use Rattle.fluent_syntax_parser.proofs.readers.Made.{on_made}
 use Rattle.fluent_syntax_parser.proofs.readers.Fails.{out_of_memory, shown, too_deep_there}
@@ -25,7 +25,7 @@ loop-next-preserved g c =
           _ _ _ _ _ read.adds.1 old.gathered a same (λ more end h. one_more there h);
       deeper = λ h. old.deeper
           (deeper_attributes c.args.self.now.edition t R
-          (functional_within c.args.self.now.edition t c.args.nesting) there h);
+          (within_is_functional c.args.self.now.edition t c.args.nesting) there h);
     })
 
 pub returns-in-Err-Refused-clause-parses : goal.returns-in-Err-Refused-clause-parses

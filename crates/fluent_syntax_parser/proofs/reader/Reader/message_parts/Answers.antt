@@ -6,16 +6,17 @@ use Rattle.fluent_syntax_tree.specs.declared.spans.Span.{Span}
 use Rattle.fluent_syntax_grammar.specs.Construct.{stops, goes_on, at_place}
 use Rattle.fluent_syntax_grammar.specs.Entries.{message_with}
 use Rattle.fluent_syntax_grammar.specs.Grammar.{within}
-use Rattle.fluent_syntax_grammar.proofs.FunctionalWords.{functional_identifier}
+use Rattle.fluent_syntax_grammar.proofs.FunctionalWords.{identifier_is_functional}
 use Rattle.fluent_syntax_parser.specs.PartRanges.{message_has_parts}
 use Rattle.fluent_syntax_parser.specs.Outcomes.{refused}
 use Rattle.fluent_syntax_parser.specs.declared.fault.Fault.TheVariants as fault
-use Rattle.fluent_syntax_parser.proofs.entry_forms.ExtentForms.{fields_there, no_attribute_ranges, no_attributes}
+use Rattle.fluent_syntax_parser.proofs.entry_forms.ExtentForms.{fields_there, no_attribute_ranges, no_attribute_trees}
 use Rattle.fluent_syntax_parser.proofs.entry_forms.ExtentForms.{same_value}
-use Rattle.fluent_syntax_parser.proofs.readers.Fails.{fails_next, functional_here}
-use Rattle.fluent_syntax_parser.proofs.entry_forms.FieldForms.{fields_fail, fields_then, message_of_attributes}
-use Rattle.fluent_syntax_parser.proofs.entry_forms.FieldForms.{message_of_value}
-use Rattle.fluent_syntax_parser.proofs.entry_forms.FieldForms.{message_without, no_items, some_items}
+use Rattle.fluent_syntax_grammar.proofs.Functional.{here_is_functional}
+use Rattle.fluent_syntax_parser.proofs.readers.Fails.{fails_next}
+use Rattle.fluent_syntax_parser.proofs.entry_forms.FieldForms.{fields_fail, fields_are_written}
+use Rattle.fluent_syntax_parser.proofs.entry_forms.FieldForms.{message_form_of_attributes, message_form_of_value}
+use Rattle.fluent_syntax_parser.proofs.entry_forms.FieldForms.{message_without, empty_by_length, some_items}
 use Rattle.fluent_syntax_parser.proofs.reader.Reader.message_parts.Goals.{else-is_none-via-else-is_none}
 use Rattle.fluent_syntax_parser.proofs.reader.Reader.message_parts.Goals.{else-is_none-via-then-is_none+else-is_empty}
 use Rattle.fluent_syntax_parser.proofs.scanning.NameTexts.{identifier_text}
@@ -32,8 +33,8 @@ returns-in_err-value g c =
     let name : Span = record { start = c.args.start; end = c.in_ok-end.end } in
     let p = err_from_is_err_and c.from_residual-in_err-value.result c.from_residual-in_err-value.ensures.1 in
     rw (p.1, p.2)
-    (fails_next functional_here at_place
-    (fails_next (functional_identifier t) c.in_ok-end.ensures.parses
+    (fails_next here_is_functional at_place
+    (fails_next (identifier_is_functional t) c.in_ok-end.ensures.parses
     (fields_fail c.args.self.now.edition t _ (message_with t c.args.start name) c.in_err-value.ensures)))
 
 pub returns-then-is_empty : goal.returns-then-is_empty
@@ -44,18 +45,18 @@ returns-then-is_empty g c =
     let name : Span = record { start = c.args.start; end = c.in_ok-end.end } in
     let found = c.in_ok-value in
     let size : length found.attributes.items ≡ vec_len found.attributes = omega (arith, found.attributes.ok.0) in
-    let none = no_items found.attributes.items _ size c.if-is_empty.ensures in
+    let none = empty_by_length found.attributes.items _ size c.if-is_empty.ensures in
     let text = sym (identifier_text t c.in_ok-end.ensures.parses) in
     let (f, parts_hold) = found.ensures in
     refused {f = fault.MessageField} {from = c.args.start} {place = found.place} (λ k from to (a, b, d).
     rw (a ∙ ap ExpectedMessageField text, b, d)
     (goes_on at_place
     (goes_on c.in_ok-end.ensures.parses
-    (fields_then edition t R (message_with t c.args.start name) _ _ f _
+    (fields_are_written edition t R (message_with t c.args.start name) _ _ f _
     (fields_there edition t R _ _ _ found.value f parts_hold)
     (message_without t c.args.start _ name f.0 f.1
     (same_value edition t R _ _ _ found.value f parts_hold ∙ c.if-is_none.ensures)
-    (no_attributes edition t R parts_hold.attributes none))))))
+    (no_attribute_trees edition t R parts_hold.attributes none))))))
 
 pub returns : goal.returns
 returns g c =
@@ -70,15 +71,15 @@ returns g c =
       _,
       goes_on at_place
           (goes_on c.in_ok-end.ensures.parses
-          (fields_then edition t R (message_with t c.args.start name) _ _ f _
+          (fields_are_written edition t R (message_with t c.args.start name) _ _ f _
           (fields_there edition t R _ _ _ found.value f parts_hold)
           (elim c.else-is_none.branch [
             | else-is_none-via-then-is_none+else-is_empty w ↦
-                message_of_attributes t c.args.start found.place name f.0 f.1
+                message_form_of_attributes t c.args.start found.place name f.0 f.1
                 (λ none. some_items found.attributes.items _ size w.if-is_empty.ensures
                 (no_attribute_ranges edition t R parts_hold.attributes none))
             | else-is_none-via-else-is_none w ↦
-                message_of_value t c.args.start found.place name f.0 f.1
+                message_form_of_value t c.args.start found.place name f.0 f.1
                 (same_value edition t R _ _ _ found.value f parts_hold ∙ w.if-is_none.ensures)
           ]))),
       message_has_parts refl c.in_ok-end.ensures.parses parts_hold,

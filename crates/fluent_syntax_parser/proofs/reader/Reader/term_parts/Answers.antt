@@ -6,13 +6,14 @@ use Rattle.fluent_syntax_grammar.specs.Bytes.{hyphen}
 use Rattle.fluent_syntax_grammar.specs.Construct.{stops, goes_on, at_place, given, failed_from}
 use Rattle.fluent_syntax_grammar.specs.Entries.{term_with}
 use Rattle.fluent_syntax_grammar.specs.Grammar.{within}
-use Rattle.fluent_syntax_grammar.proofs.FunctionalWords.{functional_identifier, functional_token}
+use Rattle.fluent_syntax_grammar.proofs.FunctionalWords.{identifier_is_functional, token_is_functional}
 use Rattle.fluent_syntax_parser.specs.PartRanges.{term_has_parts}
 use Rattle.fluent_syntax_parser.specs.Outcomes.{refused}
 use Rattle.fluent_syntax_parser.specs.declared.fault.Fault.TheVariants as fault
 use Rattle.fluent_syntax_parser.proofs.entry_forms.ExtentForms.{fields_there, with_value, without_value}
-use Rattle.fluent_syntax_parser.proofs.readers.Fails.{fails_next, functional_here}
-use Rattle.fluent_syntax_parser.proofs.entry_forms.FieldForms.{fields_fail, fields_then}
+use Rattle.fluent_syntax_grammar.proofs.Functional.{here_is_functional}
+use Rattle.fluent_syntax_parser.proofs.readers.Fails.{fails_next}
+use Rattle.fluent_syntax_parser.proofs.entry_forms.FieldForms.{fields_fail, fields_are_written}
 use Rattle.fluent_syntax_parser.proofs.scanning.NameTexts.{identifier_text, mark_before}
 use Rattle.fluent_syntax_parser.proofs.reader.Reader.term_parts.Goals as goal
 
@@ -35,9 +36,9 @@ returns-in_err-value g c =
     let name : Span = record { start = c.in_ok-letter.letter; end = c.in_ok-end.end } in
     let p = err_from_is_err_and c.from_residual-in_err-value.result c.from_residual-in_err-value.ensures.1 in
     rw (p.1, p.2)
-    (fails_next functional_here at_place
-    (fails_next (functional_token t hyphen) c.in_ok-letter.ensures.parses
-    (fails_next (functional_identifier t) c.in_ok-end.ensures.parses
+    (fails_next here_is_functional at_place
+    (fails_next (token_is_functional t hyphen) c.in_ok-letter.ensures.parses
+    (fails_next (identifier_is_functional t) c.in_ok-end.ensures.parses
     (fields_fail c.args.self.now.edition t _ (term_with t c.args.start name) c.in_err-value.ensures))))
 
 pub returns-then-is_none : goal.returns-then-is_none
@@ -55,7 +56,7 @@ returns-then-is_none g c =
     (goes_on at_place
     (goes_on c.in_ok-letter.ensures.parses
     (goes_on c.in_ok-end.ensures.parses
-    (fields_then edition t R (term_with t c.args.start name) _ _ (None, f.1) _
+    (fields_are_written edition t R (term_with t c.args.start name) _ _ (None, f.1) _
     (fields_there edition t R _ _ _ found.value (None, f.1)
     (without_value edition t R _ _ _ found.value f parts_hold c.if-is_none.ensures))
     failed_from)))))
@@ -74,7 +75,7 @@ returns g c =
       goes_on at_place
           (goes_on c.in_ok-letter.ensures.parses
           (goes_on c.in_ok-end.ensures.parses
-          (fields_then edition t R (term_with t c.args.start name) _ _ (Some value, f.1) _
+          (fields_are_written edition t R (term_with t c.args.start name) _ _ (Some value, f.1) _
           (fields_there edition t R _ _ _ found.value (Some value, f.1) parts)
           given))),
       term_has_parts c.in_ok-letter.ensures.parses c.in_ok-end.ensures.parses parts,

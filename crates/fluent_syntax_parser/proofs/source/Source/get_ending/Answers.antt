@@ -1,11 +1,11 @@
 use Rattle.std.proofs.Common.{sym, true≢false, ◌∙◌}
 use Rattle.fluent_syntax_grammar.proofs.LineEnds.{after_none}
-use Rattle.fluent_syntax_parser.proofs.patterns.LineEndings.{ends_line, ends_text}
+use Rattle.fluent_syntax_parser.proofs.patterns.LineEndings.{line_ending_read, ends_text}
 use Rattle.fluent_syntax_parser.proofs.source.Source.get_ending.Goals as goal
 
 pub returns-in-Some-clause-parses : goal.returns-in-Some-clause-parses
 returns-in-Some-clause-parses c =
-    rw c.ending_at.ensures.seen (ends_line c.args.self.now.bytes.now _ _ (sym c.in-Some.ensures.eol))
+    rw c.ending_at.ensures.seen (line_ending_read c.args.self.now.bytes.now _ _ (sym c.in-Some.ensures.eol))
 
 pub returns-in-None-clause-parses : goal.returns-in-None-clause-parses
 returns-in-None-clause-parses c = ends_text c.args.self.now.bytes.now _ (sym c.in-None.ensures.eol)

@@ -1,6 +1,6 @@
 use Rattle.std.proofs.Common.{◌≡◌, ◌≤◌, arith, length, subst}
 use Rattle.fluent_syntax_parser.specs.OneLine.{EndsLine}
-use Rattle.fluent_syntax_parser.proofs.patterns.OneLine.{none_read, short_read}
+use Rattle.fluent_syntax_parser.proofs.patterns.OneLine.{blank_pattern_read, short_read}
 use Rattle.fluent_syntax_parser.proofs.source.Source.one_line_text.Goals as goal
 
 pub returns-then-start-to-clause-opens : goal.returns-then-start-to-clause-opens
@@ -18,5 +18,5 @@ returns-else-start-to-clause-opens c = λ n i blank.
     let a = c.in_ok-text_end in
     let same : c.run_end-to.result ≡ c.args.start =
     omega (arith, c.run_end-to.ensures.run.forward, c.if-start-to.false) in
-    none_read c.args.edition t n c.args.start i a.text_end a.next c.in_ok-end.end blank
+    blank_pattern_read c.args.edition t n c.args.start i a.text_end a.next c.in_ok-end.end blank
     (subst (λ k. EndsLine t k a.text_end a.next) same a.ensures.ending) c.in_ok-end.ensures.lines

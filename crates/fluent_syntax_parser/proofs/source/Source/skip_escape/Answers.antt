@@ -5,7 +5,7 @@ use Rattle.fluent_syntax_grammar.specs.Construct.{Refused, goes_on, failed, pass
 use Rattle.fluent_syntax_grammar.specs.Strings.{hex_digits}
 use Rattle.fluent_syntax_parser.specs.Strings.{escape}
 use Rattle.fluent_syntax_parser.proofs.readers.Carried.{end_as}
-use Rattle.fluent_syntax_parser.proofs.scanning.StringBytes.{decimal_32, simple, not_simple, unequal}
+use Rattle.fluent_syntax_parser.proofs.scanning.StringBytes.{decimal_32, simple, not_simple, unequal_by_test}
 use Rattle.fluent_syntax_parser.proofs.source.Source.skip_escape.Goals as goal
 
 pub returns-in-None-clause-parses : goal.returns-in-None-clause-parses
@@ -52,6 +52,6 @@ returns-in-Some-clause-parses c =
     λ k from to (a, b, d). chosen {o = Refused k from to}
     (rw (a, b, d, ← c.in-Some.ensures)
     (second (not_simple _ test.0.0.1)
-    (second (unequal _ small_u test.0.1)
-    (second (unequal _ capital_u test.1)
+    (second (unequal_by_test _ small_u test.0.1)
+    (second (unequal_by_test _ capital_u test.1)
     (failed refl)))))

@@ -7,7 +7,7 @@ use Rattle.fluent_syntax_grammar.proofs.NameKeys.{notes_after}
 use Rattle.fluent_syntax_writer.specs.Names.{name_of}
 use Rattle.fluent_syntax_writer.proofs.rules.Named.{new_names, one_new_name, with_name, first_new_name, used}
 use Rattle.fluent_syntax_writer.proofs.rules.Named.{used-next, table-used}
-use Rattle.fluent_syntax_writer.proofs.rules.Steps.{item_passes, item_fails}
+use Rattle.fluent_syntax_writer.proofs.rules.Steps.{item_passes, item_breaks}
 use Rattle.fluent_syntax_writer.proofs.canonical.argument_names.have_new_names_by_table.Goals as goal
 
 pub returns-then-not-branch : goal.returns-then-not-branch
@@ -21,7 +21,7 @@ returns-then-not-branch g c =
     table-used f (λ k. k.now) c.loop-argument.table.keys earlier c.argument-item.result key is
     c.loop-argument.invariant.noted in
     let fails = ap not (sym found) ∙ sym c.in_ok-insert.ensures.added ∙ c.if-not-branch.true in
-    item_fails (new_names f) (one_new_name f) (with_name f) (first_new_name f) (used f earlier) named _ _ _
+    item_breaks (new_names f) (one_new_name f) (with_name f) (first_new_name f) (used f earlier) named _ _ _
     c.loop-argument-test.true c.argument-item.is fails c.loop-argument.invariant.rest
 
 pub loop-argument-preserved : goal.loop-argument-preserved

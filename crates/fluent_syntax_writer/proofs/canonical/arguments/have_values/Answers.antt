@@ -1,13 +1,13 @@
 use Rattle.std.proofs.Common.{sym, ◌∙◌}
 use Rattle.fluent_syntax_writer.proofs.rules.Named.{values, one_value, no_state, first_value}
-use Rattle.fluent_syntax_writer.proofs.rules.Steps.{item_passes, item_fails}
+use Rattle.fluent_syntax_writer.proofs.rules.Steps.{item_passes, item_breaks}
 use Rattle.fluent_syntax_writer.proofs.canonical.arguments.have_values.Goals as goal
 
 pub returns-then-not-is_argument_value : goal.returns-then-not-is_argument_value
 returns-then-not-is_argument_value g c =
     let f = g.T.ReadTexts.text in
     let fails = sym c.is_argument_value.ensures ∙ c.if-not-is_argument_value.true in
-    item_fails (values f) (one_value f) (no_state f) (first_value f) tt c.args.named.now _ _ _
+    item_breaks (values f) (one_value f) (no_state f) (first_value f) tt c.args.named.now _ _ _
     c.loop-argument-test.true c.argument-item.is fails c.loop-argument.invariant.rest
 
 pub loop-argument-preserved : goal.loop-argument-preserved

@@ -2,14 +2,14 @@ use Rattle.std.proofs.Common.{sym, ◌∙◌}
 use Rattle.fluent_syntax_tree.specs.View.{element_view}
 use Rattle.fluent_syntax_writer.specs.Places.{position_of}
 use Rattle.fluent_syntax_writer.proofs.rules.Positions.{lone, one_lone, past, first_lone}
-use Rattle.fluent_syntax_writer.proofs.rules.Steps.{item_passes, item_fails}
+use Rattle.fluent_syntax_writer.proofs.rules.Steps.{item_passes, item_breaks}
 use Rattle.fluent_syntax_writer.proofs.canonical.flush.are_lone.Goals as goal
 
 pub returns-then-not-is_lone_lf_at_line_start : goal.returns-then-not-is_lone_lf_at_line_start
 returns-then-not-is_lone_lf_at_line_start g c =
     let view = element_view g.T.ReadTexts.text in
     let fails = sym c.is_lone_lf_at_line_start.ensures ∙ c.if-not-is_lone_lf_at_line_start.true in
-    item_fails (lone view) (one_lone view) (past view) (first_lone view) _ c.args.elements.now _ _ _
+    item_breaks (lone view) (one_lone view) (past view) (first_lone view) _ c.args.elements.now _ _ _
     c.loop-element-test.true c.element-item.is fails c.loop-element.invariant.rest
 
 pub loop-element-preserved : goal.loop-element-preserved

@@ -14,8 +14,9 @@ use Rattle.fluent_syntax_grammar.specs.Bytes.{colon, left_parenthesis}
 use Rattle.fluent_syntax_grammar.specs.Construct.{goes_on, given, failed, passed, first, second}
 use Rattle.fluent_syntax_grammar.specs.Grammar.{within}
 use Rattle.fluent_syntax_grammar.specs.Places.{has_byte}
-use Rattle.fluent_syntax_grammar.proofs.FunctionalWords.{functional_blank, functional_optional, functional_token}
-use Rattle.fluent_syntax_grammar.proofs.Nesting.{functional_within}
+use Rattle.fluent_syntax_grammar.proofs.FunctionalWords.{blank_is_functional, optional_is_functional}
+use Rattle.fluent_syntax_grammar.proofs.FunctionalWords.{token_is_functional}
+use Rattle.fluent_syntax_grammar.proofs.Nesting.{within_is_functional}
 use Rattle.fluent_syntax_parser.specs.Made.{made}
 use Rattle.fluent_syntax_parser.specs.Outcomes.{no_memory, refused, too_deep}
 use Rattle.fluent_syntax_parser.specs.declared.fault.Fault.TheVariants as fault
@@ -56,11 +57,11 @@ get_call_arguments-returns-in_err-arguments-clause-parses g m c =
     let t = c.args.self.now.source.bytes.now in
     let p = err_from_is_err_and c.from_residual.result c.from_residual.ensures.1 in
     rw (p.1, p.2)
-    (fails_next (functional_blank t) (passed c.skip_blank-start.ensures.blank)
-    (fails_next (functional_optional t left_parenthesis) c.take_byte_if-bracket.ensures.parses
+    (fails_next (blank_is_functional t) (passed c.skip_blank-start.ensures.blank)
+    (fails_next (optional_is_functional t left_parenthesis) c.take_byte_if-bracket.ensures.parses
     (fails_yes c.if-not-bracket.false
     (fails_first
-    (fails_next (functional_blank t) (passed c.skip_blank-start-2.ensures.blank)
+    (fails_next (blank_is_functional t) (passed c.skip_blank-start-2.ensures.blank)
     (fails_list c.args.self.now.edition t c.if-nesting-eq0.false c.in_err-arguments.ensures.parses))))))
 
 pub get_call_arguments-returns-clause-parses : goal.get_call_arguments-returns-clause-parses
@@ -165,11 +166,11 @@ get_arguments-returns-in_err-end-in-Some-clause-parses g m c =
     (item_fails c.loop-noted.invariant.gathered.beyond
     (named_fails t _ (names_in t names) _
     (omega (arith, c.if-place-self.false, c.loop-noted.invariant.within)) (sym c.loop-noted-test.ensures) e _
-    read (functional_within c.args.self.now.edition t _) c.in-Some.name
+    read (within_is_functional c.args.self.now.edition t _) c.in-Some.name
     (sym (c.in-Some.ensures c.args.nesting _ e read there)) mark
     (fails_no new
-    (fails_next (functional_token t colon) (token_there t colon _ mark)
-    (fails_next (functional_blank t) (passed c.skip_blank-start.ensures.blank)
+    (fails_next (token_is_functional t colon) (token_there t colon _ mark)
+    (fails_next (blank_is_functional t) (passed c.skip_blank-start.ensures.blank)
     (fails_first c.in_err-end-in-Some.ensures.parses))))))
 
 pub get_arguments-returns-clause-parses : goal.get_arguments-returns-clause-parses
@@ -205,7 +206,7 @@ get_arguments-loop-noted-preserved-then-is_byte_at g m c =
           );
       within = c.skip_separator-place.ensures.within.1;
       gathered =
-          one_named t _ _ g.M.MakeTexts.made _ (functional_within c.args.self.now.edition t _) _ _ _
+          one_named t _ _ g.M.MakeTexts.made _ (within_is_functional c.args.self.now.edition t _) _ _ _
           old.noted.names.items
           old.invariant.gathered (omega (arith, c.if-place-self.false, old.invariant.within))
           (sym c.loop-noted-test.ensures) e _ read named.0 c.in-Some.name
@@ -258,7 +259,7 @@ get_arguments-loop-noted-preserved g m c =
           );
       within = c.skip_separator-place-in_default.ensures.within.1;
       gathered =
-          one_positional t _ _ g.M.MakeTexts.made _ (functional_within c.args.self.now.edition t _) _ _ _
+          one_positional t _ _ g.M.MakeTexts.made _ (within_is_functional c.args.self.now.edition t _) _ _ _
           old.noted.names.items
           old.invariant.gathered (omega (arith, c.if-place-self.false, old.invariant.within))
           (sym c.loop-noted-test.ensures) e _ read is none argument.0 (argument.2 _ _ added) _ argument.1 _

@@ -6,9 +6,9 @@ use Rattle.fluent_syntax_grammar.specs.Starts as starts
 use Rattle.fluent_syntax_grammar.specs.Bytes.{hyphen}
 use Rattle.fluent_syntax_grammar.specs.Construct.{stops, goes_on, given, failed}
 use Rattle.fluent_syntax_grammar.specs.Inline.{inline_of}
-use Rattle.fluent_syntax_grammar.proofs.FunctionalRules.{functional_accessor}
-use Rattle.fluent_syntax_grammar.proofs.FunctionalWords.{functional_identifier, functional_token}
-use Rattle.fluent_syntax_grammar.proofs.Nesting.{functional_within}
+use Rattle.fluent_syntax_grammar.proofs.FunctionalRules.{accessor_is_functional}
+use Rattle.fluent_syntax_grammar.proofs.FunctionalWords.{identifier_is_functional, token_is_functional}
+use Rattle.fluent_syntax_grammar.proofs.Nesting.{within_is_functional}
 use Rattle.fluent_syntax_parser.specs.Outcomes.{no_memory, refused}
 use Rattle.fluent_syntax_parser.proofs.readers.Fails.{fails_first, fails_next, fails_seen, out_of_memory}
 use Rattle.fluent_syntax_parser.proofs.expressions.InlineStarts.{by_start, number_starts, referred}
@@ -58,9 +58,9 @@ add_term_reference-returns-in_err-arguments-clause-parses g m c =
     let p = err_from_is_err_and c.from_residual-in_err-arguments.result c.from_residual-in_err-arguments.ensures.1 in
     rw (p.1, p.2)
     (fails_seen (inline_of t _) starts.term c.requires.starts
-    (fails_next (functional_token t hyphen) c.in_ok-start.ensures.parses
-    (fails_next (functional_identifier t) c.in_ok-end.ensures.parses
-    (fails_next (functional_accessor t) c.in_ok-attribute.ensures.parses
+    (fails_next (token_is_functional t hyphen) c.in_ok-start.ensures.parses
+    (fails_next (identifier_is_functional t) c.in_ok-end.ensures.parses
+    (fails_next (accessor_is_functional t) c.in_ok-attribute.ensures.parses
     (fails_first c.in_err-arguments.ensures.parses)))))
 
 pub add_term_reference-returns-clause-parses : goal.add_term_reference-returns-clause-parses
@@ -99,7 +99,7 @@ add_reference-returns-in_err-arguments-clause-parses g m c =
     let p = err_from_is_err_and c.from_residual-in_err-arguments.result c.from_residual-in_err-arguments.ensures.1 in
     rw (p.1, p.2)
     (fails_seen (inline_of t _) starts.letter c.requires.starts
-    (fails_next (functional_identifier t) c.in_ok-end.ensures.parses
+    (fails_next (identifier_is_functional t) c.in_ok-end.ensures.parses
     (fails_first c.in_err-arguments.ensures.parses)))
 
 pub add_reference-returns-clause-parses : goal.add_reference-returns-clause-parses
@@ -107,7 +107,7 @@ add_reference-returns-clause-parses g m c =
     let t = c.args.self.now.source.bytes.now in
     on_made c.in_ok-arguments.ensures.parses (λ a read same.
     referred g.M.MakeTexts.made t _ _ _ _ _ _ (c.add_named_reference.ensures.parses a same) c.requires.starts
-    c.in_ok-end.ensures.parses read (functional_within c.args.self.now.edition t _))
+    c.in_ok-end.ensures.parses read (within_is_functional c.args.self.now.edition t _))
 
 pub add_inner_placeable-wrap_last-requires : goal.add_inner_placeable-wrap_last-requires
 add_inner_placeable-wrap_last-requires g m c = (_, _, c.in_ok-end.ensures.parses.2)

@@ -8,25 +8,26 @@ use Rattle.fluent_syntax_grammar.specs.Construct.{goes_on, given, passed, at_pla
 use Rattle.fluent_syntax_grammar.specs.Grammar.{within}
 use Rattle.fluent_syntax_grammar.specs.Lines.{is_run_place, no_byte, other_line, own_line}
 use Rattle.fluent_syntax_grammar.specs.Patterns.{layout_at}
-use Rattle.fluent_syntax_grammar.proofs.FunctionalRules.{functional_ending, functional_next_line, functional_next_piece}
-use Rattle.fluent_syntax_grammar.proofs.FunctionalRules.{functional_pieces}
-use Rattle.fluent_syntax_grammar.proofs.FunctionalWords.{functional_blank_block, functional_inline_blank}
-use Rattle.fluent_syntax_grammar.proofs.Nesting.{functional_within}
+use Rattle.fluent_syntax_grammar.proofs.FunctionalRules.{ending_is_functional, next_line_is_functional}
+use Rattle.fluent_syntax_grammar.proofs.FunctionalRules.{next_piece_is_functional, pieces_are_functional}
+use Rattle.fluent_syntax_grammar.proofs.FunctionalWords.{blank_block_is_functional, inline_blank_is_functional}
+use Rattle.fluent_syntax_grammar.proofs.Nesting.{within_is_functional}
 use Rattle.fluent_syntax_parser.specs.Elements.{run_of}
 use Rattle.fluent_syntax_parser.specs.Layouts.{piece_of}
 use Rattle.fluent_syntax_parser.specs.Lines.{ending_view, line_view, piece_view}
 use Rattle.fluent_syntax_parser.specs.Made.{made}
 use Rattle.fluent_syntax_parser.specs.Opened.{none}
 use Rattle.fluent_syntax_parser.specs.Outcomes.{no_memory, refused}
-use Rattle.fluent_syntax_parser.proofs.entry_forms.FieldForms.{no_items as no_elements, some_items}
-use Rattle.fluent_syntax_parser.proofs.readers.ContinuesFrom.{all_made, item_fails, item_made, no_items}
-use Rattle.fluent_syntax_parser.proofs.readers.Fails.{fails_first, fails_next, fails_seen, functional_here}
-use Rattle.fluent_syntax_parser.proofs.readers.Fails.{functional_reaches, out_of_memory}
+use Rattle.fluent_syntax_parser.proofs.entry_forms.FieldForms.{empty_by_length as no_elements, some_items}
+use Rattle.fluent_syntax_parser.proofs.readers.ContinuesFrom.{all_made, item_fails, item_made, empty_by_length}
+use Rattle.fluent_syntax_grammar.proofs.Functional.{here_is_functional}
+use Rattle.fluent_syntax_parser.proofs.readers.Fails.{fails_first, fails_next, fails_seen}
+use Rattle.fluent_syntax_parser.proofs.readers.Fails.{jump_is_functional, out_of_memory}
 use Rattle.fluent_syntax_parser.proofs.readers.Made.{on_made}
 use Rattle.fluent_syntax_parser.proofs.patterns.BlankLines.{none_at_end, none_before_other}
-use Rattle.fluent_syntax_parser.proofs.patterns.Opening.{as_elements, ends_at, line_ends, no_opening, opening_ending}
-use Rattle.fluent_syntax_parser.proofs.patterns.Opening.{no_byte_there, other_byte}
-use Rattle.fluent_syntax_parser.proofs.patterns.Opening.{opening_fails, opening_placed, opening_read, opening_settled}
+use Rattle.fluent_syntax_parser.proofs.patterns.Opening.{as_elements, ends_at, run_ends_line, no_opening}
+use Rattle.fluent_syntax_parser.proofs.patterns.Opening.{opening_ending, no_byte_there, other_byte, opening_fails}
+use Rattle.fluent_syntax_parser.proofs.patterns.Opening.{opening_placed, opening_read, opening_settled}
 use Rattle.fluent_syntax_parser.proofs.patterns.Rest.{nothing_left}
 use Rattle.fluent_syntax_parser.proofs.patterns.Spelled.{layout_spelled, none_spelled, some_spelled}
 use Rattle.fluent_syntax_parser.proofs.patterns.Pieces.{bare_brace, end_pieces, line_read, no_pieces, line_onward}
@@ -53,8 +54,8 @@ add_opening-returns-in-Some-clause-opens g m c =
           (goes_on (passed (record { there = refl })) (goes_on (passed blank) (goes_on h given)));
       fails = λ e h.
           fails_seen (layout_at t _) _ c.in-Some.ensures.eol
-          (fails_next functional_reaches (passed (record { there = refl }))
-          (fails_next (functional_blank_block t) (passed blank) (fails_first h)));
+          (fails_next jump_is_functional (passed (record { there = refl }))
+          (fails_next (blank_block_is_functional t) (passed blank) (fails_first h)));
     }
 
 pub add_opening-loop-elements-init : goal.add_opening-loop-elements-init
@@ -84,7 +85,8 @@ add_opening-loop-elements-preserved g m c =
       unended = old.unended;
       gathered =
           opening_placed t R f g.M.MakeTexts.made _
-          (functional_next_piece t R (functional_within c.args.self.now.edition t _)) _ _ run _ old.gathered.beyond
+          (next_piece_is_functional t R (within_is_functional c.args.self.now.edition t _)) _ _ run _
+          old.gathered.beyond
           old.gathered.settled _ _ x _ old.gathered.same c.in_ok-add_text_run-in-Some-eq123.ensures pushed e seen _
           (placed_piece t R _ _ found (rw found refl) refl _ (goes_on there given));
     }
@@ -97,9 +99,9 @@ add_opening-returns-in-Some-eq125-clause-opens g m c =
     let old = c.loop-elements.invariant in
     let found = sym (rw c.in-Some-eq125.field-0-test at c.in-Some-eq125.ensures) in
     fails_seen (layout_at t R) _ (sym old.unended)
-    (fails_next functional_here at_place
+    (fails_next here_is_functional at_place
     (fails_first (opening_fails t R f g.M.MakeTexts.made _
-    (functional_next_piece t R (functional_within c.args.self.now.edition t _)) _ _ c.run_end-to.ensures.run _
+    (next_piece_is_functional t R (within_is_functional c.args.self.now.edition t _)) _ _ c.run_end-to.ensures.run _
     old.gathered.beyond (refused (λ k from to (a, b, d). rw (a, b, d)
     (bare_brace t R _ _ found (rw found refl) refl))))))
 
@@ -115,9 +117,9 @@ add_opening-returns-in_err-place-in-Some-eq123-clause-opens g m c =
     c.from_residual-in_err-place-in-Some-eq123.ensures.1 in
     rw (p.1, p.2)
     (fails_seen (layout_at t R) _ (sym old.unended)
-    (fails_next functional_here at_place
+    (fails_next here_is_functional at_place
     (fails_first (opening_fails t R f g.M.MakeTexts.made _
-    (functional_next_piece t R (functional_within c.args.self.now.edition t _)) _ _ c.run_end-to.ensures.run _
+    (next_piece_is_functional t R (within_is_functional c.args.self.now.edition t _)) _ _ c.run_end-to.ensures.run _
     old.gathered.beyond
     (placed_fails t R _ _ found (rw found refl) refl (fails_first c.in_err-place-in-Some-eq123.ensures.parses))))))
 
@@ -132,7 +134,7 @@ add_opening-returns-in_default-byte_at-clause-opens g m c =
     let R = within c.args.self.now.edition t c.args.nesting in
     let f = g.M.MakeTexts.source c.args.self.now.texts.now in
     let old = c.loop-elements.invariant in
-    let functional = functional_within c.args.self.now.edition t c.args.nesting in
+    let functional = within_is_functional c.args.self.now.edition t c.args.nesting in
     let run = c.run_end-to.ensures.run in
     let ends = c.get_ending-ending.ensures.parses in
     let apart : (slice_get t c.run_end-to.result ≡ Some left_brace → ⊥)
@@ -144,8 +146,8 @@ add_opening-returns-in_default-byte_at-clause-opens g m c =
       | goal.add_opening-in_default-byte_at-via-in_default w ↦
           let none = sym c.byte_at.ensures ∙ w.in_default-byte_at.is in (no_byte_there none, no_byte_there none)
     ] in
-    let there = opening_read t R f g.M.MakeTexts.made _ (functional_next_piece t R functional) _ _ run _
-    old.gathered.beyond (line_ends t R _ _ run apart.0 apart.1) in
+    let there = opening_read t R f g.M.MakeTexts.made _ (next_piece_is_functional t R functional) _ _ run _
+    old.gathered.beyond (run_ends_line t R _ _ run apart.0 apart.1) in
     record {
       opening =
           Some (record {
@@ -163,9 +165,9 @@ add_opening-returns-in_default-byte_at-clause-opens g m c =
           (goes_on at_place (goes_on there (goes_on ends (goes_on h given))));
       fails = λ e h.
           fails_seen (layout_at t R) _ (sym old.unended)
-          (fails_next functional_here at_place
-          (fails_next (functional_pieces t R functional) there
-          (fails_next (functional_ending t) ends (fails_first h))));
+          (fails_next here_is_functional at_place
+          (fails_next (pieces_are_functional t R functional) there
+          (fails_next (ending_is_functional t) ends (fails_first h))));
     }
 
 pub add_opening-returns-in_default-byte_at-clause-rest : goal.add_opening-returns-in_default-byte_at-clause-rest
@@ -179,14 +181,14 @@ get_long_pattern-returns-in_err-opening-clause-parses g m c =
     let t = c.args.self.now.source.bytes.now in
     let p = err_from_is_err_and c.from_residual.result c.from_residual.ensures.1 in
     rw (p.1, p.2)
-    (fails_first (fails_next (functional_inline_blank t) (passed c.requires.blank) c.in_err-opening.ensures.opens))
+    (fails_first (fails_next (inline_blank_is_functional t) (passed c.requires.blank) c.in_err-opening.ensures.opens))
 
 pub get_long_pattern-returns-in_err-end-clause-parses : goal.get_long_pattern-returns-in_err-end-clause-parses
 get_long_pattern-returns-in_err-end-clause-parses g m c =
     let t = c.args.self.now.source.bytes.now in
     let p = err_from_is_err_and c.from_residual-in_err-end.result c.from_residual-in_err-end.ensures.1 in
     rw (p.1, p.2)
-    (fails_first (fails_next (functional_inline_blank t) (passed c.requires.blank)
+    (fails_first (fails_next (inline_blank_is_functional t) (passed c.requires.blank)
     (c.in_ok-opening.ensures.opens.fails _ c.in_err-end.ensures.parses)))
 
 pub get_long_pattern-returns-in_err-end_elements-clause-parses :
@@ -283,8 +285,8 @@ gather_pieces-loop-elements-preserved-in-Continue-branch-2 g m c =
       within = read.within.1;
       gathered =
           item_made (piece_view g.M.MakeTexts.made) _ _ _ piece.1 c.loop-elements.invariant.gathered
-          (functional_next_piece t (within c.args.self.now.edition t c.args.nesting)
-          (functional_within c.args.self.now.edition t _)) _
+          (next_piece_is_functional t (within c.args.self.now.edition t c.args.nesting)
+          (within_is_functional c.args.self.now.edition t _)) _
           (placed_piece t (within c.args.self.now.edition t c.args.nesting) _ _ (sym c.in-Some.ensures)
           (sym c.if-is_eol_at.ensures) c.if-byte-eq123.true _
           (goes_on there given)) (piece.2 _ _ added);
@@ -304,8 +306,8 @@ gather_pieces-loop-elements-preserved g m c =
       gathered =
           item_made (piece_view g.M.MakeTexts.made) _ _ _ c.in_ok-add_run-in-Some.ensures
           c.loop-elements.invariant.gathered
-          (functional_next_piece t (within c.args.self.now.edition t c.args.nesting)
-          (functional_within c.args.self.now.edition t _)) _
+          (next_piece_is_functional t (within c.args.self.now.edition t c.args.nesting)
+          (within_is_functional c.args.self.now.edition t _)) _
           (run_piece t (within c.args.self.now.edition t c.args.nesting) _ _ (sym c.in-Some.ensures)
           (sym c.if-is_eol_at.ensures) c.if-byte-eq125.false
           c.if-byte-eq123.false _ run) refl;
@@ -327,7 +329,7 @@ pub gather_pieces-loop-elements-init : goal.gather_pieces-loop-elements-init
 gather_pieces-loop-elements-init g m c = record {
   forward = omega arith;
   within = c.requires.within;
-  gathered = rw c.requires.empty (no_items (piece_view g.M.MakeTexts.made));
+  gathered = rw c.requires.empty (empty_by_length (piece_view g.M.MakeTexts.made));
 }
 
 pub gather_pieces-loop-elements-smaller : goal.gather_pieces-loop-elements-smaller
@@ -344,9 +346,9 @@ gather_line-returns-in_err-end-clause-adds g m c =
     let t = c.args.self.now.source.bytes.now in
     let p = err_from_is_err_and c.from_residual.result c.from_residual.ensures.1 in
     rw (p.1, p.2) (
-      fails_next functional_here at_place
-          (fails_next (functional_inline_blank t) (passed c.requires.blank)
-          (fails_next functional_here at_place
+      fails_next here_is_functional at_place
+          (fails_next (inline_blank_is_functional t) (passed c.requires.blank)
+          (fails_next here_is_functional at_place
           (fails_first c.in_err-end.ensures.parses))),
       refl,
     )
@@ -414,8 +416,8 @@ gather_lines-loop-byte-preserved g m c =
       within = read.within.1;
       gathered =
           item_made (line_view g.M.MakeTexts.made) _ _ _ read.adds.1 c.loop-byte.invariant.gathered
-          (functional_next_line t (within c.args.self.now.edition t c.args.nesting)
-          (functional_within c.args.self.now.edition t _)) _
+          (next_line_is_functional t (within c.args.self.now.edition t c.args.nesting)
+          (within_is_functional c.args.self.now.edition t _)) _
           (own_line c.skip_blank_inline-first.ensures.blank (sym c.in-Some.ensures) (sym c.if-not-belongs.ensures)
           (goes_on there given)) same;
     })
@@ -424,5 +426,5 @@ pub gather_lines-loop-byte-init : goal.gather_lines-loop-byte-init
 gather_lines-loop-byte-init g m c = record {
   forward = omega arith;
   within = c.requires.within;
-  gathered = rw c.requires.empty (no_items (line_view g.M.MakeTexts.made));
+  gathered = rw c.requires.empty (empty_by_length (line_view g.M.MakeTexts.made));
 }

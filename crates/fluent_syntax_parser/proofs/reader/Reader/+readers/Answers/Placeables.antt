@@ -4,8 +4,8 @@ use Rattle.std.proofs.lemmas.Result.{err_from_is_err_and}
 use Rattle.fluent_syntax_grammar.specs.Bytes.{left_brace}
 use Rattle.fluent_syntax_grammar.specs.Construct.{stops, goes_on, given, failed, passed, chosen, first, second}
 use Rattle.fluent_syntax_grammar.specs.Expressions.{is_term_attribute}
-use Rattle.fluent_syntax_grammar.proofs.FunctionalWords.{functional_blank, functional_token}
-use Rattle.fluent_syntax_grammar.proofs.Nesting.{functional_within}
+use Rattle.fluent_syntax_grammar.proofs.FunctionalWords.{blank_is_functional, token_is_functional}
+use Rattle.fluent_syntax_grammar.proofs.Nesting.{within_is_functional}
 use Rattle.fluent_syntax_parser.specs.Outcomes.{refused, too_deep}
 use Rattle.fluent_syntax_parser.proofs.readers.Fails.{braces, fails_braces, fails_first, fails_next, no_placeable}
 use Rattle.fluent_syntax_parser.proofs.expressions.LastPlaced.{placed_in}
@@ -28,8 +28,8 @@ add_placeable-returns-in_err-ptr-clause-parses g m c =
     let t = c.args.self.now.source.bytes.now in
     let p = err_from_is_err_and c.from_residual-in_err-ptr.result c.from_residual-in_err-ptr.ensures.1 in
     rw (p.1, p.2)
-    (fails_next (functional_token t left_brace) c.in_ok-start.ensures.parses
-    (fails_next (functional_blank t) (passed c.skip_blank-start.ensures.blank)
+    (fails_next (token_is_functional t left_brace) c.in_ok-start.ensures.parses
+    (fails_next (blank_is_functional t) (passed c.skip_blank-start.ensures.blank)
     (fails_first (fails_braces c.args.self.now.edition t c.if-nesting-eq0.false c.in_err-ptr.ensures.parses))))
 
 pub add_placeable-returns-in_err-end-clause-parses : goal.add_placeable-returns-in_err-end-clause-parses
@@ -66,7 +66,7 @@ add_expression-returns-then-is_arrow-clause-parses g m c =
     let t = c.args.self.now.source.bytes.now in
     let (e, read, added) = c.in_ok-ptr.ensures.parses in
     beyond_blank g.M.MakeTexts.made c.args.self.now.edition t _ _ _ _ _ read c.skip_blank-ptr.ensures.blank
-    (sym c.if-is_arrow.ensures) (functional_within c.args.self.now.edition t _)
+    (sym c.if-is_arrow.ensures) (within_is_functional c.args.self.now.edition t _)
     (c.end_select.ensures.parses _ e added)
 
 pub add_expression-returns-then-is_term_attribute-clause-parses :

@@ -3,23 +3,25 @@ use Rattle.std.proofs.Common.{◌∙◌, refl, sym, ap, arith}
 use Rattle.std.proofs.lemmas.Result.{err_from_is_err_and}
 use Rattle.fluent_syntax_tree.specs.Tree.{inline_map, pattern_map, select, variant}
 use Rattle.fluent_syntax_tree.specs.View.{key_view}
-use Rattle.fluent_syntax_grammar.proofs.Tests.{both}
+use Rattle.fluent_syntax_grammar.proofs.Tests.{both_true}
 use Rattle.fluent_syntax_parser.proofs.expressions.Stars.{one_false}
 use Rattle.fluent_syntax_grammar.specs.Bytes.{asterisk, left_bracket, right_bracket}
 use Rattle.fluent_syntax_grammar.specs.Construct.{stops, goes_on, given, failed, passed, first, second}
 use Rattle.fluent_syntax_grammar.specs.Grammar.{within}
 use Rattle.fluent_syntax_grammar.specs.Patterns.{pattern}
-use Rattle.fluent_syntax_grammar.proofs.FunctionalRules.{functional_key, functional_next_variant}
-use Rattle.fluent_syntax_grammar.proofs.FunctionalWords.{functional_blank, functional_optional, functional_token}
-use Rattle.fluent_syntax_grammar.proofs.Nesting.{functional_within}
+use Rattle.fluent_syntax_grammar.proofs.FunctionalRules.{key_is_functional, next_variant_is_functional}
+use Rattle.fluent_syntax_grammar.proofs.FunctionalWords.{blank_is_functional, optional_is_functional}
+use Rattle.fluent_syntax_grammar.proofs.FunctionalWords.{token_is_functional}
+use Rattle.fluent_syntax_grammar.proofs.Nesting.{within_is_functional}
 use Rattle.fluent_syntax_parser.specs.Outcomes.{no_memory, refused}
 use Rattle.fluent_syntax_parser.proofs.readers.ContinuesFrom.{item_fails}
-use Rattle.fluent_syntax_parser.proofs.readers.Fails.{fails_first, fails_next, fails_yes, functional_star}
+use Rattle.fluent_syntax_parser.proofs.readers.Fails.{fails_first, fails_next, fails_yes, star_is_functional}
 use Rattle.fluent_syntax_parser.proofs.readers.Fails.{out_of_memory}
-use Rattle.fluent_syntax_parser.proofs.expressions.GatheredVariants.{all_variants, no_variant, variant_made}
+use Rattle.fluent_syntax_parser.proofs.expressions.GatheredVariants.{variants_end, no_variant, variant_made}
 use Rattle.fluent_syntax_parser.proofs.expressions.LastPlaced.{placed_as, placed_in}
 use Rattle.fluent_syntax_parser.proofs.readers.Made.{no_value_read, on_made, on_value}
-use Rattle.fluent_syntax_parser.proofs.expressions.Selects.{functional_start, same_fault, select_fails, select_read}
+use Rattle.fluent_syntax_parser.proofs.expressions.Selects.{start_is_functional, same_selector_fault_of_tree}
+use Rattle.fluent_syntax_parser.proofs.expressions.Selects.{select_fails, select_read}
 use Rattle.fluent_syntax_parser.proofs.reader.Reader.+readers.Goals as goal
 
 pub end_select-last_inline-requires : goal.end_select-last_inline-requires
@@ -33,7 +35,7 @@ end_select-returns-in_err-start-clause-parses g m c = λ old e added.
     let there = c.last_inline.ensures old _ (placed_in g.M.MakeTexts.made _ _ c.deref.ensures.value added) in
     let p = err_from_is_err_and c.from_residual.result c.from_residual.ensures.1 in
     rw (p.1, p.2)
-    (select_fails c.args.self.now.edition t _ e _ (same_fault _ _ e there)
+    (select_fails c.args.self.now.edition t _ e _ (same_selector_fault_of_tree _ _ e there)
     (refused (λ k from to h. stops (c.in_err-start.ensures.parses k from to h))))
 
 pub end_select-returns-in_err-end-clause-parses : goal.end_select-returns-in_err-end-clause-parses
@@ -42,8 +44,8 @@ end_select-returns-in_err-end-clause-parses g m c = λ old e added.
     let there = c.last_inline.ensures old _ (placed_in g.M.MakeTexts.made _ _ c.deref.ensures.value added) in
     let p = err_from_is_err_and c.from_residual-in_err-end.result c.from_residual-in_err-end.ensures.1 in
     rw (p.1, p.2)
-    (select_fails c.args.self.now.edition t _ e _ (same_fault _ _ e there)
-    (fails_next (functional_start t _) c.in_ok-start.ensures.parses c.in_err-end.ensures.parses))
+    (select_fails c.args.self.now.edition t _ e _ (same_selector_fault_of_tree _ _ e there)
+    (fails_next (start_is_functional t _) c.in_ok-start.ensures.parses c.in_err-end.ensures.parses))
 
 pub end_select-returns-in_err-add_variants-clause-parses : goal.end_select-returns-in_err-add_variants-clause-parses
 end_select-returns-in_err-add_variants-clause-parses g m c = λ old e added.
@@ -57,7 +59,7 @@ end_select-returns-clause-parses g m c = λ old e added.
     let there = c.last_inline.ensures old _ (placed_in v _ _ c.deref.ensures.value added) in
     on_made c.in_ok-end.ensures.parses (λ vs read same. (
       _,
-      select_read c.args.self.now.edition t _ e _ (same_fault _ _ e there)
+      select_read c.args.self.now.edition t _ e _ (same_selector_fault_of_tree _ _ e there)
           (goes_on c.in_ok-start.ensures.parses read),
       placed_as v _ _ _ (c.in_ok-add_variants.ensures old _ added)
           (ap (select (inline_map (g.M.MakeTexts.source c.args.self.now.texts.now) e)) same),
@@ -68,12 +70,12 @@ gather_variants-returns-then-star-clause-parses g m c =
     item_fails c.loop-starred.invariant.gathered.beyond (refused (λ k from to (a, b, d). rw (a, b, d)
     (goes_on c.take_byte_if-star.ensures.parses
     (stops
-    (first (both c.if-starred.true c.if-star.true)
+    (first (both_true c.if-starred.true c.if-star.true)
     (failed refl))))))
 
 pub gather_variants-returns-then-has_default-clause-parses : goal.gather_variants-returns-then-has_default-clause-parses
 gather_variants-returns-then-has_default-clause-parses g m c =
-    all_variants g.M.MakeTexts.made _ c.loop-starred.invariant.gathered
+    variants_end g.M.MakeTexts.made _ c.loop-starred.invariant.gathered
     (goes_on c.take_byte_if-star.ensures.parses
     (goes_on (second (one_false _ _ c.else-starred.either) given)
     (goes_on c.take_byte_if-bracket.ensures.parses
@@ -122,15 +124,15 @@ gather_variants-returns-in_err-value-clause-parses g m c =
     let p = err_from_is_err_and c.from_residual-in_err-value.result c.from_residual-in_err-value.ensures.1 in
     rw (p.1, p.2)
     (item_fails c.loop-starred.invariant.gathered.beyond
-    (fails_next (functional_optional t asterisk) c.take_byte_if-star.ensures.parses
-    (fails_next (functional_star c.loop-starred.starred c.take_byte_if-star.result.0)
+    (fails_next (optional_is_functional t asterisk) c.take_byte_if-star.ensures.parses
+    (fails_next (star_is_functional c.loop-starred.starred c.take_byte_if-star.result.0)
     (second (one_false _ _ c.else-starred.either) given)
-    (fails_next (functional_optional t left_bracket) c.take_byte_if-bracket.ensures.parses
+    (fails_next (optional_is_functional t left_bracket) c.take_byte_if-bracket.ensures.parses
     (fails_yes c.if-not-bracket.false
-    (fails_next (functional_blank t) (passed c.skip_blank-start.ensures.blank)
-    (fails_next (functional_key t) c.in_ok-key.ensures.parses
-    (fails_next (functional_blank t) (passed c.skip_blank-next.ensures.blank)
-    (fails_next (functional_token t right_bracket) c.in_ok-next.ensures.parses
+    (fails_next (blank_is_functional t) (passed c.skip_blank-start.ensures.blank)
+    (fails_next (key_is_functional t) c.in_ok-key.ensures.parses
+    (fails_next (blank_is_functional t) (passed c.skip_blank-next.ensures.blank)
+    (fails_next (token_is_functional t right_bracket) c.in_ok-next.ensures.parses
     (fails_first c.in_err-value.ensures.parses))))))))))
 
 pub gather_variants-returns-in_default-clause-parses : goal.gather_variants-returns-in_default-clause-parses
@@ -178,7 +180,7 @@ gather_variants-loop-starred-preserved g m c =
       within = c.skip_blank-place.ensures.within;
       gathered =
           variant_made g.M.MakeTexts.made _ _ added.0 added.1 old.invariant.gathered
-          (functional_next_variant c.args.self.now.edition t _ (functional_within c.args.self.now.edition t _)
+          (next_variant_is_functional c.args.self.now.edition t _ (within_is_functional c.args.self.now.edition t _)
           old.starred)
           (variant (key_view (λ s. s) c.in_ok-key.key) value c.take_byte_if-star.result.0) _
           (goes_on c.take_byte_if-star.ensures.parses
