@@ -48,11 +48,11 @@ attributes_end (a ∷ more) tail rest e =
     refl refl)
 
 module _ (edition : Edition) (t : List ℕ) where
-  attribute_is_written : (id : Span) (a : AttributeTree Text) (v : Option (PatternTree Span)) (i : ℕ) (bs : List ℕ) →
+  attribute_with_reads_back : (id : Span) (a : AttributeTree Text) (v : Option (PatternTree Span)) (i : ℕ) (bs : List ℕ) →
       bytes_at t id ≡ a.id → option_map (pattern_map (bytes_at t)) v ≡ Some a.value → SuffixAt t i bs →
       Reads t (attribute_with id v) (attribute_map (bytes_at t)) i a bs
-  attribute_is_written id a None i bs e f l = absurd cc
-  attribute_is_written id a (Some p) i bs e f l = reads_yields (same_attribute (some_same f)) l
+  attribute_with_reads_back id a None i bs e f l = absurd cc
+  attribute_with_reads_back id a (Some p) i bs e f l = reads_yields (same_attribute (some_same f)) l
     where
       same_attribute : pattern_map (bytes_at t) p ≡ a.value →
           attribute_map (bytes_at t) (record { id = id; value = p }) ≡ a
@@ -69,7 +69,7 @@ module _ (edition : Edition) (t : List ℕ) where
       (λ x y f o. passes_then (passes_inline_blank (32 ∷ []) (61 ∷ pattern_bytes 1 a.value (lf ∷ tail)) refl refl o)
       (λ z q. passes_then (passes_token 61 refl q) (λ u r.
       reads_bind ((pattern_reads_back edition t a.value (right_true (is_name a.id) _ h) 1).back u tail rest e r)
-      (λ v w g s. attribute_is_written x a v w rest f g s))))))
+      (λ v w g s. attribute_with_reads_back x a v w rest f g s))))))
 
   -- the attributes after a pattern
   attributes_read_back : (more : List (AttributeTree Text)) (i : ℕ) (tail rest : List ℕ) →
@@ -141,7 +141,7 @@ module _ (edition : Edition) (t : List ℕ) where
       (pattern_reads_back edition t p h 0).back i (more_attributes more tail) (before more tail rest)
       (attributes_end more tail rest e) l
 
-  message_is_written :
+  message_with_reads_back :
       (start : ℕ) (id : Text) (value : Option (PatternTree Text)) (more : List (AttributeTree Text)) (x : Span)
       (v : Option (PatternTree Span)) (as' : List (AttributeTree Span)) (i : ℕ) (rest : List ℕ) →
       has_field value more ≡ true →
@@ -149,17 +149,17 @@ module _ (edition : Edition) (t : List ℕ) where
       map (attribute_map (bytes_at t)) as' ≡ more → SuffixAt t i rest →
       Reads t (message_with t start x v as') (entry_map (bytes_at t)) i
       (message (record { id = id; value = value; attributes = more; comment = None })) rest
-  message_is_written start id None [] x v as' i rest h e f g l = absurd cc
-  message_is_written start id None (a ∷ more) x (Some p) as' i rest h e f g l = absurd cc
-  message_is_written start id None (a ∷ more) x None [] i rest h e f g l = absurd cc
-  message_is_written start id None (a ∷ more) x None (b ∷ bs) i rest h e f g l = reads_yields (same_message e g) l
+  message_with_reads_back start id None [] x v as' i rest h e f g l = absurd cc
+  message_with_reads_back start id None (a ∷ more) x (Some p) as' i rest h e f g l = absurd cc
+  message_with_reads_back start id None (a ∷ more) x None [] i rest h e f g l = absurd cc
+  message_with_reads_back start id None (a ∷ more) x None (b ∷ bs) i rest h e f g l = reads_yields (same_message e g) l
     where
       same_message : bytes_at t x ≡ id → map (attribute_map (bytes_at t)) (b ∷ bs) ≡ a ∷ more →
           entry_map (bytes_at t) (message (record { id = x; value = None; attributes = b ∷ bs; comment = None }))
           ≡ message (record { id = id; value = None; attributes = a ∷ more; comment = None })
       same_message e g = rw (e, g) refl
-  message_is_written start id (Some q) more x None as' i rest h e f g l = absurd cc
-  message_is_written start id (Some q) more x (Some p) as' i rest h e f g l = reads_yields
+  message_with_reads_back start id (Some q) more x None as' i rest h e f g l = absurd cc
+  message_with_reads_back start id (Some q) more x (Some p) as' i rest h e f g l = reads_yields
       (same_message e (some_same f) g) l
     where
       same_message : bytes_at t x ≡ id → pattern_map (bytes_at t) p ≡ q → map (attribute_map (bytes_at t)) as' ≡ more →
@@ -184,17 +184,17 @@ module _ (edition : Edition) (t : List ℕ) where
       reads_bind (value_reads_back value more p tail rest f h e s o)
       (λ v q c r. passes_then (passes_over (no_block_before more q tail rest s r) r) (λ y z.
       reads_bind (attributes_read_back more y tail rest a e s z)
-      (λ bs w d u. message_is_written i id value more x v bs w rest f g c d u)))))))
+      (λ bs w d u. message_with_reads_back i id value more x v bs w rest f g c d u)))))))
 
-  term_is_written :
+  term_with_reads_back :
       (start : ℕ) (id : Text) (value : PatternTree Text) (more : List (AttributeTree Text)) (x : Span)
       (v : Option (PatternTree Span)) (as' : List (AttributeTree Span)) (i : ℕ) (rest : List ℕ) →
       bytes_at t x ≡ id → option_map (pattern_map (bytes_at t)) v ≡ Some value →
       map (attribute_map (bytes_at t)) as' ≡ more → SuffixAt t i rest →
       Reads t (term_with t start x v as') (entry_map (bytes_at t)) i
       (term (record { id = id; value = value; attributes = more; comment = None })) rest
-  term_is_written start id value more x None as' i rest e f g l = absurd cc
-  term_is_written start id value more x (Some p) as' i rest e f g l = reads_yields (same_term e (some_same f) g) l
+  term_with_reads_back start id value more x None as' i rest e f g l = absurd cc
+  term_with_reads_back start id value more x (Some p) as' i rest e f g l = reads_yields (same_term e (some_same f) g) l
     where
       same_term : bytes_at t x ≡ id → pattern_map (bytes_at t) p ≡ value → map (attribute_map (bytes_at t)) as' ≡ more →
           entry_map (bytes_at t) (term (record { id = x; value = p; attributes = as'; comment = None }))
@@ -220,4 +220,4 @@ module _ (edition : Edition) (t : List ℕ) where
       (attributes_end more tail rest e) o)
       (λ v q d r. passes_then (passes_over (no_block_before more q tail rest s r) r) (λ y z.
       reads_bind (attributes_read_back more y tail rest a e s z)
-      (λ bs w f u. term_is_written i id value more x v bs w rest g d f u))))))))
+      (λ bs w f u. term_with_reads_back i id value more x v bs w rest g d f u))))))))

@@ -32,10 +32,10 @@ module _ (edition : Edition) (t : List ℕ) (R : Family)
     rest ← attributes_of edition t R
     last value rest
 
-  pub fields_are_written : (i j : ℕ) (f : FieldTrees Span) (o : Outcome (EntryTree Span)) → fields edition t R i
+  pub fields_go_on : (i j : ℕ) (f : FieldTrees Span) (o : Outcome (EntryTree Span)) → fields edition t R i
       (Read f j) →
       last f.0 f.1 j o → EntryAfterName i o
-  fields_are_written i j f o (goes_on blank (goes_on equals (goes_on value (goes_on block (goes_on rest given))))) end =
+  fields_go_on i j f o (goes_on blank (goes_on equals (goes_on value (goes_on block (goes_on rest given))))) end =
       goes_on blank (goes_on equals (goes_on value (goes_on block (goes_on rest end))))
 
   pub fields_refused : (i from to : ℕ) (k : Kind) → fields edition t R i (Refused k from to) →

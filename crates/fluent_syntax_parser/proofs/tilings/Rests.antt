@@ -40,10 +40,10 @@ attaches_none (entry s (junk x)) y e same other = refl
 attaches_none (refused f) y e same other = refl
 attaches_none dropped y e same other = refl
 
-body_is_written : (x : Tile) (more : List Tile) (e : EntryTree Span) → alone x ≡ e ∷ [] → may_attach e ≡ false →
+body_of_unattached : (x : Tile) (more : List Tile) (e : EntryTree Span) → alone x ≡ e ∷ [] → may_attach e ≡ false →
     body (x ∷ more) ≡ e ∷ body more
-body_is_written x [] e same other = same
-body_is_written x (y ∷ more) e same other = rw (attaches_none x y e same other, same) refl
+body_of_unattached x [] e same other = same
+body_of_unattached x (y ∷ more) e same other = rw (attaches_none x y e same other, same) refl
 
 dropped_then : (more : List Tile) → body (dropped ∷ more) ≡ body more
 dropped_then [] = refl
@@ -112,7 +112,7 @@ module _ (edition : Edition) (t : List ℕ) (i j : ℕ) (inside : i < length t) 
       tiles = tile.tile ∷ rest.tiles;
       tiled_here = at_tile inside (in_mode comments edition t (family edition t) i j tile.tile none
           (at_any_depth edition t n i j tile.tile tile.in_place)) rest.tiled;
-      yields = body_is_written tile.tile rest.tiles e tile.entry other ∙ ap (λ b. e ∷ b) rest.yields;
+      yields = body_of_unattached tile.tile rest.tiles e tile.entry other ∙ ap (λ b. e ∷ b) rest.yields;
       errors_are = rw (faults_then tile.tile rest.tiles, tile.errors, rest.errors_are) refl;
     }
 
@@ -127,7 +127,7 @@ module _ (edition : Edition) (t : List ℕ) (i j : ℕ) (inside : i < length t) 
           tiles = tile ∷ rest.tiles;
           tiled_here = at_tile inside
               (in_mode comments edition t (family edition t) i j tile none (reads read)) rest.tiled;
-          yields = body_is_written tile rest.tiles e refl other ∙ ap (λ b. e ∷ b) rest.yields;
+          yields = body_of_unattached tile rest.tiles e refl other ∙ ap (λ b. e ∷ b) rest.yields;
           errors_are = rest.errors_are;
         }
 

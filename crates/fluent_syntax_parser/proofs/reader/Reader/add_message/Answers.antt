@@ -5,7 +5,7 @@ use Rattle.fluent_syntax_tree.specs.Kind.{ExpectedMessageField}
 use Rattle.fluent_syntax_tree.specs.declared.spans.Span.{Span}
 use Rattle.fluent_syntax_grammar.specs.Construct.{stops, goes_on, at_place}
 use Rattle.fluent_syntax_grammar.specs.Entries.{message_with}
-use Rattle.fluent_syntax_parser.proofs.entry_forms.FieldForms.{fields_fail, fields_are_written, is_some_of}
+use Rattle.fluent_syntax_parser.proofs.entry_forms.FieldForms.{fields_fail, fields_go_on, is_some_of}
 use Rattle.fluent_syntax_parser.proofs.entry_forms.FieldForms.{message_form_of_attributes, message_form_of_value}
 use Rattle.fluent_syntax_parser.proofs.entry_forms.FieldForms.{message_without, empty_by_length, none_of, some_items}
 use Rattle.fluent_syntax_parser.proofs.reader.Reader.add_message.Goals.{else-is_none-via-then-is_none+else-is_empty}
@@ -50,7 +50,7 @@ returns-then-is_empty-clause-adds g c =
           rw (a ∙ ap ExpectedMessageField text, b, d)
           (goes_on at_place
           (goes_on c.in_ok-end.ensures.parses
-          (fields_are_written c.args.self.now.edition t _ (message_with t c.args.start name) _ _ x _ read
+          (fields_go_on c.args.self.now.edition t _ (message_with t c.args.start name) _ _ x _ read
           (message_without t c.args.start _ name x.0 x.1
           (is_some_of _ _ found.value x.0 (ap (λ y. y.0) same) ∙ c.if-is_none.ensures)
           (none_of _ _ found.attributes.items x.1 (ap (λ y. y.1) same) none)))))),
@@ -80,7 +80,7 @@ returns-clause-adds g c =
       made
           (goes_on at_place
           (goes_on c.in_ok-end.ensures.parses
-          (fields_are_written c.args.self.now.edition t _ (message_with t c.args.start name) _ _ x _ read
+          (fields_go_on c.args.self.now.edition t _ (message_with t c.args.start name) _ _ x _ read
           (elim c.else-is_none.branch [
             | else-is_none-via-then-is_none+else-is_empty w ↦
                 message_form_of_attributes t c.args.start place name x.0 x.1

@@ -7,7 +7,7 @@ use Rattle.fluent_syntax_tree.specs.Tree.{pattern_map}
 use Rattle.fluent_syntax_grammar.specs.Entries.{term_with}
 use Rattle.fluent_syntax_grammar.specs.Grammar.{within}
 use Rattle.fluent_syntax_parser.specs.Fields.{fields}
-use Rattle.fluent_syntax_parser.proofs.entry_forms.FieldForms.{fields_fail, fields_are_written, no_field, some_field}
+use Rattle.fluent_syntax_parser.proofs.entry_forms.FieldForms.{fields_fail, fields_go_on, no_field, some_field}
 use Rattle.fluent_syntax_grammar.specs.Bytes.{hyphen}
 use Rattle.fluent_syntax_grammar.proofs.FunctionalWords.{identifier_is_functional, token_is_functional}
 use Rattle.fluent_syntax_parser.specs.Outcomes.{no_memory, refused}
@@ -73,7 +73,7 @@ returns-in_ok-add-in-Some-clause-adds g c =
           (goes_on at_place
           (goes_on c.in_ok-letter.ensures.parses
           (goes_on c.in_ok-end.ensures.parses
-          (fields_are_written edition t _ (term_with t c.args.start name) _ _ (Some value, x.1) _ there given))))
+          (fields_go_on edition t _ (term_with t c.args.start name) _ _ (Some value, x.1) _ there given))))
           (rw (c.in_ok-id-in-Some.ensures, same_value, ap (λ y. y.1) same) refl),
     )))
 
@@ -92,7 +92,7 @@ returns-in-None-clause-adds g c =
           (goes_on at_place
           (goes_on c.in_ok-letter.ensures.parses
           (goes_on c.in_ok-end.ensures.parses
-          (fields_are_written c.args.self.now.edition t _ (term_with t c.args.start name) _ _ (None, x.1) _
+          (fields_go_on c.args.self.now.edition t _ (term_with t c.args.start name) _ _ (None, x.1) _
           (no_field (pattern_map (g.M.MakeTexts.source c.args.self.now.texts.now))
           (fields edition t (within edition t c.args.nesting)) x read (ap (λ y. y.0) same)) failed_from))))),
       refl,

@@ -14,7 +14,7 @@ use Rattle.fluent_syntax_parser.proofs.entry_forms.ExtentForms.{fields_there, no
 use Rattle.fluent_syntax_parser.proofs.entry_forms.ExtentForms.{same_value}
 use Rattle.fluent_syntax_grammar.proofs.Functional.{here_is_functional}
 use Rattle.fluent_syntax_parser.proofs.readers.Fails.{fails_next}
-use Rattle.fluent_syntax_parser.proofs.entry_forms.FieldForms.{fields_fail, fields_are_written}
+use Rattle.fluent_syntax_parser.proofs.entry_forms.FieldForms.{fields_fail, fields_go_on}
 use Rattle.fluent_syntax_parser.proofs.entry_forms.FieldForms.{message_form_of_attributes, message_form_of_value}
 use Rattle.fluent_syntax_parser.proofs.entry_forms.FieldForms.{message_without, empty_by_length, some_items}
 use Rattle.fluent_syntax_parser.proofs.reader.Reader.message_parts.Goals.{else-is_none-via-else-is_none}
@@ -52,7 +52,7 @@ returns-then-is_empty g c =
     rw (a ∙ ap ExpectedMessageField text, b, d)
     (goes_on at_place
     (goes_on c.in_ok-end.ensures.parses
-    (fields_are_written edition t R (message_with t c.args.start name) _ _ f _
+    (fields_go_on edition t R (message_with t c.args.start name) _ _ f _
     (fields_there edition t R _ _ _ found.value f parts_hold)
     (message_without t c.args.start _ name f.0 f.1
     (same_value edition t R _ _ _ found.value f parts_hold ∙ c.if-is_none.ensures)
@@ -71,7 +71,7 @@ returns g c =
       _,
       goes_on at_place
           (goes_on c.in_ok-end.ensures.parses
-          (fields_are_written edition t R (message_with t c.args.start name) _ _ f _
+          (fields_go_on edition t R (message_with t c.args.start name) _ _ f _
           (fields_there edition t R _ _ _ found.value f parts_hold)
           (elim c.else-is_none.branch [
             | else-is_none-via-then-is_none+else-is_empty w ↦

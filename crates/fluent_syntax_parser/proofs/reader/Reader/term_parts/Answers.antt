@@ -13,7 +13,7 @@ use Rattle.fluent_syntax_parser.specs.declared.fault.Fault.TheVariants as fault
 use Rattle.fluent_syntax_parser.proofs.entry_forms.ExtentForms.{fields_there, with_value, without_value}
 use Rattle.fluent_syntax_grammar.proofs.Functional.{here_is_functional}
 use Rattle.fluent_syntax_parser.proofs.readers.Fails.{fails_next}
-use Rattle.fluent_syntax_parser.proofs.entry_forms.FieldForms.{fields_fail, fields_are_written}
+use Rattle.fluent_syntax_parser.proofs.entry_forms.FieldForms.{fields_fail, fields_go_on}
 use Rattle.fluent_syntax_parser.proofs.scanning.NameTexts.{identifier_text, mark_before}
 use Rattle.fluent_syntax_parser.proofs.reader.Reader.term_parts.Goals as goal
 
@@ -56,7 +56,7 @@ returns-then-is_none g c =
     (goes_on at_place
     (goes_on c.in_ok-letter.ensures.parses
     (goes_on c.in_ok-end.ensures.parses
-    (fields_are_written edition t R (term_with t c.args.start name) _ _ (None, f.1) _
+    (fields_go_on edition t R (term_with t c.args.start name) _ _ (None, f.1) _
     (fields_there edition t R _ _ _ found.value (None, f.1)
     (without_value edition t R _ _ _ found.value f parts_hold c.if-is_none.ensures))
     failed_from)))))
@@ -75,7 +75,7 @@ returns g c =
       goes_on at_place
           (goes_on c.in_ok-letter.ensures.parses
           (goes_on c.in_ok-end.ensures.parses
-          (fields_are_written edition t R (term_with t c.args.start name) _ _ (Some value, f.1) _
+          (fields_go_on edition t R (term_with t c.args.start name) _ _ (Some value, f.1) _
           (fields_there edition t R _ _ _ found.value (Some value, f.1) parts)
           given))),
       term_has_parts c.in_ok-letter.ensures.parses c.in_ok-end.ensures.parses parts,
