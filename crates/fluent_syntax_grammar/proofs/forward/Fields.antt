@@ -48,7 +48,8 @@ attributes_end (a ∷ more) tail rest e =
     refl refl)
 
 module _ (edition : Edition) (t : List ℕ) where
-  attribute_with_reads_back : (id : Span) (a : AttributeTree Text) (v : Option (PatternTree Span)) (i : ℕ) (bs : List ℕ) →
+  attribute_with_reads_back : (id : Span) (a : AttributeTree Text) (v : Option (PatternTree Span)) (i : ℕ) (bs : List ℕ)
+      →
       bytes_at t id ≡ a.id → option_map (pattern_map (bytes_at t)) v ≡ Some a.value → SuffixAt t i bs →
       Reads t (attribute_with id v) (attribute_map (bytes_at t)) i a bs
   attribute_with_reads_back id a None i bs e f l = absurd cc
