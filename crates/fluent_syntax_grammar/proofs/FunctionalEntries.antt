@@ -24,8 +24,13 @@ use Rattle.fluent_syntax_grammar.proofs.FunctionalWords.{optional_eol_is_functio
 use Rattle.fluent_syntax_grammar.proofs.FunctionalRules as rules
 use Rattle.fluent_syntax_grammar.proofs.Nesting.{family_is_functional}
 
-ruleset words = (functional, token_is_functional, identifier_is_functional, optional_eol_is_functional,
-    rest_of_line_is_functional)
+ruleset words = (
+  functional,
+  token_is_functional,
+  identifier_is_functional,
+  optional_eol_is_functional,
+  rest_of_line_is_functional,
+)
 
 attribute_with_is_functional : (id : Span) (value : Option (PatternTree Span)) → IsFunctional (attribute_with id value)
 attribute_with_is_functional id None = search words depth 30

@@ -25,9 +25,14 @@ use Rattle.fluent_syntax_grammar.proofs.FunctionalWords.{optional_is_functional,
 use Rattle.fluent_syntax_grammar.proofs.FunctionalWords.{identifier_is_functional}
 use Rattle.fluent_syntax_grammar.proofs.FunctionalWords.{number_is_functional, string_is_functional}
 
-ruleset words =
-    (functional, optional_is_functional, token_is_functional, identifier_is_functional, number_is_functional,
-    string_is_functional)
+ruleset words = (
+  functional,
+  optional_is_functional,
+  token_is_functional,
+  identifier_is_functional,
+  number_is_functional,
+  string_is_functional,
+)
 
 pub record IsFunctionalFamily (R : Family) : Type 0 where
   pub expression : IsFunctional R.expression

@@ -140,7 +140,7 @@ module _ (edition : Edition) (t : List ℕ) (P : ℕ → Type 0) (cuts : AreBoun
   whole_line_inside i j p x =
       let q =
       (bind_is_sound (rest_of_line_is_sound t P cuts) (λ s g. optional_eol_is_sound t P cuts {s = i})).holds.on_read i j
-          tt
+      tt
       (record { late = omega arith; place = p }) x in
       record { late = q.late; place = q.place }
 

@@ -74,7 +74,7 @@ module _ (t : List ℕ) (P : ℕ → Type 0) (cuts : AreBoundaries t P) where
   identifier_is_sound =
       here_is_sound (λ m q.
       bind_is_sound {Mid = λ letter. Unit {0}} (peek_is_sound (λ letter. yields_is_sound tt))
-          (λ letter u. branch_on_is_sound
+      (λ letter u. branch_on_is_sound
       (λ e. bind_is_sound (skip_is_sound (word_is_onward t P cuts ascii_name)) (λ u v. spanned_is_sound q.place))
       (λ e. range_is_sound (codes "a-zA-Z"))))
 
@@ -83,5 +83,5 @@ module _ (t : List ℕ) (P : ℕ → Type 0) (cuts : AreBoundaries t P) where
       (λ x u. bind_is_sound digits_are_sound (λ x u.
       bind_is_sound (optional_is_sound 46 refl)
       (λ point u. bind_is_sound {Mid = λ u. Unit {0}} (branch_on_is_sound (λ e. digits_are_sound)
-          (λ e. yields_is_sound tt))
+      (λ e. yields_is_sound tt))
       (λ x u. spanned_is_sound q.place)))))

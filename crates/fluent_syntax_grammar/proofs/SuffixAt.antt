@@ -146,4 +146,4 @@ suffix_blank {t = t} (x ∷ xs) ys {i = i} a d e f h =
     (run_goes_on (is_blank_place t) i _
     (suffix_blank_place (left_true (is_space_or_lf x) (list_all is_space_or_lf xs) a) h)
     (suffix_blank xs ys {i = i + 1} (right_true (is_space_or_lf x) (list_all is_space_or_lf xs) a) d e f
-        (suffix_next h)))
+    (suffix_next h)))

@@ -210,7 +210,7 @@ module _ (edition : Edition) (t : List ℕ) (R : Family) (h : IsIncludedFamily R
       branch_on (b == 45) (term_of edition t R) (message_of edition t R) i o
   entry_other i b true g l e =
       let x = (term_is_onward edition t R h low patterns i g).total.has i (record { late = omega arith; in_text = l })
-          in
+      in
       (x.0, first e x.1)
   entry_other i b false g l e =
       let x = (message_is_onward edition t R h low patterns i g).total.has i
@@ -260,7 +260,7 @@ module _ (edition : Edition) (t : List ℕ) (n i : ℕ) (l : i ≤ length t) whe
         | inl e ↦ e
         | inr e ↦ (
             let all = attribute_is_consuming edition t (within edition t n) (within_family edition t n) i
-                (patterns_left e)
+            (patterns_left e)
             i (omega arith) in
             let has = all.total.has i (record { late = omega arith; in_text = l }) in
             absurd (d has.0 has.1)

@@ -74,7 +74,7 @@ module _ (edition : Edition) (t : List ℕ) (R : Family) (low : ℕ) (h : (s : �
   own_total s l i p =
       let whole =
       bind_is_total (line_is_total_onward s l).total (line_is_total_onward s l).on
-          (λ x. yields_is_total {a = item x tt}) in
+      (λ x. yields_is_total {a = item x tt}) in
       whole.has i p
 
   lines_own : (s : ℕ) → low ≤ s + 1 → (i k b : ℕ) (own : Bool) → From t s i → InlineBlank t i k →
@@ -261,7 +261,7 @@ module _ (edition : Edition) (t : List ℕ) (R : Family) (low : ℕ) (h : (s : �
   arrow_at s l e = record {
     total =
         bind_is_total {mid = AtArrow s} (peek_is_total (λ a. yields_is_total))
-            (holds_peek (λ a. holds_yields (λ i p. p)))
+        (holds_peek (λ a. holds_yields (λ i p. p)))
         (λ arrow. branch_on_is_total
         (λ y. total_weaker (λ i p. (p.0, p.1 ∙ y)) (select_total s l e (selector_fault e)))
         (λ y. total_weaker (λ i p. p.0) (no_select s e).total));

@@ -91,7 +91,7 @@ module _ (t : List ℕ) where
   ending_of_total i None = yields_is_total
   ending_of_total i (Some k) =
       bind_is_total {mid = λ u j. Unit {0}} (skip_is_total (λ j p. (k, record { there = refl })))
-          (holds_skip (λ j m p w. tt))
+      (holds_skip (λ j m p w. tt))
       (λ u. yields_is_total)
 
   pub ending_is_onward : {s : ℕ} → TotalOnward t s (ending t)

@@ -140,8 +140,11 @@ module _ (t : List ℕ) (Joins : Type 0) where
       ObeysJoined Joins (attribute_obeys (readable_rules One)) joined_attribute
       (attribute_map (bytes_at t) (record { id = id; value = p }))
   attribute_obeys_joined id p n g =
-      record { obeys = both_true n g.obeys; same = λ none. ap (λ p. record { id = bytes_at t id; value = p }) (g.same
-          none) }
+      record {
+        obeys = both_true n g.obeys;
+        same = λ none. ap (λ p. record { id = bytes_at t id; value = p }) (g.same
+            none);
+      }
 
   no_attributes : IsAttributes []
   no_attributes = record { obeys = refl; same = λ none. refl }

@@ -192,8 +192,10 @@ module _ (t : List ℕ) (Joins : Type 0) where
   ensures_reference : (id : Span) (a : MaybeArguments Span) → IsNameSpan t id → IsMaybe a →
       Ensures (named_reference t id a) IsValue
   ensures_reference id no_arguments n f =
-      ensures_bind ensures_accessor (λ o g. ensures_yields (record { obeys = both_true n g; same = λ none. refl },
-          refl))
+      ensures_bind ensures_accessor (λ o g. ensures_yields (
+        record { obeys = both_true n g; same = λ none. refl },
+        refl,
+      ))
   ensures_reference id (some_arguments a) n f =
       ensures_branch_on (λ e. ensures_yields (function_obeys_joined id a n e f, refl)) (λ e. ensures_fails)
 

@@ -212,7 +212,7 @@ module _ (t : List ℕ) (Joins : Type 0) (m : Bool) where
       let shown : shows u ≡ true = sym (plain_nonblank u c p) ∙ (sym (ap is_nonblank e) ∙ k) in
       let r = trimmed_of u p shown in
       let begins : BeginsElement m s r.kept = begins_kept m s r.kept r.rest r.shown (subst (BeginsElement m s) r.is b)
-          in
+      in
       let same : slice_range t from (trimmed_end t from to) ≡ r.kept = trimmed_range t u c from to e r in
       let bare : r.kept ++ line_end false ≡ r.kept = append_nothing r.kept in
       let is : is_text r.kept ≡ true =

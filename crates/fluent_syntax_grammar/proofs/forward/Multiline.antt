@@ -136,8 +136,14 @@ pub record Split (v : List ℕ) : Type 0 where
 
 split_at : (b : ℕ) (v : List ℕ) (x : Bool) → is_space b ≡ x → Split v → Split (b ∷ v)
 split_at b v true e s =
-    record { gap = b ∷ s.gap; more = s.more; are = ap (λ v. b ∷ v) s.are; spaces = both_true e s.spaces; plain =
-        s.plain }
+    record {
+      gap = b ∷ s.gap;
+      more = s.more;
+      are = ap (λ v. b ∷ v) s.are;
+      spaces = both_true e s.spaces;
+      plain =
+          s.plain;
+    }
 split_at b v false e s = record { gap = []; more = b ∷ v; are = refl; spaces = refl; plain = e }
 
 pub split : (v : List ℕ) → Split v

@@ -71,7 +71,7 @@ plain_text_keeps edition k v plain =
     let place = both_true (asked_true rule.BlankFirstText k _ (ap (λ b. b || false) shown))
     (asked_true rule.LeadingSpace k _ tight) in
     let texts = both_true (both_true (both_true (text_spelled k v text) place) (asked_true rule.BlankEnd k _ plainly))
-        refl in
+    refl in
     ap (λ multiline. (asks rule.EmptyPattern k true && texts_keep edition k multiline opening p)
     && lines_keep edition k multiline p) on_one_line
     ∙ both_true (both_true (asked_true rule.EmptyPattern k true refl) texts) refl

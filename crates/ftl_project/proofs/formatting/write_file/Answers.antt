@@ -16,8 +16,13 @@ returns-in-Err-clause-counted g c =
     let report_text = c.report_fault.ensures.counted in
     let processed = subst (λ r. IsProcessed r (failed report_text.0)) (sym c.in-Err.is)
     (report_text.0, report_text.1, refl) in
-    on_ok_given c.report_fault.result (c.rewrite.result, c.rewrite.ensures, failed report_text.0, processed,
-    report_text.2)
+    on_ok_given c.report_fault.result (
+      c.rewrite.result,
+      c.rewrite.ensures,
+      failed report_text.0,
+      processed,
+      report_text.2,
+    )
 
 pub returns-in-Ok-unchanged_note-clause-reaches : goal.returns-in-Ok-unchanged_note-clause-reaches
 returns-in-Ok-unchanged_note-clause-reaches g c =
