@@ -6,8 +6,8 @@ use Rattle.fluent_syntax_grammar.specs.Construct.{given, here, at_place, fails, 
 use Rattle.fluent_syntax_grammar.specs.Construct.{passed, peek, chosen, branch_on, first, second, More, no_item, item}
 use Rattle.fluent_syntax_grammar.specs.Construct.{many, list_ends, list_stops, item_and_more, stops_later}
 use Rattle.fluent_syntax_grammar.proofs.HoareTriple.{HoareTriple, holds_weaker, holds_bind, holds_yields, holds_here}
-use Rattle.fluent_syntax_grammar.proofs.HoareTriple.{holds_fails}
-use Rattle.fluent_syntax_grammar.proofs.HoareTriple.{holds_fails_from, holds_skip, holds_peek, holds_branch_on}
+use Rattle.fluent_syntax_grammar.proofs.HoareTriple.{holds_fails, holds_fails_from, holds_skip, holds_peek}
+use Rattle.fluent_syntax_grammar.proofs.HoareTriple.{holds_branch_on}
 
 -- a place of the text from s on
 pub record From (t : List ℕ) (s i : ℕ) : Type 0 where
@@ -17,64 +17,89 @@ pub record From (t : List ℕ) (s i : ℕ) : Type 0 where
 abbrev pub AnyFault : Kind → ℕ → ℕ → Type 0
 AnyFault k from to = Unit {0}
 
--- from each place with `pre` the construct has an outcome
-pub record Total {A : Type 0} (pre : ℕ → Type 0) (c : Construct A) : Type 0 where
+-- From each place with `pre` the construct has an outcome, and each of its readings has `read`.
+pub record Decides {A : Type 0} (pre : ℕ → Type 0) (c : Construct A) (read : A → ℕ → Type 0) : Type 0 where
   pub has : (i : ℕ) → pre i → (o : Outcome A) × c i o
+  pub on : HoareTriple pre c read AnyFault
 
 -- it has an outcome from each place from s on, and is read to such a place
-pub record TotalOnward {A : Type 0} (t : List ℕ) (s : ℕ) (c : Construct A) : Type 0 where
-  pub total : Total (From t s) c
-  pub on : HoareTriple (From t s) c (λ a j. From t s j) AnyFault
+abbrev pub TotalOnward : {A : Type 0} → List ℕ → ℕ → Construct A → Type 0
+TotalOnward t s c = Decides (From t s) c (λ a. From t s)
 
 -- the same, and where it is read it goes on
-pub record TotalConsuming {A : Type 0} (t : List ℕ) (s : ℕ) (c : Construct A) : Type 0 where
-  pub total : Total (From t s) c
-  pub on : HoareTriple (From t s) c (λ a j. From t (s + 1) j) AnyFault
+abbrev pub TotalConsuming : {A : Type 0} → List ℕ → ℕ → Construct A → Type 0
+TotalConsuming t s c = Decides (From t s) c (λ a. From t (s + 1))
 
 -- ---- the formers
 
-bind_has : {A B : Type 0} (pre : ℕ → Type 0) (mid : A → ℕ → Type 0) (c : Construct A) (f : A → Construct B) →
-    HoareTriple pre c mid AnyFault → ((a : A) → Total (mid a) (f a)) →
+bind_has : {A B : Type 0} (pre : ℕ → Type 0) (mid : A → ℕ → Type 0) (read : B → ℕ → Type 0) (c : Construct A)
+    (f : A → Construct B) → Decides pre c mid → ((a : A) → Decides (mid a) (f a) read) →
     (i : ℕ) → pre i → (o : Outcome A) → c i o → (p : Outcome B) × (c >>= f) i p
-bind_has pre mid c f h g i p (Read a j) x = let z = (g a).has j (h.on_read i j a p x) in (z.0, goes_on x z.1)
-bind_has pre mid c f h g i p (Refused k from to) x = (Refused k from to, stops x)
+bind_has pre mid read c f h g i p (Read a j) x = let z = (g a).has j (h.on.on_read i j a p x) in (z.0, goes_on x z.1)
+bind_has pre mid read c f h g i p (Refused k from to) x = (Refused k from to, stops x)
 
-pub bind_is_total : {A B : Type 0} {pre : ℕ → Type 0} {mid : A → ℕ → Type 0} {c : Construct A} {f : A → Construct B} →
-    Total pre c → HoareTriple pre c mid AnyFault → ((a : A) → Total (mid a) (f a)) → Total pre (c >>= f)
-bind_is_total {pre = pre} {mid = mid} {c = c} {f = f} x h g =
-    record { has = λ i p. let y = x.has i p in bind_has pre mid c f h g i p y.0 y.1 }
+-- what holds after the first part is where the second one begins
+pub bind_decides :
+    {A B : Type 0} {pre : ℕ → Type 0} {mid : A → ℕ → Type 0} {read : B → ℕ → Type 0} {c : Construct A}
+    {f : A → Construct B} → Decides pre c mid → ((a : A) → Decides (mid a) (f a) read) → Decides pre (c >>= f) read
+bind_decides {pre = pre} {mid = mid} {read = read} {c = c} {f = f} h g = record {
+  has = λ i p. let x = h.has i p in bind_has pre mid read c f h g i p x.0 x.1;
+  on = holds_bind h.on (λ a. (g a).on);
+}
 
-pub total_weaker : {A : Type 0} {pre pre' : ℕ → Type 0} {c : Construct A} → ((i : ℕ) → pre' i → pre i) → Total pre c →
-    Total pre' c
-total_weaker w x = record { has = λ i p. x.has i (w i p) }
+-- less is asked, more is held
+pub weaker_decides : {A : Type 0} {pre pre' : ℕ → Type 0} {c : Construct A} {read read' : A → ℕ → Type 0} →
+    ((i : ℕ) → pre' i → pre i) → ((a : A) (j : ℕ) → read a j → read' a j) → Decides pre c read → Decides pre' c read'
+weaker_decides p r x =
+    record { has = λ i q. x.has i (p i q); on = holds_weaker p r (λ k from to fault. fault) x.on }
 
-pub yields_is_total : {A : Type 0} {pre : ℕ → Type 0} {a : A} → Total pre (yields a)
-yields_is_total {a = a} = record { has = λ i p. (Read a i, given) }
+pub yields_decides : {A : Type 0} {pre : ℕ → Type 0} {read : A → ℕ → Type 0} {a : A} → ((i : ℕ) → pre i → read a i) →
+    Decides pre (yields a) read
+yields_decides {a = a} h = record { has = λ i p. (Read a i, given); on = holds_yields h }
 
-pub here_is_total : {pre : ℕ → Type 0} → Total pre here
-here_is_total = record { has = λ i p. (Read i i, at_place) }
+pub here_decides : {pre : ℕ → Type 0} {read : ℕ → ℕ → Type 0} → ((i : ℕ) → pre i → read i i) → Decides pre here read
+here_decides h = record { has = λ i p. (Read i i, at_place); on = holds_here h }
 
-pub fails_is_total : {A : Type 0} {pre : ℕ → Type 0} {k : Kind} → Total pre (fails {A = A} k)
-fails_is_total {k = k} = record { has = λ i p. (Refused k i (i + 1), failed refl) }
+pub fails_decides : {A : Type 0} {pre : ℕ → Type 0} {read : A → ℕ → Type 0} {k : Kind} → Decides pre (fails k) read
+fails_decides {k = k} = record { has = λ i p. (Refused k i (i + 1), failed refl); on = holds_fails (λ i p. tt) }
 
-fails_from_is_total : {A : Type 0} {pre : ℕ → Type 0} {k : Kind} {start : ℕ} → Total pre (fails_from {A = A} k start)
-fails_from_is_total {k = k} {start = start} = record { has = λ i p. (Refused k start i, failed_from) }
+pub fails_from_decides : {A : Type 0} {pre : ℕ → Type 0} {read : A → ℕ → Type 0} {k : Kind} {start : ℕ} →
+    Decides pre (fails_from k start) read
+fails_from_decides {k = k} {start = start} =
+    record { has = λ i p. (Refused k start i, failed_from); on = holds_fails_from (λ i p. tt) }
 
-pub skip_is_total : {pre : ℕ → Type 0} {W : ℕ → ℕ → Type 0} → ((i : ℕ) → pre i → (j : ℕ) × W i j) → Total pre (skip W)
-skip_is_total w = record { has = λ i p. let x = w i p in (Read tt x.0, passed x.1) }
+pub skip_decides : {pre : ℕ → Type 0} {W : ℕ → ℕ → Type 0} {read : Unit {0} → ℕ → Type 0} →
+    ((i : ℕ) → pre i → (j : ℕ) × W i j) → ((i j : ℕ) → pre i → W i j → read tt j) → Decides pre (skip W) read
+skip_decides w h = record { has = λ i p. let x = w i p in (Read tt x.0, passed x.1); on = holds_skip h }
 
-pub peek_is_total : {A B : Type 0} {pre : ℕ → Type 0} {look : ℕ → A} {part : A → Construct B} →
-    ((a : A) → Total (λ i. pre i × (look i ≡ a)) (part a)) → Total pre (peek look part)
-peek_is_total {look = look} g = record { has = λ i p. let x = (g (look i)).has i (p, refl) in (x.0, chosen x.1) }
+-- a part is read where it was chosen
+pub peek_decides : {A B : Type 0} {pre : ℕ → Type 0} {read : B → ℕ → Type 0} {look : ℕ → A} {part : A → Construct B} →
+    ((a : A) → Decides (λ i. pre i × (look i ≡ a)) (part a) read) → Decides pre (peek look part) read
+peek_decides {look = look} g = record {
+  has = λ i p. let x = (g (look i)).has i (p, refl) in (x.0, chosen x.1);
+  on = holds_peek (λ a. (g a).on);
+}
 
-branch_on_has : {A : Type 0} (pre : ℕ → Type 0) (test : Bool) (c d : Construct A) → (test ≡ true → Total pre c) →
-    (test ≡ false → Total pre d) → (i : ℕ) → pre i → (o : Outcome A) × branch_on test c d i o
-branch_on_has pre true c d g h i p = let x = (g refl).has i p in (x.0, first refl x.1)
-branch_on_has pre false c d g h i p = let x = (h refl).has i p in (x.0, second refl x.1)
+-- whatever is seen
+pub any_peek_decides : {A B : Type 0} {pre : ℕ → Type 0} {read : B → ℕ → Type 0} {look : ℕ → A}
+    {part : A → Construct B} → ((a : A) → Decides pre (part a) read) → Decides pre (peek look part) read
+any_peek_decides g = peek_decides (λ a. weaker_decides (λ i p. p.0) (λ b j x. x) (g a))
 
-pub branch_on_is_total : {A : Type 0} {pre : ℕ → Type 0} {test : Bool} {c d : Construct A} → (test ≡ true → Total pre c)
-    → (test ≡ false → Total pre d) → Total pre (branch_on test c d)
-branch_on_is_total {pre = pre} {test = test} {c = c} {d = d} g h = record { has = branch_on_has pre test c d g h }
+branch_on_has : {A : Type 0} (pre : ℕ → Type 0) (read : A → ℕ → Type 0) (test : Bool) (c d : Construct A) →
+    (test ≡ true → Decides pre c read) → (test ≡ false → Decides pre d read) → (i : ℕ) → pre i →
+    (o : Outcome A) × branch_on test c d i o
+branch_on_has pre read true c d g h i p = let x = (g refl).has i p in (x.0, first refl x.1)
+branch_on_has pre read false c d g h i p = let x = (h refl).has i p in (x.0, second refl x.1)
+
+pub branch_on_decides : {A : Type 0} {pre : ℕ → Type 0} {read : A → ℕ → Type 0} {test : Bool} {c d : Construct A} →
+    (test ≡ true → Decides pre c read) → (test ≡ false → Decides pre d read) → Decides pre (branch_on test c d) read
+branch_on_decides {pre = pre} {read = read} {test = test} {c = c} {d = d} g h =
+    record { has = branch_on_has pre read test c d g h; on = holds_branch_on (λ e. (g e).on) (λ e. (h e).on) }
+
+-- either way
+pub any_branch_decides : {A : Type 0} {pre : ℕ → Type 0} {read : A → ℕ → Type 0} {test : Bool} {c d : Construct A} →
+    Decides pre c read → Decides pre d read → Decides pre (branch_on test c d) read
+any_branch_decides x y = branch_on_decides (λ e. x) (λ e. y)
 
 -- ---- from a place on
 
@@ -85,78 +110,22 @@ pub record IsTotalRelation (t : List ℕ) (W : ℕ → ℕ → Type 0) : Type 0 
   pub in_text : (i j : ℕ) → i ≤ length t → W i j → j ≤ length t
 
 module _ {t : List ℕ} {s : ℕ} where
-  pub bind_is_onward : {A B : Type 0} {c : Construct A} {f : A → Construct B} → TotalOnward t s c →
-      ((a : A) → TotalOnward t s (f a)) →
-      TotalOnward t s (c >>= f)
-  bind_is_onward x g = record
-      { total = bind_is_total x.total x.on (λ a. (g a).total); on = holds_bind x.on (λ a. (g a).on) }
-
   pub yields_is_onward : {A : Type 0} {a : A} → TotalOnward t s (yields a)
-  yields_is_onward = record { total = yields_is_total; on = holds_yields (λ i p. p) }
+  yields_is_onward = yields_decides (λ i p. p)
 
   pub here_is_onward : TotalOnward t s here
-  here_is_onward = record { total = here_is_total; on = holds_here (λ i p. p) }
-
-  pub fails_is_onward : {A : Type 0} {k : Kind} → TotalOnward t s (fails {A = A} k)
-  fails_is_onward = record { total = fails_is_total; on = holds_fails (λ i p. tt) }
-
-  pub fails_from_is_onward : {A : Type 0} {k : Kind} {start : ℕ} → TotalOnward t s (fails_from {A = A} k start)
-  fails_from_is_onward = record { total = fails_from_is_total; on = holds_fails_from (λ i p. tt) }
+  here_is_onward = here_decides (λ i p. p)
 
   pub skip_is_onward : {W : ℕ → ℕ → Type 0} → IsTotalRelation t W → TotalOnward t s (skip W)
-  skip_is_onward w = record {
-    total = skip_is_total (λ i p. w.exists i p.in_text);
-    on =
-        holds_skip (λ i j p x. let late = p.late in let f = w.forward i j x in
-        record { late = omega arith; in_text = w.in_text i j p.in_text x });
-  }
-
-  pub peek_is_onward : {A B : Type 0} {look : ℕ → A} {part : A → Construct B} → ((a : A) → TotalOnward t s (part a)) →
-      TotalOnward t s (peek look part)
-  peek_is_onward g = record {
-    total = peek_is_total (λ a. total_weaker (λ i p. p.0) (g a).total);
-    on = holds_peek (λ a. holds_weaker (λ i p. p.0) (λ b j x. x) (λ k from to x. x) (g a).on);
-  }
-
-  pub branch_on_is_onward : {A : Type 0} {test : Bool} {c d : Construct A} → TotalOnward t s c → TotalOnward t s d →
-      TotalOnward t s (branch_on test c d)
-  branch_on_is_onward x y =
-      record { total = branch_on_is_total (λ e. x.total) (λ e. y.total); on = holds_branch_on (λ e. x.on) (λ e. y.on) }
+  skip_is_onward w =
+      skip_decides (λ i p. w.exists i p.in_text) (λ i j p x. let late = p.late in let f = w.forward i j x in
+      record { late = omega arith; in_text = w.in_text i j p.in_text x })
 
   pub earlier : (i : ℕ) → From t (s + 1) i → From t s i
   earlier i p = let late = p.late in record { late = omega arith; in_text = p.in_text }
 
   pub strict_is_onward : {A : Type 0} {c : Construct A} → TotalConsuming t s c → TotalOnward t s c
-  strict_is_onward x =
-      record { total = x.total; on = holds_weaker (λ i p. p) (λ a j p. earlier j p) (λ k from to p. p) x.on }
-
-  pub bind_is_consuming_by_first : {A B : Type 0} {c : Construct A} {f : A → Construct B} → TotalConsuming t s c →
-      ((a : A) → TotalOnward t (s + 1) (f a)) → TotalConsuming t s (c >>= f)
-  bind_is_consuming_by_first x g =
-      record { total = bind_is_total x.total x.on (λ a. (g a).total); on = holds_bind x.on (λ a. (g a).on) }
-
-  pub bind_is_consuming_by_rest : {A B : Type 0} {c : Construct A} {f : A → Construct B} → TotalOnward t s c →
-      ((a : A) → TotalConsuming t s (f a)) →
-      TotalConsuming t s (c >>= f)
-  bind_is_consuming_by_rest x g =
-      record { total = bind_is_total x.total x.on (λ a. (g a).total); on = holds_bind x.on (λ a. (g a).on) }
-
-  pub fails_is_consuming : {A : Type 0} {k : Kind} → TotalConsuming t s (fails {A = A} k)
-  fails_is_consuming = record { total = fails_is_total; on = holds_fails (λ i p. tt) }
-
-  pub peek_is_consuming : {A B : Type 0} {look : ℕ → A} {part : A → Construct B} →
-      ((a : A) → TotalConsuming t s (part a)) →
-      TotalConsuming t s (peek look part)
-  peek_is_consuming g = record {
-    total = peek_is_total (λ a. total_weaker (λ i p. p.0) (g a).total);
-    on = holds_peek (λ a. holds_weaker (λ i p. p.0) (λ b j x. x) (λ k from to x. x) (g a).on);
-  }
-
-  pub branch_on_is_consuming : {A : Type 0} {test : Bool} {c d : Construct A} → TotalConsuming t s c →
-      TotalConsuming t s d →
-      TotalConsuming t s (branch_on test c d)
-  branch_on_is_consuming x y =
-      record { total = branch_on_is_total (λ e. x.total) (λ e. y.total); on = holds_branch_on (λ e. x.on) (λ e. y.on) }
+  strict_is_onward x = weaker_decides (λ i p. p) (λ a. earlier) x
 
 -- ---- lists
 
@@ -166,9 +135,8 @@ more_on t s no_item j = From t s j
 more_on t s (item a r) j = From t (s + 1) j
 
 -- It has an outcome from each place from s on, and where it reads an item it goes on.
-pub record TotalConsumingItem {A S : Type 0} (t : List ℕ) (s : ℕ) (c : Construct (More A S)) : Type 0 where
-  pub total : Total (From t s) c
-  pub on : HoareTriple (From t s) c (more_on t s) AnyFault
+abbrev pub TotalConsumingItem : {A S : Type 0} → List ℕ → ℕ → Construct (More A S) → Type 0
+TotalConsumingItem t s c = Decides (From t s) c (more_on t s)
 
 pub more_earlier : {A S : Type 0} (t : List ℕ) (s : ℕ) (x : More A S) (j : ℕ) → From t (s + 1) j → more_on t s x j
 more_earlier t s no_item j p = earlier j p
@@ -176,18 +144,11 @@ more_earlier t s (item a r) j p = p
 
 pub item_strict_is_consuming : {A S : Type 0} {t : List ℕ} {s : ℕ} {c : Construct (More A S)} → TotalConsuming t s c →
     TotalConsumingItem t s c
-item_strict_is_consuming {t = t} {s = s} x =
-    record { total = x.total; on = holds_weaker (λ i p. p) (more_earlier t s) (λ k from to p. p) x.on }
-
-pub bind_is_consuming_item : {A B S : Type 0} {t : List ℕ} {s : ℕ} {c : Construct A} {f : A → Construct (More B S)} →
-    TotalOnward t s c →
-    ((a : A) → TotalConsumingItem t s (f a)) → TotalConsumingItem t s (c >>= f)
-bind_is_consuming_item x g =
-    record { total = bind_is_total x.total x.on (λ a. (g a).total); on = holds_bind x.on (λ a. (g a).on) }
+item_strict_is_consuming {t = t} {s = s} x = weaker_decides (λ i p. p) (more_earlier t s) x
 
 pub none_past_end : {A : Type 0} {t : List ℕ} {c : Construct A} (s : ℕ) → length t < s → TotalOnward t s c
 none_past_end s l = record {
-  total = record { has = λ i p. (let late = p.late in let inside = p.in_text in absurd (omega arith)) };
+  has = λ i p. (let late = p.late in let inside = p.in_text in absurd (omega arith));
   on =
       record {
         on_read = λ i j a p x. (let late = p.late in let inside = p.in_text in absurd (omega arith));
@@ -201,7 +162,7 @@ module _ {A S B : Type 0} (t : List ℕ) (next : S → Construct (More A S)) (ad
     after_item : (i : ℕ) (x : More A S) (j : ℕ) → next r i (Read x j) → more_on t s x j → (o : Outcome B) ×
         many next add none r i o
     after_item i no_item j x p = (Read none j, list_ends x)
-    after_item i (item a q) j x p = rest_of i a q j x ((g q).total.has j p)
+    after_item i (item a q) j x p = rest_of i a q j x ((g q).has j p)
       where
         rest_of : (i : ℕ) (a : A) (q : S) (j : ℕ) → next r i (Read (item a q) j) →
             (o : Outcome B) × many next add none q j o → (o : Outcome B) × many next add none r i o
@@ -219,7 +180,7 @@ module _ {A S B : Type 0} (t : List ℕ) (next : S → Construct (More A S)) (ad
 
     one_both : TotalOnward t s (many next add none r)
     one_both = record {
-      total = record { has = λ i p. one_has i p ((h s l r).total.has i p) };
+      has = λ i p. one_has i p ((h s l r).has i p);
       on = record { on_read = many_on; on_refused = λ i from to k p x. tt };
     }
 

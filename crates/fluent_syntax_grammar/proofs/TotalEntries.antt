@@ -15,19 +15,18 @@ use Rattle.fluent_syntax_grammar.specs.Comments.{other_level, no_comment_line, c
 use Rattle.fluent_syntax_grammar.specs.Tiling.{entry_of}
 use Rattle.fluent_syntax_tree.specs.declared.edition.Edition.{Edition}
 use Rattle.fluent_syntax_tree.specs.declared.spans.Span.{Span}
-use Rattle.fluent_syntax_grammar.proofs.HoareTriple.{holds_skip}
+use Rattle.fluent_syntax_grammar.proofs.HoareTriple.{HoareTriple}
 use Rattle.fluent_syntax_grammar.proofs.SoundStrings.{InText}
 use Rattle.fluent_syntax_grammar.proofs.SoundEntries.{attributes_are_sound}
 use Rattle.fluent_syntax_grammar.proofs.SoundComments.{place_after_hashes, line_from}
 use Rattle.fluent_syntax_grammar.proofs.Boundaries.{text_cuts}
 use Rattle.fluent_syntax_grammar.proofs.CommentFaults.{some_hash}
-use Rattle.fluent_syntax_grammar.proofs.Total.{From, TotalOnward, TotalConsuming, bind_is_total, skip_is_total}
-use Rattle.fluent_syntax_grammar.proofs.Total.{bind_is_onward, yields_is_onward, here_is_onward, fails_is_onward}
-use Rattle.fluent_syntax_grammar.proofs.Total.{fails_from_is_onward, peek_is_onward, strict_is_onward}
-use Rattle.fluent_syntax_grammar.proofs.Total.{bind_is_consuming_by_first, bind_is_consuming_by_rest}
-use Rattle.fluent_syntax_grammar.proofs.TotalWords.{on_sound, inline_blank_is_onward}
-use Rattle.fluent_syntax_grammar.proofs.TotalWords.{blank_block_is_onward, optional_eol_is_onward, spanned_is_onward}
-use Rattle.fluent_syntax_grammar.proofs.TotalWords.{rest_of_line_is_onward, token_is_consuming, identifier_is_consuming}
+use Rattle.fluent_syntax_grammar.proofs.Total.{From, AnyFault, TotalOnward, TotalConsuming, bind_decides, fails_decides}
+use Rattle.fluent_syntax_grammar.proofs.Total.{fails_from_decides, skip_decides, any_peek_decides, yields_is_onward}
+use Rattle.fluent_syntax_grammar.proofs.Total.{here_is_onward, strict_is_onward}
+use Rattle.fluent_syntax_grammar.proofs.TotalWords.{blank_block_is_onward, inline_blank_is_onward, on_sound}
+use Rattle.fluent_syntax_grammar.proofs.TotalWords.{token_is_consuming, identifier_is_consuming, optional_eol_is_onward}
+use Rattle.fluent_syntax_grammar.proofs.TotalWords.{spanned_is_onward, rest_of_line_is_onward}
 use Rattle.fluent_syntax_grammar.proofs.Facts.{equal, unequal}
 use Rattle.std.proofs.Common.{◌-◌}
 use Rattle.std.specs.Prelude.{◌⊎◌}
@@ -37,41 +36,39 @@ use Rattle.fluent_syntax_grammar.specs.Grammar.{within}
 use Rattle.fluent_syntax_grammar.specs.Nesting.{TooDeep}
 use Rattle.fluent_syntax_grammar.specs.Patterns.{pattern}
 use Rattle.fluent_syntax_grammar.specs.Tiling.{entry_in}
-use Rattle.fluent_syntax_grammar.proofs.HoareTriple.{HoareTriple}
 use Rattle.fluent_syntax_grammar.proofs.Included.{IsIncludedFamily}
 use Rattle.fluent_syntax_grammar.proofs.IncludedEntries.{attributes_are_included}
 use Rattle.fluent_syntax_grammar.proofs.Nesting.{within_family}
-use Rattle.fluent_syntax_grammar.proofs.Total.{AnyFault}
 use Rattle.fluent_syntax_grammar.proofs.TotalFamily.{pattern_within}
 
 with_is_onward : {t : List ℕ} {s : ℕ} (id : Span) (value : Option (PatternTree Span)) →
     TotalOnward t s (attribute_with id value)
-with_is_onward id None = fails_is_onward
+with_is_onward id None = fails_decides
 with_is_onward id (Some value) = yields_is_onward
 
 message_with_is_onward :
     {s : ℕ} (t : List ℕ) (start : ℕ) (id : Span) (value : Option (PatternTree Span))
     (rest : List (AttributeTree Span)) → TotalOnward t s (message_with t start id value rest)
-message_with_is_onward t start id None [] = fails_from_is_onward
+message_with_is_onward t start id None [] = fails_from_decides
 message_with_is_onward t start id None (a ∷ rest) = yields_is_onward
 message_with_is_onward t start id (Some value) rest = yields_is_onward
 
 term_with_is_onward :
     {s : ℕ} (t : List ℕ) (start : ℕ) (id : Span) (value : Option (PatternTree Span))
     (rest : List (AttributeTree Span)) → TotalOnward t s (term_with t start id value rest)
-term_with_is_onward t start id None rest = fails_from_is_onward
+term_with_is_onward t start id None rest = fails_from_decides
 term_with_is_onward t start id (Some value) rest = yields_is_onward
 
 module _ (edition : Edition) (t : List ℕ) (R : Family) (h : IsIncludedFamily R (family edition t)) (low : ℕ)
     (patterns : (s : ℕ) → low ≤ s → TotalOnward t s (pattern edition t R)) where
   attribute_is_consuming : (s : ℕ) → low ≤ s → TotalConsuming t s (attribute_of edition t R)
   attribute_is_consuming s l =
-      bind_is_consuming_by_rest (inline_blank_is_onward t)
-      (λ u. bind_is_consuming_by_first (token_is_consuming t 46)
-      (λ u. bind_is_onward (strict_is_onward (identifier_is_consuming t))
-      (λ id. bind_is_onward (inline_blank_is_onward t) (λ u.
-      bind_is_onward (strict_is_onward (token_is_consuming t 61))
-      (λ u. bind_is_onward (patterns (s + 1) (omega arith)) (λ value. with_is_onward id value))))))
+      bind_decides (inline_blank_is_onward t)
+      (λ u. bind_decides (token_is_consuming t 46)
+      (λ u. bind_decides (strict_is_onward (identifier_is_consuming t))
+      (λ id. bind_decides (inline_blank_is_onward t) (λ u.
+      bind_decides (strict_is_onward (token_is_consuming t 61))
+      (λ u. bind_decides (patterns (s + 1) (omega arith)) (λ value. with_is_onward id value))))))
 
   -- a list of attributes, and where it ends
   record Attributes (i : ℕ) : Type 0 where
@@ -90,10 +87,10 @@ module _ (edition : Edition) (t : List ℕ) (R : Family) (h : IsIncludedFamily R
 
   attributes_exist : (m i : ℕ) → length t ≤ i + m → low ≤ i → i ≤ length t → Attributes i
   attributes_exist zero i a b l =
-      let x = (attribute_is_consuming i b).total.has i (record { late = omega arith; in_text = l }) in
+      let x = (attribute_is_consuming i b).has i (record { late = omega arith; in_text = l }) in
       attributes_at i b l (λ j d c. absurd (omega arith)) x.0 x.1
   attributes_exist (suc m) i a b l =
-      let x = (attribute_is_consuming i b).total.has i (record { late = omega arith; in_text = l }) in
+      let x = (attribute_is_consuming i b).has i (record { late = omega arith; in_text = l }) in
       attributes_at i b l (λ j d c. attributes_exist m j (omega arith) (omega arith) c) x.0 x.1
 
   -- the list goes on as that of the grammar does
@@ -108,54 +105,52 @@ module _ (edition : Edition) (t : List ℕ) (R : Family) (h : IsIncludedFamily R
 
   attributes_are_onward : (s : ℕ) → low ≤ s → TotalOnward t s (attributes_of edition t R)
   attributes_are_onward s l = record {
-    total =
-        record {
-          has = λ i p. (let late = p.late in let r =
-              attributes_exist (length t) i (omega arith) (omega arith) p.in_text in
-              (Read r.list r.end, r.read));
-        };
+    has = λ i p. (let late = p.late in let r =
+        attributes_exist (length t) i (omega arith) (omega arith) p.in_text in
+        (Read r.list r.end, r.read));
     on = attributes_on s;
   }
 
   message_is_onward : (s : ℕ) → low ≤ s → TotalOnward t s (message_of edition t R)
   message_is_onward s l =
-      bind_is_onward here_is_onward
-      (λ start. bind_is_onward (strict_is_onward (identifier_is_consuming t))
-      (λ id. bind_is_onward (inline_blank_is_onward t) (λ u. bind_is_onward (strict_is_onward (token_is_consuming t 61))
+      bind_decides here_is_onward
+      (λ start. bind_decides (strict_is_onward (identifier_is_consuming t))
+      (λ id. bind_decides (inline_blank_is_onward t) (λ u. bind_decides (strict_is_onward (token_is_consuming t 61))
       (λ u.
-      bind_is_onward (patterns s l)
-      (λ value. bind_is_onward (blank_block_is_onward t)
-      (λ u. bind_is_onward (attributes_are_onward s l) (λ rest. message_with_is_onward t start id value rest)))))))
+      bind_decides (patterns s l)
+      (λ value. bind_decides (blank_block_is_onward t)
+      (λ u. bind_decides (attributes_are_onward s l) (λ rest. message_with_is_onward t start id value rest)))))))
 
   term_is_onward : (s : ℕ) → low ≤ s → TotalOnward t s (term_of edition t R)
   term_is_onward s l =
-      bind_is_onward here_is_onward
-      (λ start. bind_is_onward (strict_is_onward (token_is_consuming t 45))
-      (λ u. bind_is_onward (strict_is_onward (identifier_is_consuming t))
-      (λ id. bind_is_onward (inline_blank_is_onward t) (λ u. bind_is_onward (strict_is_onward (token_is_consuming t 61))
+      bind_decides here_is_onward
+      (λ start. bind_decides (strict_is_onward (token_is_consuming t 45))
+      (λ u. bind_decides (strict_is_onward (identifier_is_consuming t))
+      (λ id. bind_decides (inline_blank_is_onward t) (λ u. bind_decides (strict_is_onward (token_is_consuming t 61))
       (λ u.
-      bind_is_onward (patterns s l)
-      (λ value. bind_is_onward (blank_block_is_onward t)
-      (λ u. bind_is_onward (attributes_are_onward s l) (λ rest. term_with_is_onward t start id value rest))))))))
+      bind_decides (patterns s l)
+      (λ value. bind_decides (blank_block_is_onward t)
+      (λ u. bind_decides (attributes_are_onward s l) (λ rest. term_with_is_onward t start id value rest))))))))
 
 module _ (t : List ℕ) where
   text_is_onward : {s : ℕ} (eol : Bool) → TotalOnward t s (comment_text t eol)
-  text_is_onward true = bind_is_onward here_is_onward (λ i. spanned_is_onward t)
-  text_is_onward false = bind_is_onward (strict_is_onward (token_is_consuming t 32)) (λ u. rest_of_line_is_onward t)
+  text_is_onward true = bind_decides here_is_onward (λ i. spanned_is_onward t)
+  text_is_onward false = bind_decides (strict_is_onward (token_is_consuming t 32)) (λ u. rest_of_line_is_onward t)
 
   rest_is_onward : {s : ℕ} (b : Option ℕ) → TotalOnward t s (comment_rest t b)
   rest_is_onward None = yields_is_onward
   rest_is_onward (Some b) =
-      bind_is_onward (peek_is_onward text_is_onward) (λ content. bind_is_onward (optional_eol_is_onward t)
+      bind_decides (any_peek_decides text_is_onward) (λ content. bind_decides (optional_eol_is_onward t)
       (λ u. yields_is_onward))
 
   line_has : (i level : ℕ) → i ≤ length t → hashes t i ≡ level → (o : Outcome (List Span)) × comment_line t level i o
   line_has i level l e =
       let inside = place_after_hashes t (InText t) (text_cuts t) i l in
       let whole =
-      bind_is_total {pre = λ j. j ≡ i} {mid = λ u. From t 0} (skip_is_total (λ j p. (j + level, record { by = refl })))
-      (holds_skip (λ j m p w. let by = w.by in record { late = omega arith; in_text = omega arith }))
-      (λ u. (peek_is_onward rest_is_onward).total) in
+      bind_decides {pre = λ j. j ≡ i} {mid = λ u. From t 0}
+      (skip_decides (λ j p. (j + level, record { by = refl }))
+      (λ j m p w. let by = w.by in record { late = omega arith; in_text = omega arith }))
+      (λ u. any_peek_decides rest_is_onward) in
       whole.has i refl
 
   record Lines (level i : ℕ) : Type 0 where
@@ -209,11 +204,11 @@ module _ (edition : Edition) (t : List ℕ) (R : Family) (h : IsIncludedFamily R
   entry_other : (i b : ℕ) (minus : Bool) → low ≤ i → i ≤ length t → (b == 45) ≡ minus → (o : Outcome (EntryTree Span)) ×
       branch_on (b == 45) (term_of edition t R) (message_of edition t R) i o
   entry_other i b true g l e =
-      let x = (term_is_onward edition t R h low patterns i g).total.has i (record { late = omega arith; in_text = l })
+      let x = (term_is_onward edition t R h low patterns i g).has i (record { late = omega arith; in_text = l })
       in
       (x.0, first e x.1)
   entry_other i b false g l e =
-      let x = (message_is_onward edition t R h low patterns i g).total.has i
+      let x = (message_is_onward edition t R h low patterns i g).has i
       (record { late = omega arith; in_text = l }) in
       (x.0, second e x.1)
 
@@ -225,7 +220,7 @@ module _ (edition : Edition) (t : List ℕ) (R : Family) (h : IsIncludedFamily R
   entry_has_of : (i : ℕ) (o : Option ℕ) → low ≤ i → i ≤ length t → slice_get t i ≡ o → (p : Outcome (EntryTree Span)) ×
       entry_of edition t R o i p
   entry_has_of i None g l e =
-      (message_is_onward edition t R h low patterns i g).total.has i (record { late = omega arith; in_text = l })
+      (message_is_onward edition t R h low patterns i g).has i (record { late = omega arith; in_text = l })
   entry_has_of i (Some b) g l e = entry_choice i b (b == 35) g l e refl
 
   pub entry_has : (i : ℕ) → low ≤ i → i ≤ length t → (o : Outcome (EntryTree Span)) × entry_in edition t R i o
@@ -262,7 +257,7 @@ module _ (edition : Edition) (t : List ℕ) (n i : ℕ) (l : i ≤ length t) whe
             let all = attribute_is_consuming edition t (within edition t n) (within_family edition t n) i
             (patterns_left e)
             i (omega arith) in
-            let has = all.total.has i (record { late = omega arith; in_text = l }) in
+            let has = all.has i (record { late = omega arith; in_text = l }) in
             absurd (d has.0 has.1)
             )
       ]

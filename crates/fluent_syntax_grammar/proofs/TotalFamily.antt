@@ -22,22 +22,19 @@ use Rattle.fluent_syntax_grammar.specs.Variants.{more_variants}
 use Rattle.fluent_syntax_tree.specs.declared.edition.Edition.{Edition}
 use Rattle.fluent_syntax_tree.specs.declared.spans.Span.{Span}
 use Rattle.fluent_syntax_grammar.proofs.Functional.{longest_run_functional}
-use Rattle.fluent_syntax_grammar.proofs.HoareTriple.{HoareTriple, gave, holds_weaker, holds_bind, holds_yields}
-use Rattle.fluent_syntax_grammar.proofs.HoareTriple.{holds_fails, holds_skip, holds_peek, holds_branch_on}
-use Rattle.fluent_syntax_grammar.proofs.Cuts.{eol_forward, eol_text}
+use Rattle.fluent_syntax_grammar.proofs.HoareTriple.{gave}
 use Rattle.fluent_syntax_grammar.proofs.Facts.{has_inside, right_true}
 use Rattle.fluent_syntax_grammar.proofs.SoundStrings.{InText}
 use Rattle.fluent_syntax_grammar.proofs.SoundLines.{family_is_sound}
 use Rattle.fluent_syntax_grammar.proofs.Boundaries.{text_cuts}
-use Rattle.fluent_syntax_grammar.proofs.Total.{From, AnyFault, Total, TotalOnward, bind_is_total, total_weaker}
-use Rattle.fluent_syntax_grammar.proofs.Total.{yields_is_total, fails_is_total, skip_is_total, peek_is_total}
-use Rattle.fluent_syntax_grammar.proofs.Total.{branch_on_is_total, bind_is_onward, yields_is_onward, here_is_onward}
-use Rattle.fluent_syntax_grammar.proofs.Total.{fails_is_onward, branch_on_is_onward, strict_is_onward, more_on}
-use Rattle.fluent_syntax_grammar.proofs.Total.{more_earlier, TotalConsumingItem, bind_is_consuming_item, none_past_end}
+use Rattle.fluent_syntax_grammar.proofs.Total.{From, Decides, TotalOnward, TotalConsumingItem, bind_decides}
+use Rattle.fluent_syntax_grammar.proofs.Total.{weaker_decides, yields_decides, fails_decides, skip_decides}
+use Rattle.fluent_syntax_grammar.proofs.Total.{peek_decides, branch_on_decides, any_branch_decides, yields_is_onward}
+use Rattle.fluent_syntax_grammar.proofs.Total.{here_is_onward, strict_is_onward, more_on, more_earlier, none_past_end}
 use Rattle.fluent_syntax_grammar.proofs.Total.{many_is_onward}
-use Rattle.fluent_syntax_grammar.proofs.TotalWords.{blank_is_total_onward, blank_block_is_onward}
-use Rattle.fluent_syntax_grammar.proofs.TotalWords.{inline_blank_is_onward, optional_is_onward, on_sound, optional_on}
-use Rattle.fluent_syntax_grammar.proofs.TotalWords.{token_is_consuming, optional_is_total, word_of}
+use Rattle.fluent_syntax_grammar.proofs.TotalWords.{eol_decides, blank_is_total_onward, blank_block_is_onward}
+use Rattle.fluent_syntax_grammar.proofs.TotalWords.{inline_blank_is_onward, optional_is_onward, optional_decides}
+use Rattle.fluent_syntax_grammar.proofs.TotalWords.{on_sound, token_is_consuming, word_of}
 use Rattle.fluent_syntax_grammar.proofs.TotalRules.{TotalOnwardFamily, key_is_onward, arrow_is_onward, ending_is_onward}
 use Rattle.fluent_syntax_grammar.proofs.TotalRules.{inline_is_consuming}
 use Rattle.fluent_syntax_grammar.proofs.TotalRules.{arguments_are_onward, pieces_are_onward, more_read, ending_after}
@@ -48,10 +45,10 @@ module _ (edition : Edition) (t : List ℕ) (R : Family) (low : ℕ) (h : (s : �
 
   line_is_total_onward : (s : ℕ) → low ≤ s + 1 → TotalOnward t s (line t R)
   line_is_total_onward s l =
-      bind_is_onward here_is_onward
-      (λ start. bind_is_onward (inline_blank_is_onward t)
-      (λ u. bind_is_onward here_is_onward
-      (λ first. bind_is_onward (pieces_are_onward t R low h s l) (λ ps. bind_is_onward (ending_is_onward t)
+      bind_decides here_is_onward
+      (λ start. bind_decides (inline_blank_is_onward t)
+      (λ u. bind_decides here_is_onward
+      (λ first. bind_decides (pieces_are_onward t R low h s l) (λ ps. bind_decides (ending_is_onward t)
       (λ e. yields_is_onward)))))
 
   line_on : (s : ℕ) → low ≤ s + 1 → (i j k b : ℕ) (x : Line) → From t s i → InlineBlank t i k →
@@ -69,17 +66,14 @@ module _ (edition : Edition) (t : List ℕ) (R : Family) (low : ℕ) (h : (s : �
       let same = gave _ x n j g in
       subst (λ j. From t (s + 1) j) same.1 r
 
-  own_total : (s : ℕ) → low ≤ s + 1 → (i : ℕ) → From t s i → (o : Outcome (More Line (Unit {0}))) ×
+  own_has : (s : ℕ) → low ≤ s + 1 → (i : ℕ) → From t s i → (o : Outcome (More Line (Unit {0}))) ×
       (line t R >>= λ x. yields (item x tt)) i o
-  own_total s l i p =
-      let whole =
-      bind_is_total (line_is_total_onward s l).total (line_is_total_onward s l).on
-      (λ x. yields_is_total {a = item x tt}) in
-      whole.has i p
+  own_has s l i p =
+      (bind_decides (line_is_total_onward s l) (λ x. yields_is_onward {a = item x tt})).has i p
 
   lines_own : (s : ℕ) → low ≤ s + 1 → (i k b : ℕ) (own : Bool) → From t s i → InlineBlank t i k →
       slice_get t k ≡ Some b → belongs t (nat_lt i k) k ≡ own → (o : Outcome (More Line (Unit {0}))) × next_line t R i o
-  lines_own s l i k b true p w e f = let x = own_total s l i p in (x.0, own_line w e f x.1)
+  lines_own s l i k b true p w e f = let x = own_has s l i p in (x.0, own_line w e f x.1)
   lines_own s l i k b false p w e f = (Read no_item i, other_line w e f)
 
   lines_byte : (s : ℕ) → low ≤ s + 1 → (i k : ℕ) (o : Option ℕ) → From t s i → InlineBlank t i k → slice_get t k ≡ o →
@@ -100,12 +94,8 @@ module _ (edition : Edition) (t : List ℕ) (R : Family) (low : ℕ) (h : (s : �
 
   item_line_is_consuming : (s : ℕ) → low ≤ s + 1 → TotalConsumingItem t s (next_line t R)
   item_line_is_consuming s l = record {
-    total =
-        record {
-          has =
-              λ i p. (let w = (word_of t is_space).exists i p.in_text in
-              lines_byte s l i w.0 (slice_get t w.0) p w.1 refl);
-        };
+    has = λ i p. (let w = (word_of t is_space).exists i p.in_text in
+        lines_byte s l i w.0 (slice_get t w.0) p w.1 refl);
     on = record { on_read = next_line_on s l; on_refused = λ i from to k p x. tt };
   }
 
@@ -118,57 +108,43 @@ module _ (edition : Edition) (t : List ℕ) (R : Family) (low : ℕ) (h : (s : �
   layout_rest : (s : ℕ) → low ≤ s + 1 →
       TotalOnward {A = Layout} t s
       (blank_block t >>= λ u. more_lines t R >>= λ ls. yields (record { opening = None; lines = ls }))
-  layout_rest s l = bind_is_onward (blank_block_is_onward t) (λ u. bind_is_onward (lines_are_onward s l)
+  layout_rest s l = bind_decides (blank_block_is_onward t) (λ u. bind_decides (lines_are_onward s l)
       (λ ls. yields_is_onward))
 
   layout_open : (s : ℕ) → low ≤ s + 1 → TotalOnward t s (layout_at t R None)
   layout_open s l =
-      bind_is_onward here_is_onward
-      (λ start. bind_is_onward (pieces_are_onward t R low h s l)
-      (λ ps. bind_is_onward (ending_is_onward t) (λ e. bind_is_onward (lines_are_onward s l) (λ ls. yields_is_onward))))
+      bind_decides here_is_onward
+      (λ start. bind_decides (pieces_are_onward t R low h s l)
+      (λ ps. bind_decides (ending_is_onward t) (λ e. bind_decides (lines_are_onward s l) (λ ls. yields_is_onward))))
 
-  reach : (s k i j : ℕ) → From t s i × (after_eol t i ≡ Some k) → j ≡ k → From t s j
-  reach s k i j p e = let q = p.0 in let late = q.late in let f = eol_forward t i k p.1 in
-      let m = eol_text t i k p.1 in record { late = omega arith; in_text = omega arith }
-
-  layout_total : (s : ℕ) → low ≤ s + 1 → (o : Option ℕ) →
-      Total (λ i. From t s i × (after_eol t i ≡ o)) (layout_at t R o)
-  layout_total s l None = total_weaker (λ i p. p.0) (layout_open s l).total
-  layout_total s l (Some k) =
-      bind_is_total {mid = λ u. From t s} (skip_is_total (λ i p. (k, record { there = refl })))
-      (holds_skip (λ i j p w. reach s k i j p w.there)) (λ u. (layout_rest s l).total)
-
-  layout_on : (s : ℕ) → low ≤ s + 1 → (o : Option ℕ) →
-      HoareTriple (λ i. From t s i × (after_eol t i ≡ o)) (layout_at t R o) (λ y. From t s) AnyFault
-  layout_on s l None = holds_weaker (λ i p. p.0) (λ a j x. x) (λ k from to x. x) (layout_open s l).on
-  layout_on s l (Some k) =
-      holds_bind {mid = λ u. From t s} (holds_skip (λ i j p w. reach s k i j p w.there)) (λ u. (layout_rest s l).on)
+  layout_decides : (s : ℕ) → low ≤ s + 1 → (o : Option ℕ) →
+      Decides (λ i. From t s i × (after_eol t i ≡ o)) (layout_at t R o) (λ y. From t s)
+  layout_decides s l None = weaker_decides (λ i p. p.0) (λ a j x. x) (layout_open s l)
+  layout_decides s l (Some k) = bind_decides (eol_decides t s k) (λ u. layout_rest s l)
 
   layout_is_onward : (s : ℕ) → low ≤ s + 1 → TotalOnward t s (layout t R)
-  layout_is_onward s l =
-      bind_is_onward (inline_blank_is_onward t)
-      (λ u. record { total = peek_is_total (layout_total s l); on = holds_peek (layout_on s l) })
+  layout_is_onward s l = bind_decides (inline_blank_is_onward t) (λ u. peek_decides (layout_decides s l))
 
   pub pattern_is_onward : (s : ℕ) → low ≤ s + 1 → TotalOnward t s (pattern edition t R)
-  pattern_is_onward s l = bind_is_onward (layout_is_onward s l) (λ y. yields_is_onward)
+  pattern_is_onward s l = bind_decides (layout_is_onward s l) (λ y. yields_is_onward)
 
   variant_of_is_onward : (s : ℕ) (starred star : Bool) (key : KeyTree Span) (p : Option (PatternTree Span)) →
       TotalOnward t s (variant_of t starred star key p)
-  variant_of_is_onward s starred star key None = fails_is_onward
-  variant_of_is_onward s starred star key (Some p) = bind_is_onward (blank_is_total_onward t) (λ u. yields_is_onward)
+  variant_of_is_onward s starred star key None = fails_decides
+  variant_of_is_onward s starred star key (Some p) = bind_decides (blank_is_total_onward t) (λ u. yields_is_onward)
 
   after_is_onward : (s : ℕ) → low ≤ s + 1 → (starred star : Bool) →
       TotalOnward t s (variant_after edition t R starred star)
   after_is_onward s l starred star =
-      bind_is_onward (blank_is_total_onward t)
-      (λ u. bind_is_onward (key_is_onward t)
-      (λ key. bind_is_onward (blank_is_total_onward t)
-      (λ u. bind_is_onward (strict_is_onward (token_is_consuming t 93))
-      (λ u. bind_is_onward (pattern_is_onward s l) (λ value. variant_of_is_onward s starred star key value)))))
+      bind_decides (blank_is_total_onward t)
+      (λ u. bind_decides (key_is_onward t)
+      (λ key. bind_decides (blank_is_total_onward t)
+      (λ u. bind_decides (strict_is_onward (token_is_consuming t 93))
+      (λ u. bind_decides (pattern_is_onward s l) (λ value. variant_of_is_onward s starred star key value)))))
 
-  end_on : (s : ℕ) (starred star : Bool) →
-      HoareTriple (From t s) (variants_end edition starred star) (more_on {S = Bool} t s) AnyFault
-  end_on s starred star = holds_branch_on (λ e. holds_yields (λ i p. p)) (λ e. holds_fails (λ i p. tt))
+  end_decides : (s : ℕ) (starred star : Bool) →
+      Decides (From t s) (variants_end edition starred star) (more_on {S = Bool} t s)
+  end_decides s starred star = any_branch_decides (yields_decides (λ i p. p)) fails_decides
 
   -- where there is a `[`, the variant goes on after it
   abbrev Bracket : (starred star : Bool) → Construct (More (VariantTree Span) Bool)
@@ -178,24 +154,19 @@ module _ (edition : Edition) (t : List ℕ) (R : Family) (low : ℕ) (h : (s : �
 
   item_bracket_is_consuming : (s : ℕ) → low ≤ s + 1 → (starred star : Bool) → TotalConsumingItem t s
       (Bracket starred star)
-  item_bracket_is_consuming s l starred star = record {
-    total = bind_is_total (optional_is_total t 91) (optional_on t s 91) (λ bracket. branch_on_is_total
-        (λ e. total_weaker (λ i p. p.past e) (after_is_onward (s + 1) (omega arith) starred star).total)
-        (λ e. branch_on_is_total (λ y. yields_is_total) (λ y. fails_is_total)));
-    on = holds_bind (optional_on t s 91) (λ bracket. holds_branch_on
-        (λ e. holds_weaker (λ i p. p.past e) (more_earlier t s) (λ k from to x. x)
-        (after_is_onward (s + 1) (omega arith) starred star).on)
-        (λ e. holds_weaker (λ i p. p.at) (λ a j x. x) (λ k from to x. x) (end_on s starred star)));
-  }
+  item_bracket_is_consuming s l starred star =
+      bind_decides (optional_decides t s 91) (λ bracket. branch_on_decides
+      (λ e. weaker_decides (λ i p. p.past e) (more_earlier t s) (after_is_onward (s + 1) (omega arith) starred star))
+      (λ e. weaker_decides (λ i p. p.at) (λ a j x. x) (end_decides s starred star)))
 
   only_is_onward : (s : ℕ) (starred star : Bool) → TotalOnward t s (only_star starred star)
-  only_is_onward s starred star = branch_on_is_onward fails_is_onward yields_is_onward
+  only_is_onward s starred star = any_branch_decides fails_decides yields_is_onward
 
   item_variant_is_consuming : (s : ℕ) → low ≤ s + 1 → (starred : Bool) →
       TotalConsumingItem t s (next_variant edition t R starred)
   item_variant_is_consuming s l starred =
-      bind_is_consuming_item (optional_is_onward t 42)
-      (λ star. bind_is_consuming_item (only_is_onward s starred star) (λ u. item_bracket_is_consuming s l starred star))
+      bind_decides (optional_is_onward t 42)
+      (λ star. bind_decides (only_is_onward s starred star) (λ u. item_bracket_is_consuming s l starred star))
 
   variants_are_onward : (s : ℕ) → low ≤ s + 1 → (starred : Bool) → TotalOnward t s (more_variants edition t R starred)
   variants_are_onward s l starred =
@@ -224,32 +195,23 @@ module _ (edition : Edition) (t : List ℕ) (R : Family) (low : ℕ) (h : (s : �
       (inline_blank t >>= λ u. peek (after_eol t) arrow_line_end >>= λ u. blank t >>= λ u.
       more_variants edition t R false)
   after_two s l =
-      bind_is_onward (inline_blank_is_onward t)
-      (λ u. bind_is_onward (arrow_is_onward t) (λ u. bind_is_onward (blank_is_total_onward t)
+      bind_decides (inline_blank_is_onward t)
+      (λ u. bind_decides (arrow_is_onward t) (λ u. bind_decides (blank_is_total_onward t)
       (λ u. variants_are_onward s l false)))
 
-  variants_total : (s : ℕ) → low ≤ s + 1 → Total (AtArrow s true) (variants_of_select edition t R)
-  variants_total s l =
-      bind_is_total (skip_is_total (λ i p. (i + 2, record { by = refl }))) (holds_skip (after_arrow s))
-      (λ u. (after_two s l).total)
+  variants_decides : (s : ℕ) → low ≤ s + 1 →
+      Decides (AtArrow s true) (variants_of_select edition t R) (λ vs. From t s)
+  variants_decides s l =
+      bind_decides (skip_decides (λ i p. (i + 2, record { by = refl })) (after_arrow s)) (λ u. after_two s l)
 
-  variants_on : (s : ℕ) → low ≤ s + 1 →
-      HoareTriple (AtArrow s true) (variants_of_select edition t R) (λ vs. From t s) AnyFault
-  variants_on s l = holds_bind (holds_skip (after_arrow s)) (λ u. (after_two s l).on)
-
-  select_total : (s : ℕ) → low ≤ s + 1 → (e : InlineTree Span) (o : Option Kind) →
-      Total (AtArrow s true) (select_with edition t R e o)
-  select_total s l e None = bind_is_total (variants_total s l) (variants_on s l) (λ vs. yields_is_total)
-  select_total s l e (Some k) = fails_is_total
-
-  select_on : (s : ℕ) → low ≤ s + 1 → (e : InlineTree Span) (o : Option Kind) →
-      HoareTriple (AtArrow s true) (select_with edition t R e o) (λ x. From t s) AnyFault
-  select_on s l e None = holds_bind (variants_on s l) (λ vs. holds_yields (λ i p. p))
-  select_on s l e (Some k) = holds_fails (λ i p. tt)
+  select_decides : (s : ℕ) → low ≤ s + 1 → (e : InlineTree Span) (o : Option Kind) →
+      Decides (AtArrow s true) (select_with edition t R e o) (λ x. From t s)
+  select_decides s l e None = bind_decides (variants_decides s l) (λ vs. yields_decides (λ i p. p))
+  select_decides s l e (Some k) = fails_decides
 
   no_select : (s : ℕ) (e : InlineTree Span) →
       TotalOnward t s (branch_on (is_term_attribute e) (fails TermAttributeAsPlaceable) (yields (inline e)))
-  no_select s e = branch_on_is_onward fails_is_onward yields_is_onward
+  no_select s e = any_branch_decides fails_decides yields_is_onward
 
   abbrev AfterBlank : InlineTree Span → Bool → Construct (ExpressionTree Span)
   AfterBlank e arrow =
@@ -258,23 +220,15 @@ module _ (edition : Edition) (t : List ℕ) (R : Family) (low : ℕ) (h : (s : �
 
   arrow_at : (s : ℕ) → low ≤ s + 1 → (e : InlineTree Span) →
       TotalOnward t s (peek (has_arrow t) yields >>= λ arrow. AfterBlank e arrow)
-  arrow_at s l e = record {
-    total =
-        bind_is_total {mid = AtArrow s} (peek_is_total (λ a. yields_is_total))
-        (holds_peek (λ a. holds_yields (λ i p. p)))
-        (λ arrow. branch_on_is_total
-        (λ y. total_weaker (λ i p. (p.0, p.1 ∙ y)) (select_total s l e (selector_fault e)))
-        (λ y. total_weaker (λ i p. p.0) (no_select s e).total));
-    on = holds_bind {mid = AtArrow s} (holds_peek (λ a. holds_yields (λ i p. p))) (λ arrow. holds_branch_on
-        (λ y. holds_weaker (λ i p. (p.0, p.1 ∙ y)) (λ a j x. x) (λ k from to x. x)
-        (select_on s l e (selector_fault e)))
-        (λ y. holds_weaker (λ i p. p.0) (λ a j x. x) (λ k from to x. x) (no_select s e).on));
-  }
+  arrow_at s l e =
+      bind_decides {mid = AtArrow s} (peek_decides (λ a. yields_decides (λ i p. p))) (λ arrow. branch_on_decides
+      (λ y. weaker_decides (λ i p. (p.0, p.1 ∙ y)) (λ a j x. x) (select_decides s l e (selector_fault e)))
+      (λ y. weaker_decides (λ i p. p.0) (λ a j x. x) (no_select s e)))
 
   pub expression_is_onward : (s : ℕ) → low ≤ s + 1 → TotalOnward t s (expression edition t R)
   expression_is_onward s l =
-      bind_is_onward (strict_is_onward (inline_is_consuming t R low h s l))
-      (λ e. bind_is_onward (blank_is_total_onward t) (λ u. arrow_at s l e))
+      bind_decides (strict_is_onward (inline_is_consuming t R low h s l))
+      (λ e. bind_decides (blank_is_total_onward t) (λ u. arrow_at s l e))
 
 -- ---- the family
 
@@ -309,11 +263,11 @@ module _ (edition : Edition) (t : List ℕ) where
       let u = family_is_sound edition t (InText t) (text_cuts t) in
       record {
         expression = record {
-          total = record { has = λ i p. (let x = w.expression.total.has i p in (x.0, (length t + 1, x.1))) };
+          has = λ i p. (let x = w.expression.has i p in (x.0, (length t + 1, x.1)));
           on = on_sound (u.expression s);
         };
         argument_list = record {
-          total = record { has = λ i p. (let x = w.argument_list.total.has i p in (x.0, (length t + 1, x.1))) };
+          has = λ i p. (let x = w.argument_list.has i p in (x.0, (length t + 1, x.1)));
           on = on_sound (u.argument_list s);
         };
       }

@@ -21,23 +21,21 @@ use Rattle.fluent_syntax_grammar.specs.Lines.{is_run_place, ending_of, ending, t
 use Rattle.fluent_syntax_grammar.specs.Lines.{more_pieces}
 use Rattle.fluent_syntax_grammar.specs.Variants.{variant_key}
 use Rattle.fluent_syntax_tree.specs.declared.spans.Span.{Span}
-use Rattle.fluent_syntax_grammar.proofs.HoareTriple.{HoareTriple, gave, holds_weaker, holds_bind, holds_yields}
-use Rattle.fluent_syntax_grammar.proofs.HoareTriple.{holds_here, holds_fails, holds_skip, holds_peek, holds_branch_on}
+use Rattle.fluent_syntax_grammar.proofs.HoareTriple.{HoareTriple, gave, holds_weaker, holds_yields, holds_peek}
+use Rattle.fluent_syntax_grammar.proofs.HoareTriple.{holds_branch_on}
 use Rattle.fluent_syntax_grammar.proofs.Cuts.{eol_forward, eol_text}
 use Rattle.fluent_syntax_grammar.proofs.SoundStrings.{InText}
 use Rattle.fluent_syntax_grammar.proofs.SoundLines.{ending_holds}
 use Rattle.fluent_syntax_grammar.proofs.Boundaries.{text_cuts}
-use Rattle.fluent_syntax_grammar.proofs.Total.{From, AnyFault, Total, TotalOnward, TotalConsuming, bind_is_total}
-use Rattle.fluent_syntax_grammar.proofs.Total.{total_weaker, yields_is_total, here_is_total, fails_is_total}
-use Rattle.fluent_syntax_grammar.proofs.Total.{skip_is_total, peek_is_total, branch_on_is_total, bind_is_onward}
-use Rattle.fluent_syntax_grammar.proofs.Total.{yields_is_onward, here_is_onward, fails_is_onward, peek_is_onward}
-use Rattle.fluent_syntax_grammar.proofs.Total.{branch_on_is_onward, strict_is_onward, bind_is_consuming_by_first}
-use Rattle.fluent_syntax_grammar.proofs.Total.{fails_is_consuming, peek_is_consuming, branch_on_is_consuming}
-use Rattle.fluent_syntax_grammar.proofs.Total.{TotalConsumingItem, more_on, more_earlier, item_strict_is_consuming}
+use Rattle.fluent_syntax_grammar.proofs.Total.{From, AnyFault, Decides, TotalOnward, TotalConsuming, TotalConsumingItem}
+use Rattle.fluent_syntax_grammar.proofs.Total.{bind_decides, weaker_decides, yields_decides, here_decides}
+use Rattle.fluent_syntax_grammar.proofs.Total.{fails_decides, skip_decides, peek_decides, any_peek_decides}
+use Rattle.fluent_syntax_grammar.proofs.Total.{branch_on_decides, any_branch_decides, yields_is_onward, here_is_onward}
+use Rattle.fluent_syntax_grammar.proofs.Total.{strict_is_onward, more_on, more_earlier, item_strict_is_consuming}
 use Rattle.fluent_syntax_grammar.proofs.Total.{many_is_onward}
-use Rattle.fluent_syntax_grammar.proofs.TotalWords.{blank_is_total_onward, inline_blank_is_onward, optional_is_onward}
-use Rattle.fluent_syntax_grammar.proofs.TotalWords.{run_word, identifier_is_consuming, number_is_consuming}
-use Rattle.fluent_syntax_grammar.proofs.TotalWords.{string_is_consuming, token_is_consuming}
+use Rattle.fluent_syntax_grammar.proofs.TotalWords.{eol_decides, blank_is_total_onward, inline_blank_is_onward}
+use Rattle.fluent_syntax_grammar.proofs.TotalWords.{optional_is_onward, token_is_consuming, run_word}
+use Rattle.fluent_syntax_grammar.proofs.TotalWords.{identifier_is_consuming, number_is_consuming, string_is_consuming}
 use Rattle.fluent_syntax_grammar.proofs.Facts.{differs, longest_run_nonempty}
 
 -- each construct of the family has an outcome at each place from s on
@@ -46,59 +44,54 @@ pub record TotalOnwardFamily (t : List ℕ) (s : ℕ) (R : Family) : Type 0 wher
   pub argument_list : TotalOnward t s R.argument_list
 
 look_is_onward : {A : Type 0} {t : List ℕ} {s : ℕ} {look : ℕ → A} → TotalOnward t s (peek look yields)
-look_is_onward = peek_is_onward (λ a. yields_is_onward)
+look_is_onward = any_peek_decides (λ a. yields_is_onward)
 
 module _ (t : List ℕ) where
   accessor_is_onward : {s : ℕ} → TotalOnward t s (accessor t)
   accessor_is_onward =
-      bind_is_onward (optional_is_onward t 46)
-      (λ dot. branch_on_is_onward (bind_is_onward (strict_is_onward (identifier_is_consuming t))
+      bind_decides (optional_is_onward t 46)
+      (λ dot. any_branch_decides (bind_decides (strict_is_onward (identifier_is_consuming t))
       (λ a. yields_is_onward))
       yields_is_onward)
 
   separator_is_onward : {s : ℕ} → TotalOnward t s (separator t)
   separator_is_onward =
-      bind_is_onward (blank_is_total_onward t) (λ u. bind_is_onward (optional_is_onward t 44)
+      bind_decides (blank_is_total_onward t) (λ u. bind_decides (optional_is_onward t 44)
       (λ u. blank_is_total_onward t))
 
   named_is_onward : {s : ℕ} (id : Span) (a : MaybeArguments Span) → TotalOnward t s (named_reference t id a)
-  named_is_onward id no_arguments = bind_is_onward accessor_is_onward (λ a. yields_is_onward)
-  named_is_onward id (some_arguments a) = branch_on_is_onward yields_is_onward fails_is_onward
+  named_is_onward id no_arguments = bind_decides accessor_is_onward (λ a. yields_is_onward)
+  named_is_onward id (some_arguments a) = any_branch_decides yields_is_onward fails_decides
 
   pub key_is_onward : {s : ℕ} → TotalOnward t s (variant_key t)
   key_is_onward =
-      peek_is_onward (λ n.
-      branch_on_is_onward (bind_is_onward (strict_is_onward (number_is_consuming t)) (λ v. yields_is_onward))
-      (bind_is_onward (strict_is_onward (identifier_is_consuming t)) (λ v. yields_is_onward)))
+      any_peek_decides (λ n.
+      any_branch_decides (bind_decides (strict_is_onward (number_is_consuming t)) (λ v. yields_is_onward))
+      (bind_decides (strict_is_onward (identifier_is_consuming t)) (λ v. yields_is_onward)))
 
-  arrow_total : (s : ℕ) (o : Option ℕ) → Total (λ i. From t s i × (after_eol t i ≡ o)) (arrow_line_end o)
-  arrow_total s None = fails_is_total
-  arrow_total s (Some k) = skip_is_total (λ i p. (k, record { there = refl }))
-
-  arrow_on : (s : ℕ) (o : Option ℕ) →
-      HoareTriple (λ i. From t s i × (after_eol t i ≡ o)) (arrow_line_end o) (λ u. From t s) AnyFault
-  arrow_on s None = holds_fails (λ i p. tt)
-  arrow_on s (Some k) =
-      holds_skip (λ i j p w. let q = p.0 in let late = q.late in let there = w.there in let f = eol_forward t i k p.1 in
-      let l = eol_text t i k p.1 in record { late = omega arith; in_text = omega arith })
+  arrow_end_decides : (s : ℕ) (o : Option ℕ) →
+      Decides (λ i. From t s i × (after_eol t i ≡ o)) (arrow_line_end o) (λ u. From t s)
+  arrow_end_decides s None = fails_decides
+  arrow_end_decides s (Some k) = eol_decides t s k
 
   pub arrow_is_onward : {s : ℕ} → TotalOnward t s (peek (after_eol t) arrow_line_end)
-  arrow_is_onward {s = s} = record { total = peek_is_total (arrow_total s); on = holds_peek (arrow_on s) }
+  arrow_is_onward {s = s} = peek_decides (arrow_end_decides s)
 
   -- ---- endings
 
-  ending_of_total : {pre : ℕ → Type 0} (i : ℕ) (o : Option ℕ) → Total pre (ending_of t i o)
-  ending_of_total i None = yields_is_total
-  ending_of_total i (Some k) =
-      bind_is_total {mid = λ u j. Unit {0}} (skip_is_total (λ j p. (k, record { there = refl })))
-      (holds_skip (λ j m p w. tt))
-      (λ u. yields_is_total)
+  abbrev Always : {A : Type 0} → A → ℕ → Type 0
+  Always a j = Unit {0}
+
+  ending_of_decides : {pre : ℕ → Type 0} (i : ℕ) (o : Option ℕ) → Decides pre (ending_of t i o) Always
+  ending_of_decides i None = yields_decides (λ j p. tt)
+  ending_of_decides i (Some k) =
+      bind_decides {mid = Always} (skip_decides (λ j p. (k, record { there = refl })) (λ j m p w. tt))
+      (λ u. yields_decides (λ j p. tt))
 
   pub ending_is_onward : {s : ℕ} → TotalOnward t s (ending t)
   ending_is_onward {s = s} = record {
-    total =
-        bind_is_total {mid = λ i j. Unit {0}} here_is_total (holds_here (λ i p. tt))
-        (λ i. peek_is_total (λ o. ending_of_total i o));
+    has = (bind_decides {pre = From t s} {mid = Always} (here_decides (λ i p. tt))
+        (λ i. any_peek_decides (ending_of_decides i))).has;
     on =
         holds_weaker (λ i p. record { late = p.late; place = p.in_text })
         (λ a j e. record { late = e.late; in_text = e.place }) (λ k from to f. tt)
@@ -154,42 +147,42 @@ module _ (t : List ℕ) where
 module _ (t : List ℕ) (R : Family) (low : ℕ) (h : (s : ℕ) → low ≤ s → TotalOnwardFamily t s R) where
   call_is_onward : (s : ℕ) → low ≤ s → TotalOnward t s (call_arguments t R)
   call_is_onward s l =
-      bind_is_onward (blank_is_total_onward t)
-      (λ u. bind_is_onward (optional_is_onward t 40)
-      (λ bracket. branch_on_is_onward (bind_is_onward (bind_is_onward (blank_is_total_onward t)
+      bind_decides (blank_is_total_onward t)
+      (λ u. bind_decides (optional_is_onward t 40)
+      (λ bracket. any_branch_decides (bind_decides (bind_decides (blank_is_total_onward t)
       (λ u. (h s l).argument_list))
       (λ a. yields_is_onward))
       yields_is_onward))
 
   pub placeable_is_consuming : (s : ℕ) → low ≤ s + 1 → TotalConsuming t s (placeable t R)
   placeable_is_consuming s l =
-      bind_is_consuming_by_first (token_is_consuming t 123)
-      (λ u. bind_is_onward (blank_is_total_onward t)
-      (λ u. bind_is_onward (h (s + 1) l).expression
-      (λ e. bind_is_onward (inline_blank_is_onward t)
-      (λ u. bind_is_onward (strict_is_onward (token_is_consuming t 125)) (λ u. yields_is_onward)))))
+      bind_decides (token_is_consuming t 123)
+      (λ u. bind_decides (blank_is_total_onward t)
+      (λ u. bind_decides (h (s + 1) l).expression
+      (λ e. bind_decides (inline_blank_is_onward t)
+      (λ u. bind_decides (strict_is_onward (token_is_consuming t 125)) (λ u. yields_is_onward)))))
 
   inline_of_is_consuming : (s : ℕ) → low ≤ s + 1 → (x : Start) → TotalConsuming t s (inline_of t R x)
-  inline_of_is_consuming s l quote = bind_is_consuming_by_first (string_is_consuming t) (λ v. yields_is_onward)
-  inline_of_is_consuming s l digit = bind_is_consuming_by_first (number_is_consuming t) (λ v. yields_is_onward)
-  inline_of_is_consuming s l minus = bind_is_consuming_by_first (number_is_consuming t) (λ v. yields_is_onward)
+  inline_of_is_consuming s l quote = bind_decides (string_is_consuming t) (λ v. yields_is_onward)
+  inline_of_is_consuming s l digit = bind_decides (number_is_consuming t) (λ v. yields_is_onward)
+  inline_of_is_consuming s l minus = bind_decides (number_is_consuming t) (λ v. yields_is_onward)
   inline_of_is_consuming s l term =
-      bind_is_consuming_by_first (token_is_consuming t 45)
-      (λ u. bind_is_onward (strict_is_onward (identifier_is_consuming t))
-      (λ id. bind_is_onward (accessor_is_onward t) (λ a. bind_is_onward (call_is_onward (s + 1) l)
+      bind_decides (token_is_consuming t 45)
+      (λ u. bind_decides (strict_is_onward (identifier_is_consuming t))
+      (λ id. bind_decides (accessor_is_onward t) (λ a. bind_decides (call_is_onward (s + 1) l)
       (λ c. yields_is_onward))))
   inline_of_is_consuming s l dollar =
-      bind_is_consuming_by_first (token_is_consuming t 36) (λ u. bind_is_onward
+      bind_decides (token_is_consuming t 36) (λ u. bind_decides
       (strict_is_onward (identifier_is_consuming t))
       (λ id. yields_is_onward))
   inline_of_is_consuming s l letter =
-      bind_is_consuming_by_first (identifier_is_consuming t) (λ id. bind_is_onward (call_is_onward (s + 1) l)
+      bind_decides (identifier_is_consuming t) (λ id. bind_decides (call_is_onward (s + 1) l)
       (λ a. named_is_onward t id a))
-  inline_of_is_consuming s l brace = bind_is_consuming_by_first (placeable_is_consuming s l) (λ e. yields_is_onward)
-  inline_of_is_consuming s l other = fails_is_consuming
+  inline_of_is_consuming s l brace = bind_decides (placeable_is_consuming s l) (λ e. yields_is_onward)
+  inline_of_is_consuming s l other = fails_decides
 
   pub inline_is_consuming : (s : ℕ) → low ≤ s + 1 → TotalConsuming t s (inline_expression t R)
-  inline_is_consuming s l = peek_is_consuming (inline_of_is_consuming s l)
+  inline_is_consuming s l = any_peek_decides (inline_of_is_consuming s l)
 
   -- ---- arguments
 
@@ -197,24 +190,24 @@ module _ (t : List ℕ) (R : Family) (low : ℕ) (h : (s : ℕ) → low ≤ s �
   value_is_onward s l quote = strict_is_onward (inline_is_consuming s l)
   value_is_onward s l digit = strict_is_onward (inline_is_consuming s l)
   value_is_onward s l letter = strict_is_onward (inline_is_consuming s l)
-  value_is_onward s l minus = fails_is_onward
-  value_is_onward s l term = fails_is_onward
-  value_is_onward s l dollar = fails_is_onward
-  value_is_onward s l brace = fails_is_onward
-  value_is_onward s l other = fails_is_onward
+  value_is_onward s l minus = fails_decides
+  value_is_onward s l term = fails_decides
+  value_is_onward s l dollar = fails_decides
+  value_is_onward s l brace = fails_decides
+  value_is_onward s l other = fails_decides
 
   named_rest_is_onward : (s : ℕ) → low ≤ s + 1 → (names : List (List ℕ)) (name : Span) →
       TotalOnward t s (named_rest t R names name)
   named_rest_is_onward s l names name =
-      branch_on_is_onward fails_is_onward
-      (bind_is_onward (strict_is_onward (token_is_consuming t 58))
-      (λ u. bind_is_onward (blank_is_total_onward t) (λ u. bind_is_onward (peek_is_onward (value_is_onward s l)) (λ e.
-      bind_is_onward (separator_is_onward t) (λ u. yields_is_onward)))))
+      any_branch_decides fails_decides
+      (bind_decides (strict_is_onward (token_is_consuming t 58))
+      (λ u. bind_decides (blank_is_total_onward t) (λ u. bind_decides (any_peek_decides (value_is_onward s l)) (λ e.
+      bind_decides (separator_is_onward t) (λ u. yields_is_onward)))))
 
   positional_rest_is_onward : (s : ℕ) (names : List (List ℕ)) (e : InlineTree Span) →
       TotalOnward t s (positional_rest t names e)
-  positional_rest_is_onward s [] e = bind_is_onward (separator_is_onward t) (λ u. yields_is_onward)
-  positional_rest_is_onward s (m ∷ ms) e = fails_is_onward
+  positional_rest_is_onward s [] e = bind_decides (separator_is_onward t) (λ u. yields_is_onward)
+  positional_rest_is_onward s (m ∷ ms) e = fails_decides
 
   argument_rest_is_onward : (s : ℕ) → low ≤ s + 1 → (names : List (List ℕ)) (e : InlineTree Span) (o : Option Span)
       (colon : Bool) → TotalOnward t s (argument_rest t R names e o colon)
@@ -224,18 +217,18 @@ module _ (t : List ℕ) (R : Family) (low : ℕ) (h : (s : ℕ) → low ≤ s �
 
   argument_at_is_consuming : (s : ℕ) → low ≤ s + 1 → (names : List (List ℕ)) (b : Option ℕ) →
       TotalConsuming t s (next_argument_at t R names b)
-  argument_at_is_consuming s l names None = fails_is_consuming
+  argument_at_is_consuming s l names None = fails_decides
   argument_at_is_consuming s l names (Some b) =
-      branch_on_is_consuming (bind_is_consuming_by_first (token_is_consuming t 41) (λ u. yields_is_onward))
-      (bind_is_consuming_by_first (inline_is_consuming s l)
-      (λ e. bind_is_onward look_is_onward
+      any_branch_decides (bind_decides (token_is_consuming t 41) (λ u. yields_is_onward))
+      (bind_decides (inline_is_consuming s l)
+      (λ e. bind_decides look_is_onward
       (λ colon. argument_rest_is_onward (s + 1) (omega arith) names e (argument_name e) colon)))
 
   pub arguments_are_onward : (s : ℕ) → low ≤ s + 1 → (names : List (List ℕ)) → TotalOnward t s
       (more_arguments t R names)
   arguments_are_onward s l names =
       many_is_onward t (next_argument t R) _ _ s
-      (λ m k names. item_strict_is_consuming (peek_is_consuming (argument_at_is_consuming m (omega arith) names))) s
+      (λ m k names. item_strict_is_consuming (any_peek_decides (argument_at_is_consuming m (omega arith) names))) s
       (omega arith) names
 
   -- ---- pieces
@@ -249,21 +242,16 @@ module _ (t : List ℕ) (R : Family) (low : ℕ) (h : (s : ℕ) → low ≤ s �
         record { late = omega arith; in_text = (run_word t).in_text i j q.in_text w }
 
     after_run : (from : ℕ) → TotalOnward {A = Piece} t (s + 1) (here >>= λ to. yields (run from to))
-    after_run from = bind_is_onward here_is_onward (λ to. yields_is_onward)
+    after_run from = bind_decides here_is_onward (λ to. yields_is_onward)
 
-    run_total : Total AtRun (text_run t)
-    run_total =
-        bind_is_total {mid = λ from. AtRun} here_is_total (holds_here (λ i p. p))
-        (λ from. bind_is_total (skip_is_total (λ i p. (run_word t).exists i (p.0).in_text)) (holds_skip past_run)
-        (λ u. (after_run from).total))
-
-    run_read_on : HoareTriple AtRun (text_run t) (λ p. From t (s + 1)) AnyFault
-    run_read_on =
-        holds_bind {mid = λ from. AtRun} (holds_here (λ i p. p))
-        (λ from. holds_bind (holds_skip past_run) (λ u. (after_run from).on))
+    run_decides : Decides AtRun (text_run t) (λ p. From t (s + 1))
+    run_decides =
+        bind_decides {mid = λ from. AtRun} (here_decides (λ i p. p))
+        (λ from. bind_decides (skip_decides (λ i p. (run_word t).exists i (p.0).in_text) past_run)
+        (λ u. after_run from))
 
     placed_piece : TotalConsuming {A = More Piece (Unit {0})} t s (placeable t R >>= λ e. yields (item (placed e) tt))
-    placed_piece = bind_is_consuming_by_first (placeable_is_consuming s l) (λ e. yields_is_onward)
+    placed_piece = bind_decides (placeable_is_consuming s l) (λ e. yields_is_onward)
 
     -- there is a byte that begins no line end
     abbrev AtByte : ℕ → ℕ → Type 0
@@ -275,42 +263,29 @@ module _ (t : List ℕ) (R : Family) (low : ℕ) (h : (s : ℕ) → low ≤ s �
         (branch_on (b == 123) (placeable t R >>= λ e. yields (item (placed e) tt))
         (text_run t >>= λ p. yields (item p tt)))
 
-    rest_total : (b : ℕ) → Total (AtByte b) (Rest b)
-    rest_total b = branch_on_is_total (λ x. fails_is_total) (λ x. branch_on_is_total
-        (λ y. total_weaker (λ i p. p.0) placed_piece.total)
-        (λ y. total_weaker (λ i p. (p.0, run_place t i b p.1 p.2 y x))
-        (bind_is_total run_total run_read_on (λ p. yields_is_total))))
+    rest_decides : (b : ℕ) → Decides (AtByte b) (Rest b) (λ p. From t (s + 1))
+    rest_decides b = branch_on_decides (λ x. fails_decides) (λ x. branch_on_decides
+        (λ y. weaker_decides (λ i p. p.0) (λ a j z. z) placed_piece)
+        (λ y. weaker_decides (λ i p. (p.0, run_place t i b p.1 p.2 y x)) (λ a j z. z)
+        (bind_decides run_decides (λ p. yields_decides (λ i q. q)))))
 
-    rest_on : (b : ℕ) → HoareTriple (AtByte b) (Rest b) (λ p. From t (s + 1)) AnyFault
-    rest_on b = holds_branch_on (λ x. holds_fails (λ i p. tt)) (λ x. holds_branch_on
-        (λ y. holds_weaker (λ i p. p.0) (λ a j z. z) (λ k from to z. z) placed_piece.on)
-        (λ y. holds_weaker (λ i p. (p.0, run_place t i b p.1 p.2 y x)) (λ a j z. z) (λ k from to z. z)
-        (holds_bind run_read_on (λ p. holds_yields (λ i q. q)))))
-
-    piece_total : (o : Option ℕ) → Total (λ i. From t s i × (slice_get t i ≡ o)) (next_piece_at t R o)
-    piece_total None = yields_is_total
-    piece_total (Some b) =
-        peek_is_total
-        (λ eol. branch_on_is_total (λ e. yields_is_total) (λ e. total_weaker (λ i p. (p.0.0, p.0.1, p.1 ∙ e))
-        (rest_total b)))
-
-    piece_on : (o : Option ℕ) →
-        HoareTriple (λ i. From t s i × (slice_get t i ≡ o)) (next_piece_at t R o) (more_on t s) AnyFault
-    piece_on None = holds_yields (λ i p. p.0)
-    piece_on (Some b) =
-        holds_peek
-        (λ eol. holds_branch_on (λ e. holds_yields (λ i p. p.0.0))
-        (λ e. holds_weaker (λ i p. (p.0.0, p.0.1, p.1 ∙ e)) (more_earlier t s) (λ k from to z. z) (rest_on b)))
+    piece_decides : (o : Option ℕ) →
+        Decides (λ i. From t s i × (slice_get t i ≡ o)) (next_piece_at t R o) (more_on t s)
+    piece_decides None = yields_decides (λ i p. p.0)
+    piece_decides (Some b) =
+        peek_decides
+        (λ eol. branch_on_decides (λ e. yields_decides (λ i p. p.0.0))
+        (λ e. weaker_decides (λ i p. (p.0.0, p.0.1, p.1 ∙ e)) (more_earlier t s) (rest_decides b)))
 
     item_piece_is_consuming : TotalConsumingItem t s (next_piece t R)
-    item_piece_is_consuming = record { total = peek_is_total piece_total; on = holds_peek piece_on }
+    item_piece_is_consuming = peek_decides piece_decides
 
     -- from a byte that begins no line end, a piece goes on
     piece_past : (b : ℕ) → HoareTriple (AtByte b) (next_piece_at t R (Some b)) (λ p. From t (s + 1)) AnyFault
     piece_past b =
         holds_peek
         (λ eol. holds_branch_on (λ e. holds_yields (λ i p. differs (p.1 ∙ e) p.0.2))
-        (λ e. holds_weaker (λ i p. p.0) (λ a j z. z) (λ k from to z. z) (rest_on b)))
+        (λ e. holds_weaker (λ i p. p.0) (λ a j z. z) (λ k from to z. z) (rest_decides b).on))
 
     -- before a line end there is none
     none_read : (i j : ℕ) (p : More Piece (Unit {0})) (b : ℕ) → has_eol t i ≡ true →

@@ -6,15 +6,14 @@ use Rattle.std.proofs.lemmas.Bool.{false≢true}
 use Rattle.std.proofs.lemmas.Option.{slice_get_within}
 use Rattle.fluent_syntax_grammar.specs.Bytes.{is_space, is_digit, is_name_byte}
 use Rattle.fluent_syntax_grammar.specs.Places.{LongestRun, ByteRun, Steps, has, has_byte, after_eol, is_blank_place}
-use Rattle.fluent_syntax_grammar.specs.Places.{is_line_place, InlineBlank, BlankBlock, no_line, line}
-use Rattle.fluent_syntax_grammar.specs.Construct.{Outcome, Read, Refused, Construct, skip}
+use Rattle.fluent_syntax_grammar.specs.Places.{JumpsTo, is_line_place, InlineBlank, BlankBlock, no_line, line}
+use Rattle.fluent_syntax_grammar.specs.Construct.{Outcome, Read, Refused, Construct, ◌>>=◌, skip}
 use Rattle.fluent_syntax_grammar.specs.Tokens.{spanned, optional, token, inline_blank, blank, blank_block, past_eol}
 use Rattle.fluent_syntax_grammar.specs.Tokens.{optional_eol, rest_of_line, digits, identifier, number}
 use Rattle.fluent_syntax_grammar.specs.Strings.{hex_digits, all_there, escaped, string_unit, string_units, before_quote}
 use Rattle.fluent_syntax_grammar.specs.Strings.{unit_and_more, bad_unit, string_literal}
 use Rattle.fluent_syntax_grammar.specs.Lines.{is_run_place}
-use Rattle.fluent_syntax_grammar.proofs.HoareTriple.{HoareTriple, holds_weaker, holds_bind, holds_yields, holds_fails}
-use Rattle.fluent_syntax_grammar.proofs.HoareTriple.{holds_skip, holds_peek, holds_branch_on}
+use Rattle.fluent_syntax_grammar.proofs.HoareTriple.{HoareTriple, holds_weaker}
 use Rattle.fluent_syntax_grammar.proofs.Cuts.{ascii_blank, line_inside, run_inside, eol_forward, eol_text}
 use Rattle.fluent_syntax_grammar.proofs.Cuts.{block_forward, block_place}
 use Rattle.fluent_syntax_grammar.proofs.Sound.{Sound}
@@ -22,12 +21,11 @@ use Rattle.fluent_syntax_grammar.proofs.SoundStrings.{InText, unit_holds, units_
 use Rattle.fluent_syntax_grammar.proofs.SoundEntries.{identifier_advances}
 use Rattle.fluent_syntax_grammar.proofs.Boundaries.{text_cuts}
 use Rattle.fluent_syntax_grammar.proofs.Stretches.{run_ends_here, run_goes_on, hex_digits_exist}
-use Rattle.fluent_syntax_grammar.proofs.Total.{From, AnyFault, Total, TotalOnward, TotalConsuming, IsTotalRelation}
-use Rattle.fluent_syntax_grammar.proofs.Total.{bind_is_total, yields_is_total, fails_is_total, skip_is_total}
-use Rattle.fluent_syntax_grammar.proofs.Total.{peek_is_total, branch_on_is_total, bind_is_onward, yields_is_onward}
-use Rattle.fluent_syntax_grammar.proofs.Total.{here_is_onward, fails_is_onward, skip_is_onward, peek_is_onward}
-use Rattle.fluent_syntax_grammar.proofs.Total.{branch_on_is_onward, strict_is_onward, bind_is_consuming_by_first}
-use Rattle.fluent_syntax_grammar.proofs.Total.{bind_is_consuming_by_rest}
+use Rattle.fluent_syntax_grammar.proofs.Total.{From, AnyFault, Decides, TotalOnward, TotalConsuming, IsTotalRelation}
+use Rattle.fluent_syntax_grammar.proofs.Total.{bind_decides, weaker_decides, yields_decides, fails_decides}
+use Rattle.fluent_syntax_grammar.proofs.Total.{skip_decides, peek_decides, any_peek_decides, branch_on_decides}
+use Rattle.fluent_syntax_grammar.proofs.Total.{any_branch_decides, yields_is_onward, here_is_onward, skip_is_onward}
+use Rattle.fluent_syntax_grammar.proofs.Total.{strict_is_onward}
 use Rattle.fluent_syntax_grammar.proofs.Facts.{lt_or_same, longest_run_in_text, has_inside}
 
 true_false : {X : Type 0} → false ≡ true → X
@@ -113,61 +111,47 @@ module _ (t : List ℕ) where
     pub at : From t s j
     pub past : found ≡ true → From t (s + 1) j
 
-  pub optional_on : (s b : ℕ) → HoareTriple (From t s) (optional t b) (AfterByte s) AnyFault
-  optional_on s b = holds_peek (λ found. holds_branch_on
-      (λ e. holds_bind {mid = λ u. From t (s + 1)}
-      (holds_skip (λ i j p w. let q = p.0 in let late = q.late in let by = w.by in
+  pub optional_decides : (s b : ℕ) → Decides (From t s) (optional t b) (AfterByte s)
+  optional_decides s b = peek_decides (λ found. branch_on_decides
+      (λ e. bind_decides {mid = λ u. From t (s + 1)}
+      (skip_decides (λ i p. (i + 1, record { by = refl }))
+      (λ i j p w. let q = p.0 in let late = q.late in let by = w.by in
       let l = has_inside (λ c. c == b) t i (p.1 ∙ e) in record { late = omega arith; in_text = omega arith }))
-      (λ u. holds_yields
+      (λ u. yields_decides
       (λ i p. let late = p.late in
       record { at = record { late = omega arith; in_text = p.in_text }; past = λ yes. p })))
-      (λ e. holds_yields (λ i p. record { at = p.0; past = λ yes. true_false yes })))
-
-  pub optional_is_total : {pre : ℕ → Type 0} (b : ℕ) → Total pre (optional t b)
-  optional_is_total b =
-      peek_is_total
-      (λ found. branch_on_is_total
-      (λ e. bind_is_total {mid = λ u i. Unit {0}} (skip_is_total (λ i p. (i + 1, record { by = refl })))
-      (holds_skip (λ i j p w. tt)) (λ u. yields_is_total)) (λ e. yields_is_total))
+      (λ e. yields_decides (λ i p. record { at = p.0; past = λ yes. true_false yes })))
 
   pub optional_is_onward : {s : ℕ} (b : ℕ) → TotalOnward t s (optional t b)
-  optional_is_onward {s = s} b =
-      record {
-        total = optional_is_total b;
-        on = holds_weaker (λ i p. p) (λ a j x. x.at) (λ k from to x. x) (optional_on s b);
-      }
+  optional_is_onward {s = s} b = weaker_decides (λ i p. p) (λ a j x. x.at) (optional_decides s b)
 
   pub token_is_consuming : {s : ℕ} (b : ℕ) → TotalConsuming t s (token t b)
-  token_is_consuming {s = s} b = record {
-    total =
-        bind_is_total (optional_is_total b) (optional_on s b)
-        (λ found. branch_on_is_total (λ e. yields_is_total) (λ e. fails_is_total));
-    on =
-        holds_bind (optional_on s b)
-        (λ found. holds_branch_on (λ e. holds_yields (λ i p. p.past e)) (λ e. holds_fails (λ i p. tt)));
-  }
+  token_is_consuming {s = s} b =
+      bind_decides (optional_decides s b)
+      (λ found. branch_on_decides (λ e. yields_decides (λ i p. p.past e)) (λ e. fails_decides))
 
-  past_total : (s : ℕ) (o : Option ℕ) → Total (λ i. From t s i × (after_eol t i ≡ o)) (past_eol o)
-  past_total s None = yields_is_total
-  past_total s (Some k) = skip_is_total (λ i p. (k, record { there = refl }))
-
-  past_on : (s : ℕ) (o : Option ℕ) → HoareTriple (λ i. From t s i × (after_eol t i ≡ o)) (past_eol o)
-      (λ u. From t s) AnyFault
-  past_on s None = holds_yields (λ i p. p.0)
-  past_on s (Some k) =
-      holds_skip (λ i j p w. let q = p.0 in let late = q.late in let there = w.there in let f = eol_forward t i k p.1 in
+  -- to the place after a line end
+  pub eol_decides : (s k : ℕ) → Decides (λ i. From t s i × (after_eol t i ≡ Some k)) (skip (JumpsTo k)) (λ u. From t s)
+  eol_decides s k =
+      skip_decides (λ i p. (k, record { there = refl }))
+      (λ i j p w. let q = p.0 in let late = q.late in let there = w.there in let f = eol_forward t i k p.1 in
       let l = eol_text t i k p.1 in record { late = omega arith; in_text = omega arith })
 
+  past_eol_decides : (s : ℕ) (o : Option ℕ) →
+      Decides (λ i. From t s i × (after_eol t i ≡ o)) (past_eol o) (λ u. From t s)
+  past_eol_decides s None = yields_decides (λ i p. p.0)
+  past_eol_decides s (Some k) = eol_decides s k
+
   pub optional_eol_is_onward : {s : ℕ} → TotalOnward t s (optional_eol t)
-  optional_eol_is_onward {s = s} = record { total = peek_is_total (past_total s); on = holds_peek (past_on s) }
+  optional_eol_is_onward {s = s} = peek_decides (past_eol_decides s)
 
   pub spanned_is_onward : {s start : ℕ} → TotalOnward t s (spanned start)
-  spanned_is_onward = bind_is_onward here_is_onward (λ end. yields_is_onward)
+  spanned_is_onward = bind_decides here_is_onward (λ end. yields_is_onward)
 
   pub rest_of_line_is_onward : {s : ℕ} → TotalOnward t s (rest_of_line t)
   rest_of_line_is_onward =
-      bind_is_onward here_is_onward
-      (λ start. bind_is_onward (skip_is_onward (longest_run_word (is_line_place t) (line_inside t)))
+      bind_decides here_is_onward
+      (λ start. bind_decides (skip_is_onward (longest_run_word (is_line_place t) (line_inside t)))
       (λ u. spanned_is_onward))
 
   word_on : (set : ℕ → Bool) (i j : ℕ) → has t set i ≡ true → ByteRun t set i j → i < j
@@ -176,28 +160,22 @@ module _ (t : List ℕ) where
       [ inl l ↦ l | inr same ↦ absurd (false≢true (sym w.longest ∙ subst (λ k. has t set k ≡ true) same e)) ]
 
   digits_are_consuming : {s : ℕ} → TotalConsuming t s (digits t)
-  digits_are_consuming {s = s} = record {
-    total =
-        peek_is_total
-        (λ found. branch_on_is_total (λ e. skip_is_total (λ i p. (word_of is_digit).exists i (p.0).in_text))
-        (λ e. fails_is_total));
-    on = holds_peek (λ found. holds_branch_on
-        (λ e. holds_skip
-        (λ i j p w. let q = p.0 in let late = q.late in let l = word_on is_digit i j (p.1 ∙ e) w in
-        let m = (word_of is_digit).in_text i j q.in_text w in record { late = omega arith; in_text = m }))
-        (λ e. holds_fails (λ i p. tt)));
-  }
+  digits_are_consuming {s = s} = peek_decides (λ found. branch_on_decides
+      (λ e. skip_decides (λ i p. (word_of is_digit).exists i (p.0).in_text)
+      (λ i j p w. let q = p.0 in let late = q.late in let l = word_on is_digit i j (p.1 ∙ e) w in
+      let m = (word_of is_digit).in_text i j q.in_text w in record { late = omega arith; in_text = m }))
+      (λ e. fails_decides))
 
   identifier_is_onward : {s : ℕ} → TotalOnward t s (identifier t)
   identifier_is_onward =
-      bind_is_onward here_is_onward
-      (λ start. bind_is_onward (peek_is_onward (λ letter. yields_is_onward))
-      (λ letter. branch_on_is_onward (bind_is_onward (skip_is_onward (word_of is_name_byte)) (λ u. spanned_is_onward))
-      fails_is_onward))
+      bind_decides here_is_onward
+      (λ start. bind_decides (any_peek_decides (λ letter. yields_is_onward))
+      (λ letter. any_branch_decides (bind_decides (skip_is_onward (word_of is_name_byte)) (λ u. spanned_is_onward))
+      fails_decides))
 
   pub identifier_is_consuming : {s : ℕ} → TotalConsuming t s (identifier t)
   identifier_is_consuming {s = s} = record {
-    total = identifier_is_onward.total;
+    has = identifier_is_onward.has;
     on = record {
       on_read =
           λ i j a p x. (let q = identifier_advances t (InText t) (text_cuts t) i j a p.in_text x in let late = p.late in
@@ -208,40 +186,13 @@ module _ (t : List ℕ) where
 
   pub number_is_consuming : {s : ℕ} → TotalConsuming t s (number t)
   number_is_consuming =
-      bind_is_consuming_by_rest here_is_onward
-      (λ start. bind_is_consuming_by_rest (optional_is_onward 45)
-      (λ x. bind_is_consuming_by_first digits_are_consuming (λ u. bind_is_onward (optional_is_onward 46) (λ point.
-      bind_is_onward (branch_on_is_onward (strict_is_onward digits_are_consuming) yields_is_onward)
+      bind_decides here_is_onward
+      (λ start. bind_decides (optional_is_onward 45)
+      (λ x. bind_decides digits_are_consuming (λ u. bind_decides (optional_is_onward 46) (λ point.
+      bind_decides (any_branch_decides (strict_is_onward digits_are_consuming) yields_is_onward)
       (λ u. spanned_is_onward)))))
 
   -- ---- strings
-
-  hex_is_total : {pre : ℕ → Type 0} (w : ℕ) → Total pre (hex_digits t w)
-  hex_is_total w =
-      record { has = λ i p. hex_digits_exist t w i }
-
-  abbrev Always : {A : Type 0} → A → ℕ → Type 0
-  Always a j = Unit {0}
-
-  steps_total : {pre : ℕ → Type 0} (n : ℕ) → Total pre (skip (Steps n))
-  steps_total n = skip_is_total (λ i p. (i + n, record { by = refl }))
-
-  steps_on : {pre : ℕ → Type 0} (n : ℕ) → HoareTriple pre (skip (Steps n)) Always AnyFault
-  steps_on n = holds_skip (λ i j p w. tt)
-
-  escaped_total : {pre : ℕ → Type 0} (o : Option ℕ) → Total pre (escaped t o)
-  escaped_total None = fails_is_total
-  escaped_total (Some b) =
-      branch_on_is_total (λ e. steps_total 2)
-      (λ e. branch_on_is_total (λ e. bind_is_total (steps_total 2) (steps_on 2) (λ u. hex_is_total 4))
-      (λ e. branch_on_is_total (λ e. bind_is_total (steps_total 2) (steps_on 2) (λ u. hex_is_total 6))
-      (λ e. fails_is_total)))
-
-  unit_total : {pre : ℕ → Type 0} (o : Option ℕ) → Total pre (string_unit t o)
-  unit_total None = fails_is_total
-  unit_total (Some b) =
-      branch_on_is_total (λ e. fails_is_total)
-      (λ e. branch_on_is_total (λ e. peek_is_total (λ o. escaped_total o)) (λ e. steps_total 1))
 
   abbrev At : ℕ → ℕ → Type 0
   At i j = j ≡ i
@@ -249,26 +200,29 @@ module _ (t : List ℕ) where
   abbrev After : ℕ → Unit {0} → ℕ → Type 0
   After i u j = i + 1 ≤ j
 
-  hex_on : (i w : ℕ) → HoareTriple (λ j. i + 2 ≤ j) (hex_digits t w) (After i) AnyFault
-  hex_on i w = record { on_read = λ j m u p x. hex_forward i w j m u p x; on_refused = λ j from to k p x. tt }
+  hex_decides : (i w : ℕ) → Decides (λ j. i + 2 ≤ j) (hex_digits t w) (After i)
+  hex_decides i w = record {
+    has = λ j p. hex_digits_exist t w j;
+    on = record { on_read = λ j m u p x. hex_forward i w j m u p x; on_refused = λ j from to k p x. tt };
+  }
 
-  escaped_on : (i : ℕ) (o : Option ℕ) → HoareTriple (At i) (escaped t o) (After i) AnyFault
-  escaped_on i None = holds_fails (λ j p. tt)
-  escaped_on i (Some b) = holds_branch_on (λ e. holds_skip (λ j m p w. let by = w.by in omega arith))
-      (λ e. holds_branch_on
-      (λ e. holds_bind {mid = λ u j. i + 2 ≤ j} (holds_skip (λ j m p w. let by = w.by in omega arith))
-      (λ u. hex_on i 4))
-      (λ e. holds_branch_on
-      (λ e. holds_bind {mid = λ u j. i + 2 ≤ j} (holds_skip (λ j m p w. let by = w.by in omega arith))
-      (λ u. hex_on i 6))
-      (λ e. holds_fails (λ j p. tt))))
+  escape_decides : (i w : ℕ) → Decides (At i) (skip (Steps 2) >>= λ u. hex_digits t w) (After i)
+  escape_decides i w =
+      bind_decides {mid = λ u j. i + 2 ≤ j}
+      (skip_decides (λ j p. (j + 2, record { by = refl })) (λ j m p w. let by = w.by in omega arith))
+      (λ u. hex_decides i w)
 
-  unit_on : (i : ℕ) (o : Option ℕ) → HoareTriple (At i) (string_unit t o) (After i) AnyFault
-  unit_on i None = holds_fails (λ j p. tt)
-  unit_on i (Some b) = holds_branch_on (λ e. holds_fails (λ j p. tt)) (λ e. holds_branch_on
-      (λ e. holds_peek
-      (λ o. holds_weaker {pre = At i} (λ j p. p.0) (λ a j x. x) (λ k from to x. x) (escaped_on i o)))
-      (λ e. holds_skip (λ j m p w. let by = w.by in omega arith)))
+  escaped_decides : (i : ℕ) (o : Option ℕ) → Decides (At i) (escaped t o) (After i)
+  escaped_decides i None = fails_decides
+  escaped_decides i (Some b) = any_branch_decides
+      (skip_decides (λ j p. (j + 2, record { by = refl })) (λ j m p w. let by = w.by in omega arith))
+      (any_branch_decides (escape_decides i 4) (any_branch_decides (escape_decides i 6) fails_decides))
+
+  unit_decides : (i : ℕ) (o : Option ℕ) → Decides (At i) (string_unit t o) (After i)
+  unit_decides i None = fails_decides
+  unit_decides i (Some b) = any_branch_decides fails_decides
+      (any_branch_decides (any_peek_decides (escaped_decides i))
+      (skip_decides (λ j p. (j + 1, record { by = refl })) (λ j m p w. let by = w.by in omega arith)))
 
   unit_text : (i j : ℕ) → i ≤ length t → has_byte t 34 i ≡ false → string_unit t (slice_get t i) i (Read tt j) →
       j ≤ length t
@@ -278,7 +232,7 @@ module _ (t : List ℕ) where
   units_unit : (i : ℕ) → i ≤ length t → has_byte t 34 i ≡ false →
       ((j : ℕ) → i < j → j ≤ length t → (o : Outcome (Unit {0})) × string_units t j o) →
       (o : Outcome (Unit {0})) → string_unit t (slice_get t i) i o → (o : Outcome (Unit {0})) × string_units t i o
-  units_unit i l e more (Read a j) x = let on = (unit_on i (slice_get t i)).on_read i j tt refl x in
+  units_unit i l e more (Read a j) x = let on = (unit_decides i (slice_get t i)).on.on_read i j tt refl x in
       let y = more j (omega arith) (unit_text i j l e x) in (y.0, unit_and_more e x y.1)
   units_unit i l e more (Refused k from to) x = (Refused k from to, bad_unit e x)
 
@@ -286,7 +240,7 @@ module _ (t : List ℕ) where
       ((j : ℕ) → i < j → j ≤ length t → (o : Outcome (Unit {0})) × string_units t j o) → (o : Outcome (Unit {0})) ×
       string_units t i o
   units_at i l true e more = (Read tt i, before_quote e)
-  units_at i l false e more = let x = (unit_total {pre = At i} (slice_get t i)).has i refl in
+  units_at i l false e more = let x = (unit_decides i (slice_get t i)).has i refl in
       units_unit i l e more x.0 x.1
 
   units_exist : (m i : ℕ) → length t ≤ i + m → i ≤ length t → (o : Outcome (Unit {0})) × string_units t i o
@@ -296,14 +250,14 @@ module _ (t : List ℕ) where
   units_are_onward : {s : ℕ} → TotalOnward t s (string_units t)
   units_are_onward {s = s} =
       record {
-        total = record { has = λ i p. units_exist (length t) i (omega arith) p.in_text };
+        has = λ i p. units_exist (length t) i (omega arith) p.in_text;
         on = on_sound (units_are_sound t (InText t) (text_cuts t) {s = s});
       }
 
   pub string_is_consuming : {s : ℕ} → TotalConsuming t s (string_literal t)
   string_is_consuming =
-      bind_is_consuming_by_first (token_is_consuming 34)
-      (λ u. bind_is_onward here_is_onward
-      (λ start. bind_is_onward units_are_onward
-      (λ u. bind_is_onward spanned_is_onward (λ value. bind_is_onward (strict_is_onward (token_is_consuming 34))
+      bind_decides (token_is_consuming 34)
+      (λ u. bind_decides here_is_onward
+      (λ start. bind_decides units_are_onward
+      (λ u. bind_decides spanned_is_onward (λ value. bind_decides (strict_is_onward (token_is_consuming 34))
       (λ u. yields_is_onward)))))
