@@ -19,7 +19,7 @@ use Rattle.fluent_syntax_parser.specs.Made.{made}
 use Rattle.fluent_syntax_parser.specs.Opened.{none}
 use Rattle.fluent_syntax_parser.specs.Outcomes.{no_memory, refused}
 use Rattle.fluent_syntax_parser.proofs.entry_forms.FieldForms.{empty_by_length as no_elements, some_items}
-use Rattle.fluent_syntax_parser.proofs.readers.ContinuesFrom.{all_made, item_fails, item_made, empty_by_length}
+use Rattle.fluent_syntax_parser.proofs.readers.ContinuesFrom.{all_made, item_fails, item_made, no_items}
 use Rattle.fluent_syntax_grammar.proofs.Functional.{here_is_functional}
 use Rattle.fluent_syntax_parser.proofs.readers.Fails.{fails_first, fails_next, fails_seen}
 use Rattle.fluent_syntax_parser.proofs.readers.Fails.{jump_is_functional, out_of_memory}
@@ -329,7 +329,7 @@ pub gather_pieces-loop-elements-init : goal.gather_pieces-loop-elements-init
 gather_pieces-loop-elements-init g m c = record {
   forward = omega arith;
   within = c.requires.within;
-  gathered = rw c.requires.empty (empty_by_length (piece_view g.M.MakeTexts.made));
+  gathered = rw c.requires.empty (no_items (piece_view g.M.MakeTexts.made));
 }
 
 pub gather_pieces-loop-elements-smaller : goal.gather_pieces-loop-elements-smaller
@@ -426,5 +426,5 @@ pub gather_lines-loop-byte-init : goal.gather_lines-loop-byte-init
 gather_lines-loop-byte-init g m c = record {
   forward = omega arith;
   within = c.requires.within;
-  gathered = rw c.requires.empty (empty_by_length (line_view g.M.MakeTexts.made));
+  gathered = rw c.requires.empty (no_items (line_view g.M.MakeTexts.made));
 }
