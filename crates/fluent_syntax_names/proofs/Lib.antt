@@ -1,4 +1,5 @@
 pub mod Adding
+pub mod EntryPlaces
 pub mod LocalFindings
 pub mod ReachableWithin
 pub mod Gathering

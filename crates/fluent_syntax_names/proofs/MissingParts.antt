@@ -32,13 +32,20 @@ use Rattle.fluent_syntax_names.specs.QualifiedNames.{name_at, qualified_referenc
 
 module _ (text : Text) (D E : Other) (defines : (name : Text) → D.defines name ≡ E.defines name)
     (uses : (name : Text) → D.uses name ≡ E.uses name) (reachable : (name : Text)
-    → D.reachable name ≡ E.reachable name) where
+    → D.reachable name ≡ E.reachable name) (places : (name : Text) → D.place name ≡ E.place name) where
+  part_of_same : (owner : EntryName) (p : Part) (x : Span)
+      → missing_part_of D text owner p x ≡ missing_part_of E text owner p x
+  part_of_same owner p x =
+      ap (λ place. Some (record { part = p; name = x; entry = owner.name; in_other = place }))
+      (places (qualified_name text owner))
+
   part_same : (owner : EntryName) (b c : Bool) → b ≡ c → (p : Part) (x : Span)
       → missing_part D text owner b p x ≡ missing_part E text owner c p x
   part_same owner b c e p x =
-      ap (λ d. if not d then None else if b then None else missing_part_of p x) (defines (qualified_name text owner))
-      ∙ ap (λ t. if not (E.defines (qualified_name text owner)) then None else if t then None else missing_part_of p x)
-      e
+      let name = qualified_name text owner in
+      ap (λ d. if not d then None else if b then None else missing_part_of D text owner p x) (defines name)
+      ∙ ap (λ t. if not (E.defines name) then None else if t then None else missing_part_of D text owner p x) e
+      ∙ ap (λ o. if not (E.defines name) then None else if c then None else o) (part_of_same owner p x)
 
   value_same : (message : EntryName) (v : Bool) → missing_value D text message v ≡ missing_value E text message v
   value_same message false = refl
@@ -48,10 +55,12 @@ module _ (text : Text) (D E : Other) (defines : (name : Text) → D.defines name
 
   entry_same : (entry : EntryName) (v : Bool) → missing_entry D text entry v ≡ missing_entry E text entry v
   entry_same entry v =
-      ap (λ d. if d then missing_value D text entry v else missing_part_of part.Entry entry.name)
-      (defines (qualified_name text entry))
-      ∙ ap (λ o. if E.defines (qualified_name text entry) then o else missing_part_of part.Entry entry.name)
-      (value_same entry v)
+      let name = qualified_name text entry in
+      let part_by = λ (O : Other). missing_part_of O text entry part.Entry entry.name in
+      ap (λ d. if d then missing_value D text entry v else part_by D) (defines name)
+      ∙ ap (λ o. if E.defines name then o else part_by D) (value_same entry v)
+      ∙ ap (λ o. if E.defines name then missing_value E text entry v else o)
+      (part_of_same entry part.Entry entry.name)
 
   attribute_same : (owner : EntryName) (x : Span) → missing_attribute D text owner x ≡ missing_attribute E text owner x
   attribute_same owner x =

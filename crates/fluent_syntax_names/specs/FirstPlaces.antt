@@ -19,6 +19,10 @@ first_of (Some place) second = Some place
 abbrev pub place_where : {X : Type 0} → (name noted : List ℕ) → X → Option X
 place_where name noted place = if bytes_eq name noted then Some place else None
 
--- what is noted now is what was noted before, and the name where it is new
+-- what is noted now is what was noted before, and these places where their names are new
+abbrev pub NotesPlaces : {X : Type 0} → (old new places : List ℕ → Option X) → Type 0
+NotesPlaces old new places = (name : List ℕ) → new name ≡ first_of (old name) (places name)
+
+-- the name is noted, where it is new
 abbrev pub Notes : {X : Type 0} → (old new : List ℕ → Option X) → List ℕ → X → Type 0
-Notes old new noted place = (name : List ℕ) → new name ≡ first_of (old name) (place_where name noted place)
+Notes old new noted place = NotesPlaces old new (λ name. place_where name noted place)

@@ -1,6 +1,7 @@
 pub mod ComparisonTables
 pub mod Cycles
 pub mod Differences
+pub mod EntryPlaces
 pub mod ReferenceGraphs
 pub mod Findings
 pub mod Growing
@@ -10,7 +11,7 @@ pub mod MessageReferences
 pub mod Mentions
 pub mod NamedLists
 pub mod FirstPlaces
-pub mod Refused
+pub mod ShownNames
 pub mod Rows
 pub mod Sentences
 pub mod Severities

@@ -1,5 +1,6 @@
 -- What one file says and another lacks.
-use Rattle.std.specs.Prelude.{Bool, true, false, not, ◌||◌, List, [], ◌∷◌, Option, Some, None, if◌then◌else◌}
+use Rattle.std.specs.Prelude.{Bool, true, false, not, ◌||◌, ◌&&◌, List, [], ◌∷◌, Option, Some, None, if◌then◌else◌}
+use Rattle.std.specs.Prelude.{is_some}
 use Rattle.std.specs.List.{list_any}
 use Rattle.std.specs.Str.{bytes_eq}
 use Rattle.fluent_syntax_tree.specs.declared.spans.Span.{Span}
@@ -10,6 +11,7 @@ use Rattle.fluent_syntax_names.specs.declared.mention.Mention.{Mention}
 use Rattle.fluent_syntax_names.specs.declared.mention.Mention.TheVariants as says
 use Rattle.fluent_syntax_names.specs.declared.name_index.NameIndex.{NameIndex}
 use Rattle.fluent_syntax_names.specs.declared.qualified_names.EntryName.{EntryName}
+use Rattle.fluent_syntax_names.specs.EntryPlaces.{entry_place}
 use Rattle.fluent_syntax_names.specs.Findings.{put, owner_after, is_defined}
 use Rattle.fluent_syntax_names.specs.QualifiedNames.{Text, nameless, message_name, term_name}
 use Rattle.fluent_syntax_names.specs.Findings.{gathered}
@@ -37,21 +39,27 @@ is_used file name = list_any (bytes_eq name) (used_in file.text.now nameless fil
 
 -- ---- What the other file lacks
 
--- what the other file defines, what it uses, and which messages an entry of it leads to
+-- what the other file defines, what it uses, which messages an entry of it leads to, and where it has an entry
 pub record Other : Type 0 where
   pub defines : Text → Bool
   pub uses : Text → Bool
   pub reachable : Text → Option (List Text)
+  pub place : Text → Option Span
 
-abbrev pub missing_part_of : Part → Span → Option MissingPart
-missing_part_of part name = Some (record { part = part; name = name })
+abbrev pub missing_part_of : Other → Text → EntryName → Part → Span → Option MissingPart
+missing_part_of other text owner part name = Some (record {
+  part = part;
+  name = name;
+  entry = owner.name;
+  in_other = other.place (qualified_name text owner);
+})
 
 -- a part of an entry that the other defines
 abbrev pub missing_part : Other → Text → EntryName → (is_there : Bool) → Part → Span → Option MissingPart
 missing_part other text owner is_there part name =
     if not (other.defines (qualified_name text owner)) then None
     else if is_there then None
-    else missing_part_of part name
+    else missing_part_of other text owner part name
 
 abbrev pub missing_value : Other → Text → EntryName → (has_value : Bool) → Option MissingPart
 missing_value other text message false = None
@@ -61,7 +69,7 @@ missing_value other text message true =
 abbrev pub missing_entry : Other → Text → EntryName → (has_value : Bool) → Option MissingPart
 missing_entry other text entry has_value =
     if other.defines (qualified_name text entry) then missing_value other text entry has_value
-    else missing_part_of part.Entry entry.name
+    else missing_part_of other text entry part.Entry entry.name
 
 abbrev pub missing_attribute : Other → Text → EntryName → Span → Option MissingPart
 missing_attribute other text owner attribute =
@@ -112,8 +120,19 @@ other_of file = record {
   defines = is_defined (file ∷ []);
   uses = is_used file;
   reachable = reachable_messages (references_of file);
+  place = entry_place file.text.now file.mentions.items;
 }
 
 -- what the one says and the other lacks, in the order of the one's text
 abbrev pub all_missing_parts : (one other : NameIndex) → List MissingPart
 all_missing_parts one other = missing_parts_in (other_of other) one.text.now nameless one.mentions.items []
+
+-- ---- What is junk
+
+abbrev pub is_entry_part : Part → Bool
+is_entry_part part.Entry = true
+is_entry_part _ = false
+
+-- whether the other file has it as junk, which only a message or a term can be
+abbrev pub is_junk : MissingPart → Bool
+is_junk missing = is_entry_part missing.part && is_some missing.in_other

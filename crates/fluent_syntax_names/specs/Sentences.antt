@@ -1,6 +1,9 @@
 -- What is said of a finding of each kind, and of each difference.
-use Rattle.std.specs.Prelude.{ℕ, List, ◌++◌, codes, Option, Some, None}
+use Rattle.std.specs.Prelude.{ℕ, List, ◌++◌, codes, Option, Some, None, if◌then◌else◌}
 use Rattle.std.specs.Fmt.{decimal}
+use Rattle.fluent_syntax_names.specs.MissingParts.{is_junk}
+use Rattle.fluent_syntax_names.specs.ShownNames.{shown_name}
+use Rattle.fluent_syntax_names.specs.declared.missing_part.MissingPart.{MissingPart}
 use Rattle.fluent_syntax_names.specs.declared.differences.Difference.{Difference}
 use Rattle.fluent_syntax_names.specs.declared.differences.Difference.TheVariants as differs
 use Rattle.fluent_syntax_names.specs.declared.differences.Side.{Side}
@@ -44,3 +47,12 @@ difference_sentence differs.UnknownVariable entry name = codes "the reference do
 abbrev pub junk_sentence : Side → (entry place : List ℕ) → List ℕ
 junk_sentence Reference entry place = codes "`" ++ entry ++ codes "` is junk here; the reference has it at " ++ place
 junk_sentence Other entry place = codes "`" ++ entry ++ codes "` is junk in the reference (" ++ place ++ codes ")"
+
+-- of a part that the file of this side has, by its text: with the place in the reference, where it has one there
+abbrev pub part_sentence : Side → (text : List ℕ) → MissingPart → Difference → (place : Option (List ℕ)) → List ℕ
+part_sentence side text missing difference None =
+    difference_sentence difference (shown_name text missing.entry) (shown_name text missing.name)
+part_sentence side text missing difference (Some place) =
+    if is_junk missing then junk_sentence side (shown_name text missing.entry) place
+    else difference_sentence difference (shown_name text missing.entry) (shown_name text missing.name)
+    ++ (codes " (" ++ (place ++ codes ")"))

@@ -12,6 +12,7 @@ ghost use Rattle.fluent_syntax_names.specs.QualifiedNames.{nameless};
 
 use crate::comparison_tables::ComparisonTables;
 use crate::definitions::{NAMELESS, note_definitions, owner_after};
+use crate::entry_places::entry_places;
 use crate::first_places::FirstPlaces;
 use crate::mention::Mention;
 use crate::message_references::message_references_of;
@@ -34,7 +35,7 @@ use std::alloc::{AllocError, Global};
 /// Attributes and variables of terms are for their own language alone. Of a reference and a translation it reports what
 /// the translation lacks; the other way round what is obsolete or unknown there.
 ///
-/// Takes the memory of three tables of names, and of the list; `AllocError` where there is none. The time is that of
+/// Takes the memory of four tables of names, and of the list; `AllocError` where there is none. The time is that of
 /// looking each name up in a sorted table, and each variable for up to 100 messages.
 pub fn missing_parts(
     alloc: Global,
@@ -51,11 +52,13 @@ pub fn missing_parts(
     let mut used = FirstPlaces::new(alloc);
     note_uses(alloc, &mut used, other.text, &other.mentions)?;
     let message_references = message_references_of(alloc, other.text, &other.mentions)?;
+    let places = entry_places(alloc, other.text, &other.mentions)?;
     let tables = ComparisonTables {
         alloc,
         defined: &defined,
         used: &used,
         message_references: &message_references,
+        places: &places,
         text: one.text,
     };
     missing_parts_by(&tables, &one.mentions)

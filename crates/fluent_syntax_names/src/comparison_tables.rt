@@ -22,13 +22,14 @@ use crate::qualified_names::{
 use fluent_syntax_tree::spans::Span;
 use std::alloc::{AllocError, Global};
 
-/// A text next to another file: what that defines and uses, and where its messages lead.
+/// A text next to another file: what that defines and uses, where its messages lead, and where it has its entries.
 #[derive(Clone, Copy)]
 pub(crate) struct ComparisonTables<'a> {
     pub(crate) alloc: Global,
     pub(crate) defined: &'a FirstPlaces<Span>,
     pub(crate) used: &'a FirstPlaces<Span>,
     pub(crate) message_references: &'a MessageReferences,
+    pub(crate) places: &'a FirstPlaces<Span>,
     pub(crate) text: &'a str,
 }
 
@@ -72,6 +73,8 @@ impl ComparisonTables<'_> {
         Ok(Some(MissingPart {
             part: Part::Entry,
             name: entry.name,
+            entry: entry.name,
+            in_other: self.places.place_of(&name),
         }))
     }
 
@@ -192,6 +195,11 @@ impl ComparisonTables<'_> {
         if self.defined.place_of(&entry).is_none() || is_there {
             return Ok(None);
         }
-        Ok(Some(MissingPart { part, name }))
+        Ok(Some(MissingPart {
+            part,
+            name,
+            entry: owner.name,
+            in_other: self.places.place_of(&entry),
+        }))
     }
 }

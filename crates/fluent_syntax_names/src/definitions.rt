@@ -2,7 +2,7 @@
 ghost use Rattle.std.specs.Prelude.{◌≡◌, true, false, Some, OnOk};
 ghost use Rattle.fluent_syntax_names.specs.Findings.{owner_after, defines, defined_in, put, message_defines};
 ghost use Rattle.fluent_syntax_names.specs.QualifiedNames.{nameless};
-ghost use Rattle.fluent_syntax_names.specs.FirstPlaces.{place_of};
+ghost use Rattle.fluent_syntax_names.specs.FirstPlaces.{Notes, place_of};
 ghost use Rattle.fluent_syntax_names.specs.QualifiedNames.{qualified_name, qualified_attribute, qualified_value};
 ghost use Rattle.fluent_syntax_names.specs.Tables.{NotesNames};
 
@@ -109,13 +109,16 @@ fn note_value(
     Ok(())
 }
 
-fn note_entry(
+/// Notes the name of a message or a term.
+pub(crate) fn note_entry(
     alloc: Global,
     table: &mut FirstPlaces<Span>,
     text: &str,
     entry: EntryName,
 ) -> Result<(), AllocError>
-    ensures { OnOk result (NotesNames (place_of table.old.table) (place_of table.new.table)
+    ensures noted { OnOk result (Notes (place_of table.old.table) (place_of table.new.table)
+        (qualified_name text.now entry) entry.name) }
+    ensures names { OnOk result (NotesNames (place_of table.old.table) (place_of table.new.table)
         (put (Some (qualified_name text.now entry)))) }
 {
     let name = qualified_name(alloc, text, entry)?;

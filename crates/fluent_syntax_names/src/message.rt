@@ -1,9 +1,12 @@
 //! What is said of a finding, and of what one of two files lacks.
-ghost use Rattle.std.specs.Prelude.{◌≡◌, ◌++◌, IfOk, string_bytes};
+ghost use Rattle.std.specs.Prelude.{◌≡◌, ◌++◌, IfOk, option_map, string_bytes};
 ghost use Rattle.fluent_syntax_names.specs.Sentences.{first_on_line, difference_sentence, junk_sentence, sentence_of};
+ghost use Rattle.fluent_syntax_names.specs.Sentences.{part_sentence};
 
 use crate::differences::{Difference, Side};
 use crate::finding::Kind;
+use crate::missing_part::MissingPart;
+use crate::shown_names::shown_name;
 use std::alloc::{AllocError, Global};
 
 impl Kind {
@@ -97,5 +100,35 @@ impl Side {
             ),
             Side::Other => format!(in alloc; "`{entry}` is junk in the reference ({place})"),
         }
+    }
+}
+
+impl MissingPart {
+    /// A sentence on a part that the file of this side has and the other one lacks: `text` is that of the file that has
+    /// it, `difference` what is reported of it, and `place` that in the file of the reference language, where it has
+    /// the part or the junk.
+    ///
+    /// `AllocError` where there is no memory for it.
+    pub fn sentence(
+        &self,
+        alloc: Global,
+        text: &str,
+        side: Side,
+        difference: Difference,
+        place: Option<&str>,
+    ) -> Result<String, AllocError>
+        ensures { IfOk result (λ said. string_bytes said
+            ≡ part_sentence side text.now self.now difference (option_map (λ place. place.now) place.entry)) }
+    {
+        let entry = shown_name(text, self.entry);
+        let name = shown_name(text, self.name);
+        let Some(place) = place else {
+            return difference.sentence(alloc, entry, name);
+        };
+        if self.is_junk() {
+            return side.junk_sentence(alloc, entry, place);
+        }
+        let said = difference.sentence(alloc, entry, name)?;
+        format!(in alloc; "{said} ({place})")
     }
 }

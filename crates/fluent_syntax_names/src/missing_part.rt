@@ -1,4 +1,6 @@
 //! What one file says and another lacks.
+ghost use Rattle.std.specs.Prelude.{◌≡◌};
+ghost use Rattle.fluent_syntax_names.specs.MissingParts.{is_junk};
 
 use fluent_syntax_tree::spans::Span;
 
@@ -9,6 +11,20 @@ pub struct MissingPart {
     /// The name in the file that has it: of the message or term, of the attribute, of what is referred to, or of the
     /// variable.
     pub name: Span,
+    /// The name, in the file that has it, of the message or term that the part is in, or is.
+    pub entry: Span,
+    /// Where the other file has that entry: the name at its first definition, or else the first junk that begins with
+    /// the name; none where it has neither.
+    pub in_other: Option<Span>,
+}
+
+impl MissingPart {
+    /// Whether the other file has it as junk: a message or a term, with a syntax error.
+    pub fn is_junk(&self) -> bool
+        ensures { result ≡ is_junk self.now }
+    {
+        matches!(self.part, Part::Entry) && self.in_other.is_some()
+    }
 }
 
 /// What is lacked.

@@ -2,6 +2,6 @@
 
 mod entries;
 mod findings;
-mod junk_names;
 mod local;
 mod missing_parts;
+mod places;

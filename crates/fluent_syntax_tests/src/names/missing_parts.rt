@@ -23,8 +23,13 @@ fn missing_parts_shown(alloc: Global, one: &str, other: &str) -> Result<String, 
     let mut out = String::new(alloc);
     for missing in &missing_parts(alloc, &one, &other)? {
         let mark = mark(missing.part);
-        let start = missing.name.start;
-        out.push_str(format!(in alloc; "{mark}{start}\n")?.as_str())?;
+        let (name, entry) = (missing.name.start, missing.entry.start);
+        out.push_str(format!(in alloc; "{mark}{name} of {entry}")?.as_str())?;
+        if let Some(place) = missing.in_other {
+            let start = place.start;
+            out.push_str(format!(in alloc; " at {start}")?.as_str())?;
+        }
+        out.push('\n')?;
     }
     Ok(out)
 }
@@ -35,9 +40,12 @@ fn two_files(rt: HostRuntime) -> Result<(), Fail> {
     let one = "a = { $b } { -c }\n    .t = T\nd =\n    .e = E\nf = F\n";
     let other = "a = A\nd = D\n    .e = E\n";
     let out = missing_parts_shown(alloc, one, other)?;
-    assert_same_text(alloc, "one", out.as_str(), "$7\n>14\n.23\n44\n")?;
+    let expected = "$7 of 0 at 0\n>14 of 0 at 0\n.23 of 0 at 0\n44 of 44\n";
+    assert_same_text(alloc, "one", out.as_str(), expected)?;
     let out = missing_parts_shown(alloc, other, one)?;
-    assert_same_text(alloc, "other", out.as_str(), "=6\n")
+    assert_same_text(alloc, "other", out.as_str(), "=6 of 6 at 29\n")?;
+    let out = missing_parts_shown(alloc, "a = A\n    .t = T\n", "a {\na = A\na = B\n")?;
+    assert_same_text(alloc, "defined and junk", out.as_str(), ".11 of 0 at 4\n")
 }
 
 /// A part that one side says and the other lacks, and the difference that is reported of it.

@@ -31,14 +31,16 @@ returns-clause-missing_parts c =
     let reachable =
     λ (name : Text). reachable_same (row_of message_references)
     (messages_of (references_of other)) adds_references.has_messages name in
+    let places = rw c.deref-4.ensures.value at c.in_ok-places.ensures in
     let tables : Other = record {
       defines = has_name defined;
       uses = has_name used;
       reachable = reachable_of message_references;
+      place = place_of c.in_ok-places.places.table;
     } in
     let same =
-    missing_parts_same one.text.now tables (other_of other) defines uses reachable nameless one.mentions.items [] in
-    let finding_of = rw c.deref-4.ensures.value at c.missing_parts_by.ensures in
+    missing_parts_same one.text.now tables (other_of other) defines uses reachable places nameless one.mentions.items [] in
+    let finding_of = rw c.deref-5.ensures.value at c.missing_parts_by.ensures in
     rw (← same) finding_of
 
 pub returns-clause-reachable : goal.returns-clause-reachable
@@ -52,3 +54,6 @@ returns-in_err-note_uses-clause-reachable c = reachable_decides (references_of c
 
 pub returns-in_err-message_references-clause-reachable : goal.returns-in_err-message_references-clause-reachable
 returns-in_err-message_references-clause-reachable c = reachable_decides (references_of c.args.other.now)
+
+pub returns-in_err-places-clause-reachable : goal.returns-in_err-places-clause-reachable
+returns-in_err-places-clause-reachable c = reachable_decides (references_of c.args.other.now)

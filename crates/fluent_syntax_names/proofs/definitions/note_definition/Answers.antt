@@ -7,5 +7,5 @@ returns-in-Message c =
 
 pub returns-in-Term : goal.returns-in-Term
 returns-in-Term c =
-    let noted = rw c.term_name.ensures at c.note_entry.ensures in
+    let noted = rw c.term_name.ensures at c.note_entry.ensures.names in
     rw c.in-Term.is noted

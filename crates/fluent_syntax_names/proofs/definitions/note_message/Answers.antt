@@ -11,4 +11,4 @@ returns-then-has_value c =
     rw c.if-has_value.true
     (notes_last c.note_value.result (place_of c.args.table.now.table) (place_of c.note_entry.new.table.table)
     (place_of c.note_value.new.table.table) (put (Some (qualified_name text c.args.message)))
-    (put (Some (qualified_value text c.args.message))) c.in_ok-note_entry.ensures c.note_value.ensures)
+    (put (Some (qualified_value text c.args.message))) c.in_ok-note_entry.ensures.names c.note_value.ensures)
