@@ -6,7 +6,8 @@ use Rattle.ftl_files.proofs.languages.language_of.Goals as goal
 
 pub returns-clause-some : goal.returns-clause-some
 returns-clause-some c =
-    let (name, rest) = (c.in_ok-rest.field-0-0, c.in_ok-rest.rest) in
+    let name = c.in_ok-rest.field-0-0 in
+    let rest = c.in_ok-rest.rest in
     let parts = cut_at_slash _ name rest c.in_ok-rest.ensures.cases in
     let (k, found, front, size) = c.in_ok-strip_suffix.ensures.cases in
     let slash = strip_suffix_char 47 _ c.strip_suffix-2.result c.strip_suffix-2.ensures.cases (omega arith) in
@@ -20,13 +21,15 @@ returns-in_err-rest-clause-none c none language l =
 
 pub returns-in_err-strip_suffix-clause-none : goal.returns-in_err-strip_suffix-clause-none
 returns-in_err-strip_suffix-clause-none c none language l =
-    let (name, rest) = (c.in_ok-rest.field-0-0, c.in_ok-rest.rest) in
+    let name = c.in_ok-rest.field-0-0 in
+    let rest = c.in_ok-rest.rest in
     let parts = cut_at_slash _ name rest c.in_ok-rest.ensures.cases in
     c.in_err-strip_suffix.ensures.cases _ (whole_path _ name.now rest.now _ _ c.in_ok-relative_path.ensures parts.0)
 
 pub returns-clause-none : goal.returns-clause-none
 returns-clause-none c none language l =
-    let (name, rest) = (c.in_ok-rest.field-0-0, c.in_ok-rest.rest) in
+    let name = c.in_ok-rest.field-0-0 in
+    let rest = c.in_ok-rest.rest in
     let parts = cut_at_slash _ name rest c.in_ok-rest.ensures.cases in
     let (k, found, front, size) = c.in_ok-strip_suffix.ensures.cases in
     let slash = strip_suffix_char 47 _ c.strip_suffix-2.result c.strip_suffix-2.ensures.cases (omega arith) in
