@@ -1,17 +1,13 @@
-//! What of a document and its original one has and the other lacks.
+//! What of a document and its original one has and the other lacks, in the words of `ftl compare`.
 
 use crate::diagnostic_forms::{LintDiagnostic, LintDiagnosticKind, Related};
-use crate::difference_messages::{extra_message, missing_message, names_of_part, place_text};
-use crate::entry_names::{EntryNames, entry_name, name_with_hyphen};
+use crate::mapped_ranges::MappedRanges;
 use crate::occurrences::{bytes_of, is_name_byte};
 use crate::originals::Original;
-use crate::positions::{PositionRange, Positions, START};
+use crate::positions::{Position, PositionRange, Positions, START};
 use fluent_syntax::spans::Span;
-use fluent_syntax_names::{
-    Mention, MissingPart, NameIndex, Part, RefusedNames, Side, missing_parts,
-};
+use fluent_syntax_names::{MissingPart, NameIndex, Side, missing_parts};
 use std::alloc::{AllocError, Global};
-use std::collections::BTreeMap;
 
 /// What the original has and the document lacks, in the order of the original, and then what the document has and the
 /// original lacks, in the order of the document. `shown` is the path of the original, as it is reported.
@@ -37,20 +33,22 @@ fn missing_of<'u>(
     shown: &str,
 ) -> Result<Vec<LintDiagnostic<'u>>, AllocError> {
     let theirs = &original.name_index;
-    let entries = MatchedEntries::new(alloc, document, theirs)?;
+    let missing_parts = missing_parts(alloc, theirs, document)?;
+    let own_ranges = ranges_in_other(alloc, document.text, &missing_parts)?;
     let mut their_positions = Positions::new(theirs.text);
     let mut diagnostics = Vec::new(alloc);
-    for missing in missing_parts(alloc, theirs, document)?.iter() {
+    for missing in &missing_parts {
         if let Some(difference) = Side::Reference.difference(missing.part) {
             let there = their_positions.range(missing.name);
-            let names = names_of_part(theirs.text, &entries.original, missing);
-            let (range, is_junk) = entries.range_in_document(theirs.text, missing);
             let place = place_text(alloc, shown, there.start)?;
-            let message = missing_message(alloc, difference, names, is_junk, place.as_str())?;
+            let place = Some(place.as_str());
             diagnostics.push(LintDiagnostic {
-                range,
+                range: match name_in_other(document.text, missing) {
+                    Some(name) => own_ranges.range(name),
+                    None => BEGIN,
+                },
                 kind: LintDiagnosticKind::Difference(difference),
-                message,
+                message: missing.sentence(alloc, theirs.text, Side::Reference, difference, place)?,
                 related: Some(related_in(original, there)),
             })?;
         }
@@ -65,28 +63,38 @@ fn extra_of<'u>(
     original: &Original<'u>,
     shown: &str,
 ) -> Result<Vec<LintDiagnostic<'u>>, AllocError> {
-    let entries = EntryNames::new(alloc, document)?;
-    let refused = refused_ranges(alloc, &original.name_index)?;
+    let theirs = &original.name_index;
+    let missing_parts = missing_parts(alloc, document, theirs)?;
+    let their_ranges = ranges_in_other(alloc, theirs.text, &missing_parts)?;
     let mut positions = Positions::new(document.text);
     let mut diagnostics = Vec::new(alloc);
-    for missing in missing_parts(alloc, document, &original.name_index)?.iter() {
+    for missing in &missing_parts {
         if let Some(difference) = Side::Other.difference(missing.part) {
-            let names = names_of_part(document.text, &entries, missing);
-            let junk = junk_of(&refused, document.text, missing);
+            let junk = match name_in_other(theirs.text, missing) {
+                Some(name) if missing.is_junk() => Some(their_ranges.range(name)),
+                _ => None,
+            };
             let place = match junk {
                 Some(range) => Some(place_text(alloc, shown, range.start)?),
                 None => None,
             };
+            let place = place.as_deref();
             diagnostics.push(LintDiagnostic {
                 range: positions.range(missing.name),
                 kind: LintDiagnosticKind::Difference(difference),
-                message: extra_message(alloc, difference, names, place.as_deref())?,
+                message: missing.sentence(alloc, document.text, Side::Other, difference, place)?,
                 related: junk.map(|range| related_in(original, range)),
             })?;
         }
     }
     Ok(diagnostics)
 }
+
+/// Where a text begins.
+const BEGIN: PositionRange = PositionRange {
+    start: START,
+    end: START,
+};
 
 /// A place in the original, with what is reported of the document.
 fn related_in<'u>(original: &Original<'u>, range: PositionRange) -> Related<'u> {
@@ -97,103 +105,41 @@ fn related_in<'u>(original: &Original<'u>, range: PositionRange) -> Related<'u> 
     }
 }
 
-/// The entries of an original, and where a document has those of the same names.
-#[derive(Drop)]
-struct MatchedEntries<'d> {
-    original: EntryNames<'d>,
-    /// Where the document defines each name first, a term's with its `-`.
-    document: BTreeMap<&'d str, PositionRange>,
-    /// The names with which junk of the document begins.
-    refused: RefusedNames<PositionRange>,
+/// A place of the original, as it is reported: `path` is the original's as it is shown.
+fn place_text(alloc: Global, path: &str, position: Position) -> Result<String, AllocError> {
+    let line = position.line.saturating_add(1);
+    let column = position.character.saturating_add(1);
+    format!(in alloc; "{path}:{line}:{column}")
 }
 
-impl<'d> MatchedEntries<'d> {
-    fn new(
-        alloc: Global,
-        document: &NameIndex<'d>,
-        original: &NameIndex<'d>,
-    ) -> Result<MatchedEntries<'d>, AllocError> {
-        Ok(MatchedEntries {
-            original: EntryNames::new(alloc, original)?,
-            document: first_ranges(alloc, document)?,
-            refused: refused_ranges(alloc, document)?,
-        })
-    }
-
-    /// Where the document has the entry in which the original has what the document lacks, and whether it is junk
-    /// there; its begin, where it lacks that. `text` is that of the original.
-    fn range_in_document(&self, text: &str, missing: &MissingPart) -> (PositionRange, bool) {
-        match junk_of(&self.refused, text, missing) {
-            Some(range) => (range, true),
-            None => (self.range_defined(missing.name), false),
-        }
-    }
-
-    /// Where the document defines the entry in which the original has the name; its begin, where it lacks that.
-    fn range_defined(&self, name: Span) -> PositionRange {
-        let own = match self.original.name_at(name.start) {
-            Some(entry) => self.document.get(entry).copied(),
-            None => None,
-        };
-        own.unwrap_or(PositionRange {
-            start: START,
-            end: START,
-        })
-    }
-}
-
-/// Where a file has the part as junk that it lacks, which the other text has; only an entry can be junk.
-fn junk_of(
-    refused: &RefusedNames<PositionRange>,
-    text: &str,
-    missing: &MissingPart,
-) -> Option<PositionRange> {
-    match missing.part {
-        Part::Entry => refused.place_of(text, missing.name),
-        _ => None,
-    }
-}
-
-/// Where the document defines each name first. Its places are asked for in the order of the text, which that of the
-/// original need not be.
-fn first_ranges<'d>(
+/// Where the text has the entries in which it lacks these parts.
+fn ranges_in_other<'t>(
     alloc: Global,
-    document: &NameIndex<'d>,
-) -> Result<BTreeMap<&'d str, PositionRange>, AllocError> {
-    let mut positions = Positions::new(document.text);
-    let mut ranges = BTreeMap::new(alloc);
-    for mention in &document.mentions {
-        if let Some(name) = entry_name(mention) {
-            let shown = name_with_hyphen(document.text, name);
-            if !ranges.contains_key(shown) {
-                drop(ranges.insert(shown, positions.range(name))?);
-            }
+    text: &'t str,
+    missing_parts: &[MissingPart],
+) -> Result<MappedRanges<'t>, AllocError> {
+    let mut names = Vec::new(alloc);
+    for missing in missing_parts {
+        if let Some(name) = name_in_other(text, missing) {
+            names.push(name)?;
         }
     }
-    Ok(ranges)
+    MappedRanges::of(alloc, text, names)
 }
 
-/// The names with which junk of the document begins, each with its range where it does first.
-fn refused_ranges(
-    alloc: Global,
-    document: &NameIndex<'_>,
-) -> Result<RefusedNames<PositionRange>, AllocError> {
-    let mut names = RefusedNames::new(alloc);
-    let mut positions = Positions::new(document.text);
-    for mention in &document.mentions {
-        if let Mention::Junk { content } = mention {
-            let length = bytes_of(document.text, *content)
-                .as_bytes()
-                .iter()
-                .take_while(|byte| is_name_byte(**byte))
-                .count();
-            let name = Span {
-                start: content.start,
-                end: content.start.saturating_add(length),
-            };
-            let range = positions.range(name);
-            names.note(alloc, document.text, *content, range)?;
-        }
+/// The name of the entry in the text that lacks the part: where it is defined, or where the junk begins that it is.
+fn name_in_other(text: &str, missing: &MissingPart) -> Option<Span> {
+    let place = missing.in_other?;
+    if !missing.is_junk() {
+        return Some(place);
     }
-    Ok(names)
+    let length = bytes_of(text, place)
+        .as_bytes()
+        .iter()
+        .take_while(|byte| is_name_byte(**byte))
+        .count();
+    Some(Span {
+        start: place.start,
+        end: place.start.saturating_add(length),
+    })
 }
