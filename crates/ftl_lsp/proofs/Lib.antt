@@ -5,5 +5,6 @@ pub mod FramesMore
 pub mod InboxLemmas
 pub mod OpenDocumentLemmas
 pub mod PositionLemmas
+pub mod RenamingLemmas
 pub mod ServedLemmas
 pub mod SessionLemmas

@@ -5,8 +5,9 @@ use Rattle.ftl_lsp.specs.Edits.{position_param_in}
 use Rattle.ftl_lsp.specs.Formatting.{FormatsText}
 use Rattle.ftl_lsp.specs.OpenDocuments.{OpenText}
 use Rattle.ftl_lsp.specs.Params.{new_name_in, uri_in}
+use Rattle.ftl_lsp.specs.Renaming.{RenamesName}
 use Rattle.ftl_lsp.specs.declared.methods.Method.{Method}
-use Rattle.ftl_lsp.specs.declared.methods.Method.TheVariants.{Formatting, Shutdown}
+use Rattle.ftl_lsp.specs.declared.methods.Method.TheVariants.{Formatting, Rename, Shutdown}
 
 -- whether the message names a document that is open
 abbrev pub names_open : (texts : List ℕ → Option OpenText) → Data → Bool
@@ -28,5 +29,6 @@ IsFormattingOf None result = ⊤
 -- It is what the answer to a request of the method has. Of methods that aren't named here nothing is said.
 abbrev pub IsResult : (texts : List ℕ → Option OpenText) → Data → Option Method → (result : Data) → Type 0
 IsResult texts d (Some Formatting) result = IsFormattingOf (option_and_then texts (uri_in d)) result
+IsResult texts d (Some Rename) result = RenamesName texts d result
 IsResult texts d (Some Shutdown) result = result ≡ null
 IsResult texts d _ result = ⊤

@@ -1,6 +1,7 @@
 pub mod Asking
 pub mod HeaderEnds
 pub mod Changes
+pub mod Contexts
 pub mod Diagnostics
 pub mod Edits
 pub mod Endings
@@ -11,12 +12,15 @@ pub mod Inbox
 pub mod Locations
 pub mod Messages
 pub mod Methods
+pub mod Notices
+pub mod Occurrences
 pub mod Offsets
 pub mod OpenDocuments
 pub mod Outbox
 pub mod Params
 pub mod Phases
 pub mod Positions
+pub mod Renaming
 pub mod Replies
 pub mod Served
 pub mod Sessions

@@ -1,11 +1,10 @@
 -- What a server sends: the kinds of replies, and their JSON values.
 use Rattle.std.specs.Prelude.{ℕ, List, [], codes, Option, Some, None}
-use Rattle.fluent_syntax_names.specs.declared.finding.Severity.{Severity}
-use Rattle.serde_json.specs.Data.{Data, number, unsigned, string, array, object, member, no_members}
+use Rattle.serde_json.specs.Data.{Data, number, string, array, object, member, no_members}
 use Rattle.serde_json.specs.Find.{of_integer}
 use Rattle.serde_json.specs.View.{items_of}
 use Rattle.ftl_lsp.specs.Phases.{number_of, text_of}
-use Rattle.ftl_lsp.specs.DiagnosticForms.{PublishesDiagnostics, severity_number}
+use Rattle.ftl_lsp.specs.DiagnosticForms.{PublishesDiagnostics}
 use Rattle.ftl_lsp.specs.declared.phases.ErrorCode.{ErrorCode}
 
 -- What is sent for a message.
@@ -52,16 +51,6 @@ register_form params =
     (member (codes "jsonrpc") (string (codes "2.0"))
     (member (codes "method") (string (codes "client/registerCapability"))
     (member (codes "params") params no_members))))
-
--- the notification that shows a sentence
-abbrev pub notice_form : Severity → (text : List ℕ) → Data
-notice_form severity text =
-    object (member (codes "jsonrpc") (string (codes "2.0"))
-    (member (codes "method") (string (codes "window/showMessage"))
-    (member (codes "params")
-    (object (member (codes "message") (string text)
-    (member (codes "type") (number (unsigned (severity_number severity))) no_members)))
-    no_members)))
 
 -- The value is what is sent for the reply, if anything is.
 pub data IsSent : Reply → Option Data → Type 0 where

@@ -2,23 +2,24 @@
 use Rattle.std.specs.Prelude.{◌≡◌, ◌≢◌, ◌&&◌, ℕ, List, ⊤, Bool, true, false, Option, Some, None}
 use Rattle.std.specs.Prelude.{IfSome, IfNone, is_some, option_and_then}
 use Rattle.std.specs.Str.{IsUtf8}
-use Rattle.fluent_syntax_names.specs.declared.finding.Severity.{Severity}
 use Rattle.serde_json.specs.Data.{Data, Items, null}
 use Rattle.serde_json.specs.Read.{read}
 use Rattle.ftl_lsp.specs.Asking.{IsResult, names_open, names_position, renames_position}
 use Rattle.ftl_lsp.specs.Edits.{Edit, edits_in}
 use Rattle.ftl_lsp.specs.Messages.{message_in, request, notification, response, invalid}
 use Rattle.ftl_lsp.specs.Methods.{name_of}
+use Rattle.ftl_lsp.specs.Notices.{notice_form}
 use Rattle.ftl_lsp.specs.OpenDocuments.{MakesOpen, OpenText, Sets, texts}
 use Rattle.ftl_lsp.specs.Params.{changes_in, opened_text_in, uri_in, version_in}
 use Rattle.ftl_lsp.specs.Phases.{after_notification, after_request, refusal_of}
-use Rattle.ftl_lsp.specs.Replies.{IsSent, Reply, silence, answered, refused, diagnosed, withdrawn, watch, notice_form}
+use Rattle.ftl_lsp.specs.Replies.{IsSent, Reply, silence, answered, refused, diagnosed, withdrawn, watch}
 use Rattle.ftl_lsp.specs.declared.methods.Method.{Method}
 use Rattle.ftl_lsp.specs.declared.methods.Method.TheVariants.{DocumentSymbol, Formatting, FoldingRange}
 use Rattle.ftl_lsp.specs.declared.methods.Method.TheVariants.{Definition, References, DocumentHighlight}
 use Rattle.ftl_lsp.specs.declared.methods.Method.TheVariants.{Hover, Rename, Completion, SemanticTokens}
 use Rattle.ftl_lsp.specs.declared.methods.Method.TheVariants.{DidOpen, DidChange, DidClose, DidSave}
 use Rattle.ftl_lsp.specs.declared.methods.Method.TheVariants.{Initialized}
+use Rattle.ftl_lsp.specs.declared.notices.Notice.{Notice}
 use Rattle.ftl_lsp.specs.declared.phases.ErrorCode.{ErrorCode}
 use Rattle.ftl_lsp.specs.declared.phases.ErrorCode.TheVariants.{ParseError, InvalidRequest, InvalidParams}
 use Rattle.ftl_lsp.specs.declared.phases.ErrorCode.TheVariants as errors
@@ -52,11 +53,6 @@ fits texts d (Some Hover) = names_position texts d
 fits texts d (Some Completion) = names_position texts d
 fits texts d (Some Rename) = renames_position texts d
 fits texts d _ = true
-
--- A result is found where the parameters fit. Of a renaming, which is answered elsewhere, nothing is said.
-abbrev pub HasResponse : Option Method → (fitting found : Bool) → Type 0
-HasResponse (Some Rename) fitting found = ⊤
-HasResponse _ fitting found = found ≡ fitting
 
 -- Why a request that its phase allows is refused: its parameters don't fit; or, of a renaming whose parameters do, what
 -- is at the place can't have the new name.
@@ -146,13 +142,11 @@ pub record Republishes (session : Session) (value : Data) : Type 0 where
   pub is_open : session.texts uri ≡ Some found
   pub diagnostics : IsSent (diagnosed uri found.text) (Some value)
 
--- The session runs, and the value shows the user a sentence, as that a document can't be formatted or that settings are
--- wrong.
+-- The session runs, and the value shows the user that a document is not formatted, or what is wrong with settings.
 pub record Shows (session : Session) (value : Data) : Type 0 where
   pub runs : session.phase ≡ Running
-  pub severity : Severity
-  pub text : List ℕ
-  pub notice : value ≡ notice_form severity text
+  pub notice : Notice
+  pub form : value ≡ notice_form notice
 
 -- What is sent between two messages: one of these.
 pub data Unasked (session : Session) (value : Data) : Type 0 where

@@ -1,4 +1,8 @@
 //! The open documents and the closed files, with their names.
+ghost use Rattle.std.specs.Prelude.{◌≡◌, All, IfOk, IfSome, None, string_bytes};
+ghost use Rattle.ftl_lsp.specs.Contexts.{IsIndexed};
+ghost use Rattle.ftl_lsp.specs.Occurrences.{IsCut, IsNameAt, shown_of};
+ghost use Rattle.ftl_lsp.specs.OpenDocuments.{open_text, texts_of};
 
 use crate::closed_files::ClosedFile;
 use crate::documents::Document;
@@ -59,7 +63,9 @@ pub fn indexed_documents<'d>(
     documents: &'d BTreeMap<String, OpenDocument>,
     workspace: &'d Workspace,
     scope: Scope<'_>,
-) -> Result<Vec<IndexedDocument<'d>>, AllocError> {
+) -> Result<Vec<IndexedDocument<'d>>, AllocError>
+    ensures { IfOk result (λ found. All (IsIndexed (texts_of documents.now)) found.items) }
+{
     let mut found: Vec<IndexedDocument<'d>> = Vec::new(alloc);
     for (uri, open) in documents.iter() {
         if scope.has(workspace, open.path_or(uri.as_str())) {
@@ -69,7 +75,10 @@ pub fn indexed_documents<'d>(
     for (path, file) in workspace.files().iter() {
         let path = path.as_str();
         let is_open = found.iter().any(|document| document.path == path);
-        if !is_open && scope.has(workspace, path) {
+        if !is_open
+            && !documents.contains_key(file.uri.as_str())
+            && scope.has(workspace, path)
+        {
             found.push(indexed_file(path, file))?;
         }
     }
@@ -101,7 +110,11 @@ fn indexed_document<'d>(
     alloc: Global,
     uri: &'d str,
     open: &'d OpenDocument,
-) -> Result<IndexedDocument<'d>, AllocError> {
+) -> Result<IndexedDocument<'d>, AllocError>
+    ensures uri { IfOk result (λ found. found.uri.now ≡ uri.now) }
+    ensures text { IfOk result (λ found.
+        record { text = found.text.now; version = found.version } ≡ open_text open.now) }
+{
     let document = &open.document;
     Ok(IndexedDocument {
         uri,
@@ -116,7 +129,10 @@ fn indexed_document<'d>(
 }
 
 /// What is known of the closed file at the path.
-fn indexed_file<'d>(path: &'d str, file: &'d ClosedFile) -> IndexedDocument<'d> {
+fn indexed_file<'d>(path: &'d str, file: &'d ClosedFile) -> IndexedDocument<'d>
+    ensures uri { result.uri.now ≡ string_bytes file.now.uri }
+    ensures version { result.version ≡ None }
+{
     IndexedDocument {
         uri: file.uri.as_str(),
         path,
@@ -155,7 +171,9 @@ impl IndexedDocument<'_> {
     }
 
     /// The name at the byte, or that ends there; of two the one that begins there. None where there is none.
-    pub fn name_at(&self, byte: usize) -> Option<Name<'_>> {
+    pub fn name_at(&self, byte: usize) -> Option<Name<'_>>
+        ensures { IfSome result (λ name. IsNameAt self.now.text.now byte (shown_of name)) }
+    {
         let mut found = None;
         for occurrence in self.occurrences() {
             if occurrence.is_at(byte) {
@@ -171,7 +189,10 @@ impl IndexedDocument<'_> {
         alloc: Global,
         name: Name<'_>,
         filter: OccurrenceFilter,
-    ) -> Result<Vec<Span>, AllocError> {
+    ) -> Result<Vec<Span>, AllocError>
+        ensures { IfOk result
+            (λ found. All (λ span. IsCut self.now.text.now span (shown_of name.entry)) found.items) }
+    {
         let mut found = Vec::new(alloc);
         for occurrence in self.occurrences() {
             if filter.has(occurrence) && is_named(self.text, occurrence, name) {

@@ -51,6 +51,7 @@ mod symbols;
 mod token;
 mod token_patterns;
 mod tokens;
+mod unasked;
 mod workspace;
 mod workspace_folder;
 

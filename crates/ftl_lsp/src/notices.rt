@@ -1,23 +1,26 @@
 //! What is shown to the user besides answers and diagnostics.
-ghost use Rattle.std.specs.Prelude.{◌≡◌, string_bytes, IfOk, IfSome, OnOk};
+ghost use Rattle.std.specs.Prelude.{◌≡◌, string_bytes, IfOk};
 ghost use Rattle.serde_json.specs.View.{view};
-ghost use Rattle.ftl_lsp.specs.Replies.{notice_form};
-ghost use Rattle.ftl_lsp.specs.Sessions.{Shows, Unasked, session_of};
+ghost use Rattle.ftl_lsp.specs.Notices.{notice_form, sentence_of, severity_of};
 
 use crate::diagnostic_forms::severity_number;
 use crate::open_documents::OpenDocument;
-use crate::phases::Phase;
-use crate::server::Server;
 use crate::workspace::Workspace;
 use fluent_syntax_names::Severity;
 use serde_json::{Value, json};
 use std::alloc::{AllocError, Global};
 
-/// A sentence that is shown to the user.
-#[derive(Drop)]
-pub struct Notice {
-    pub severity: Severity,
-    pub text: String,
+/// What is shown to the user: that a document with this name is not formatted, or what is wrong with settings.
+#[derive(Clone, PartialEq, Drop)]
+pub enum Notice {
+    /// The document nests too deep.
+    TooDeep(String),
+    /// It has an error, on the line of the number.
+    HasError(String, usize),
+    /// What would be written does not read back.
+    NotReadBack(String),
+    /// The `ftl.toml` of the folder can't be gone by, and why.
+    WrongSettings(String, String),
 }
 
 impl Notice {
@@ -30,66 +33,58 @@ impl Notice {
         open: &OpenDocument,
         workspace: &Workspace,
     ) -> Result<Notice, AllocError> {
-        let name = workspace.display_path(open.path_or(uri));
+        let name = String::from_str(alloc, workspace.display_path(open.path_or(uri)))?;
         let document = &open.document;
-        let text = match document.diagnostics().first() {
-            Some(_) if document.is_too_deep() => {
-                format!(in alloc; "{name} is not formatted: it nests too deep")?
+        match document.diagnostics().first() {
+            Some(_) if document.is_too_deep() => Ok(Notice::TooDeep(name)),
+            Some(error) => Ok(Notice::HasError(name, error.start.line.saturating_add(1))),
+            None => Ok(Notice::NotReadBack(name)),
+        }
+    }
+
+    /// That the settings of the folder can't be gone by, and why. `AllocError` where a growth was refused.
+    pub fn of_settings(alloc: Global, folder: &str, fault: &str) -> Result<Notice, AllocError> {
+        let folder = String::from_str(alloc, folder)?;
+        Ok(Notice::WrongSettings(folder, String::from_str(alloc, fault)?))
+    }
+
+    fn severity(&self) -> Severity
+        ensures { result ≡ severity_of self.now }
+    {
+        match self {
+            Notice::WrongSettings(_, _) => Severity::Error,
+            _ => Severity::Warning,
+        }
+    }
+
+    /// Its sentence. `AllocError` where a growth was refused.
+    fn sentence(&self, alloc: Global) -> Result<String, AllocError>
+        ensures { IfOk result (λ sentence. string_bytes sentence ≡ sentence_of self.now) }
+    {
+        match self {
+            Notice::TooDeep(name) => {
+                format!(in alloc; "{name} is not formatted: it nests too deep")
             }
-            Some(error) => {
-                let line = error.start.line.saturating_add(1);
-                format!(in alloc; "{name} is not formatted: line {line} has an error")?
+            Notice::HasError(name, line) => {
+                format!(in alloc; "{name} is not formatted: line {line} has an error")
             }
-            None => format!(in alloc;
+            Notice::NotReadBack(name) => format!(in alloc;
                 "{name} is not formatted: what would be written does not read back"
-            )?,
-        };
-        Ok(Notice {
-            severity: Severity::Warning,
-            text,
+            ),
+            Notice::WrongSettings(folder, fault) => format!(in alloc; "{folder}/ftl.toml: {fault}"),
+        }
+    }
+
+    /// The notification that shows it. `AllocError` where a growth was refused.
+    pub fn form(&self, alloc: Global) -> Result<Value, AllocError>
+        ensures { IfOk result (λ value. view value ≡ notice_form self.now) }
+    {
+        let sentence = self.sentence(alloc)?;
+        let kind = severity_number(self.severity());
+        json!(in alloc; {
+            "jsonrpc": "2.0",
+            "method": "window/showMessage",
+            "params": {"type": kind, "message": (sentence.as_str())}
         })
-    }
-}
-
-/// The notification that shows a notice.
-fn notice_form(alloc: Global, notice: &Notice) -> Result<Value, AllocError>
-    ensures { IfOk result (λ value. view value
-        ≡ notice_form notice.now.severity (string_bytes notice.now.text)) }
-{
-    let kind = severity_number(notice.severity);
-    json!(in alloc; {
-        "jsonrpc": "2.0",
-        "method": "window/showMessage",
-        "params": {"type": kind, "message": (notice.text.as_str())}
-    })
-}
-
-impl Server {
-    /// What is sent before the next message is taken: a notice, or the diagnostics of a document of which is to be
-    /// published again. None where there is nothing.
-    pub(crate) fn next_unasked(&mut self, is_idle: bool) -> Result<Option<Value>, AllocError>
-        ensures same { OnOk result (session_of self.new ≡ session_of self.old) }
-        ensures unasked { IfOk result (λ sent. IfSome sent
-            (λ value. Unasked (session_of self.old) (view value))) }
-    {
-        match self.next_notice()? {
-            Some(notice) => Ok(Some(notice)),
-            None => self.republish_next(is_idle),
-        }
-    }
-
-    /// A notice that is still to be shown, as long as the session runs. None where there is none left.
-    fn next_notice(&mut self) -> Result<Option<Value>, AllocError>
-        ensures same { OnOk result (session_of self.new ≡ session_of self.old) }
-        ensures shows { IfOk result (λ sent. IfSome sent
-            (λ value. Shows (session_of self.old) (view value))) }
-    {
-        let Phase::Running = self.phase else {
-            return Ok(None);
-        };
-        match self.notices.pop() {
-            Some(notice) => Ok(Some(notice_form(self.alloc, &notice)?)),
-            None => Ok(None),
-        }
     }
 }

@@ -1,4 +1,8 @@
 //! The names in a text, each where it is.
+ghost use Rattle.std.specs.Prelude.{◌≡◌, ◌&&◌, nat_le, true};
+ghost use Rattle.ftl_lsp.specs.Occurrences.{IsCut, shown_of, span_of};
+
+pub use fluent_syntax_grammar::lanes::is_name_byte;
 
 use fluent_syntax::spans::Span;
 use fluent_syntax_names::Mention;
@@ -37,7 +41,9 @@ impl Occurrence {
     }
 
     /// Where it is.
-    pub fn span(&self) -> Span {
+    pub fn span(&self) -> Span
+        ensures { result ≡ span_of self.now }
+    {
         match self.attribute {
             None => self.name,
             Some(attribute) => attribute,
@@ -45,15 +51,12 @@ impl Occurrence {
     }
 
     /// Whether it is at the byte or ends there.
-    pub fn is_at(&self, byte: usize) -> bool {
+    pub fn is_at(&self, byte: usize) -> bool
+        ensures { let span = span_of self.now in result ≡ (nat_le span.start byte && nat_le byte span.end) }
+    {
         let span = self.span();
         span.start <= byte && byte <= span.end
     }
-}
-
-/// Whether a name may have the byte after its first letter.
-pub fn is_name_byte(byte: u8) -> bool {
-    byte.is_ascii_alphanumeric() || byte == b'-' || byte == b'_'
 }
 
 /// What a name is one of, and its text: where these are the same, the names mean the same.
@@ -64,18 +67,36 @@ pub struct Name<'t> {
     pub attribute: Option<&'t str>,
 }
 
+impl<'t> Name<'t> {
+    /// The text that is where it occurs: that of its attribute, if it has one.
+    pub fn shown(&self) -> &'t str
+        ensures { result.now ≡ shown_of self.now }
+    {
+        match self.attribute {
+            None => self.name,
+            Some(attribute) => attribute,
+        }
+    }
+}
+
 /// The bytes of a range of the text; none where it has no such range.
-pub fn bytes_of(text: &str, span: Span) -> &str {
+pub fn bytes_of(text: &str, span: Span) -> &str
+    ensures { IsCut text.now span result.now }
+{
     text.get(span.start..span.end).unwrap_or("")
 }
 
 /// Whether it is this name that occurs in the text.
-pub fn is_named(text: &str, occurrence: &Occurrence, name: Name<'_>) -> bool {
+pub fn is_named(text: &str, occurrence: &Occurrence, name: Name<'_>) -> bool
+    ensures { result ≡ true → IsCut text.now (span_of occurrence.now) (shown_of name.entry) }
+{
     name_of(text, *occurrence) == name
 }
 
 /// The name that occurs in the text.
-pub fn name_of(text: &str, occurrence: Occurrence) -> Name<'_> {
+pub fn name_of(text: &str, occurrence: Occurrence) -> Name<'_>
+    ensures { IsCut text.now (span_of occurrence) (shown_of result) }
+{
     Name {
         kind: occurrence.kind,
         name: bytes_of(text, occurrence.name),

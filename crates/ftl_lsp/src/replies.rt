@@ -3,6 +3,7 @@ ghost use Rattle.std.specs.Prelude.{◌≡◌, IfOk, map};
 ghost use Rattle.serde_json.specs.Data.{null};
 ghost use Rattle.serde_json.specs.View.{view};
 ghost use Rattle.ftl_lsp.specs.Locations.{edit_form, position_form, range_form, span_form};
+ghost use Rattle.ftl_lsp.specs.Renaming.{document_edits_form, renaming_form, version_form};
 ghost use Rattle.ftl_lsp.specs.Replies.{answer_form, diagnostics_form, refusal_form, register_form};
 
 use crate::occurrences::NameKind;
@@ -193,19 +194,37 @@ pub fn edit_form(
     json!(in alloc; {"range": range, "newText": text})
 }
 
+/// The edits of documents, in one value. `AllocError` where a growth was refused.
+pub fn renaming_form(alloc: Global, changes: Vec<Value>) -> Result<Value, AllocError>
+    ensures { IfOk result (λ value. view value ≡ renaming_form (map view changes.items)) }
+{
+    let changes = Value::Array(changes);
+    json!(in alloc; {"documentChanges": changes})
+}
+
 /// The edits of a document in one of its versions. `AllocError` where a growth was refused.
 pub fn edits_of_document(
     alloc: Global,
     uri: &str,
     version: Option<i64>,
     edits: Vec<Value>,
-) -> Result<Value, AllocError> {
+) -> Result<Value, AllocError>
+    ensures { IfOk result
+        (λ value. view value ≡ document_edits_form uri.now version (map view edits.items)) }
+{
     let edits = Value::Array(edits);
-    let version = match version {
-        Some(version) => json!(in alloc; version)?,
-        None => Value::Null,
-    };
+    let version = version_form(alloc, version)?;
     json!(in alloc; {"textDocument": {"uri": uri, "version": version}, "edits": edits})
+}
+
+/// The number of a version; null where there is none.
+fn version_form(alloc: Global, version: Option<i64>) -> Result<Value, AllocError>
+    ensures { IfOk result (λ value. view value ≡ version_form version) }
+{
+    match version {
+        Some(version) => json!(in alloc; version),
+        None => Ok(Value::Null),
+    }
 }
 
 /// A name that may be chosen.

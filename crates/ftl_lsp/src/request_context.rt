@@ -1,4 +1,10 @@
 //! What a request asks of: a place in one of the open documents.
+ghost use Rattle.std.specs.Prelude.{◌≡◌, IfSome, List, Option, ℕ};
+ghost use Rattle.std.specs.List.{Contains};
+ghost use Rattle.serde_json.specs.Data.{Data};
+ghost use Rattle.ftl_lsp.specs.Contexts.{IsContextOf};
+ghost use Rattle.ftl_lsp.specs.Occurrences.{IsNameAt, shown_of};
+ghost use Rattle.ftl_lsp.specs.OpenDocuments.{OpenText};
 
 use crate::index::{IndexedDocument, OccurrenceFilter};
 use crate::occurrences::Name;
@@ -24,14 +30,23 @@ pub struct RequestContext<'d> {
 
 impl RequestContext<'_> {
     /// The document that is named.
-    pub fn here(&self) -> Option<&IndexedDocument<'_>> {
-        self.documents
-            .iter()
-            .find(|document| document.uri == self.uri)
+    pub fn here(&self) -> Option<&IndexedDocument<'_>>
+        ensures listed { IfSome result (λ found. Contains self.now.documents.items found.now) }
+        ensures named { IfSome result (λ found. found.now.uri.now ≡ self.now.uri.now) }
+    {
+        for document in &self.documents {
+            if document.uri == self.uri {
+                return Some(document);
+            }
+        }
+        None
     }
 
     /// The name at the place. None where there is none.
-    pub fn name(&self) -> Option<Name<'_>> {
+    pub fn name(&self) -> Option<Name<'_>>
+        ensures { (texts : List ℕ → Option OpenText) (d : Data) (context : IsContextOf texts d self.now) →
+            IfSome result (λ name. IsNameAt context.found.text self.now.byte (shown_of name)) }
+    {
         self.here()?.name_at(self.byte)
     }
 

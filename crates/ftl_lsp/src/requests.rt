@@ -1,8 +1,10 @@
 //! What a request asks of a place in an open document.
-ghost use Rattle.std.specs.Prelude.{◌≡◌, is_some, true, IfErr, IfOk, Some};
+ghost use Rattle.std.specs.Prelude.{◌≡◌, is_some, true, IfErr, IfOk, IfSome, Some};
 ghost use Rattle.serde_json.specs.View.{view};
 ghost use Rattle.ftl_lsp.specs.Asking.{names_position, renames_position};
+ghost use Rattle.ftl_lsp.specs.Contexts.{IsContextOf};
 ghost use Rattle.ftl_lsp.specs.OpenDocuments.{texts};
+ghost use Rattle.ftl_lsp.specs.Renaming.{RenamesName};
 ghost use Rattle.ftl_lsp.specs.Sessions.{RefusesFor};
 
 use crate::completion::completion;
@@ -16,7 +18,7 @@ use crate::renaming::rename_edits;
 use crate::request_context::RequestContext;
 use crate::server::Server;
 use serde_json::Value;
-use std::alloc::AllocError;
+use std::alloc::{AllocError, Global};
 
 impl Server {
     /// What a request asks of. None where it names no open document, or no place.
@@ -24,8 +26,10 @@ impl Server {
         &'s self,
         message: &'s Value,
     ) -> Result<Option<RequestContext<'s>>, AllocError>
-        ensures { IfOk result
+        ensures found { IfOk result
             (λ found. is_some found ≡ names_position (texts self.now.documents) (view message.now)) }
+        ensures context { IfOk result (λ found. IfSome found
+            (IsContextOf (texts self.now.documents) (view message.now))) }
     {
         let Some(uri) = uri_of(message) else {
             return Ok(None);
@@ -57,57 +61,18 @@ impl Server {
         }
     }
 
-    /// Where the name at the place is defined.
-    pub(crate) fn definitions(&self, message: &Value) -> Result<Option<Value>, AllocError>
+    /// What a request of the method, which is no renaming, asks of the place that it names. None where it names no open
+    /// document, or no place.
+    pub(crate) fn place_response(
+        &self,
+        method: Option<Method>,
+        message: &Value,
+    ) -> Result<Option<Value>, AllocError>
         ensures { IfOk result
             (λ found. is_some found ≡ names_position (texts self.now.documents) (view message.now)) }
     {
         match self.context_of(message)? {
-            Some(context) => Ok(Some(context.definitions(self.alloc)?)),
-            None => Ok(None),
-        }
-    }
-
-    /// Where the name at the place is in the documents and files of the set.
-    pub(crate) fn references(&self, message: &Value) -> Result<Option<Value>, AllocError>
-        ensures { IfOk result
-            (λ found. is_some found ≡ names_position (texts self.now.documents) (view message.now)) }
-    {
-        match self.context_of(message)? {
-            Some(context) => Ok(Some(context.locations(self.alloc, occurrence_filter(message))?)),
-            None => Ok(None),
-        }
-    }
-
-    /// Where the name at the place is in the document.
-    pub(crate) fn document_highlights(&self, message: &Value) -> Result<Option<Value>, AllocError>
-        ensures { IfOk result
-            (λ found. is_some found ≡ names_position (texts self.now.documents) (view message.now)) }
-    {
-        match self.context_of(message)? {
-            Some(context) => Ok(Some(context.highlights(self.alloc)?)),
-            None => Ok(None),
-        }
-    }
-
-    /// The entries that define the name at the place.
-    pub(crate) fn hover(&self, message: &Value) -> Result<Option<Value>, AllocError>
-        ensures { IfOk result
-            (λ found. is_some found ≡ names_position (texts self.now.documents) (view message.now)) }
-    {
-        match self.context_of(message)? {
-            Some(context) => Ok(Some(hover(self.alloc, &context)?)),
-            None => Ok(None),
-        }
-    }
-
-    /// The names that may be at the place.
-    pub(crate) fn completions(&self, message: &Value) -> Result<Option<Value>, AllocError>
-        ensures { IfOk result
-            (λ found. is_some found ≡ names_position (texts self.now.documents) (view message.now)) }
-    {
-        match self.context_of(message)? {
-            Some(context) => Ok(Some(completion(self.alloc, &context)?)),
+            Some(context) => Ok(Some(place_value(self.alloc, method, message, &context)?)),
             None => Ok(None),
         }
     }
@@ -116,6 +81,8 @@ impl Server {
     pub(crate) fn rename(&self, message: &Value) -> Result<Result<Value, ErrorCode>, AllocError>
         ensures found { let fitting = renames_position (texts self.now.documents) (view message.now) in
             IfOk result (λ found. IfOk found (λ edits. fitting ≡ true)) }
+        ensures renames { IfOk result (λ found. IfOk found
+            (λ edits. RenamesName (texts self.now.documents) (view message.now) (view edits))) }
         ensures refused { let fitting = renames_position (texts self.now.documents) (view message.now) in
             IfOk result (λ found. IfErr found (RefusesFor (Some Method.Rename) fitting)) }
     {
@@ -129,5 +96,22 @@ impl Server {
             Ok(edits) => Ok(Ok(edits)),
             Err(fault) => Ok(Err(ErrorCode::Rename(fault))),
         }
+    }
+}
+
+/// What a request of the method asks of a place. `AllocError` where a growth was refused.
+fn place_value(
+    alloc: Global,
+    method: Option<Method>,
+    message: &Value,
+    context: &RequestContext<'_>,
+) -> Result<Value, AllocError> {
+    match method {
+        Some(Method::Definition) => context.definitions(alloc),
+        Some(Method::References) => context.locations(alloc, occurrence_filter(message)),
+        Some(Method::DocumentHighlight) => context.highlights(alloc),
+        Some(Method::Hover) => hover(alloc, context),
+        Some(Method::Completion) => completion(alloc, context),
+        _ => Ok(Value::Null),
     }
 }

@@ -4,8 +4,9 @@ ghost use Rattle.serde_json.specs.View.{view};
 ghost use Rattle.ftl_lsp.specs.Asking.{IsFormattingOf, IsResult, names_open};
 ghost use Rattle.ftl_lsp.specs.OpenDocuments.{open_text, texts};
 ghost use Rattle.ftl_lsp.specs.Params.{uri_in};
-ghost use Rattle.ftl_lsp.specs.Sessions.{HasResponse, RefusesFor, fits, session_of};
+ghost use Rattle.ftl_lsp.specs.Sessions.{RefusesFor, fits, session_of};
 
+use crate::documents::Document;
 use crate::formatting::{formatted_text, formatting_edit};
 use crate::index::{Scope, indexed_documents};
 use crate::methods::Method;
@@ -23,7 +24,7 @@ use crate::symbols::{folding_ranges_in, symbols_in};
 use crate::tokens::tokens_of;
 use crate::workspace::Workspace;
 use serde_json::Value;
-use std::alloc::AllocError;
+use std::alloc::{AllocError, Global};
 
 impl Server {
     /// What a request of the method asks for, or why it is refused.
@@ -40,45 +41,30 @@ impl Server {
         ensures refused { let fitting = fits (texts self.old.documents) (view message.now) method in
             IfOk result (λ response. IfErr response (RefusesFor method fitting)) }
     {
-        if let Some(Method::Rename) = method {
-            return self.rename(message);
-        }
-        Ok(
-            self.requested_value(method, message)?
-                .ok_or(ErrorCode::InvalidParams),
-        )
-    }
-
-    /// What a request of the method, which is no renaming, asks for. None where its parameters name no open document,
-    /// or not what the method wants besides it.
-    fn requested_value(
-        &mut self,
-        method: Option<Method>,
-        message: &Value,
-    ) -> Result<Option<Value>, AllocError>
-        ensures same { OnOk result (session_of self.new ≡ session_of self.old) }
-        ensures response { IfOk result (λ response.
-            HasResponse method (fits (texts self.old.documents) (view message.now) method) (is_some response)) }
-        ensures result { IfOk result (λ response. IfSome response (λ value.
-            IsResult (texts self.old.documents) (view message.now) method (view value))) }
-    {
         match method {
             Some(Method::Initialize) => {
                 self.related = takes_related(message);
                 self.workspace = Workspace::from_initialize(self.alloc, message)?;
-                Ok(Some(capabilities(self.alloc)?))
+                Ok(Ok(capabilities(self.alloc)?))
             }
-            Some(Method::DocumentSymbol) => self.symbols(message),
-            Some(Method::Formatting) => self.formatting(message),
-            Some(Method::FoldingRange) => self.folds(message),
-            Some(Method::SemanticTokens) => self.tokens(message),
-            Some(Method::WorkspaceSymbol) => Ok(Some(self.workspace_symbols(message)?)),
-            Some(Method::Definition) => self.definitions(message),
-            Some(Method::References) => self.references(message),
-            Some(Method::DocumentHighlight) => self.document_highlights(message),
-            Some(Method::Hover) => self.hover(message),
-            Some(Method::Completion) => self.completions(message),
-            _ => Ok(Some(Value::Null)),
+            Some(Method::WorkspaceSymbol) => Ok(Ok(self.workspace_symbols(message)?)),
+            Some(Method::Rename) => self.rename(message),
+            Some(Method::Formatting) => Ok(self.formatting(message)?.ok_or(ErrorCode::InvalidParams)),
+            Some(Method::DocumentSymbol | Method::FoldingRange | Method::SemanticTokens) => {
+                let found = self.document_response(method, message)?;
+                Ok(found.ok_or(ErrorCode::InvalidParams))
+            }
+            Some(
+                Method::Definition
+                | Method::References
+                | Method::DocumentHighlight
+                | Method::Hover
+                | Method::Completion,
+            ) => {
+                let found = self.place_response(method, message)?;
+                Ok(found.ok_or(ErrorCode::InvalidParams))
+            }
+            _ => Ok(Ok(Value::Null)),
         }
     }
 
@@ -90,39 +76,24 @@ impl Server {
         self.documents.get(uri_of(message)?)
     }
 
-    fn symbols(&self, message: &Value) -> Result<Option<Value>, AllocError>
+    /// What a request of the method, which is no formatting, asks of the open document that it names. None where it
+    /// names none.
+    fn document_response(
+        &self,
+        method: Option<Method>,
+        message: &Value,
+    ) -> Result<Option<Value>, AllocError>
         ensures { IfOk result (λ response. is_some response
             ≡ names_open (texts self.now.documents) (view message.now)) }
     {
-        let Some(OpenDocument { document, .. }) = self.document_of(message) else {
-            return Ok(None);
-        };
-        let symbols = symbols_in(self.alloc, document)?;
-        Ok(Some(symbol_list(self.alloc, document.text(), &symbols)?))
-    }
-
-    fn folds(&self, message: &Value) -> Result<Option<Value>, AllocError>
-        ensures { IfOk result (λ response. is_some response
-            ≡ names_open (texts self.now.documents) (view message.now)) }
-    {
-        let Some(OpenDocument { document, .. }) = self.document_of(message) else {
-            return Ok(None);
-        };
-        let folds = folding_ranges_in(self.alloc, document)?;
-        Ok(Some(folding_range_list(self.alloc, &folds)?))
-    }
-
-    fn tokens(&self, message: &Value) -> Result<Option<Value>, AllocError>
-        ensures { IfOk result (λ response. is_some response
-            ≡ names_open (texts self.now.documents) (view message.now)) }
-    {
-        let Some(OpenDocument { document, .. }) = self.document_of(message) else {
-            return Ok(None);
-        };
-        let tokens = tokens_of(self.alloc, document.body())?;
-        let highlights = semantic_tokens_of(self.alloc, document.text(), &tokens)?;
-        let numbers = encoded_tokens(self.alloc, &highlights)?;
-        Ok(Some(token_list(self.alloc, &numbers)?))
+        match self.document_of(message) {
+            Some(open) => Ok(Some(document_value(
+                self.alloc,
+                method,
+                &open.document,
+            )?)),
+            None => Ok(None),
+        }
     }
 
     /// The edit that formats the document; null where it stays as it is. Why it is left is to be shown.
@@ -170,5 +141,29 @@ impl Server {
             }
         }
         Ok(Value::Array(list))
+    }
+}
+
+/// What a request of the method asks of a document. `AllocError` where a growth was refused.
+fn document_value(
+    alloc: Global,
+    method: Option<Method>,
+    document: &Document,
+) -> Result<Value, AllocError> {
+    match method {
+        Some(Method::DocumentSymbol) => {
+            let symbols = symbols_in(alloc, document)?;
+            symbol_list(alloc, document.text(), &symbols)
+        }
+        Some(Method::FoldingRange) => {
+            let folds = folding_ranges_in(alloc, document)?;
+            folding_range_list(alloc, &folds)
+        }
+        Some(Method::SemanticTokens) => {
+            let tokens = tokens_of(alloc, document.body())?;
+            let highlights = semantic_tokens_of(alloc, document.text(), &tokens)?;
+            token_list(alloc, &encoded_tokens(alloc, &highlights)?)
+        }
+        _ => Ok(Value::Null),
     }
 }

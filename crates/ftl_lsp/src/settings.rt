@@ -1,5 +1,6 @@
 //! What the projects of the workspace's folders say of themselves.
 
+use crate::notices::Notice;
 use ftl_files::{FILE_LIMIT, Folders, Settings, SettingsFault, settings_of};
 use std::alloc::{AllocError, Global};
 
@@ -12,14 +13,14 @@ pub struct ProjectSettings {
 }
 
 /// What the `ftl.toml` of the folder says, or that of the nearest one above that has such a file: None where there is
-/// none. The error is a sentence that says why it can't be gone by.
+/// none. The error says why it can't be gone by.
 ///
 /// `AllocError` where a growth was refused.
 pub fn nearest_settings<F: Folders>(
     alloc: Global,
     files: &F,
     folder: &str,
-) -> Result<Result<Option<ProjectSettings>, String>, AllocError> {
+) -> Result<Result<Option<ProjectSettings>, Notice>, AllocError> {
     let mut nearest = folder;
     // as many folders as there are above, and this one
     for _ in folder.split('/') {
@@ -44,20 +45,24 @@ fn settings_in<F: Folders>(
     alloc: Global,
     files: &F,
     folder: &str,
-) -> Result<Result<Option<Settings>, String>, AllocError> {
+) -> Result<Result<Option<Settings>, Notice>, AllocError> {
     let path = format!(in alloc; "{folder}/ftl.toml")?;
-    let Some(bytes) = files.read(alloc, path.as_str(), FILE_LIMIT)? else {
-        if files.has(path.as_str()) {
-            return Ok(Err(format!(in alloc; "{path}: the file can't be read")?));
+    let path = path.as_str();
+    let Some(bytes) = files.read(alloc, path, FILE_LIMIT)? else {
+        if files.has(path) {
+            return Ok(Err(Notice::of_settings(alloc, folder, "the file can't be read")?));
         }
         return Ok(Ok(None));
     };
     let Ok(text) = String::from_utf8(bytes) else {
-        return Ok(Err(format!(in alloc; "{path}: the file is not UTF-8")?));
+        return Ok(Err(Notice::of_settings(alloc, folder, "the file is not UTF-8")?));
     };
     match settings_of(alloc, text.as_str()) {
         Ok(settings) => Ok(Ok(Some(settings))),
         Err(SettingsFault::Memory) => Err(AllocError),
-        Err(fault) => Ok(Err(format!(in alloc; "{path}: {fault}")?)),
+        Err(fault) => {
+            let fault = format!(in alloc; "{fault}")?;
+            Ok(Err(Notice::of_settings(alloc, folder, fault.as_str())?))
+        }
     }
 }

@@ -6,7 +6,7 @@ use crate::file_sets::FileSet;
 use crate::notices::Notice;
 use crate::open_documents::OpenDocument;
 use crate::workspace_folder::WorkspaceFolder;
-use fluent_syntax_names::{DefinedNames, Severity};
+use fluent_syntax_names::DefinedNames;
 use ftl_files::{Folders, ReportedKind, SourceFile, SourceFiles, path_of_uri, read_files};
 use serde_json::Value;
 use std::alloc::{AllocError, Global};
@@ -82,8 +82,8 @@ impl Workspace {
         let mut notices = Vec::new(alloc);
         let mut all = true;
         for folder in self.folders.iter_mut() {
-            if let Some(text) = folder.reload_project_settings(alloc, files)? {
-                add_notice(&mut notices, text)?;
+            if let Some(notice) = folder.reload_project_settings(alloc, files)? {
+                add_notice(&mut notices, notice)?;
             }
             let SourceFiles {
                 files: sources,
@@ -233,12 +233,9 @@ impl Workspace {
 }
 
 /// Adds what is wrong with settings, if it isn't there: several folders may have the same.
-fn add_notice(notices: &mut Vec<Notice>, text: String) -> Result<(), AllocError> {
-    if !notices.iter().any(|notice| notice.text == text) {
-        notices.push(Notice {
-            severity: Severity::Error,
-            text,
-        })?;
+fn add_notice(notices: &mut Vec<Notice>, notice: Notice) -> Result<(), AllocError> {
+    if !notices.iter().any(|other| *other == notice) {
+        notices.push(notice)?;
     }
     Ok(())
 }

@@ -1,5 +1,6 @@
 //! A folder of the workspace, and what its project says.
 
+use crate::notices::Notice;
 use crate::originals::Reference;
 use crate::settings::{ProjectSettings, nearest_settings};
 use ftl_files::{
@@ -22,7 +23,7 @@ pub struct WorkspaceFolder {
     /// The folder in which each language has its own, if the reference is a folder.
     languages: Option<String>,
     /// Why the settings can't be gone by, if they can't.
-    fault: Option<String>,
+    fault: Option<Notice>,
 }
 
 impl WorkspaceFolder {
@@ -56,21 +57,21 @@ impl WorkspaceFolder {
         }
     }
 
-    /// Reads the settings anew. The sentence says why they can't be gone by, where it didn't say so before.
+    /// Reads the settings anew. The notice says why they can't be gone by, where there was no such notice before.
     ///
     /// `AllocError` where a growth was refused.
     pub fn reload_project_settings<F: Folders>(
         &mut self,
         alloc: Global,
         files: &F,
-    ) -> Result<Option<String>, AllocError> {
+    ) -> Result<Option<Notice>, AllocError> {
         let (settings, fault) = match nearest_settings(alloc, files, self.path.as_str())? {
             Ok(settings) => (settings, None),
             Err(fault) => (None, Some(fault)),
         };
         self.take_settings(alloc, settings)?;
         let new_fault = match &fault {
-            Some(sentence) if self.fault != fault => Some(sentence.clone()?),
+            Some(notice) if self.fault != fault => Some(notice.clone()?),
             _ => None,
         };
         self.fault = fault;
