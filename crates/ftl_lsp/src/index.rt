@@ -75,10 +75,7 @@ pub fn indexed_documents<'d>(
     for (path, file) in workspace.files().iter() {
         let path = path.as_str();
         let is_open = found.iter().any(|document| document.path == path);
-        if !is_open
-            && !documents.contains_key(file.uri.as_str())
-            && scope.has(workspace, path)
-        {
+        if !is_open && !documents.contains_key(file.uri.as_str()) && scope.has(workspace, path) {
             found.push(indexed_file(path, file))?;
         }
     }

@@ -2,9 +2,8 @@
 ghost use Rattle.std.specs.Prelude.{◌≡◌, ◌&&◌, nat_le, true};
 ghost use Rattle.ftl_lsp.specs.Occurrences.{IsCut, shown_of, span_of};
 
-pub use fluent_syntax_grammar::lanes::is_name_byte;
-
 use fluent_syntax::spans::Span;
+pub use fluent_syntax_grammar::lanes::is_name_byte;
 use fluent_syntax_names::Mention;
 use std::alloc::{AllocError, Global};
 

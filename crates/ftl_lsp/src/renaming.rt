@@ -26,9 +26,7 @@ fn is_identifier(text: &str) -> bool
     ensures { result ≡ is_name text.now }
 {
     match text.as_bytes() {
-        [first, rest @ ..] => {
-            first.is_ascii_alphabetic() && are_name_bytes(rest)
-        }
+        [first, rest @ ..] => { first.is_ascii_alphabetic() && are_name_bytes(rest) }
         [] => false,
     }
 }
@@ -162,7 +160,7 @@ fn edits_in(
 ) -> Result<Vec<Value>, AllocError>
     ensures { is_name (shown_of name.entry) ≡ true →
         IfOk result (λ edits.
-            All (RenamesAt document.now.text.now (shown_of name.entry) text.now) (map view edits.items)) }
+        All (RenamesAt document.now.text.now (shown_of name.entry) text.now) (map view edits.items)) }
 {
     let mut edits = Vec::new(alloc);
     let mut positions = Positions::new(document.text);

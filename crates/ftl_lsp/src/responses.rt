@@ -49,7 +49,9 @@ impl Server {
             }
             Some(Method::WorkspaceSymbol) => Ok(Ok(self.workspace_symbols(message)?)),
             Some(Method::Rename) => self.rename(message),
-            Some(Method::Formatting) => Ok(self.formatting(message)?.ok_or(ErrorCode::InvalidParams)),
+            Some(Method::Formatting) => Ok(
+                self.formatting(message)?.ok_or(ErrorCode::InvalidParams),
+            ),
             Some(Method::DocumentSymbol | Method::FoldingRange | Method::SemanticTokens) => {
                 let found = self.document_response(method, message)?;
                 Ok(found.ok_or(ErrorCode::InvalidParams))
@@ -87,11 +89,7 @@ impl Server {
             ≡ names_open (texts self.now.documents) (view message.now)) }
     {
         match self.document_of(message) {
-            Some(open) => Ok(Some(document_value(
-                self.alloc,
-                method,
-                &open.document,
-            )?)),
+            Some(open) => Ok(Some(document_value(self.alloc, method, &open.document)?)),
             None => Ok(None),
         }
     }

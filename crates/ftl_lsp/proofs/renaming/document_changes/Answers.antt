@@ -19,9 +19,9 @@ loop-document-preserved c = λ texts d context named.
     let here = subst (IsIndexed texts) (sym c.document-item.is) (each c.loop-document.document-index _ (search rules)) in
     elim c.if-not-is_empty.branch [
       | then-not-is_empty+in_ok-edits_of_document+in_ok-push w ↦
-        one_more renames _ _ _ (ap (λ v. v.items) w.changes-is ∙ w.in_ok-push.ensures.items) before
-        (subst renames (sym w.in_ok-edits_of_document.ensures)
-        (renames_in _ _ _ _ here (c.in_ok-edits.ensures named)))
+          one_more renames _ _ _ (ap (λ v. v.items) w.changes-is ∙ w.in_ok-push.ensures.items) before
+          (subst renames (sym w.in_ok-edits_of_document.ensures)
+          (renames_in _ _ _ _ here (c.in_ok-edits.ensures named)))
       | else-not-is_empty w ↦
-        subst (λ (values : List Value). All renames (map view values)) (sym (ap (λ v. v.items) w.changes-is)) before
+          subst (λ (values : List Value). All renames (map view values)) (sym (ap (λ v. v.items) w.changes-is)) before
     ]
