@@ -33,7 +33,12 @@ fn entries_that_are_junk(rt: HostRuntime) -> Result<(), Fail> {
         let definition = name_index(alloc, *definition)?;
         let missing = missing_parts(alloc, &definition, &file)?;
         let first = missing.first().ok_or("nothing is missing")?;
-        assert_same(alloc, *shows, &first.in_other.map(|place| place.start), expected)?;
+        assert_same(
+            alloc,
+            *shows,
+            &first.in_other.map(|place| place.start),
+            expected,
+        )?;
         assert_same(alloc, *shows, &first.is_junk(), &expected.is_some())?;
     }
     Ok(())
