@@ -2,9 +2,7 @@ pub mod Comparisons
 pub mod Counting
 pub mod FormattingEach
 pub mod InOrder
-pub mod Junk
 pub mod LineEnds
-pub mod Missed
 pub mod Normal
 pub mod Reaching
 pub mod ReadBack

@@ -1,17 +1,16 @@
 -- How a comparison meets each pair.
 use Rattle.std.specs.Io.KnownBytes.{Appends}
 use Rattle.std.specs.Prelude.{◌≡◌, ◌⊎◌, ◌==◌, ◌+◌, ◌-◌, ◌^◌, ◌++◌, ℕ, Bool, true, false, not, List, [], ◌∷◌, Option}
-use Rattle.std.specs.Prelude.{None, Some, codes, count_by, if◌then◌else◌, min, string_bytes}
-use Rattle.fluent_syntax_names.specs.MissingParts.{all_missing_parts}
+use Rattle.std.specs.Prelude.{None, Some, codes, count_by, if◌then◌else◌, min, option_map, string_bytes}
+use Rattle.std.specs.Fmt.{decimal}
+use Rattle.fluent_syntax_names.specs.MissingParts.{all_missing_parts, is_entry_part, is_junk}
 use Rattle.fluent_syntax_names.specs.declared.missing_part.MissingPart.{MissingPart}
-use Rattle.fluent_syntax_names.specs.declared.missing_part.Part.{Part}
-use Rattle.fluent_syntax_names.specs.declared.missing_part.Part.TheVariants as part
 use Rattle.fluent_syntax_names.specs.declared.name_index.NameIndex.{NameIndex}
 use Rattle.fluent_syntax_names.specs.Differences.{difference_name, side_difference}
+use Rattle.fluent_syntax_names.specs.Sentences.{part_sentence}
 use Rattle.ftl_project.specs.Differences.{counts_as_error, is_reported, reported_parts}
 use Rattle.ftl_project.specs.Faults.{Failing, Fails, IsFault, IsRead, IsTooDeep, IsUnparsed}
 use Rattle.ftl_project.specs.NameIndexes.{IsNameIndex, entry_count}
-use Rattle.ftl_project.specs.Junk.{missing_part_junk}
 use Rattle.ftl_project.specs.Diagnostics.{IsDiagnostic, ReportsEach, location_at}
 use Rattle.ftl_project.specs.Tally.{Processed, answered, counted, failed}
 use Rattle.ftl_project.specs.declared.comparing.CompareOptions.{CompareOptions}
@@ -28,39 +27,53 @@ use Rattle.ftl_project.specs.declared.tally.Tally.{Tally}
 
 -- ---- what is said of a part that one file has and the other one lacks
 
--- This is reported of a difference in the file; of no difference nothing is. What the message says is for people.
-abbrev pub IsDifferenceReport : Form → (path : List ℕ) → Option SourceLocation → Option Difference →
-    (report_text : List ℕ) → Type 0
-IsDifferenceReport form path place None report_text = report_text ≡ []
-IsDifferenceReport form path place (Some difference) report_text =
-    (message : List ℕ) × IsDiagnostic form path place (difference_name difference) message report_text
+-- a place in the reference, as it is said
+abbrev pub reference_place : Pair → SourceLocation → List ℕ
+reference_place pair location =
+    string_bytes pair.reference ++ (codes ":" ++ (decimal location.line ++ (codes ":" ++ decimal location.column)))
 
--- This is reported of what the reference's text has and the other file lacks: where that has the entry as junk, at the
+-- what is said of a part that the text of this side has, with the place in the reference where that has it
+abbrev pub part_message : Side → Pair → (text : List ℕ) → MissingPart → Difference → Option SourceLocation → List ℕ
+part_message side pair text missing difference reference =
+    part_sentence side text missing difference (option_map (reference_place pair) reference)
+
+-- where the other file has the part as junk, of the place at which it has the entry
+abbrev pub junk_location : MissingPart → Option SourceLocation → Option SourceLocation
+junk_location missing entry = if is_junk missing then entry else None
+
+-- where the other text has the part as junk
+abbrev pub junk_in : (other : List ℕ) → MissingPart → Option SourceLocation
+junk_in other missing = junk_location missing (option_map (location_at other) missing.in_other)
+
+-- This is reported of a difference in the file; of no difference nothing is.
+abbrev pub IsDifferenceReport : Form → (path : List ℕ) → Option SourceLocation → (message : Difference → List ℕ) →
+    Option Difference → (report_text : List ℕ) → Type 0
+IsDifferenceReport form path place message None report_text = report_text ≡ []
+IsDifferenceReport form path place message (Some difference) report_text =
+    IsDiagnostic form path place (difference_name difference) (message difference) report_text
+
+-- This is reported of what the reference's text has and the other one lacks: where that has the entry as junk, at the
 -- first such junk.
-abbrev pub IsMissingReport : Form → Pair → (text : List ℕ) → (other : NameIndex) → MissingPart → (report_text : List ℕ)
-    → Type 0
+abbrev pub IsMissingReport : Form → Pair → (text other : List ℕ) → MissingPart → (report_text : List ℕ) → Type 0
 IsMissingReport form pair text other missing report_text =
-    IsDifferenceReport form (string_bytes pair.other) (missing_part_junk text other missing)
+    IsDifferenceReport form (string_bytes pair.other) (junk_in other missing)
+    (λ difference. part_message Reference pair text missing difference (Some (location_at text missing.name)))
     (side_difference Reference missing.part) report_text
 
--- This is reported of what the other file's text has and the reference lacks.
-abbrev pub IsExtraReport : Form → Pair → (text : List ℕ) → MissingPart → (report_text : List ℕ) → Type 0
-IsExtraReport form pair text missing report_text =
+-- This is reported of what the text has that is to be the translation, and the reference, the other one, lacks.
+abbrev pub IsExtraReport : Form → Pair → (text other : List ℕ) → MissingPart → (report_text : List ℕ) → Type 0
+IsExtraReport form pair text other missing report_text =
     IsDifferenceReport form (string_bytes pair.other) (Some (location_at text missing.name))
+    (λ difference. part_message Other pair text missing difference (junk_in other missing))
     (side_difference Other missing.part) report_text
 
--- This is reported of what the text of a side has and the other one lacks. `other` is the file that is not the
--- reference.
-abbrev pub IsMissingPartReport : Side → Form → Pair → (text : List ℕ) → (other : NameIndex) → MissingPart
-    → (report_text : List ℕ) → Type 0
-IsMissingPartReport Reference form pair text other = IsMissingReport form pair text other
-IsMissingPartReport Other form pair text other = IsExtraReport form pair text
+-- This is reported of what the text of a side has and the other one lacks.
+abbrev pub IsMissingPartReport : Side → Form → Pair → (text other : List ℕ) → MissingPart → (report_text : List ℕ)
+    → Type 0
+IsMissingPartReport Reference = IsMissingReport
+IsMissingPartReport Other = IsExtraReport
 
 -- ---- how many
-
-abbrev pub is_entry_part : Part → Bool
-is_entry_part part.Entry = true
-is_entry_part _ = false
 
 -- how many messages and terms the other file lacks
 abbrev pub missing_entries : List MissingPart → ℕ
@@ -107,10 +120,10 @@ reported_extra options reference other = reported_parts options.ignored.now Othe
 pub record IsPairCompared (options : CompareOptions) (pair : Pair) (reference other : NameIndex) (errors : ℕ)
     (share : Share) (text : List ℕ) : Type 0 where
   pub missing : List ℕ
-  pub reports_missing : ReportsEach (IsMissingReport options.form pair reference.text.now other)
+  pub reports_missing : ReportsEach (IsMissingReport options.form pair reference.text.now other.text.now)
       (reported_missing options reference other) missing
   pub more : List ℕ
-  pub reports_extra : ReportsEach (IsExtraReport options.form pair other.text.now)
+  pub reports_extra : ReportsEach (IsExtraReport options.form pair other.text.now reference.text.now)
       (reported_extra options reference other) more
   pub text_is : text ≡ missing ++ more
   pub errors_are : errors

@@ -5,7 +5,7 @@ pub mod Errors
 pub mod Excerpt
 pub mod Faults
 pub mod Formatting
-pub mod Junk
+pub mod Locations
 pub mod Linting
 pub mod NameIndexes
 pub mod Diagnostics

@@ -14,13 +14,11 @@ ghost use Rattle.ftl_project.specs.Summaries.{share_line_of};
 use crate::comparison_report::PairReporter;
 use crate::diagnostics::{Diagnostic, diagnostic_text};
 use crate::differences::{counts_as_error, is_reported, reported_parts};
-use crate::entry_names::EntryNames;
 use crate::fault::Fault;
 use crate::name_indexes::{entry_count, name_index};
 use crate::rewriting::read_text;
 use crate::streams::{Streams, report_fault};
 use crate::tally::Tally;
-use crate::translation::{Translation, junk_locations};
 use fluent_syntax_names::{MissingPart, NameIndex, Part, Side, missing_parts};
 use ftl::{RunFault, write_all};
 use ftl_files::{Form, Reading, ReportedKind, Store};
@@ -284,39 +282,37 @@ impl Comparing<'_> {
     }
 
     /// What comes of a pair whose files say this.
-    fn comparison_of_indexes<'o>(
+    fn comparison_of_indexes(
         &self,
         pair: &Pair,
         reference: &NameIndex<'_>,
-        other: &'o NameIndex<'o>,
+        other: &NameIndex<'_>,
     ) -> Result<PairComparison, AllocError>
         requires reference { IsShort reference.now }
         requires other { IsShort other.now }
         ensures { IfOk result (λ compared. IsPairCompared self.now.options pair.now reference.now other.now
             compared.errors compared.share (string_bytes compared.report_text)) }
     {
-        let translation = Translation::new(self.alloc, other)?;
-        let refused = junk_locations(self.alloc, reference.text, &reference.mentions)?;
-        let pair_reporter = PairReporter {
-            alloc: self.alloc,
-            pair,
-            translation: &translation,
-            refused: &refused,
-            form: self.options.form,
-        };
         let missing = missing_parts(self.alloc, reference, other)?;
         let reported = reported_parts(self.alloc, self.options.ignored, Side::Reference, &missing)?;
-        let names = EntryNames::new(self.alloc, reference)?;
-        let mut report_text = pair_reporter.report_of(
-            Side::Reference,
-            reference.text,
-            &names,
-            &reported,
-        )?;
+        let reporter = PairReporter {
+            alloc: self.alloc,
+            pair,
+            form: self.options.form,
+            side: Side::Reference,
+            text: reference.text,
+            other: other.text,
+        };
+        let mut report_text = reporter.report_of(&reported)?;
         let extra = missing_parts(self.alloc, other, reference)?;
         let extra = reported_parts(self.alloc, self.options.ignored, Side::Other, &extra)?;
-        let own_names = EntryNames::new(self.alloc, other)?;
-        let other_report = pair_reporter.report_of(Side::Other, other.text, &own_names, &extra)?;
+        let reporter = PairReporter {
+            side: Side::Other,
+            text: other.text,
+            other: reference.text,
+            ..reporter
+        };
+        let other_report = reporter.report_of(&extra)?;
         report_text.push_str(other_report.as_str())?;
         let missed = errors_of(Side::Reference, &reported);
         let unknown = errors_of(Side::Other, &extra);

@@ -1,225 +1,184 @@
 //! What is reported of what one file of a pair has and the other one lacks.
-ghost use Rattle.std.specs.Prelude.{◌≡◌, ◌+◌, ◌<◌, ◌^◌, IfOk, length, string_bytes};
-ghost use Rattle.ftl_project.specs.Comparing.{IsMissingPartReport, IsMissingReport, IsExtraReport};
-ghost use Rattle.ftl_project.specs.Diagnostics.{ReportsEach};
+ghost use Rattle.std.specs.Prelude.{◌≡◌, ◌+◌, ◌<◌, ◌^◌, IfOk, Some, length, option_map, string_bytes};
+ghost use Rattle.fluent_syntax_names.specs.Differences.{difference_name};
+ghost use Rattle.fluent_syntax_names.specs.declared.differences.Side.TheVariants.{Other, Reference};
+ghost use Rattle.ftl_project.specs.Comparing.{IsMissingPartReport, IsMissingReport, IsExtraReport, junk_location};
+ghost use Rattle.ftl_project.specs.Comparing.{part_message, reference_place};
+ghost use Rattle.ftl_project.specs.Diagnostics.{IsDiagnostic, ReportsEach, location_at};
 
 use crate::comparing::Pair;
 use crate::diagnostics::{
     Diagnostic, OtherPlace, SourceLocation, Subject, diagnostic_text, location_of,
 };
-use crate::entry_names::{EntryNames, name_with_hyphen};
 use crate::findings::severity_name;
-use crate::translation::Translation;
-use fluent_syntax::spans::Lines;
-use fluent_syntax_names::{Difference, MissingPart, Part, RefusedNames, Side};
+use crate::locations::Locations;
+use fluent_syntax::spans::{Lines, Span};
+use fluent_syntax_names::{Difference, MissingPart, Part, Side, shown_name};
 use ftl_files::Form;
 use std::alloc::{AllocError, Global};
 
-/// A pair of which is reported what each file lacks: what the other file says, what the reference has as junk, and the
-/// form.
+/// A pair of which is reported what the file of this side has and the other one lacks: the texts of both, and the form.
 #[derive(Clone, Copy)]
-pub(crate) struct PairReporter<'a, 't> {
+pub(crate) struct PairReporter<'a> {
     pub(crate) alloc: Global,
     pub(crate) pair: &'a Pair,
-    pub(crate) translation: &'a Translation<'t, 't>,
-    pub(crate) refused: &'a RefusedNames<SourceLocation>,
     pub(crate) form: Form,
+    pub(crate) side: Side,
+    /// What the file of this side says.
+    pub(crate) text: &'a str,
+    /// And that of the other side.
+    pub(crate) other: &'a str,
 }
 
-impl PairReporter<'_, '_> {
-    /// What is reported of the parts that the file of this side has and the other one lacks. The names are those of the
-    /// entries that the file defines.
-    pub(crate) fn report_of(
-        &self,
-        side: Side,
-        text: &str,
-        names: &EntryNames,
-        missing_parts: &[MissingPart],
-    ) -> Result<String, AllocError>
-        requires { length text.now + 1 < 2 ^ 64 }
-        ensures { IfOk result (λ report_text. ReportsEach (IsMissingPartReport side self.now.form self.now.pair.now
-            text.now
-            self.now.translation.now.name_index.now) missing_parts.now (string_bytes report_text)) }
+impl PairReporter<'_> {
+    /// What is reported of the parts that the file of this side has and the other one lacks.
+    pub(crate) fn report_of(&self, missing_parts: &[MissingPart]) -> Result<String, AllocError>
+        requires text { length self.now.text.now + 1 < 2 ^ 64 }
+        requires other { length self.now.other.now + 1 < 2 ^ 64 }
+        ensures { IfOk result (λ report_text. ReportsEach (IsMissingPartReport self.now.side self.now.form
+            self.now.pair.now self.now.text.now self.now.other.now) missing_parts.now (string_bytes report_text)) }
     {
         let mut out = String::new(self.alloc);
-        let mut lines = Lines::new(text);
+        let mut lines = Lines::new(self.text);
+        let places = places_in_other(self.alloc, missing_parts)?;
+        let others = Locations::of(self.alloc, self.other, places)?;
         for missing in missing_parts {
-            let report_text = self.missing_part_report(side, text, names, &mut lines, missing)?;
+            let report_text = self.part_report(&mut lines, &others, missing)?;
             out.push_str(report_text.as_str())?;
         }
         Ok(out)
     }
 
-    fn missing_part_report<'t>(
+    fn part_report<'t>(
         &self,
-        side: Side,
-        text: &str,
-        names: &EntryNames,
         lines: &mut Lines<'t>,
+        others: &Locations<'_>,
         missing: &MissingPart,
     ) -> Result<String, AllocError>
-        requires { lines.old ≡ text.now }
-        ensures report_text { IfOk result (λ report_text. IsMissingPartReport side self.now.form self.now.pair.now
-            text.now
-            self.now.translation.now.name_index.now missing.now (string_bytes report_text)) }
+        requires lines { lines.old ≡ self.now.text.now }
+        requires others { others.now.text.now ≡ self.now.other.now }
+        ensures report_text { IfOk result (λ report_text. IsMissingPartReport self.now.side self.now.form
+            self.now.pair.now self.now.text.now self.now.other.now missing.now (string_bytes report_text)) }
         ensures lines { lines.new ≡ lines.old }
     {
-        match side {
-            Side::Reference => self.missing_report(text, names, lines, missing),
-            Side::Other => self.extra_report(text, names, lines, missing),
+        let location = location_of(lines, self.text, missing.name);
+        let Some(difference) = self.side.difference(missing.part) else {
+            return Ok(String::new(self.alloc));
+        };
+        let entry = location_in(others, missing.in_other);
+        let junk = junk_location(missing, entry);
+        match self.side {
+            Side::Reference => {
+                let place = shown_place(self.form, junk, entry);
+                self.report(difference, missing, place, Some(location))
+            }
+            Side::Other => self.report(difference, missing, Some(location), junk),
         }
     }
 
-    fn missing_report<'s, 't>(
-        &'s self,
-        text: &'s str,
-        names: &EntryNames,
-        lines: &mut Lines<'t>,
+    /// What is reported of the difference at a place of the translation, with the place in the reference.
+    fn report(
+        &self,
+        difference: Difference,
         missing: &MissingPart,
+        place: Option<SourceLocation>,
+        reference: Option<SourceLocation>,
     ) -> Result<String, AllocError>
-        requires { lines.old ≡ text.now }
-        ensures report_text { IfOk result (λ report_text. IsMissingReport self.now.form self.now.pair.now text.now
-            self.now.translation.now.name_index.now missing.now (string_bytes report_text)) }
-        ensures lines { lines.new ≡ lines.old }
+        ensures { IfOk result (λ report_text. IsDiagnostic self.now.form (string_bytes self.now.pair.now.other) place
+            (difference_name difference)
+            (part_message self.now.side self.now.pair.now self.now.text.now missing.now difference reference)
+            (string_bytes report_text)) }
     {
-        let location = location_of(lines, text, missing.name);
-        let Some(difference) = Side::Reference.difference(missing.part) else {
-            return Ok(String::new(self.alloc));
-        };
-        let junk = self.translation.junk_of(text, missing);
-        let subject = subject_of(text, names, missing, Some(self.in_reference(location)));
         let diagnostic = Diagnostic {
             path: self.pair.other.as_str(),
-            text: self.translation.name_index.text,
-            place: shown_place(self.form, junk, self.place_of_entry(text, names, missing)),
+            text: self.translation(),
+            place,
             kind: difference.name(),
             severity: severity_name(difference.severity()),
-            message: self.missing_message(location, &subject, junk.is_some(), difference)?,
+            message: self.message(difference, missing, reference)?,
             error: None,
-            subject: Some(subject),
+            subject: Some(self.subject(missing, reference)),
         };
         diagnostic_text(self.alloc, &diagnostic, self.form)
     }
 
-    /// Where the translation has the entry in which the reference has the part.
-    fn place_of_entry(
-        &self,
-        text: &str,
-        names: &EntryNames,
-        missing: &MissingPart,
-    ) -> Option<SourceLocation> {
-        let entry = names.entry_of(missing.name.start)?;
-        self.translation.place_of(text, entry)
-    }
-
-    fn missing_message(
-        &self,
-        location: SourceLocation,
-        subject: &Subject<'_>,
-        is_junk: bool,
-        difference: Difference,
-    ) -> Result<String, AllocError> {
-        let place = self.place_text(location)?;
-        let Subject { name, entry, .. } = *subject;
-        if is_junk {
-            return Side::Reference.junk_sentence(self.alloc, name, place.as_str());
+    /// The text of the file that is to be the translation.
+    fn translation(&self) -> &str {
+        match self.side {
+            Side::Reference => self.other,
+            Side::Other => self.text,
         }
-        let said = difference.sentence(self.alloc, entry.unwrap_or(name), name)?;
-        format!(in self.alloc; "{said} ({place})")
     }
 
-    fn extra_report<'s, 't>(
-        &'s self,
-        text: &'s str,
-        names: &EntryNames,
-        lines: &mut Lines<'t>,
+    fn message(
+        &self,
+        difference: Difference,
         missing: &MissingPart,
+        reference: Option<SourceLocation>,
     ) -> Result<String, AllocError>
-        requires { lines.old ≡ text.now }
-        ensures report_text { IfOk result (λ report_text.
-            IsExtraReport self.now.form self.now.pair.now text.now missing.now (string_bytes report_text)) }
-        ensures lines { lines.new ≡ lines.old }
+        ensures { IfOk result (λ message. string_bytes message ≡ part_message self.now.side self.now.pair.now
+            self.now.text.now missing.now difference reference) }
     {
-        let location = location_of(lines, text, missing.name);
-        let Some(difference) = Side::Other.difference(missing.part) else {
-            return Ok(String::new(self.alloc));
-        };
-        let junk = self.junk_of_reference(text, missing);
-        let subject = subject_of(
-            text,
-            names,
-            missing,
-            junk.map(|location| self.in_reference(location)),
-        );
-        let diagnostic = Diagnostic {
-            path: self.pair.other.as_str(),
-            text,
-            place: Some(location),
-            kind: difference.name(),
-            severity: severity_name(difference.severity()),
-            message: self.extra_message(junk, &subject, difference)?,
-            error: None,
-            subject: Some(subject),
-        };
-        diagnostic_text(self.alloc, &diagnostic, self.form)
-    }
-
-    /// Where the reference has the part as junk that it lacks, which the text has.
-    fn junk_of_reference(&self, text: &str, missing: &MissingPart) -> Option<SourceLocation> {
-        match missing.part {
-            Part::Entry => self.refused.place_of(text, missing.name),
-            _ => None,
-        }
-    }
-
-    fn extra_message(
-        &self,
-        junk: Option<SourceLocation>,
-        subject: &Subject<'_>,
-        difference: Difference,
-    ) -> Result<String, AllocError> {
-        let Subject { name, entry, .. } = *subject;
-        match junk {
+        match reference {
             Some(location) => {
                 let place = self.place_text(location)?;
-                Side::Other.junk_sentence(self.alloc, name, place.as_str())
+                let place = Some(place.as_str());
+                missing.sentence(self.alloc, self.text, self.side, difference, place)
             }
-            None => difference.sentence(self.alloc, entry.unwrap_or(name), name),
-        }
-    }
-
-    fn in_reference(&self, location: SourceLocation) -> OtherPlace<'_> {
-        OtherPlace {
-            path: self.pair.reference.as_str(),
-            location,
+            None => missing.sentence(self.alloc, self.text, self.side, difference, None),
         }
     }
 
     /// A place of the reference, as it is reported.
-    fn place_text(&self, location: SourceLocation) -> Result<String, AllocError> {
+    fn place_text(&self, location: SourceLocation) -> Result<String, AllocError>
+        ensures { IfOk result (λ place. string_bytes place ≡ reference_place self.now.pair.now location) }
+    {
         let path = self.pair.reference.as_str();
         let (line, column) = (location.line, location.column);
         format!(in self.alloc; "{path}:{line}:{column}")
     }
+
+    /// The name of the part, that of the entry that it is in, and the place in the reference.
+    fn subject(&self, missing: &MissingPart, reference: Option<SourceLocation>) -> Subject<'_> {
+        Subject {
+            name: shown_name(self.text, missing.name),
+            entry: match missing.part {
+                Part::Entry | Part::Value => None,
+                _ => Some(shown_name(self.text, missing.entry)),
+            },
+            other: reference.map(|location| OtherPlace {
+                path: self.pair.reference.as_str(),
+                location,
+            }),
+        }
+    }
 }
 
-/// What is reported of the part: its name, that of the entry that it is in, and the other place.
-fn subject_of<'s>(
-    text: &'s str,
-    names: &EntryNames,
-    missing: &MissingPart,
-    other: Option<OtherPlace<'s>>,
-) -> Subject<'s> {
-    let name = name_with_hyphen(text, missing.name);
-    let entry = match missing.part {
-        Part::Entry | Part::Value => None,
-        _ => names.entry_of(missing.name.start),
-    };
-    Subject {
-        name,
-        entry: entry.map(|entry| name_with_hyphen(text, entry)),
-        other,
+/// Where the other file has the entries of these parts.
+fn places_in_other(alloc: Global, missing_parts: &[MissingPart]) -> Result<Vec<Span>, AllocError> {
+    let mut places = Vec::new(alloc);
+    for missing in missing_parts {
+        if let Some(place) = missing.in_other {
+            places.push(place)?;
+        }
     }
+    Ok(places)
+}
+
+fn location_in(others: &Locations<'_>, place: Option<Span>) -> Option<SourceLocation>
+    ensures { result ≡ option_map (location_at others.now.text.now) place }
+{
+    match place {
+        Some(place) => Some(others.location(place)),
+        None => None,
+    }
+}
+
+/// The place in the other file, if it has the part as junk.
+fn junk_location(missing: &MissingPart, entry: Option<SourceLocation>) -> Option<SourceLocation>
+    ensures { result ≡ junk_location missing.now entry }
+{
+    if missing.is_junk() { entry } else { None }
 }
 
 /// The place of junk, or else of the entry. A line that has a place says no more of what is missing, so there the
@@ -233,6 +192,6 @@ fn shown_place(
 {
     match form {
         Form::Lines => junk,
-        _ => junk.or(entry),
+        _ => entry,
     }
 }

@@ -8,10 +8,9 @@ ghost use Rattle.fluent_syntax_names.specs.Severities.{name_of};
 use crate::diagnostics::{
     Diagnostic, OtherPlace, SourceLocation, Subject, diagnostic_text, location_of, name_in,
 };
-use crate::entry_names::name_with_hyphen;
 use crate::line_starts::LineStarts;
 use fluent_syntax::spans::{Lines, Span};
-use fluent_syntax_names::{Finding, NameIndex, Severity};
+use fluent_syntax_names::{Finding, NameIndex, Severity, shown_name};
 use ftl_files::Form;
 use std::alloc::{AllocError, Global};
 
@@ -164,7 +163,7 @@ impl FileReporter<'_> {
             }
         });
         Some(Subject {
-            name: name_with_hyphen(self.text, finding.place?),
+            name: shown_name(self.text, finding.place?),
             entry: None,
             other,
         })

@@ -1,4 +1,5 @@
-use Rattle.std.proofs.Common.{◌∙◌, ◌++◌, ap, arith, string_bytes}
+use Rattle.std.proofs.Common.{◌∙◌, ◌++◌, ap, arith, None, string_bytes}
+use Rattle.fluent_syntax_tree.specs.declared.spans.Span.{Span}
 use Rattle.fluent_syntax_names.specs.declared.missing_part.MissingPart.{MissingPart}
 use Rattle.fluent_syntax_names.specs.declared.missing_part.Part.TheVariants.{Entry}
 use Rattle.ftl_project.specs.Comparing.{IsMissingPartReport}
@@ -11,14 +12,14 @@ loop-missing-init c = record { lines = c.new-lines.ensures; reports = rw c.new-o
 
 pub loop-missing-preserved : goal.loop-missing-preserved
 loop-missing-preserved c =
-    let report_text = c.args.self.now in
+    let self = c.args.self.now in
     let before = string_bytes c.loop-missing.out in
-    let d : MissingPart = record { part = Entry; name = record { start = 0; end = 0 } } in
+    let nowhere : Span = record { start = 0; end = 0 } in
+    let d : MissingPart = record { part = Entry; name = nowhere; entry = nowhere; in_other = None } in
     record {
-      lines = c.missing_part_report.ensures.lines ∙ c.loop-missing.invariant.lines;
+      lines = c.part_report.ensures.lines ∙ c.loop-missing.invariant.lines;
       reports = ReportsEach-more
-          (IsMissingPartReport c.args.side report_text.form report_text.pair.now c.args.text.now
-          report_text.translation.now.name_index.now)
+          (IsMissingPartReport self.side self.form self.pair.now self.text.now self.other.now)
           c.args.missing_parts.now c.loop-missing.missing-index d before (string_bytes c.in_ok-report_text.report_text)
           (string_bytes c.push_str.new.self)
           (omega arith) c.loop-missing.invariant.reports c.in_ok-report_text.ensures.report_text

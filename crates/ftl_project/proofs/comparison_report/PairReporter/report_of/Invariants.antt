@@ -5,8 +5,8 @@ use Rattle.ftl_project.proofs.comparison_report.PairReporter.report_of.Given as 
 
 abbrev pub invariant-loop-missing : goal.invariant-loop-missing
 invariant-loop-missing l = record {
-  lines : l.lines ≡ l.text;
+  lines : l.lines ≡ l.self.text.now;
   reports : ReportsEach
-      (IsMissingPartReport l.side l.self.form l.self.pair.now l.text l.self.translation.now.name_index.now)
+      (IsMissingPartReport l.self.side l.self.form l.self.pair.now l.self.text.now l.self.other.now)
       (take l.missing-index l.missing_parts) (string_bytes l.out);
 }
