@@ -76,7 +76,7 @@ impl<'t> RefusedText<'t> {
         }
     }
 
-    /// A character that looks like another, at the place, directly before it, or in a string or for a brace on its line.
+    /// A character that looks like another, at the place, right before it, or in a string or for a brace on the line.
     pub(crate) fn look_alike_at_place(&self, kind: &ErrorKind) -> Option<LookAlike> {
         if let ErrorKind::UnbalancedClosingBrace = kind {
             return self.look_alike_on_line();

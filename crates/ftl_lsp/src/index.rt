@@ -67,9 +67,9 @@ pub fn indexed_documents<'d>(
     ensures { IfOk result (λ found. All (IsIndexed (texts_of documents.now)) found.items) }
 {
     let mut found: Vec<IndexedDocument<'d>> = Vec::new(alloc);
-    for (uri, open) in documents.iter() {
-        if scope.has(workspace, open.path_or(uri.as_str())) {
-            found.push(indexed_document(alloc, uri, open)?)?;
+    for (uri, opened) in documents.iter() {
+        if scope.has(workspace, opened.path_or(uri.as_str())) {
+            found.push(indexed_document(alloc, uri, opened)?)?;
         }
     }
     for (path, file) in workspace.files().iter() {
@@ -89,9 +89,9 @@ pub fn indexed_document_at<'d>(
     workspace: &'d Workspace,
     path: &str,
 ) -> Result<Option<IndexedDocument<'d>>, AllocError> {
-    for (uri, open) in documents.iter() {
-        if open.path.as_deref() == Some(path) {
-            return Ok(Some(indexed_document(alloc, uri, open)?));
+    for (uri, opened) in documents.iter() {
+        if opened.path.as_deref() == Some(path) {
+            return Ok(Some(indexed_document(alloc, uri, opened)?));
         }
     }
     for (at, file) in workspace.files().iter() {
@@ -106,17 +106,17 @@ pub fn indexed_document_at<'d>(
 fn indexed_document<'d>(
     alloc: Global,
     uri: &'d str,
-    open: &'d OpenDocument,
+    opened: &'d OpenDocument,
 ) -> Result<IndexedDocument<'d>, AllocError>
     ensures uri { IfOk result (λ found. found.uri.now ≡ uri.now) }
     ensures text { IfOk result (λ found.
-        record { text = found.text.now; version = found.version } ≡ open_text open.now) }
+        record { text = found.text.now; version = found.version } ≡ open_text opened.now) }
 {
-    let document = &open.document;
+    let document = &opened.document;
     Ok(IndexedDocument {
         uri,
-        path: open.path_or(uri),
-        version: open.version,
+        path: opened.path_or(uri),
+        version: opened.version,
         text: document.text(),
         names: Names::OpenDocument {
             document,

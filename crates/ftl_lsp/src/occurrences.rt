@@ -68,7 +68,7 @@ pub struct Name<'t> {
 
 impl<'t> Name<'t> {
     /// The text that is where it occurs: that of its attribute, if it has one.
-    pub fn shown(&self) -> &'t str
+    pub fn shown_text(&self) -> &'t str
         ensures { result.now ≡ shown_of self.now }
     {
         match self.attribute {

@@ -99,7 +99,7 @@ fn names_of<'c>(
         .any(|document| document.defines(renamed));
     if is_taken && renamed != name {
         Err(RenameFault::Taken)
-    } else if is_identifier(name.shown()) {
+    } else if is_identifier(name.shown_text()) {
         Ok((name, identifier))
     } else {
         // of a text that was read each name is an identifier

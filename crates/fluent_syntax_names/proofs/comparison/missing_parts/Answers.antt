@@ -39,7 +39,8 @@ returns-clause-missing_parts c =
       place = place_of c.in_ok-places.places.table;
     } in
     let same =
-    missing_parts_same one.text.now tables (other_of other) defines uses reachable places nameless one.mentions.items [] in
+    missing_parts_same one.text.now tables (other_of other) defines uses reachable places nameless one.mentions.items []
+    in
     let finding_of = rw c.deref-5.ensures.value at c.missing_parts_by.ensures in
     rw (← same) finding_of
 

@@ -13,12 +13,13 @@ pub loop-uri-preserved-in_ok-push : goal.loop-uri-preserved-in_ok-push
 loop-uri-preserved-in_ok-push c =
     let texts = texts_of c.args.documents.now in
     let turn = btree_map_turn deref_pair c.loop-uri.yielded c.into_iter-uri-iterator.result c.loop-uri.uri-iterator
-    c.next.new.self c.next.result (c.in-Some.uri, c.in-Some.open) c.loop-uri.yielded_by c.in-Some.is
+    c.next.new.self c.next.result (c.in-Some.uri, c.in-Some.opened) c.loop-uri.yielded_by c.in-Some.is
     c.next.ensures.steps string_cmp_total c.args.documents.now (search rules) (search rules) in
     let document = c.in_ok-indexed_document.ensures in
     rw c.in_ok-push.ensures.items
     (All-push (IsIndexed texts) _ _ c.loop-uri.invariant
-    (inl (ap texts (document.uri ∙ c.deref.ensures) ∙ ap (option_map open_text) turn.1 ∙ ap Some (sym document.text))))
+    (inl (ap texts (document.uri ∙ c.deref.ensures) ∙ ap (option_map open_text) turn.1 ∙
+    ap Some (sym document.text))))
 
 pub loop-path-preserved-then-has-2 : goal.loop-path-preserved-then-has-2
 loop-path-preserved-then-has-2 c =

@@ -16,7 +16,8 @@ loop-document-preserved c = λ texts d context named.
     let before = c.loop-document.invariant texts d context named in
     let each = All-same (IsIndexed texts) c.deref-document-items.result.now c.args.context.now.documents.items
     c.deref-document-items.ensures.value context.documents in
-    let here = subst (IsIndexed texts) (sym c.document-item.is) (each c.loop-document.document-index _ (search rules)) in
+    let here =
+    subst (IsIndexed texts) (sym c.document-item.is) (each c.loop-document.document-index _ (search rules)) in
     elim c.if-not-is_empty.branch [
       | then-not-is_empty+in_ok-edits_of_document+in_ok-push w ↦
           one_more renames _ _ _ (ap (λ v. v.items) w.changes-is ∙ w.in_ok-push.ensures.items) before
