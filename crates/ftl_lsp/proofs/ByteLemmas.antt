@@ -7,7 +7,7 @@ use Rattle.ftl_lsp.specs.Positions.{ends_line, utf16_units, next_line, next_char
 use Rattle.ftl_lsp.specs.Positions.{position_at}
 use Rattle.ftl_lsp.specs.Offsets.{BeginsLine, is_break, is_reached, stops_at, IsByteOf, IsInLine}
 use Rattle.ftl_lsp.specs.Offsets.{IsPastLastLine}
-use Rattle.ftl_lsp.specs.declared.positions.Position.{Position}
+use Rattle.ftl_lsp.specs.declared.documents.positions.Position.{Position}
 
 -- The place is not passed before the byte.
 pub record IsAhead (t : List ℕ) (position : Position) (byte : ℕ) : Type 0 where

@@ -3,7 +3,7 @@ use Rattle.std.proofs.Common.{◌≡◌, ℕ, ◌+◌, ◌<◌, List, [], ◌∷
 use Rattle.std.proofs.lemmas.List.{map-append, take_more}
 use Rattle.ftl_lsp.specs.Changes.{MakesEdit, MakesEdits, makes_last}
 use Rattle.ftl_lsp.specs.Edits.{Edit, edit_of}
-use Rattle.ftl_lsp.specs.declared.changes.Change.{Change}
+use Rattle.ftl_lsp.specs.declared.documents.changes.Change.{Change}
 
 -- one change more was made
 pub made_more : (old : List ℕ) (changes : List Change) (i : ℕ) (d : Change) (made new : List ℕ) →

@@ -10,8 +10,8 @@ use Rattle.ftl_lsp.specs.Fields.{HasLength}
 use Rattle.ftl_lsp.specs.Frames.{IsFrame, IsFraming}
 use Rattle.ftl_lsp.specs.Frames.IsFraming.{frame, partial_header, partial_body, long_header, no_length}
 use Rattle.ftl_lsp.specs.Frames.IsFraming.{long_body}
-use Rattle.ftl_lsp.specs.declared.frames.Framing.{Framing}
-use Rattle.ftl_lsp.specs.declared.frames.Framing.TheVariants.{Frame, Partial}
+use Rattle.ftl_lsp.specs.declared.sessions.frames.Framing.{Framing}
+use Rattle.ftl_lsp.specs.declared.sessions.frames.Framing.TheVariants.{Frame, Partial}
 
 module _ (t more : List ℕ) where
   -- a line end within the text is one of the longer text

@@ -7,8 +7,8 @@ use Rattle.std.specs.List.{slice_range}
 use Rattle.ftl_lsp.specs.HeaderEnds.{HeaderOf}
 use Rattle.ftl_lsp.specs.Frames.{IsFrame, IsFraming}
 use Rattle.ftl_lsp.specs.Inbox.{TakesFrame}
-use Rattle.ftl_lsp.specs.declared.frames.FrameFault.{FrameFault}
-use Rattle.ftl_lsp.specs.declared.frames.Framing.TheVariants.{Frame, Refused}
+use Rattle.ftl_lsp.specs.declared.sessions.frames.FrameFault.{FrameFault}
+use Rattle.ftl_lsp.specs.declared.sessions.frames.Framing.TheVariants.{Frame, Refused}
 use Rattle.ftl_lsp.proofs.FramesMore.{framing_more, frame_there, header_more}
 
 -- a frame with more bytes after it

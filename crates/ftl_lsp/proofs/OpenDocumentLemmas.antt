@@ -8,7 +8,7 @@ use Rattle.std.specs.String.{string_cmp}
 use Rattle.std.specs.declared.alloc.Global.{Global}
 use Rattle.std.proofs.lemmas.Map.Text.{btree_map_updates_text}
 use Rattle.ftl_lsp.specs.OpenDocuments.{open_text, Sets, texts_of}
-use Rattle.ftl_lsp.specs.declared.open_documents.OpenDocument.{OpenDocument}
+use Rattle.ftl_lsp.specs.declared.documents.open_documents.OpenDocument.{OpenDocument}
 
 option_map-cond : {A B : Type 0} (f : A → B) (b : Bool) (x y : Option A) →
     option_map f (cond b x y) ≡ cond b (option_map f x) (option_map f y)

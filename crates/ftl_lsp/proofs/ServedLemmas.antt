@@ -12,10 +12,10 @@ use Rattle.ftl_lsp.specs.Phases.{ending_of}
 use Rattle.ftl_lsp.specs.Served.{GoesOn, Stops, TakesStep, is_not_written, is_unpublished, stops}
 use Rattle.ftl_lsp.specs.Served.{takes, sends_unasked, publishes_unwritten, has_no_memory_to_publish}
 use Rattle.ftl_lsp.specs.Sessions.{TakesMessage, Session, Unasked}
-use Rattle.ftl_lsp.specs.declared.endings.Ending.{Ending}
-use Rattle.ftl_lsp.specs.declared.endings.Ending.TheVariants.{Input, Memory, Output}
-use Rattle.ftl_lsp.specs.declared.phases.Phase.{Phase}
-use Rattle.ftl_lsp.specs.declared.phases.Phase.TheVariants.{Exited, Fresh, Left, Running, ShutDown}
+use Rattle.ftl_lsp.specs.declared.sessions.endings.Ending.{Ending}
+use Rattle.ftl_lsp.specs.declared.sessions.endings.Ending.TheVariants.{Input, Memory, Output}
+use Rattle.ftl_lsp.specs.declared.sessions.phases.Phase.{Phase}
+use Rattle.ftl_lsp.specs.declared.sessions.phases.Phase.TheVariants.{Exited, Fresh, Left, Running, ShutDown}
 
 nothing_pending : (input : Option (List ℕ)) → prepend_known [] input ≡ input
 nothing_pending None = refl

@@ -28,12 +28,12 @@ use Rattle.ftl_lsp.specs.Sessions.{IsMethod, Session, TakesRequest, concerns}
 use Rattle.ftl_lsp.specs.Asking.{IsResult, names_open}
 use Rattle.ftl_lsp.specs.Sessions.{changes, published, requested, notified, opens, passes, runs}
 use Rattle.ftl_lsp.specs.Sessions.{saves, watches}
-use Rattle.ftl_lsp.specs.declared.methods.Method.{Method}
-use Rattle.ftl_lsp.specs.declared.methods.Method.TheVariants.{DidChange, DidClose, DidOpen, DidSave}
-use Rattle.ftl_lsp.specs.declared.methods.Method.TheVariants.{Initialized}
-use Rattle.ftl_lsp.specs.declared.phases.ErrorCode.{ErrorCode}
-use Rattle.ftl_lsp.specs.declared.phases.Phase.{Phase}
-use Rattle.ftl_lsp.specs.declared.phases.Phase.TheVariants.{Running}
+use Rattle.ftl_lsp.specs.declared.sessions.methods.Method.{Method}
+use Rattle.ftl_lsp.specs.declared.sessions.methods.Method.TheVariants.{DidChange, DidClose, DidOpen, DidSave}
+use Rattle.ftl_lsp.specs.declared.sessions.methods.Method.TheVariants.{Initialized}
+use Rattle.ftl_lsp.specs.declared.sessions.phases.ErrorCode.{ErrorCode}
+use Rattle.ftl_lsp.specs.declared.sessions.phases.Phase.{Phase}
+use Rattle.ftl_lsp.specs.declared.sessions.phases.Phase.TheVariants.{Running}
 
 -- what holds of a result's value, with what holds where there is one
 pub ok_with : {X Y : Type 0} (r : Result X Y) (P : Type 0) (Q R : X → Type 0) → (P → (x : X) → Q x → R x) →

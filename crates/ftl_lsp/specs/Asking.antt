@@ -6,8 +6,8 @@ use Rattle.ftl_lsp.specs.Formatting.{FormatsText}
 use Rattle.ftl_lsp.specs.OpenDocuments.{OpenText}
 use Rattle.ftl_lsp.specs.Params.{new_name_in, uri_in}
 use Rattle.ftl_lsp.specs.Renaming.{RenamesName}
-use Rattle.ftl_lsp.specs.declared.methods.Method.{Method}
-use Rattle.ftl_lsp.specs.declared.methods.Method.TheVariants.{Formatting, Rename, Shutdown}
+use Rattle.ftl_lsp.specs.declared.sessions.methods.Method.{Method}
+use Rattle.ftl_lsp.specs.declared.sessions.methods.Method.TheVariants.{Formatting, Rename, Shutdown}
 
 -- whether the message names a document that is open
 abbrev pub names_open : (texts : List ℕ → Option OpenText) → Data → Bool

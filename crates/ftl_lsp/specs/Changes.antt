@@ -2,7 +2,7 @@
 use Rattle.std.specs.Prelude.{◌≡◌, ℕ, List, [], ◌∷◌, ◌++◌, drop, max, min, take}
 use Rattle.ftl_lsp.specs.Edits.{Edit, whole, between}
 use Rattle.ftl_lsp.specs.Offsets.{IsByteOf}
-use Rattle.ftl_lsp.specs.declared.positions.Position.{Position}
+use Rattle.ftl_lsp.specs.declared.documents.positions.Position.{Position}
 
 -- the bytes with others in place of those of the range
 abbrev pub text_after : List ℕ → (from to : ℕ) → List ℕ → List ℕ

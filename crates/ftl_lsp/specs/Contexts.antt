@@ -6,9 +6,9 @@ use Rattle.ftl_lsp.specs.Offsets.{IsByteOf}
 use Rattle.ftl_lsp.specs.OpenDocuments.{OpenText}
 use Rattle.ftl_lsp.specs.Params.{uri_in}
 use Rattle.ftl_lsp.specs.Renaming.{HasText}
-use Rattle.ftl_lsp.specs.declared.index.IndexedDocument.{IndexedDocument}
-use Rattle.ftl_lsp.specs.declared.positions.Position.{Position}
-use Rattle.ftl_lsp.specs.declared.request_context.RequestContext.{RequestContext}
+use Rattle.ftl_lsp.specs.declared.documents.index.IndexedDocument.{IndexedDocument}
+use Rattle.ftl_lsp.specs.declared.documents.positions.Position.{Position}
+use Rattle.ftl_lsp.specs.declared.requests.request_context.RequestContext.{RequestContext}
 
 -- It is open, with its text and its version; or it is a file whose name no open document has.
 abbrev pub IsIndexed : (texts : List ℕ → Option OpenText) → IndexedDocument → Type 0

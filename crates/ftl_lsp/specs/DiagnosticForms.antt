@@ -13,9 +13,9 @@ use Rattle.ftl_lsp.specs.Diagnostics.{DiagnosesText, shown}
 use Rattle.ftl_lsp.specs.Locations.{range_form}
 use Rattle.ftl_lsp.specs.declared.diagnostics.Diagnostic.{Diagnostic}
 use Rattle.ftl_lsp.specs.declared.diagnostics.RelatedNote.{RelatedNote}
-use Rattle.ftl_lsp.specs.declared.positions.PositionRange.{PositionRange}
-use Rattle.ftl_lsp.specs.declared.diagnostic_forms.LintDiagnosticKind.{LintDiagnosticKind}
-use Rattle.ftl_lsp.specs.declared.diagnostic_forms.LintDiagnosticKind.TheVariants.{Difference, Finding}
+use Rattle.ftl_lsp.specs.declared.documents.positions.PositionRange.{PositionRange}
+use Rattle.ftl_lsp.specs.declared.diagnostics.diagnostic_forms.LintDiagnosticKind.{LintDiagnosticKind}
+use Rattle.ftl_lsp.specs.declared.diagnostics.diagnostic_forms.LintDiagnosticKind.TheVariants.{Difference, Finding}
 
 abbrev pub severity_number : Severity → ℕ
 severity_number Error = 1

@@ -9,7 +9,7 @@ use Rattle.fluent_syntax_grammar.specs.Tiling.{Fault, Tile, Tiling}
 use Rattle.ftl_lsp.specs.Positions.{position_at}
 use Rattle.ftl_lsp.specs.declared.diagnostics.Diagnostic.{Diagnostic}
 use Rattle.ftl_lsp.specs.declared.limits.TheConstants.{NESTING_LIMIT}
-use Rattle.ftl_lsp.specs.declared.positions.Position.{Position}
+use Rattle.ftl_lsp.specs.declared.documents.positions.Position.{Position}
 
 -- where something is shown, and the name of its kind
 pub record Shown : Type 0 where

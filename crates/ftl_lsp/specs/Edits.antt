@@ -2,9 +2,9 @@
 use Rattle.std.specs.Prelude.{ℕ, List, [], ◌∷◌, codes, Option, Some, None, option_and_then, option_map}
 use Rattle.serde_json.specs.Data.{Data, null, Items, no_items, item}
 use Rattle.serde_json.specs.Find.{get, as_number, as_str, as_u64, pointer}
-use Rattle.ftl_lsp.specs.declared.positions.Position.{Position}
-use Rattle.ftl_lsp.specs.declared.changes.Change.{Change}
-use Rattle.ftl_lsp.specs.declared.changes.Change.TheVariants.{Whole, Between}
+use Rattle.ftl_lsp.specs.declared.documents.positions.Position.{Position}
+use Rattle.ftl_lsp.specs.declared.documents.changes.Change.{Change}
+use Rattle.ftl_lsp.specs.declared.documents.changes.Change.TheVariants.{Whole, Between}
 
 -- A change: another text, or another stretch between two places.
 pub data Edit : Type 0 where

@@ -1,9 +1,9 @@
 -- How a session ended: its exit status, and its line for standard error.
 use Rattle.std.specs.Prelude.{ℕ, List, codes}
-use Rattle.ftl_lsp.specs.declared.endings.Ending.{Ending}
-use Rattle.ftl_lsp.specs.declared.endings.Ending.TheVariants.{Exited, Left, Input, Memory, Output, Closed}
-use Rattle.ftl_lsp.specs.declared.endings.Ending.TheVariants.{Cut, Refused}
-use Rattle.ftl_lsp.specs.declared.frames.FrameFault.TheVariants.{LongHeader, NoLength, LongBody}
+use Rattle.ftl_lsp.specs.declared.sessions.endings.Ending.{Ending}
+use Rattle.ftl_lsp.specs.declared.sessions.endings.Ending.TheVariants.{Exited, Left, Input, Memory, Output, Closed}
+use Rattle.ftl_lsp.specs.declared.sessions.endings.Ending.TheVariants.{Cut, Refused}
+use Rattle.ftl_lsp.specs.declared.sessions.frames.FrameFault.TheVariants.{LongHeader, NoLength, LongBody}
 
 abbrev pub status_of : Ending → ℕ
 status_of Exited = 0

@@ -3,9 +3,9 @@ use Rattle.std.specs.Prelude.{◌≡◌, ℕ, ◌+◌, ◌<◌, ◌≤◌, List,
 use Rattle.ftl_lsp.specs.HeaderEnds.{IsHeaderEnd, HeaderOf, NoHeader}
 use Rattle.ftl_lsp.specs.Fields.{HasLength}
 use Rattle.ftl_lsp.specs.declared.limits.TheConstants.{BODY_LIMIT, HEADER_LIMIT}
-use Rattle.ftl_lsp.specs.declared.frames.FrameFault.TheVariants.{LongHeader, NoLength, LongBody}
-use Rattle.ftl_lsp.specs.declared.frames.Framing.{Framing}
-use Rattle.ftl_lsp.specs.declared.frames.Framing.TheVariants.{Frame, Partial, Refused}
+use Rattle.ftl_lsp.specs.declared.sessions.frames.FrameFault.TheVariants.{LongHeader, NoLength, LongBody}
+use Rattle.ftl_lsp.specs.declared.sessions.frames.Framing.{Framing}
+use Rattle.ftl_lsp.specs.declared.sessions.frames.Framing.TheVariants.{Frame, Partial, Refused}
 
 -- The bytes are a frame and what comes after it: a header that says how long the body is, an empty line, and the body.
 pub record IsFrame (bytes body rest : List ℕ) : Type 0 where

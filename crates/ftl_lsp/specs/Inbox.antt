@@ -1,11 +1,11 @@
 -- What reading a frame takes of the bytes that are left, and how it ends.
 use Rattle.std.specs.Prelude.{◌≡◌, ◌≢◌, ℕ, List, [], Option, Some, None, IfSome}
 use Rattle.ftl_lsp.specs.Frames.{IsFrame, IsFraming}
-use Rattle.ftl_lsp.specs.declared.endings.Ending.{Ending}
-use Rattle.ftl_lsp.specs.declared.endings.Ending.TheVariants.{Exited, Left, Input, Memory, Output, Closed}
-use Rattle.ftl_lsp.specs.declared.endings.Ending.TheVariants.{Cut, Refused}
-use Rattle.ftl_lsp.specs.declared.frames.Framing.TheVariants.{Partial}
-use Rattle.ftl_lsp.specs.declared.frames.Framing.TheVariants as framing
+use Rattle.ftl_lsp.specs.declared.sessions.endings.Ending.{Ending}
+use Rattle.ftl_lsp.specs.declared.sessions.endings.Ending.TheVariants.{Exited, Left, Input, Memory, Output, Closed}
+use Rattle.ftl_lsp.specs.declared.sessions.endings.Ending.TheVariants.{Cut, Refused}
+use Rattle.ftl_lsp.specs.declared.sessions.frames.Framing.TheVariants.{Partial}
+use Rattle.ftl_lsp.specs.declared.sessions.frames.Framing.TheVariants as framing
 
 -- The bytes that were left, where these are known, are a frame with that body, and the bytes that are left now.
 abbrev pub TakesFrame : (old new : Option (List ℕ)) → (body : List ℕ) → Type 0

@@ -3,7 +3,7 @@ use Rattle.std.specs.Prelude.{ℕ, List, length, min, codes}
 use Rattle.serde_json.specs.Data.{Data, number, unsigned, string, object, member, no_members}
 use Rattle.fluent_syntax_tree.specs.declared.spans.Span.{Span}
 use Rattle.ftl_lsp.specs.Positions.{position_at}
-use Rattle.ftl_lsp.specs.declared.positions.Position.{Position}
+use Rattle.ftl_lsp.specs.declared.documents.positions.Position.{Position}
 
 abbrev pub position_form : Position → Data
 position_form position =

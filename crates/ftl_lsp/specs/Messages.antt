@@ -6,8 +6,8 @@ use Rattle.std.specs.Cmp.Lexicographic.{pointwise}
 use Rattle.serde_json.specs.Data.{Data}
 use Rattle.serde_json.specs.Find.{get, as_i64, as_u64, as_number, as_str}
 use Rattle.serde_json.specs.View.{view}
-use Rattle.ftl_lsp.specs.declared.messages.Message.{Message}
-use Rattle.ftl_lsp.specs.declared.messages.Message.TheVariants.{Request, Notification, Response, Invalid}
+use Rattle.ftl_lsp.specs.declared.sessions.messages.Message.{Message}
+use Rattle.ftl_lsp.specs.declared.sessions.messages.Message.TheVariants.{Request, Notification, Response, Invalid}
 
 -- A message by its kind, with its identifier and the name of its method.
 pub data MessageKind : Type 0 where

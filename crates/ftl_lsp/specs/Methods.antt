@@ -1,13 +1,13 @@
 -- The names of the methods.
 use Rattle.std.specs.Prelude.{ℕ, List, codes}
-use Rattle.ftl_lsp.specs.declared.methods.Method.{Method}
-use Rattle.ftl_lsp.specs.declared.methods.Method.TheVariants.{Initialize, Shutdown, DocumentSymbol}
-use Rattle.ftl_lsp.specs.declared.methods.Method.TheVariants.{Formatting, FoldingRange, DidOpen, DidChange}
-use Rattle.ftl_lsp.specs.declared.methods.Method.TheVariants.{DidClose, DidSave, Exit}
-use Rattle.ftl_lsp.specs.declared.methods.Method.TheVariants.{Definition, References, DocumentHighlight}
-use Rattle.ftl_lsp.specs.declared.methods.Method.TheVariants.{Hover, Rename, Completion, WorkspaceSymbol}
-use Rattle.ftl_lsp.specs.declared.methods.Method.TheVariants.{SemanticTokens, Initialized}
-use Rattle.ftl_lsp.specs.declared.methods.Method.TheVariants.{DidChangeWatchedFiles}
+use Rattle.ftl_lsp.specs.declared.sessions.methods.Method.{Method}
+use Rattle.ftl_lsp.specs.declared.sessions.methods.Method.TheVariants.{Initialize, Shutdown, DocumentSymbol}
+use Rattle.ftl_lsp.specs.declared.sessions.methods.Method.TheVariants.{Formatting, FoldingRange, DidOpen, DidChange}
+use Rattle.ftl_lsp.specs.declared.sessions.methods.Method.TheVariants.{DidClose, DidSave, Exit}
+use Rattle.ftl_lsp.specs.declared.sessions.methods.Method.TheVariants.{Definition, References, DocumentHighlight}
+use Rattle.ftl_lsp.specs.declared.sessions.methods.Method.TheVariants.{Hover, Rename, Completion, WorkspaceSymbol}
+use Rattle.ftl_lsp.specs.declared.sessions.methods.Method.TheVariants.{SemanticTokens, Initialized}
+use Rattle.ftl_lsp.specs.declared.sessions.methods.Method.TheVariants.{DidChangeWatchedFiles}
 
 abbrev pub name_of : Method → List ℕ
 name_of Initialize = codes "initialize"

@@ -5,8 +5,8 @@ use Rattle.fluent_syntax_names.specs.declared.finding.Severity.{Severity}
 use Rattle.fluent_syntax_names.specs.declared.finding.Severity.TheVariants.{Error, Warning}
 use Rattle.serde_json.specs.Data.{Data, number, unsigned, string, object, member, no_members}
 use Rattle.ftl_lsp.specs.DiagnosticForms.{severity_number}
-use Rattle.ftl_lsp.specs.declared.notices.Notice.{Notice}
-use Rattle.ftl_lsp.specs.declared.notices.Notice.TheVariants.{TooDeep, HasError, NotReadBack, WrongSettings}
+use Rattle.ftl_lsp.specs.declared.sessions.notices.Notice.{Notice}
+use Rattle.ftl_lsp.specs.declared.sessions.notices.Notice.TheVariants.{TooDeep, HasError, NotReadBack, WrongSettings}
 
 abbrev pub severity_of : Notice → Severity
 severity_of (TooDeep name) = Warning

@@ -2,8 +2,8 @@
 use Rattle.std.specs.Prelude.{◌≡◌, ◌≤◌, ◌⊎◌, ℕ, List, [], slice_range, unwrap_or}
 use Rattle.std.specs.Option.{option_map_or}
 use Rattle.fluent_syntax_tree.specs.declared.spans.Span.{Span}
-use Rattle.ftl_lsp.specs.declared.occurrences.Name.{Name}
-use Rattle.ftl_lsp.specs.declared.occurrences.Occurrence.{Occurrence}
+use Rattle.ftl_lsp.specs.declared.documents.occurrences.Name.{Name}
+use Rattle.ftl_lsp.specs.declared.documents.occurrences.Occurrence.{Occurrence}
 
 -- where it is: its attribute's name, if it is one of an attribute
 abbrev pub span_of : Occurrence → Span

@@ -4,7 +4,7 @@ use Rattle.std.specs.Prelude.{slice_index}
 use Rattle.std.specs.Str.{IsCharBoundary}
 use Rattle.fluent_syntax_grammar.specs.Bytes.{cr, lf}
 use Rattle.ftl_lsp.specs.Positions.{character_at, line_at, utf16_units}
-use Rattle.ftl_lsp.specs.declared.positions.Position.{Position}
+use Rattle.ftl_lsp.specs.declared.documents.positions.Position.{Position}
 
 -- whether a line's text ends before the byte
 abbrev pub is_break : ℕ → Bool

@@ -7,8 +7,8 @@ use Rattle.std.specs.Str.{bytes_eq}
 use Rattle.std.specs.declared.alloc.Global.{Global}
 use Rattle.ftl_lsp.specs.Changes.{MakesEdits}
 use Rattle.ftl_lsp.specs.Edits.{Edit}
-use Rattle.ftl_lsp.specs.declared.open_documents.Documents.{Documents}
-use Rattle.ftl_lsp.specs.declared.open_documents.OpenDocument.{OpenDocument}
+use Rattle.ftl_lsp.specs.declared.documents.open_documents.Documents.{Documents}
+use Rattle.ftl_lsp.specs.declared.documents.open_documents.OpenDocument.{OpenDocument}
 
 -- The text of an open document, and the number that the editor gave it, if it gave one.
 pub record OpenText : Type 0 where

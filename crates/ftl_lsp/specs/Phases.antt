@@ -1,24 +1,24 @@
 -- How far a session is, and what it refuses there.
 use Rattle.std.specs.Prelude.{ℕ, ℤ, negsuc, List, codes, Option, Some, None}
-use Rattle.ftl_lsp.specs.declared.endings.Ending.{Ending}
-use Rattle.ftl_lsp.specs.declared.endings.Ending.TheVariants as endings
-use Rattle.ftl_lsp.specs.declared.methods.Method.{Method}
-use Rattle.ftl_lsp.specs.declared.methods.Method.TheVariants.{Initialize, Shutdown, DocumentSymbol}
-use Rattle.ftl_lsp.specs.declared.methods.Method.TheVariants.{Formatting, FoldingRange, DidOpen, DidChange}
-use Rattle.ftl_lsp.specs.declared.methods.Method.TheVariants.{DidClose, DidSave, Exit}
-use Rattle.ftl_lsp.specs.declared.methods.Method.TheVariants.{Definition, References, DocumentHighlight}
-use Rattle.ftl_lsp.specs.declared.methods.Method.TheVariants.{Hover, Completion, WorkspaceSymbol}
-use Rattle.ftl_lsp.specs.declared.methods.Method.TheVariants as methods
-use Rattle.ftl_lsp.specs.declared.methods.Method.TheVariants.{SemanticTokens, Initialized}
-use Rattle.ftl_lsp.specs.declared.methods.Method.TheVariants.{DidChangeWatchedFiles}
-use Rattle.ftl_lsp.specs.declared.phases.Phase.{Phase}
-use Rattle.ftl_lsp.specs.declared.phases.Phase.TheVariants.{Fresh, Running, ShutDown, Exited, Left}
-use Rattle.ftl_lsp.specs.declared.phases.ErrorCode.{ErrorCode}
-use Rattle.ftl_lsp.specs.declared.phases.ErrorCode.TheVariants.{ParseError, InvalidRequest, MethodNotFound}
-use Rattle.ftl_lsp.specs.declared.phases.ErrorCode.TheVariants.{InvalidParams, NotInitialized, Rename}
-use Rattle.ftl_lsp.specs.declared.phases.RenameFault.{RenameFault}
-use Rattle.ftl_lsp.specs.declared.phases.RenameFault.TheVariants.{NoName, VariableOrFunction}
-use Rattle.ftl_lsp.specs.declared.phases.RenameFault.TheVariants.{NoIdentifier, Taken}
+use Rattle.ftl_lsp.specs.declared.sessions.endings.Ending.{Ending}
+use Rattle.ftl_lsp.specs.declared.sessions.endings.Ending.TheVariants as endings
+use Rattle.ftl_lsp.specs.declared.sessions.methods.Method.{Method}
+use Rattle.ftl_lsp.specs.declared.sessions.methods.Method.TheVariants.{Initialize, Shutdown, DocumentSymbol}
+use Rattle.ftl_lsp.specs.declared.sessions.methods.Method.TheVariants.{Formatting, FoldingRange, DidOpen, DidChange}
+use Rattle.ftl_lsp.specs.declared.sessions.methods.Method.TheVariants.{DidClose, DidSave, Exit}
+use Rattle.ftl_lsp.specs.declared.sessions.methods.Method.TheVariants.{Definition, References, DocumentHighlight}
+use Rattle.ftl_lsp.specs.declared.sessions.methods.Method.TheVariants.{Hover, Completion, WorkspaceSymbol}
+use Rattle.ftl_lsp.specs.declared.sessions.methods.Method.TheVariants as methods
+use Rattle.ftl_lsp.specs.declared.sessions.methods.Method.TheVariants.{SemanticTokens, Initialized}
+use Rattle.ftl_lsp.specs.declared.sessions.methods.Method.TheVariants.{DidChangeWatchedFiles}
+use Rattle.ftl_lsp.specs.declared.sessions.phases.Phase.{Phase}
+use Rattle.ftl_lsp.specs.declared.sessions.phases.Phase.TheVariants.{Fresh, Running, ShutDown, Exited, Left}
+use Rattle.ftl_lsp.specs.declared.sessions.phases.ErrorCode.{ErrorCode}
+use Rattle.ftl_lsp.specs.declared.sessions.phases.ErrorCode.TheVariants.{ParseError, InvalidRequest, MethodNotFound}
+use Rattle.ftl_lsp.specs.declared.sessions.phases.ErrorCode.TheVariants.{InvalidParams, NotInitialized, Rename}
+use Rattle.ftl_lsp.specs.declared.sessions.phases.RenameFault.{RenameFault}
+use Rattle.ftl_lsp.specs.declared.sessions.phases.RenameFault.TheVariants.{NoName, VariableOrFunction}
+use Rattle.ftl_lsp.specs.declared.sessions.phases.RenameFault.TheVariants.{NoIdentifier, Taken}
 
 -- the numbers of the protocol: `negsuc n` is the negative of n and one
 abbrev pub number_of : ErrorCode → ℤ

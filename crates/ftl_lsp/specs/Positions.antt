@@ -3,7 +3,7 @@ use Rattle.std.specs.Prelude.{◌≡◌, ℕ, zero, suc, ◌+◌, ◌-◌, ◌<�
 use Rattle.std.specs.Prelude.{slice_index, slice_range, Bool, true, false, not, if◌then◌else◌}
 use Rattle.std.specs.List.{sum_by}
 use Rattle.fluent_syntax_grammar.specs.Bytes.{lf, cr}
-use Rattle.ftl_lsp.specs.declared.positions.Position.{Position}
+use Rattle.ftl_lsp.specs.declared.documents.positions.Position.{Position}
 
 -- a line ends with the byte: an LF, or a CR before anything but an LF
 abbrev pub ends_line : List ℕ → ℕ → Bool

@@ -12,7 +12,7 @@ use Rattle.ftl_lsp.specs.Occurrences.{IsNameAt}
 use Rattle.ftl_lsp.specs.Offsets.{IsByteOf}
 use Rattle.ftl_lsp.specs.OpenDocuments.{OpenText}
 use Rattle.ftl_lsp.specs.Params.{new_name_in, uri_in}
-use Rattle.ftl_lsp.specs.declared.positions.Position.{Position}
+use Rattle.ftl_lsp.specs.declared.documents.positions.Position.{Position}
 
 abbrev pub version_form : Option ℤ → Data
 version_form None = null

@@ -5,7 +5,7 @@ use Rattle.serde_json.specs.Find.{of_integer}
 use Rattle.serde_json.specs.View.{items_of}
 use Rattle.ftl_lsp.specs.Phases.{number_of, text_of}
 use Rattle.ftl_lsp.specs.DiagnosticForms.{PublishesDiagnostics}
-use Rattle.ftl_lsp.specs.declared.phases.ErrorCode.{ErrorCode}
+use Rattle.ftl_lsp.specs.declared.sessions.phases.ErrorCode.{ErrorCode}
 
 -- What is sent for a message.
 pub data Reply : Type 0 where

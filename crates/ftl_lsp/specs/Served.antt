@@ -5,9 +5,9 @@ use Rattle.ftl_lsp.specs.Inbox.{EndsAs, TakesFrame}
 use Rattle.ftl_lsp.specs.Outbox.{Sends}
 use Rattle.ftl_lsp.specs.Phases.{ending_of}
 use Rattle.ftl_lsp.specs.Sessions.{TakesMessage, Session, Unasked}
-use Rattle.ftl_lsp.specs.declared.endings.Ending.{Ending}
-use Rattle.ftl_lsp.specs.declared.endings.Ending.TheVariants.{Memory, Output}
-use Rattle.ftl_lsp.specs.declared.phases.Phase.TheVariants.{Fresh}
+use Rattle.ftl_lsp.specs.declared.sessions.endings.Ending.{Ending}
+use Rattle.ftl_lsp.specs.declared.sessions.endings.Ending.TheVariants.{Memory, Output}
+use Rattle.ftl_lsp.specs.declared.sessions.phases.Phase.TheVariants.{Fresh}
 
 -- Nothing has come yet, and nothing is open.
 pub record IsFresh (session : Session) : Type 0 where

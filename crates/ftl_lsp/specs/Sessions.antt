@@ -13,19 +13,19 @@ use Rattle.ftl_lsp.specs.OpenDocuments.{MakesOpen, OpenText, Sets, texts}
 use Rattle.ftl_lsp.specs.Params.{changes_in, opened_text_in, uri_in, version_in}
 use Rattle.ftl_lsp.specs.Phases.{after_notification, after_request, refusal_of}
 use Rattle.ftl_lsp.specs.Replies.{IsSent, Reply, silence, answered, refused, diagnosed, withdrawn, watch}
-use Rattle.ftl_lsp.specs.declared.methods.Method.{Method}
-use Rattle.ftl_lsp.specs.declared.methods.Method.TheVariants.{DocumentSymbol, Formatting, FoldingRange}
-use Rattle.ftl_lsp.specs.declared.methods.Method.TheVariants.{Definition, References, DocumentHighlight}
-use Rattle.ftl_lsp.specs.declared.methods.Method.TheVariants.{Hover, Rename, Completion, SemanticTokens}
-use Rattle.ftl_lsp.specs.declared.methods.Method.TheVariants.{DidOpen, DidChange, DidClose, DidSave}
-use Rattle.ftl_lsp.specs.declared.methods.Method.TheVariants.{Initialized}
-use Rattle.ftl_lsp.specs.declared.notices.Notice.{Notice}
-use Rattle.ftl_lsp.specs.declared.phases.ErrorCode.{ErrorCode}
-use Rattle.ftl_lsp.specs.declared.phases.ErrorCode.TheVariants.{ParseError, InvalidRequest, InvalidParams}
-use Rattle.ftl_lsp.specs.declared.phases.ErrorCode.TheVariants as errors
-use Rattle.ftl_lsp.specs.declared.phases.Phase.{Phase}
-use Rattle.ftl_lsp.specs.declared.phases.Phase.TheVariants.{Running}
-use Rattle.ftl_lsp.specs.declared.server.Server.{Server}
+use Rattle.ftl_lsp.specs.declared.sessions.methods.Method.{Method}
+use Rattle.ftl_lsp.specs.declared.sessions.methods.Method.TheVariants.{DocumentSymbol, Formatting, FoldingRange}
+use Rattle.ftl_lsp.specs.declared.sessions.methods.Method.TheVariants.{Definition, References, DocumentHighlight}
+use Rattle.ftl_lsp.specs.declared.sessions.methods.Method.TheVariants.{Hover, Rename, Completion, SemanticTokens}
+use Rattle.ftl_lsp.specs.declared.sessions.methods.Method.TheVariants.{DidOpen, DidChange, DidClose, DidSave}
+use Rattle.ftl_lsp.specs.declared.sessions.methods.Method.TheVariants.{Initialized}
+use Rattle.ftl_lsp.specs.declared.sessions.notices.Notice.{Notice}
+use Rattle.ftl_lsp.specs.declared.sessions.phases.ErrorCode.{ErrorCode}
+use Rattle.ftl_lsp.specs.declared.sessions.phases.ErrorCode.TheVariants.{ParseError, InvalidRequest, InvalidParams}
+use Rattle.ftl_lsp.specs.declared.sessions.phases.ErrorCode.TheVariants as errors
+use Rattle.ftl_lsp.specs.declared.sessions.phases.Phase.{Phase}
+use Rattle.ftl_lsp.specs.declared.sessions.phases.Phase.TheVariants.{Running}
+use Rattle.ftl_lsp.specs.declared.sessions.server.Server.{Server}
 
 -- How far a session is, and what is open in it under each name.
 pub record Session : Type 0 where

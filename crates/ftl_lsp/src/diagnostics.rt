@@ -2,9 +2,16 @@
 ghost use Rattle.std.specs.Prelude.{◌≡◌, ◌≤◌, [], ◌∷◌, length, map, All, IfOk};
 ghost use Rattle.ftl_lsp.specs.Diagnostics.{deep_diagnostic, diagnostic_of, shown};
 
+pub mod diagnostic_forms;
+pub mod differences;
+pub mod lint_diagnostics;
+pub mod mapped_ranges;
+pub mod publishing;
+pub mod republish;
+
+use crate::documents::positions::{Position, PositionRange, Positions};
 use crate::escapes::with_escapes;
 use crate::limits::NESTING_LIMIT;
-use crate::positions::{Position, PositionRange, Positions};
 use fluent_syntax::parser::{Edition, ErrorKind, ParserError};
 use fluent_syntax::spans::Span;
 use ftl::{Cause, Lead, OpenBracket, advice, lead_of};

@@ -2,8 +2,16 @@
 ghost use Rattle.std.specs.Prelude.{◌≡◌, IfOk, map, string_bytes};
 ghost use Rattle.ftl_lsp.specs.Diagnostics.{DiagnosesText, shown};
 
+pub mod changes;
+pub mod entry_ranges;
+pub mod index;
+pub mod occurrences;
+pub mod offsets;
+pub mod open_documents;
+pub mod positions;
+
 use crate::diagnostics::{Diagnostic, diagnostics_of, too_deep};
-use crate::entry_ranges::entry_range_at;
+use crate::documents::entry_ranges::entry_range_at;
 use crate::limits::NESTING_LIMIT;
 use fluent_syntax::ast::{Entry, Resource};
 use fluent_syntax::parser::{Edition, ParseFault, TooDeep};

@@ -1,11 +1,18 @@
 //! The files of the workspace's folders, as they were read last.
 ghost use Rattle.std.specs.Prelude.{◌≡◌};
 
-use crate::closed_files::ClosedFile;
-use crate::file_sets::FileSet;
-use crate::notices::Notice;
-use crate::open_documents::OpenDocument;
-use crate::workspace_folder::WorkspaceFolder;
+pub mod closed_files;
+pub mod file_sets;
+pub mod originals;
+pub mod others;
+pub mod settings;
+pub mod workspace_folder;
+
+use crate::documents::open_documents::OpenDocument;
+use crate::sessions::notices::Notice;
+use crate::workspace::closed_files::ClosedFile;
+use crate::workspace::file_sets::FileSet;
+use crate::workspace::workspace_folder::WorkspaceFolder;
 use fluent_syntax_names::DefinedNames;
 use ftl_files::{Folders, ReportedKind, SourceFile, SourceFiles, path_of_uri, read_files};
 use serde_json::Value;

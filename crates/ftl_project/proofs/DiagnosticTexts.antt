@@ -7,9 +7,9 @@ use Rattle.fluent_syntax_names.specs.declared.finding.Finding.{Finding}
 use Rattle.fluent_syntax_names.specs.declared.name_index.NameIndex.{NameIndex}
 use Rattle.ftl_project.specs.Linting.{IsFindingReport, path_of, location_in, text_of}
 use Rattle.ftl_project.specs.Diagnostics.{IsDiagnostic}
-use Rattle.ftl_project.specs.declared.findings.Source.{Source}
+use Rattle.ftl_project.specs.declared.linting.findings.Source.{Source}
 use Rattle.ftl_files.specs.declared.options.Form.{Form}
-use Rattle.ftl_project.specs.declared.diagnostics.SourceLocation.{SourceLocation}
+use Rattle.ftl_project.specs.declared.reporting.diagnostics.SourceLocation.{SourceLocation}
 
 pub IsDiagnostic-as : (form : Form) (path own : List ℕ) (place : Option SourceLocation)
     (kind name message words report_text : List ℕ) →

@@ -25,10 +25,10 @@ use Rattle.ftl_project.specs.Lossless.{IsRewriting}
 use Rattle.ftl_project.specs.Tally.{Processed, answered, counted, failed}
 use Rattle.ftl_project.specs.declared.fault.Fault as run
 use Rattle.ftl_files.specs.declared.options.Reading.{Reading}
-use Rattle.ftl_project.specs.declared.replacement.Replacement.{Replacement}
-use Rattle.ftl_project.specs.declared.replacement.Replacement.TheVariants as replacement
+use Rattle.ftl_project.specs.declared.formatting.replacement.Replacement.{Replacement}
+use Rattle.ftl_project.specs.declared.formatting.replacement.Replacement.TheVariants as replacement
 use Rattle.ftl_project.specs.declared.tally.Tally.{Tally}
-use Rattle.ftl_project.specs.declared.lossy_entry.LossyEntry.{LossyEntry}
+use Rattle.ftl_project.specs.declared.formatting.lossy_entry.LossyEntry.{LossyEntry}
 
 -- ---- a rewriting
 

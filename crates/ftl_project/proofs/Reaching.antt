@@ -7,8 +7,8 @@ use Rattle.ftl_project.specs.Rewriting.{AllReach, BecomesRewriting, Reaches, Rew
 use Rattle.ftl_project.specs.declared.fault.Fault.{Fault}
 use Rattle.ftl_files.specs.declared.options.Reading.{Reading}
 use Rattle.ftl_project.specs.Lossless.{IsRewriting}
-use Rattle.ftl_project.specs.declared.replacement.Replacement.{Replacement}
-use Rattle.ftl_project.specs.declared.replacement.Replacement.TheVariants as replacement
+use Rattle.ftl_project.specs.declared.formatting.replacement.Replacement.{Replacement}
+use Rattle.ftl_project.specs.declared.formatting.replacement.Replacement.TheVariants as replacement
 
 module _ (edition : Edition) where
   same : (old new : Option (List ℕ)) → new ≡ old → Reaches edition old new

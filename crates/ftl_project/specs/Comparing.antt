@@ -22,7 +22,7 @@ use Rattle.fluent_syntax_names.specs.declared.differences.Side.TheVariants.{Refe
 use Rattle.ftl_project.specs.declared.fault.Fault.{Fault}
 use Rattle.ftl_files.specs.declared.options.Form.{Form}
 use Rattle.ftl_files.specs.declared.options.Reading.{Reading}
-use Rattle.ftl_project.specs.declared.diagnostics.SourceLocation.{SourceLocation}
+use Rattle.ftl_project.specs.declared.reporting.diagnostics.SourceLocation.{SourceLocation}
 use Rattle.ftl_project.specs.declared.tally.Tally.{Tally}
 
 -- ---- what is said of a part that one file has and the other one lacks

@@ -8,7 +8,7 @@ use Rattle.fluent_syntax_tree.specs.declared.spans.Span.{Span}
 use Rattle.ftl_project.specs.Excerpt.{shown_text}
 use Rattle.ftl_files.specs.declared.options.Form.{Form}
 use Rattle.ftl_files.specs.declared.options.Form.TheVariants.{Lines}
-use Rattle.ftl_project.specs.declared.diagnostics.SourceLocation.{SourceLocation}
+use Rattle.ftl_project.specs.declared.reporting.diagnostics.SourceLocation.{SourceLocation}
 
 -- where a name is in a text: with its line and its column, or those of the text's end where that comes first
 abbrev pub location_at : (text : List ℕ) → Span → SourceLocation

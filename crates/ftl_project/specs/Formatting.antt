@@ -12,8 +12,8 @@ use Rattle.ftl_project.specs.Lossless.{IsRewriting}
 use Rattle.ftl_project.specs.Tally.{Processed, answered, counted, failed}
 use Rattle.ftl_project.specs.declared.fault.Fault.{Fault}
 use Rattle.ftl_files.specs.declared.options.Reading.{Reading}
-use Rattle.ftl_project.specs.declared.replacement.Replacement.{Replacement}
-use Rattle.ftl_project.specs.declared.replacement.Replacement.TheVariants.{Errors, Same, Text, Lossy}
+use Rattle.ftl_project.specs.declared.formatting.replacement.Replacement.{Replacement}
+use Rattle.ftl_project.specs.declared.formatting.replacement.Replacement.TheVariants.{Errors, Same, Text, Lossy}
 use Rattle.ftl_project.specs.declared.tally.Tally.{Tally}
 
 -- how many errors are counted of a text with this replacement

@@ -20,10 +20,10 @@ use Rattle.ftl_project.specs.NameIndexes.{IsNameIndex, SaysNothing}
 use Rattle.ftl_project.specs.Diagnostics.{IsDiagnostic, ReportsEach, location_at}
 use Rattle.ftl_project.specs.Tally.{counted, failed}
 use Rattle.ftl_project.specs.declared.fault.Fault.TheVariants.{TooDeep}
-use Rattle.ftl_project.specs.declared.findings.Source.{Source}
+use Rattle.ftl_project.specs.declared.linting.findings.Source.{Source}
 use Rattle.ftl_files.specs.declared.options.Form.{Form}
 use Rattle.ftl_files.specs.declared.options.Reading.{Reading}
-use Rattle.ftl_project.specs.declared.diagnostics.SourceLocation.{SourceLocation}
+use Rattle.ftl_project.specs.declared.reporting.diagnostics.SourceLocation.{SourceLocation}
 use Rattle.ftl_project.specs.declared.tally.Tally.{Tally}
 
 -- ---- which files were counted

@@ -1,7 +1,7 @@
 -- Where names are in a text.
 use Rattle.std.specs.Prelude.{◌≡◌, ℕ, List}
 use Rattle.ftl_project.specs.Diagnostics.{location_at}
-use Rattle.ftl_project.specs.declared.diagnostics.SourceLocation.{SourceLocation}
+use Rattle.ftl_project.specs.declared.reporting.diagnostics.SourceLocation.{SourceLocation}
 
 -- It is where the text has the name of that range.
 abbrev pub IsLocated : (text : List ℕ) → SourceLocation → Type 0

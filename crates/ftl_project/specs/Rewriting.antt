@@ -18,10 +18,10 @@ use Rattle.ftl_project.specs.Faults.{Failing, IsFault, IsRead, IsTooDeep, IsUnpa
 use Rattle.ftl_project.specs.Lossless.{IsRewriting}
 use Rattle.ftl_project.specs.declared.fault.Fault.{Fault}
 use Rattle.ftl_files.specs.declared.options.Reading.{Reading}
-use Rattle.ftl_project.specs.declared.replacement.Replacement.{Replacement}
-use Rattle.ftl_project.specs.declared.replacement.Replacement.TheVariants.{Errors, Same, Lossy}
-use Rattle.ftl_project.specs.declared.replacement.Replacement.TheVariants as replacement
-use Rattle.ftl_project.specs.declared.lossy_entry.LossyEntry.{LossyEntry}
+use Rattle.ftl_project.specs.declared.formatting.replacement.Replacement.{Replacement}
+use Rattle.ftl_project.specs.declared.formatting.replacement.Replacement.TheVariants.{Errors, Same, Lossy}
+use Rattle.ftl_project.specs.declared.formatting.replacement.Replacement.TheVariants as replacement
+use Rattle.ftl_project.specs.declared.formatting.lossy_entry.LossyEntry.{LossyEntry}
 
 -- ---- the entry by which a text is not safe to write
 

@@ -6,7 +6,7 @@ use Rattle.ftl_project.specs.declared.comparing.Share.{Share}
 use Rattle.ftl_project.specs.declared.fault.Fault.{Fault}
 use Rattle.ftl_project.specs.declared.fault.Fault.TheVariants.{Json, Memory, NotText, Read, TooDeep, Write}
 use Rattle.ftl_project.specs.declared.tally.Tally.{Tally}
-use Rattle.ftl_project.specs.declared.lossy_entry.LossyEntry.{LossyEntry}
+use Rattle.ftl_project.specs.declared.formatting.lossy_entry.LossyEntry.{LossyEntry}
 
 abbrev pub file_count_of : ℕ → List ℕ
 file_count_of files = if files == 1 then codes "1 file" else decimal files ++ codes " files"

@@ -8,8 +8,12 @@ ghost use Rattle.ftl_project.specs.Runs.{AnswersEach, ProcessesFile, Writes};
 ghost use Rattle.ftl_project.specs.Tally.{answered, counted};
 ghost use Rattle.ftl_project.specs.declared.fault.Fault.{Fault};
 
+pub mod checking;
+pub mod converting;
+pub mod printing;
+
 use crate::fault::Fault;
-use crate::rewriting::read_text;
+use crate::formatting::rewriting::read_text;
 use crate::streams::{Streams, report_fault};
 use crate::tally::Tally;
 use ftl::{RunFault, write_all};

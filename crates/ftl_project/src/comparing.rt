@@ -1,6 +1,6 @@
 //! Files of a reference language are compared with those of another.
 ghost use Rattle.std.specs.Prelude.{◌≡◌, ◌≢◌, ◌⊎◌, Some, Err, IfErr, IfOk, OnOk, string_bytes, true};
-ghost use Rattle.fluent_syntax_names.specs.declared.differences.Side.TheVariants.{Other, Reference};
+ghost use Rattle.fluent_syntax_names.specs.declared.comparing.differences.Side.TheVariants.{Other, Reference};
 ghost use Rattle.fluent_syntax_names.specs.declared.name_index.NameIndex.{NameIndex};
 ghost use Rattle.ftl_files.specs.Store.{AllUnchanged};
 ghost use Rattle.ftl_project.specs.Comparing.{Compares, ComparesEach, IsFileMissing, IsPairCompared, IsComparison};
@@ -11,12 +11,15 @@ ghost use Rattle.ftl_project.specs.Faults.{IsRead, IsTooDeep, IsUnparsed, IsUnre
 ghost use Rattle.ftl_project.specs.NameIndexes.{IsNameIndex, IsShort};
 ghost use Rattle.ftl_project.specs.Summaries.{share_line_of};
 
-use crate::comparison_report::PairReporter;
-use crate::diagnostics::{Diagnostic, diagnostic_text};
-use crate::differences::{counts_as_error, is_reported, reported_parts};
+pub mod comparison_report;
+pub mod differences;
+
+use crate::comparing::comparison_report::PairReporter;
+use crate::comparing::differences::{counts_as_error, is_reported, reported_parts};
 use crate::fault::Fault;
+use crate::formatting::rewriting::read_text;
 use crate::name_indexes::{entry_count, name_index};
-use crate::rewriting::read_text;
+use crate::reporting::diagnostics::{Diagnostic, diagnostic_text};
 use crate::streams::{Streams, report_fault};
 use crate::tally::Tally;
 use fluent_syntax_names::{MissingPart, NameIndex, Part, Side, missing_parts};
@@ -88,7 +91,7 @@ struct PairFault {
 
 impl From<AllocError> for PairFault {
     ghost use Rattle.std.specs.Prelude.{◌≡◌};
-    ghost use Rattle.fluent_syntax_names.specs.declared.differences.Side.TheVariants.{Reference};
+    ghost use Rattle.fluent_syntax_names.specs.declared.comparing.differences.Side.TheVariants.{Reference};
     ghost use Rattle.ftl_project.specs.declared.fault.Fault.TheVariants.{Memory};
 
     ghost from_gives = { λ _ fault. fault ≡ record { side = Reference; fault = Memory } };

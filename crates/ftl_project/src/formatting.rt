@@ -6,16 +6,23 @@ ghost use Rattle.ftl_project.specs.Formatting.{AllNormal, Formats, FormatsEach, 
 ghost use Rattle.ftl_project.specs.Formatting.{is_not_normal, name_of};
 ghost use Rattle.ftl_project.specs.Rewriting.{AllReach};
 
+pub mod diffing;
+pub mod line_diff;
+pub mod lossy_entry;
+pub mod replacement;
+pub mod rewrite_counts;
+pub mod rewriting;
+
 use crate::answering::{Answer, FileTask};
 use crate::fault::Fault;
-use crate::lossy_entry::lossy_entry_line;
-use crate::replacement::{Replacement, replacement_for};
+use crate::formatting::lossy_entry::lossy_entry_line;
+use crate::formatting::replacement::{Replacement, replacement_for};
+use crate::formatting::rewrite_counts::RewriteCounts;
+use crate::formatting::rewriting::rewrite;
 use crate::reporting::report;
-use crate::rewrite_counts::RewriteCounts;
-use crate::rewriting::rewrite;
+use crate::reporting::terminal_text::push_shown_text;
 use crate::streams::{Streams, report_fault};
 use crate::tally::Tally;
-use crate::terminal_text::push_shown_text;
 use ftl::{RunFault, write_all};
 use ftl_files::{Form, Reading, Store};
 use std::alloc::{AllocError, Global};

@@ -7,13 +7,15 @@ ghost use Rattle.ftl_project.specs.Linting.{AddsFiles, CountsRead, HasRead, Name
 ghost use Rattle.ftl_project.specs.Linting.{ReadsOne, ReadsSource, Searches, SearchesFiles, with_problems_after};
 ghost use Rattle.ftl_project.specs.Linting.{is_error, is_reported, is_warning, searched, reported_findings};
 ghost use Rattle.ftl_project.specs.NameIndexes.{IsShort};
-ghost use Rattle.ftl_project.specs.declared.findings.Source.{Source};
+ghost use Rattle.ftl_project.specs.declared.linting.findings.Source.{Source};
 
-use crate::differences::is_error_severity;
+pub mod findings;
+
+use crate::comparing::differences::is_error_severity;
 use crate::fault::Fault;
-use crate::findings::{Source, report_findings};
+use crate::formatting::rewriting::read_text;
+use crate::linting::findings::{Source, report_findings};
 use crate::name_indexes::name_index;
-use crate::rewriting::read_text;
 use crate::streams::{Streams, byte_order_mark_note, report_fault};
 use crate::tally::Tally;
 use fluent_syntax_names::{Finding, Kind, NameIndex, findings};

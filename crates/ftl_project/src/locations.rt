@@ -3,7 +3,7 @@ ghost use Rattle.std.specs.Prelude.{◌≡◌, ◌+◌, ◌<◌, ◌^◌, All, I
 ghost use Rattle.ftl_project.specs.Diagnostics.{location_at};
 ghost use Rattle.ftl_project.specs.Locations.{IsLocated};
 
-use crate::diagnostics::{SourceLocation, location_of};
+use crate::reporting::diagnostics::{SourceLocation, location_of};
 use fluent_syntax::spans::{Lines, Span};
 use std::alloc::{AllocError, Global};
 

@@ -2,9 +2,20 @@
 ghost use Rattle.std.specs.Prelude.{◌≡◌, IfOk, string_bytes};
 ghost use Rattle.ftl_project.specs.Reports.{IsErrorReport, Reports};
 
-use crate::diagnostics::{Diagnostic, ReportedError, diagnostic_text, location_of};
-use crate::terminal_text::push_escaped;
-use crate::text_with_errors::TextWithErrors;
+pub mod diagnostics;
+pub mod error_lead;
+pub mod excerpt;
+pub mod github;
+pub mod json;
+pub mod line;
+pub mod line_starts;
+pub mod paint;
+pub mod terminal_text;
+pub mod text_with_errors;
+
+use crate::reporting::diagnostics::{Diagnostic, ReportedError, diagnostic_text, location_of};
+use crate::reporting::terminal_text::push_escaped;
+use crate::reporting::text_with_errors::TextWithErrors;
 use fluent_syntax::parser::ParserError;
 use fluent_syntax::spans::{Lines, Span};
 use ftl::{Lead, lead_of};

@@ -5,8 +5,8 @@ ghost use Rattle.ftl_project.specs.Faults.{HasStatus};
 ghost use Rattle.ftl_project.specs.Tally.{counted, failed};
 
 use crate::fault::Fault;
+use crate::reporting::terminal_text::{push_escaped, push_shown_text};
 use crate::tally::Tally;
-use crate::terminal_text::{push_escaped, push_shown_text};
 use ftl::{RunFault, Watched, write_all};
 use std::alloc::{AllocError, Global};
 use std::fmt::Display;

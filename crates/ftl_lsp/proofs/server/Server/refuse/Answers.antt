@@ -1,6 +1,0 @@
-use Rattle.ftl_lsp.proofs.SessionLemmas.{sent_as}
-use Rattle.ftl_lsp.specs.Replies.{sends_refusal}
-use Rattle.ftl_lsp.proofs.server.Server.refuse.Goals as goal
-
-pub returns : goal.returns
-returns c = sent_as _ _ _ c.in_ok-refusal.ensures (sends_refusal _ _)

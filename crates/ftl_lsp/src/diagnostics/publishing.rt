@@ -1,0 +1,181 @@
+//! What is reported of a document.
+ghost use Rattle.std.specs.Prelude.{◌≡◌, map, option_map, All, IfOk, OnOk};
+ghost use Rattle.serde_json.specs.View.{view};
+ghost use Rattle.ftl_lsp.specs.OpenDocuments.{texts};
+ghost use Rattle.ftl_lsp.specs.Replies.{IsSent};
+ghost use Rattle.ftl_lsp.specs.Sessions.{published, session_of};
+ghost use Rattle.ftl_lsp.specs.DiagnosticForms.{IsLintDiagnostic};
+
+use crate::diagnostics::diagnostic_forms::{LintDiagnostic, error_list, lint_diagnostic_list};
+use crate::diagnostics::differences::differences_of;
+use crate::diagnostics::lint_diagnostics::finding_diagnostics;
+use crate::documents::Document;
+use crate::documents::open_documents::{Documents, OpenDocument};
+use crate::limits::FINDINGS_LIMIT;
+use crate::sessions::replies::diagnostics_notification;
+use crate::sessions::server::Server;
+use crate::workspace::Workspace;
+use crate::workspace::file_sets::FileSet;
+use crate::workspace::originals::original_at;
+use crate::workspace::others::{look_up_others, name_indexes_of, others_of};
+use fluent_syntax_names::{Finding, NameIndex, findings, findings_with_externals, local_findings};
+use ftl_files::ReportedKind;
+use serde_json::Value;
+use std::alloc::{AllocError, Global};
+use std::slice::from_ref;
+
+impl Server {
+    /// The diagnostics of a document; None where it is not open.
+    pub(crate) fn publish(&mut self, uri: &str) -> Result<Option<Value>, AllocError>
+        ensures same { OnOk result (session_of self.new ≡ session_of self.old) }
+        ensures sent { let found = texts self.old.documents uri.now in
+            IfOk result (λ sent. IsSent (published uri.now found) (option_map view sent)) }
+    {
+        self.look_up_names(uri)?;
+        let Some(open) = self.documents.get(uri) else {
+            return Ok(None);
+        };
+        let errors = open.document.diagnostics();
+        let mut list = error_list(self.alloc, uri, errors, self.related)?;
+        let mut others = self.lint_diagnostics(uri, open)?;
+        list.append(&mut others)?;
+        Ok(Some(diagnostics_notification(self.alloc, uri, list)?))
+    }
+
+    /// Looks up what is defined next to a document, if its findings are sought there.
+    fn look_up_names(&mut self, uri: &str) -> Result<(), AllocError>
+        ensures same { OnOk result (session_of self.new ≡ session_of self.old) }
+    {
+        if let Some(set) = searched_set(&self.documents, &self.workspace, uri) {
+            look_up_others(
+                self.alloc,
+                uri,
+                set,
+                self.documents.by_name(),
+                &mut self.defined,
+                &mut self.workspace,
+            )?;
+        }
+        Ok(())
+    }
+
+    /// What is reported of a document besides its errors: what is found in it, and then how it differs from its
+    /// original. Nothing of one that is too long or nests too deeply.
+    fn lint_diagnostics(&self, uri: &str, open: &OpenDocument) -> Result<Vec<Value>, AllocError>
+        ensures { IfOk result (λ list. All IsLintDiagnostic (map view list.items)) }
+    {
+        if !is_linted(&open.document) {
+            return Ok(Vec::new(self.alloc));
+        }
+        let name_index = open.document.name_index(self.alloc)?;
+        let ignored = self.ignored_of(open)?;
+        let mut differences = self.differences(open, &name_index)?;
+        differences.retain(|differing| !ignored.contains(&differing.kind.reported_kind()));
+        let findings = self.reported_findings(uri, name_index, &ignored)?;
+        let diagnostics = finding_diagnostics(self.alloc, uri, open.document.text(), &findings)?;
+        let mut list = lint_diagnostic_list(self.alloc, &diagnostics, self.related)?;
+        let mut difference_list = lint_diagnostic_list(self.alloc, &differences, self.related)?;
+        list.append(&mut difference_list)?;
+        Ok(list)
+    }
+
+    /// What a document and its original don't have alike; nothing of one that has none, or one that is too long.
+    fn differences(
+        &self,
+        open: &OpenDocument,
+        name_index: &NameIndex<'_>,
+    ) -> Result<Vec<LintDiagnostic<'_>>, AllocError> {
+        let none = Vec::new(self.alloc);
+        let Some(path) = &open.path else {
+            return Ok(none);
+        };
+        let Some(there) = self.workspace.original_of(self.alloc, path.as_str())? else {
+            return Ok(none);
+        };
+        let (documents, files) = (self.documents.by_name(), self.workspace.files());
+        let found = original_at(self.alloc, there.as_str(), documents, files)?;
+        let Some(original) = found else {
+            return Ok(none);
+        };
+        if original.name_index.text.len() > FINDINGS_LIMIT {
+            return Ok(none);
+        }
+        let shown = self.workspace.display_path(there.as_str());
+        differences_of(self.alloc, name_index, &original, shown)
+    }
+
+    /// The kinds that are not reported of a document.
+    fn ignored_of(&self, open: &OpenDocument) -> Result<Vec<ReportedKind>, AllocError> {
+        match &open.path {
+            Some(path) => self.workspace.ignored_at(self.alloc, path.as_str()),
+            None => Ok(Vec::new(self.alloc)),
+        }
+    }
+
+    /// What is found in a document, but for these kinds.
+    fn reported_findings(
+        &self,
+        uri: &str,
+        name_index: NameIndex<'_>,
+        ignored: &[ReportedKind],
+    ) -> Result<Vec<Finding>, AllocError> {
+        self.findings(uri, name_index)?
+            .iter()
+            .copied()
+            .filter(|finding| !ignored.contains(&ReportedKind::Finding(finding.kind)))
+            .collect(self.alloc)
+    }
+
+    /// What is found in a document: by itself; where all others of its set are known, among them, or next to them where
+    /// they are long.
+    fn findings(&self, uri: &str, name_index: NameIndex<'_>) -> Result<Vec<Finding>, AllocError> {
+        let (alloc, workspace) = (self.alloc, &self.workspace);
+        let documents = self.documents.by_name();
+        if let Some(set) = searched_set(&self.documents, workspace, uri) {
+            if let Some(others) = name_indexes_of(alloc, uri, set, documents, workspace)? {
+                return workspace_findings(alloc, name_index, others);
+            }
+            if let Some(others) = others_of(alloc, uri, set, documents, &self.defined, workspace)? {
+                return findings_with_externals(alloc, from_ref(&name_index), &others);
+            }
+        }
+        local_findings(alloc, &name_index)
+    }
+}
+
+/// The set in which is looked for what a document refers to. None where its findings are not sought, or not all files
+/// are known that may define that.
+fn searched_set<'d>(
+    documents: &'d Documents,
+    workspace: &Workspace,
+    uri: &str,
+) -> Option<FileSet<'d>> {
+    let OpenDocument { path, document, .. } = documents.get(uri)?;
+    match path {
+        Some(path) if is_linted(document) && workspace.is_complete_for(path.as_str()) => {
+            Some(workspace.set_of(path.as_str()))
+        }
+        _ => None,
+    }
+}
+
+/// What is found in a file where it and others are one set.
+fn workspace_findings<'o>(
+    alloc: Global,
+    file: NameIndex<'o>,
+    mut others: Vec<NameIndex<'o>>,
+) -> Result<Vec<Finding>, AllocError> {
+    let mut files = Vec::new(alloc);
+    files.push(file)?;
+    files.append(&mut others)?;
+    findings(alloc, &files)?
+        .iter()
+        .copied()
+        .filter(|finding| finding.file == 0)
+        .collect(alloc)
+}
+
+/// Whether the findings of a document are sought, which takes the longer the longer it is.
+fn is_linted(document: &Document) -> bool {
+    document.text().len() <= FINDINGS_LIMIT && !document.is_too_deep()
+}

@@ -1,0 +1,255 @@
+//! The messages that a server sends, as JSON values.
+ghost use Rattle.std.specs.Prelude.{◌≡◌, IfOk, map};
+ghost use Rattle.serde_json.specs.Data.{null};
+ghost use Rattle.serde_json.specs.View.{view};
+ghost use Rattle.ftl_lsp.specs.Locations.{edit_form, position_form, range_form, span_form};
+ghost use Rattle.ftl_lsp.specs.Renaming.{document_edits_form, renaming_form, version_form};
+ghost use Rattle.ftl_lsp.specs.Replies.{answer_form, diagnostics_form, refusal_form, register_form};
+
+use crate::documents::occurrences::NameKind;
+use crate::documents::positions::{Position, Positions};
+use crate::sessions::phases::ErrorCode;
+use fluent_syntax::spans::Span;
+use serde_json::{Value, json};
+use std::alloc::{AllocError, Global};
+
+/// The answer to the request with the identifier.
+pub fn answer(alloc: Global, id: Value, answer: Value) -> Result<Value, AllocError>
+    ensures { IfOk result (λ value. view value ≡ answer_form (view id) (view answer)) }
+{
+    json!(in alloc; {"jsonrpc": "2.0", "id": id, "result": answer})
+}
+
+/// The answer that refuses the request with the identifier, or null where it has none.
+pub fn refusal(alloc: Global, id: Value, code: ErrorCode) -> Result<Value, AllocError>
+    ensures { IfOk result (λ value. view value ≡ refusal_form (view id) code) }
+{
+    json!(in alloc; {"jsonrpc": "2.0", "id": id, "error": {"code": (code.number()), "message": (code.text())}})
+}
+
+/// The value of what there is none of.
+pub fn null() -> Value
+    ensures { view result ≡ null }
+{
+    Value::Null
+}
+
+/// What the server can do.
+pub fn capabilities(alloc: Global) -> Result<Value, AllocError> {
+    json!(in alloc; {"capabilities": (provider_capabilities(alloc)?), "serverInfo": {"name": "ftl"}})
+}
+
+/// The parts of the protocol that the server answers, each by its name.
+fn provider_capabilities(alloc: Global) -> Result<Value, AllocError> {
+    json!(in alloc; {
+        "positionEncoding": "utf-16",
+        "textDocumentSync": (document_sync(alloc)?),
+        "documentSymbolProvider": true,
+        "documentFormattingProvider": true,
+        "foldingRangeProvider": true,
+        "definitionProvider": true,
+        "referencesProvider": true,
+        "documentHighlightProvider": true,
+        "hoverProvider": true,
+        "renameProvider": true,
+        "completionProvider": (completion_provider(alloc)?),
+        "workspaceSymbolProvider": true,
+        "semanticTokensProvider": (tokens_provider(alloc)?)
+    })
+}
+
+/// Of which changes of a document the server is notified.
+fn document_sync(alloc: Global) -> Result<Value, AllocError> {
+    json!(in alloc; {"openClose": true, "change": 2, "save": true})
+}
+
+/// The characters after which names are proposed.
+fn completion_provider(alloc: Global) -> Result<Value, AllocError> {
+    json!(in alloc; {"triggerCharacters": (text_list(alloc, &["{", "-", "$", "."])?)})
+}
+
+/// The kinds of tokens, by whose places in the list the tokens name them.
+fn tokens_provider(alloc: Global) -> Result<Value, AllocError> {
+    let types = [
+        "property",
+        "macro",
+        "variable",
+        "function",
+        "parameter",
+        "string",
+        "number",
+        "enumMember",
+        "comment",
+    ];
+    json!(in alloc; {
+        "legend": {
+            "tokenTypes": (text_list(alloc, &types)?),
+            "tokenModifiers": ["declaration"]
+        },
+        "full": true
+    })
+}
+
+/// A list of texts.
+fn text_list(alloc: Global, texts: &[&str]) -> Result<Value, AllocError> {
+    let mut list = Vec::new(alloc);
+    for text in texts {
+        list.push(json!(in alloc; (*text))?)?;
+    }
+    Ok(Value::Array(list))
+}
+
+/// The request to be notified of something, by what it asks for.
+pub fn register_request(alloc: Global, params: Value) -> Result<Value, AllocError>
+    ensures { IfOk result (λ value. view value ≡ register_form (view params)) }
+{
+    json!(in alloc; {
+        "jsonrpc": "2.0",
+        "id": "ftl-watch",
+        "method": "client/registerCapability",
+        "params": params
+    })
+}
+
+/// What asks to be notified of changes of the files in the editor's folders.
+pub fn watch_params(alloc: Global) -> Result<Value, AllocError> {
+    let texts = json!(in alloc; {"globPattern": "**/*.ftl"})?;
+    let settings = json!(in alloc; {"globPattern": "**/ftl.toml"})?;
+    let registration = json!(in alloc; {
+        "id": "ftl-files",
+        "method": "workspace/didChangeWatchedFiles",
+        "registerOptions": {"watchers": [texts, settings]}
+    })?;
+    json!(in alloc; {"registrations": [registration]})
+}
+
+/// The notification of a document's diagnostics.
+pub fn diagnostics_notification(
+    alloc: Global,
+    uri: &str,
+    diagnostics: Vec<Value>,
+) -> Result<Value, AllocError>
+    ensures { IfOk result (λ value. view value ≡ diagnostics_form uri.now (map view diagnostics.items)) }
+{
+    let diagnostics = Value::Array(diagnostics);
+    json!(in alloc; {
+        "jsonrpc": "2.0",
+        "method": "textDocument/publishDiagnostics",
+        "params": {"uri": uri, "diagnostics": diagnostics}
+    })
+}
+
+/// The tokens of a text, by their numbers.
+pub fn token_list(alloc: Global, numbers: &[usize]) -> Result<Value, AllocError> {
+    let mut list = Vec::new(alloc);
+    for number in numbers {
+        list.push(json!(in alloc; (*number as u64))?)?;
+    }
+    let list = Value::Array(list);
+    json!(in alloc; {"data": list})
+}
+
+/// The range of a stretch of the text whose places these are.
+fn span_form(alloc: Global, positions: &mut Positions<'_>, span: Span) -> Result<Value, AllocError>
+    ensures text { positions.new ≡ positions.old }
+    ensures form { IfOk result (λ value. view value ≡ span_form positions.old span) }
+{
+    let start = positions.position_or_end(span.start);
+    let end = positions.position_or_end(span.end);
+    range_form(alloc, start, end)
+}
+
+/// A place in a document. `AllocError` where a growth was refused.
+pub fn location_form(
+    alloc: Global,
+    uri: &str,
+    positions: &mut Positions<'_>,
+    span: Span,
+) -> Result<Value, AllocError> {
+    let range = span_form(alloc, positions, span)?;
+    json!(in alloc; {"uri": uri, "range": range})
+}
+
+/// A place that is marked. `AllocError` where a growth was refused.
+pub fn highlight_form(
+    alloc: Global,
+    positions: &mut Positions<'_>,
+    span: Span,
+) -> Result<Value, AllocError> {
+    let range = span_form(alloc, positions, span)?;
+    json!(in alloc; {"range": range})
+}
+
+/// The edit that puts a text in place of a stretch. `AllocError` where a growth was refused.
+pub fn edit_form(
+    alloc: Global,
+    positions: &mut Positions<'_>,
+    span: Span,
+    text: &str,
+) -> Result<Value, AllocError>
+    ensures text { positions.new ≡ positions.old }
+    ensures form { IfOk result (λ value. view value ≡ edit_form positions.old text.now span) }
+{
+    let range = span_form(alloc, positions, span)?;
+    json!(in alloc; {"range": range, "newText": text})
+}
+
+/// The edits of documents, in one value. `AllocError` where a growth was refused.
+pub fn renaming_form(alloc: Global, changes: Vec<Value>) -> Result<Value, AllocError>
+    ensures { IfOk result (λ value. view value ≡ renaming_form (map view changes.items)) }
+{
+    let changes = Value::Array(changes);
+    json!(in alloc; {"documentChanges": changes})
+}
+
+/// The edits of a document in one of its versions. `AllocError` where a growth was refused.
+pub fn edits_of_document(
+    alloc: Global,
+    uri: &str,
+    version: Option<i64>,
+    edits: Vec<Value>,
+) -> Result<Value, AllocError>
+    ensures { IfOk result
+        (λ value. view value ≡ document_edits_form uri.now version (map view edits.items)) }
+{
+    let edits = Value::Array(edits);
+    let version = version_form(alloc, version)?;
+    json!(in alloc; {"textDocument": {"uri": uri, "version": version}, "edits": edits})
+}
+
+/// The number of a version; null where there is none.
+fn version_form(alloc: Global, version: Option<i64>) -> Result<Value, AllocError>
+    ensures { IfOk result (λ value. view value ≡ version_form version) }
+{
+    match version {
+        Some(version) => json!(in alloc; version),
+        None => Ok(Value::Null),
+    }
+}
+
+/// A name that may be chosen.
+pub fn item_form(alloc: Global, label: &str, kind: NameKind) -> Result<Value, AllocError> {
+    let number: u64 = match kind {
+        NameKind::Message => 21,
+        NameKind::Term | NameKind::Variable => 6,
+        NameKind::Function => 3,
+    };
+    json!(in alloc; {"label": label, "kind": number})
+}
+
+/// A range, by its two places.
+pub(crate) fn range_form(alloc: Global, start: Position, end: Position) -> Result<Value, AllocError>
+    ensures { IfOk result (λ value. view value ≡ range_form start end) }
+{
+    let start = position_form(alloc, start)?;
+    let end = position_form(alloc, end)?;
+    json!(in alloc; {"start": start, "end": end})
+}
+
+/// A place.
+fn position_form(alloc: Global, position: Position) -> Result<Value, AllocError>
+    ensures { IfOk result (λ value. view value ≡ position_form position) }
+{
+    let (line, character) = (position.line as u64, position.character as u64);
+    json!(in alloc; {"line": line, "character": character})
+}

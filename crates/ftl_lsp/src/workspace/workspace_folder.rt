@@ -1,0 +1,120 @@
+//! A folder of the workspace, and what its project says.
+
+use crate::sessions::notices::Notice;
+use crate::workspace::originals::Reference;
+use crate::workspace::settings::{ProjectSettings, nearest_settings};
+use ftl_files::{
+    Excluded, Folders, ReportedKind, Settings, absolute_path, folder_of_languages, is_below,
+    language_of,
+};
+use std::alloc::{AllocError, Global};
+
+/// A folder that an editor works in.
+#[derive(Drop)]
+pub struct WorkspaceFolder {
+    /// Its path, which doesn't end in a `/`.
+    pub path: String,
+    /// The kinds that are not reported of its files.
+    pub ignored: Vec<ReportedKind>,
+    /// What is passed over below it.
+    pub excluded: Excluded,
+    /// Where the reference language has its files, if that is said.
+    pub reference: Option<Reference>,
+    /// The folder in which each language has its own, if the reference is a folder.
+    languages: Option<String>,
+    /// Why the settings can't be gone by, if they can't.
+    fault: Option<Notice>,
+}
+
+impl WorkspaceFolder {
+    /// One whose settings were not read. `AllocError` where a growth was refused.
+    pub fn new(alloc: Global, path: &str) -> Result<WorkspaceFolder, AllocError> {
+        Ok(WorkspaceFolder {
+            path: String::from_str(alloc, path)?,
+            ignored: Vec::new(alloc),
+            excluded: Excluded::new(alloc),
+            reference: None,
+            languages: None,
+            fault: None,
+        })
+    }
+
+    /// Whether the path is below it.
+    pub fn has(&self, path: &str) -> bool {
+        is_below(self.path.as_str(), path)
+    }
+
+    /// Whether files are looked for where the path is.
+    pub fn covers(&self, path: &str) -> bool {
+        self.has(path) && !self.excluded.hides(self.path.as_str(), path)
+    }
+
+    /// The folder of the language that the file at the path is of. None where it is of none.
+    pub fn language_of<'p>(&self, path: &'p str) -> Option<&'p str> {
+        match &self.languages {
+            Some(languages) => language_of(languages.as_str(), path),
+            None => None,
+        }
+    }
+
+    /// Reads the settings anew. The notice says why they can't be gone by, where there was no such notice before.
+    ///
+    /// `AllocError` where a growth was refused.
+    pub fn reload_project_settings<F: Folders>(
+        &mut self,
+        alloc: Global,
+        files: &F,
+    ) -> Result<Option<Notice>, AllocError> {
+        let (settings, fault) = match nearest_settings(alloc, files, self.path.as_str())? {
+            Ok(settings) => (settings, None),
+            Err(fault) => (None, Some(fault)),
+        };
+        self.take_settings(alloc, settings)?;
+        let new_fault = match &fault {
+            Some(notice) if self.fault != fault => Some(notice.clone()?),
+            _ => None,
+        };
+        self.fault = fault;
+        Ok(new_fault)
+    }
+
+    /// Notes what the settings say.
+    fn take_settings(
+        &mut self,
+        alloc: Global,
+        project: Option<ProjectSettings>,
+    ) -> Result<(), AllocError> {
+        self.reference = None;
+        self.languages = None;
+        self.ignored = Vec::new(alloc);
+        self.excluded = Excluded::new(alloc);
+        let Some(ProjectSettings { folder, settings }) = project else {
+            return Ok(());
+        };
+        let Settings {
+            reference,
+            ignored,
+            excluded,
+            ..
+        } = settings;
+        let folder = folder.as_str();
+        self.excluded = excluded_in(alloc, folder, &excluded)?;
+        if let Some(name) = reference {
+            let path = absolute_path(alloc, folder, name.as_str())?;
+            let path = path.as_str();
+            self.languages = folder_of_languages(alloc, "", path)?;
+            self.reference = Reference::in_folder(alloc, "", path.trim_start_matches('/'))?;
+        }
+        self.ignored = ignored;
+        Ok(())
+    }
+}
+
+/// What the settings in the folder say is passed over.
+fn excluded_in(alloc: Global, folder: &str, texts: &[String]) -> Result<Excluded, AllocError> {
+    let mut excluded = Excluded::new(alloc);
+    for text in texts {
+        excluded.add(alloc, folder, text.as_str())?;
+    }
+    Ok(excluded)
+}

@@ -1,0 +1,23 @@
+use Rattle.std.proofs.Common.{◌≡◌, ◌++◌, ◌∷◌, ◌∙◌, [], ℕ, List, ap, append_assoc, string_bytes}
+use Rattle.std.specs.Fmt.{decimal}
+use Rattle.ftl_project.specs.Excerpt.{shown_text}
+use Rattle.ftl_project.specs.Summaries.{placed_note, lossy_entry_line_of}
+use Rattle.ftl_project.proofs.NoteTexts.{said_with}
+use Rattle.ftl_project.proofs.formatting.lossy_entry.lossy_entry_line.Goals as goal
+
+grouped : (path : List ℕ) (line column : ℕ) (note rule : List ℕ) →
+    path ++ (58 ∷ (decimal line ++ (58 ∷ (decimal column ++ (58 ∷ 32 ∷ (note ++ (58 ∷ 32 ∷ (rule ++ (10 ∷ [])))))))))
+    ≡ placed_note path line column note rule
+grouped path line column note rule = simp append_assoc
+
+pub returns : goal.returns
+returns c =
+    let path = shown_text c.args.path.now in
+    let shown = c.in_ok-push_shown_text.ensures ∙ ap (λ front. front ++ path) c.new-shown.ensures.bytes in
+    let entry = c.args.entry in
+    let note = c.args.note.now in
+    let rule = string_bytes c.in_ok-rule.rule in
+    said_with c.format-2.result _ (lossy_entry_line_of c.args.path.now entry note) rule
+    (grouped _ entry.line entry.column note rule ∙ ap (λ front. placed_note front entry.line entry.column note rule)
+    shown)
+    c.format-2.ensures.ok

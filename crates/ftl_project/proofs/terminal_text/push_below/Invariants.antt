@@ -1,7 +1,0 @@
-use Rattle.std.proofs.Common.{◌≡◌, ◌++◌, string_bytes}
-use Rattle.std.specs.List.{flat_map}
-use Rattle.ftl_project.specs.Excerpt.{below_char}
-use Rattle.ftl_project.proofs.terminal_text.push_below.Given as goal
-
-abbrev pub invariant-loop-c : goal.invariant-loop-c
-invariant-loop-c l = string_bytes l.out ≡ string_bytes l.fn.out ++ flat_map below_char l.yielded

@@ -1,0 +1,128 @@
+//! Files are answered on standard output.
+ghost use Rattle.std.specs.Prelude.{IfErr, IfOk, string_bytes};
+ghost use Rattle.fluent_syntax_grammar.specs.Nesting.{NestsDeeper};
+ghost use Rattle.ftl.specs.Answer.{IsAnswer, ReadsDeeper};
+ghost use Rattle.ftl_project.specs.Answered.{IsPrinted};
+ghost use Rattle.ftl_project.specs.Faults.{IsUnparsed};
+ghost use Rattle.ftl_project.specs.Lossless.{format_of};
+
+use crate::answering::{Answer, FileTask};
+use crate::fault::Fault;
+use crate::formatting::lossy_entry::lossy_note;
+use crate::streams::{byte_order_mark_note, note_line};
+use fluent_syntax::parser::Edition;
+use fluent_syntax::spans::Halt;
+use ftl::{Command, Outcome, answer_within, formatted_within};
+use ftl_files::Reading;
+use std::alloc::{AllocError, Global};
+
+/// What is written of a file.
+#[derive(Drop)]
+struct Printed {
+    text: String,
+    outcome: Outcome,
+    /// By which edition it is a normal form of which it is not known that it reads back.
+    doubtful: Option<Edition>,
+}
+
+/// Writes the command's text of each file. A file that has errors, or whose normal form does not read back, is
+/// reported.
+#[derive(Clone, Copy)]
+pub struct PrintTask {
+    pub command: Command,
+    /// How deep placeables and argument lists may nest.
+    pub nesting: usize,
+}
+
+impl FileTask for PrintTask {
+    ghost answers = { λ printing. IsPrinted printing.command };
+
+    ghost refuses = { λ printing text. IsUnparsed (ReadsDeeper printing.command text printing.nesting) };
+
+    fn answer(&self, alloc: Global, path: &str, text: String) -> Result<Answer, Fault> {
+        let printed = self.printed(alloc, text.as_str())?;
+        let note = self.note(alloc, path, text.as_str(), &printed)?;
+        Ok(Answer {
+            errors: 0,
+            has_problems: printed.outcome == Outcome::SyntaxErrors,
+            text: printed.text,
+            note,
+        })
+    }
+}
+
+impl PrintTask {
+    /// The command's text.
+    fn printed(&self, alloc: Global, text: &str) -> Result<Printed, Fault>
+        ensures printed { IfOk result (λ printed. IsAnswer self.now.command text.now (string_bytes printed.text)
+            printed.outcome) }
+        ensures fault { IfErr result (IsUnparsed (ReadsDeeper self.now.command text.now self.now.nesting)) }
+    {
+        match self.command {
+            Command::Format => self.formatted(alloc, text, Edition::One),
+            Command::FormatTwo => self.formatted(alloc, text, Edition::Two),
+            command => self.converted(alloc, text, command),
+        }
+    }
+
+    /// The text's normal form.
+    fn formatted(&self, alloc: Global, text: &str, edition: Edition) -> Result<Printed, Fault>
+        ensures formatted { IfOk result (λ formatted. IsAnswer (format_of edition) text.now
+            (string_bytes formatted.text) formatted.outcome) }
+        ensures fault { IfErr result (IsUnparsed (NestsDeeper edition text.now self.now.nesting)) }
+    {
+        match formatted_within(alloc, text, edition, self.nesting) {
+            Ok(formatted) => Ok(Printed {
+                text: formatted.text,
+                outcome: formatted.outcome,
+                doubtful: match formatted.is_canonical {
+                    true => None,
+                    false => Some(edition),
+                },
+            }),
+            Err(Halt::Memory) => Err(Fault::Memory),
+            Err(Halt::TooDeep) => Err(Fault::TooDeep),
+        }
+    }
+
+    /// The text of another command.
+    fn converted(&self, alloc: Global, text: &str, command: Command) -> Result<Printed, Fault>
+        ensures converted { IfOk result (λ converted. IsAnswer command text.now (string_bytes converted.text)
+            converted.outcome) }
+        ensures fault { IfErr result (IsUnparsed (ReadsDeeper command text.now self.now.nesting)) }
+    {
+        match answer_within(alloc, command, text.as_bytes(), self.nesting) {
+            Ok(Ok((text, outcome))) => Ok(Printed {
+                text,
+                outcome,
+                doubtful: None,
+            }),
+            Ok(Err(_)) => Err(Fault::Memory),
+            Err(_) => Err(Fault::TooDeep),
+        }
+    }
+
+    /// What is reported of a file: that it has errors, or by which entry what is written does not read back.
+    fn note(
+        &self,
+        alloc: Global,
+        path: &str,
+        text: &str,
+        printed: &Printed,
+    ) -> Result<String, AllocError> {
+        if printed.outcome == Outcome::SyntaxErrors {
+            let mut note = note_line(alloc, path, &"has syntax errors")?;
+            let mark = byte_order_mark_note(alloc, path, text)?;
+            note.push_str(mark.as_str())?;
+            return Ok(note);
+        }
+        let Some(edition) = printed.doubtful else {
+            return Ok(String::new(alloc));
+        };
+        let reading = Reading {
+            edition,
+            nesting: self.nesting,
+        };
+        lossy_note(alloc, path, text, reading)
+    }
+}
