@@ -30,7 +30,11 @@ pub(crate) fn compare_command<'a>(alloc: Global) -> Result<Command<'a>, AllocErr
             "Examples:
   ftl compare en de fr            each .ftl file below en with those of de and of fr
   ftl compare en/menu.ftl de/menu.ftl
-  ftl compare de fr               where the file ftl.toml here has the line: reference = \"en\"",
+
+Where ftl.toml has the line reference = \"locales/en\":
+  ftl compare                     each language in locales
+  ftl compare locales/de          that one
+  ftl compare locales/de/menu.ftl with locales/en/menu.ftl",
         )
         .arg(form(alloc))?
         .arg(color(alloc))?
@@ -44,12 +48,11 @@ fn paths<'a>(alloc: Global) -> Arg<'a> {
     Arg::new(alloc, "paths")
         .value_name("PATH")
         .help(
-            "The reference, if no ftl.toml names it, and files or folders to compare with it; files in folders are \
-            matched by their paths below",
+            "The reference, if no ftl.toml names it, and files or folders to compare with it, by default every \
+            language; files in folders are matched by their paths below",
         )
         .action(ArgAction::Append)
         .num_args(1..)
-        .required(true)
 }
 
 /// What the options ask for.

@@ -3,7 +3,8 @@
 use crate::paths::absolute_path;
 use std::alloc::{AllocError, Global};
 
-/// What is passed over where a folder is listed: folders whose names begin with a `.`, and what it names.
+/// What is passed over where a folder is listed: folders whose names begin with a `.`, and what it names. In a name a `*`
+/// stands for any characters but `/`.
 #[derive(Debug, Drop)]
 pub struct Excluded {
     /// Names of files and folders, wherever they are.
@@ -21,11 +22,10 @@ impl Excluded {
         }
     }
 
-    /// Adds a name of files and folders; or, if there is a `/` before its end, the path of one from the folder on.
+    /// Adds a name of files and folders; or, if there is a `/` in it, the path of one from the folder on.
     ///
     /// `AllocError`: a growth was refused.
     pub fn add(&mut self, alloc: Global, folder: &str, exclusion: &str) -> Result<(), AllocError> {
-        let exclusion = exclusion.trim_end_matches('/');
         if exclusion.contains('/') {
             self.paths.push(absolute_path(alloc, folder, exclusion)?)?;
         } else {
@@ -42,8 +42,13 @@ impl Excluded {
     /// Whether the file of that path, which begins at the root, is passed over.
     pub fn has_file(&self, path: &str) -> bool {
         let name = name_of(path);
-        self.names.iter().any(|excluded| excluded.as_str() == name)
-            || self.paths.iter().any(|excluded| excluded.as_str() == path)
+        self.names
+            .iter()
+            .any(|pattern| is_like(pattern.as_str(), name))
+            || self
+                .paths
+                .iter()
+                .any(|pattern| is_path_like(pattern.as_str(), path))
     }
 
     /// Whether the file, or a folder between, is passed over where the folder is listed. Both paths begin at the root.
@@ -55,6 +60,37 @@ impl Excluded {
         }
         self.has_file(path)
     }
+}
+
+/// Whether the path has the parts that the pattern has, one by one.
+fn is_path_like(pattern: &str, path: &str) -> bool {
+    if !pattern.contains('*') {
+        return pattern == path;
+    }
+    let (patterns, parts) = (pattern.split('/'), path.split('/'));
+    pattern.split('/').count() == path.split('/').count()
+        && patterns
+            .zip(parts)
+            .all(|(pattern, part)| is_like(pattern, part))
+}
+
+/// Whether the pattern is the name, where each `*` in it stands for any characters.
+fn is_like(pattern: &str, name: &str) -> bool {
+    let Some((first, rest)) = pattern.split_once('*') else {
+        return pattern == name;
+    };
+    let Some(mut left) = name.strip_prefix(first) else {
+        return false;
+    };
+    let (middle, last) = rest.rsplit_once('*').unwrap_or(("", rest));
+    for part in middle.split('*') {
+        // the first place is the best one: it leaves most for the others
+        match left.split_once(part) {
+            Some((_, after)) => left = after,
+            None => return false,
+        }
+    }
+    left.ends_with(last)
 }
 
 /// The last part of the path.

@@ -6,6 +6,7 @@ use crate::paths::absolute_path;
 use std::alloc::AllocError;
 use std::collections::VecDeque;
 use std::fs::DirEntry;
+use std::io::ErrorKind;
 use std::rt::Files;
 use std::{fs, io};
 
@@ -16,6 +17,8 @@ pub struct Listing {
     pub files: Vec<String>,
     /// A folder, or an entry of one, that could not be read, and why.
     pub faults: Vec<(String, io::Error)>,
+    /// A folder, for each entry of it that is passed over since its name is not UTF-8.
+    pub with_other_names: Vec<String>,
     /// Whether some were left out for their number.
     pub is_cut: bool,
 }
@@ -55,11 +58,13 @@ struct Found {
     path: String,
     /// Its path from the root on.
     absolute: String,
+    /// Whether it was met in a folder above: then it may be gone again.
+    is_met: bool,
 }
 
 /// The path itself, if it names no folder; else each file below the folder whose name ends in `.ftl`, without what is
-/// excluded. Below the folder no symlink is followed. An entry whose name is not UTF-8, or that vanishes meanwhile, is
-/// reported as a fault, and the others are listed. A path that doesn't begin at the root begins in the current folder.
+/// excluded. Below the folder no symlink is followed. An entry that vanishes meanwhile is passed over, and so is one whose
+/// name is not UTF-8. A path that doesn't begin at the root begins in the current folder.
 pub fn list<R: Files + AllocGlobal + Clone + Drop>(
     rt: &R,
     current: &str,
@@ -108,6 +113,7 @@ fn no_files<R: AllocGlobal>(rt: &R) -> Listing {
     Listing {
         files: Vec::new(rt.alloc()),
         faults: Vec::new(rt.alloc()),
+        with_other_names: Vec::new(rt.alloc()),
         is_cut: false,
     }
 }
@@ -124,6 +130,7 @@ fn search_folder<R: Files + AllocGlobal + Clone + Drop>(
     folders.push_back(Found {
         path: String::from_str(rt.alloc(), folder)?,
         absolute: absolute_path(rt.alloc(), current, folder)?,
+        is_met: false,
     })?;
     for _ in 0..search.folders {
         let Some(folder) = folders.pop_front() else {
@@ -151,12 +158,16 @@ fn list_folder<R: Files + AllocGlobal + Clone + Drop>(
     let path = folder.path.as_str();
     let entries = match fs::read_dir(rt, path) {
         Ok(entries) => entries,
+        Err(error) if folder.is_met && error.kind() == ErrorKind::NotFound => return Ok(()),
         Err(error) => return add_fault(rt, path, error, listing),
     };
     for entry in entries {
         match entry {
             Ok(entry) => list_entry(rt, &entry, folder, search, listing, folders)?,
-            // a name that is not UTF-8 is reported by its folder's
+            Err(error) if error.kind() == ErrorKind::InvalidFilename => {
+                let path = String::from_str(rt.alloc(), path)?;
+                listing.with_other_names.push(path)?;
+            }
             Err(error) => add_fault(rt, path, error, listing)?,
         }
     }
@@ -176,16 +187,30 @@ fn list_entry<R: Files + AllocGlobal + Clone + Drop>(
     let absolute = format!(in rt.alloc(); "{}/{name}", folder.absolute)?;
     match entry.file_type() {
         Ok(kind) if kind.is_dir() && !search.excluded.has_folder(absolute.as_str()) => {
-            folders.push_back(Found { path, absolute })?;
+            folders.push_back(Found {
+                path,
+                absolute,
+                is_met: true,
+            })?;
         }
         Ok(kind)
             if kind.is_file()
                 && name.ends_with(".ftl")
                 && !search.excluded.has_file(absolute.as_str()) => listing.files.push(path)?,
         Ok(_) => (),
+        Err(error) if is_passed_over(name, error.kind()) => (),
         Err(error) => add_fault(rt, path.as_str(), error, listing)?,
     }
     Ok(())
+}
+
+/// Whether an entry that can't be asked for its kind is gone, or nothing that would be read.
+fn is_passed_over(name: &str, kind: ErrorKind) -> bool {
+    match kind {
+        ErrorKind::NotFound => true,
+        ErrorKind::OutOfMemory => false,
+        _ => !name.ends_with(".ftl"),
+    }
 }
 
 fn add_fault<R: AllocGlobal>(

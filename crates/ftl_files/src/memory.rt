@@ -208,6 +208,7 @@ impl Folders for Memory {
         Ok(Listing {
             files,
             faults: Vec::new(alloc),
+            with_other_names: Vec::new(alloc),
             is_cut: false,
         })
     }

@@ -1,12 +1,13 @@
 //! Files and folders, compared with those of a reference language.
 
 use crate::colors::form_over_paths;
+use crate::counterparts::{Counterparts, counterparts_of};
 use crate::listed::{Named, NamedFiles, listing_at};
-use crate::messages::{WRONG_ARGS, end_run, refuse_input, refuse_run, report_nothing_to_compare};
-use crate::project::{Project, project_of};
+use crate::messages::{WRONG_ARGS, end_run, refuse_input, report_nothing_to_compare, run_status};
+use crate::project::{Project, ProjectPaths, projects_of};
 use ftl::{RunFault, Watched};
 use ftl_args::{Compare, Options};
-use ftl_files::{Disk, ReportedKind, Settings};
+use ftl_files::{Disk, ReportedKind};
 use ftl_project::{
     CompareOptions, Pair, Share, Streams, Tally, check_summary, compare_files, note_line,
     share_line,
@@ -14,44 +15,75 @@ use ftl_project::{
 use std::alloc::{AllocError, Global};
 use std::io;
 
-/// Compares what the paths name, one by one, with the reference; the exit status.
+/// Compares what the paths name, one by one, with the reference; without paths, every language. The exit status.
 pub(crate) fn compare_paths(rt: &HostRuntime, compare: &Compare<'_>) -> u8 {
     if compare.paths.contains(&"-") {
         return refuse_input(rt, "compare");
     }
-    let project = match project_of(rt, &compare.excluded) {
-        Ok(project) => project,
-        Err(status) => return status,
+    let here = ["."];
+    let paths = if compare.paths.is_empty() {
+        here.as_slice()
+    } else {
+        compare.paths.as_slice()
     };
-    let Some((reference, others)) = sides(&project.settings, &compare.paths) else {
-        return report_nothing_to_compare(rt);
-    };
-    let Ok(ignored) = ignored_of(rt, compare, &project) else {
-        return refuse_run(rt, RunFault::Memory);
+    match projects_of(rt, &compare.excluded, paths) {
+        Ok(projects) => run_status(rt, compare_projects(rt, compare, &projects)),
+        Err(status) => status,
+    }
+}
+
+/// Compares the paths of one project after those of another; the greatest exit status. Where none of them names a
+/// reference, the first of all paths is that.
+fn compare_projects(
+    rt: &HostRuntime,
+    compare: &Compare<'_>,
+    projects: &[ProjectPaths<'_>],
+) -> Result<u8, RunFault> {
+    let mut status = 0;
+    for ProjectPaths { project, paths, .. } in projects {
+        if project.settings.reference.is_none() && is_without_reference(projects) {
+            return compare_in(rt, compare, project, &compare.paths);
+        }
+        // no path of the words, so every language
+        let paths = if compare.paths.is_empty() {
+            [].as_slice()
+        } else {
+            paths.as_slice()
+        };
+        status = status.max(compare_in(rt, compare, project, paths)?);
+    }
+    Ok(status)
+}
+
+fn is_without_reference(projects: &[ProjectPaths<'_>]) -> bool {
+    projects
+        .iter()
+        .all(|paths| paths.project.settings.reference.is_none())
+}
+
+/// Compares the paths by what the project says; the exit status.
+fn compare_in(
+    rt: &HostRuntime,
+    compare: &Compare<'_>,
+    project: &Project,
+    paths: &[&str],
+) -> Result<u8, RunFault> {
+    let counterparts = counterparts_of(rt, project, paths)?;
+    if counterparts.is_empty() && (project.settings.reference.is_none() || paths.is_empty()) {
+        return Ok(report_nothing_to_compare(rt));
+    }
+    let Ok(ignored) = ignored_of(rt, compare, project) else {
+        return Err(RunFault::Memory);
     };
     let comparison = Comparison {
         rt,
-        project: &project,
+        project,
         options: compare.options.or(&project.settings),
         ignored: &ignored,
     };
     let mut tally = Tally::new();
-    match comparison.compare_all(reference, others, &mut tally) {
-        Ok(()) => end_run(rt, &tally, check_summary(rt.alloc(), &tally)),
-        Err(fault) => refuse_run(rt, fault),
-    }
-}
-
-/// The reference, which the project names, or else is the first of the paths; and the others. `None` where there is no
-/// other.
-fn sides<'a>(settings: &'a Settings, paths: &'a [&'a str]) -> Option<(&'a str, &'a [&'a str])> {
-    if let Some(reference) = &settings.reference {
-        return Some((reference.as_str(), paths));
-    }
-    match paths.split_first() {
-        Some((reference, others)) if !others.is_empty() => Some((*reference, others)),
-        _ => None,
-    }
+    comparison.compare_all(&counterparts, &mut tally)?;
+    Ok(end_run(rt, &tally, check_summary(rt.alloc(), &tally)))
 }
 
 /// The kinds that are not reported.
@@ -76,23 +108,28 @@ struct Comparison<'p> {
 }
 
 impl Comparison<'_> {
-    /// Compares each of the others, once, with the reference. What can't be listed, and a file where the reference is a
+    /// Compares each file or folder, once, with its counterpart. What can't be listed, and a file where the other one is a
     /// folder, or the other way round, is reported, and the others are compared.
     fn compare_all(
         &self,
-        reference: &str,
-        others: &[&str],
+        counterparts: &[Counterparts],
         tally: &mut Tally,
     ) -> Result<(), RunFault> {
-        let own = listing_at(self.rt, self.project, reference, tally)?;
-        if own.has_failed {
-            return Ok(());
-        }
         let mut named = NamedFiles::new(self.rt, self.project);
-        for other in others {
-            if named.is_new(self.rt, *other)? {
-                self.compare_other(reference, &own, *other, tally)?;
+        let mut last: Option<(&str, Named)> = None;
+        for Counterparts { reference, other } in counterparts {
+            if !named.is_new(self.rt, other.as_str())? {
+                continue;
             }
+            let reference = reference.as_str();
+            let own = match last {
+                Some((path, own)) if path == reference => own,
+                _ => listing_at(self.rt, self.project, reference, tally)?,
+            };
+            if !own.has_failed {
+                self.compare_other(reference, &own, other.as_str(), tally)?;
+            }
+            last = Some((reference, own));
         }
         Ok(())
     }

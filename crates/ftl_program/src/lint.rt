@@ -3,8 +3,8 @@
 use crate::colors::form_over_paths;
 use crate::file_sets::{FileSet, add_files, languages_of};
 use crate::listed::{NamedFiles, report_listing_fault};
-use crate::messages::{end_run, refuse_input, refuse_run};
-use crate::project::{Project, project_of};
+use crate::messages::{end_run, refuse_input, run_status};
+use crate::project::{Project, ProjectPaths, projects_of};
 use fluent_syntax_names::Kind;
 use ftl::{RunFault, Watched};
 use ftl_args::Lint;
@@ -19,21 +19,31 @@ pub(crate) fn lint_paths(rt: &HostRuntime, lint: &Lint<'_>) -> u8 {
     if lint.paths.contains(&"-") {
         return refuse_input(rt, "lint");
     }
-    let project = match project_of(rt, &lint.excluded) {
-        Ok(project) => project,
-        Err(status) => return status,
-    };
-    let mut tally = Tally::new();
-    match lint_all(rt, lint, &project, &mut tally) {
-        Ok(()) => end_run(rt, &tally, check_summary(rt.alloc(), &tally)),
-        Err(fault) => refuse_run(rt, fault),
+    match projects_of(rt, &lint.excluded, &lint.paths) {
+        Ok(projects) => run_status(rt, lint_projects(rt, lint, &projects)),
+        Err(status) => status,
     }
 }
 
-fn lint_all(
+/// Searches the files of one project after those of another; the greatest exit status.
+fn lint_projects(
     rt: &HostRuntime,
     lint: &Lint<'_>,
-    project: &Project,
+    projects: &[ProjectPaths<'_>],
+) -> Result<u8, RunFault> {
+    let mut status = 0;
+    for project in projects {
+        let mut tally = Tally::new();
+        lint_project(rt, lint, project, &mut tally)?;
+        status = status.max(end_run(rt, &tally, check_summary(rt.alloc(), &tally)));
+    }
+    Ok(status)
+}
+
+fn lint_project(
+    rt: &HostRuntime,
+    lint: &Lint<'_>,
+    ProjectPaths { project, paths, .. }: &ProjectPaths<'_>,
     tally: &mut Tally,
 ) -> Result<(), RunFault> {
     let options = lint.options.or(&project.settings);
@@ -41,7 +51,7 @@ fn lint_all(
         return Err(RunFault::Memory);
     };
     report_no_reference(rt, project, tally)?;
-    let sets = sets_of(rt, lint, project, tally)?;
+    let sets = sets_of(rt, lint, project, paths, tally)?;
     let lint_options = LintOptions {
         form: form_over_paths(rt, options),
         ignored: &ignored,
@@ -109,12 +119,13 @@ fn sets_of(
     rt: &HostRuntime,
     lint: &Lint<'_>,
     project: &Project,
+    paths: &[&str],
     tally: &mut Tally,
 ) -> Result<Vec<FileSet>, RunFault> {
     let alloc = rt.alloc();
     let mut named = NamedFiles::new(rt, project);
     let mut sets = Vec::new(alloc);
-    for path in &lint.paths {
+    for path in paths {
         let files = named.files_at(rt, *path, tally)?;
         let Ok(languages) = languages_at(alloc, lint, project, *path) else {
             return Err(RunFault::Memory);

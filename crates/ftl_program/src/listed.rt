@@ -3,7 +3,7 @@
 use crate::project::Project;
 use ftl::{RunFault, Watched};
 use ftl_files::{SeenPaths, list};
-use ftl_project::{Fault, Streams, Tally, report_fault};
+use ftl_project::{Fault, Streams, Tally, note_line, report_fault};
 use std::alloc::AllocError;
 use std::io;
 
@@ -31,7 +31,11 @@ impl<'p> NamedFiles<'p> {
         tally: &mut Tally,
     ) -> Result<Vec<String>, RunFault> {
         let mut files = Vec::new(rt.alloc());
-        for file in listing_at(rt, self.project, path, tally)?.files {
+        let named = listing_at(rt, self.project, path, tally)?;
+        if named.files.is_empty() && !named.has_failed {
+            report_note(rt, path, "has no .ftl file")?;
+        }
+        for file in named.files {
             if self.is_new(rt, file.as_str())? && files.push(file).is_err() {
                 return Err(RunFault::Memory);
             }
@@ -77,11 +81,29 @@ pub(crate) fn listing_at(
     for (path, error) in listing.faults {
         report_listing_fault(rt, path.as_str(), &Fault::Read(error), tally)?;
     }
+    for folder in &listing.with_other_names {
+        report_note(
+            rt,
+            folder.as_str(),
+            "has an entry whose name is not UTF-8, which is passed over",
+        )?;
+    }
     Ok(Named {
         files: listing.files,
         is_file,
         has_failed,
     })
+}
+
+/// Reports what is to be known of what has the path.
+pub(crate) fn report_note(rt: &HostRuntime, path: &str, note: &str) -> Result<(), RunFault> {
+    match note_line(rt.alloc(), path, &note) {
+        Ok(line) => {
+            let _ = rt.eprint(line.as_str());
+            Ok(())
+        }
+        Err(AllocError) => Err(RunFault::Memory),
+    }
 }
 
 /// Reports why what has the path was not answered, and counts it.

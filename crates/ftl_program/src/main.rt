@@ -4,6 +4,7 @@
 mod args;
 mod colors;
 mod compare;
+mod counterparts;
 mod file_sets;
 mod help;
 mod lint;
@@ -21,8 +22,9 @@ use crate::messages::{
     print_page, refuse_args, refuse_serving, report_unwritable_input, run_status,
 };
 use crate::paths::{answer_named, answer_paths};
-use crate::project::{no_project, project_of};
+use crate::project::{ProjectPaths, no_project, projects_of};
 use crate::standard_input::answer_input;
+use ftl::RunFault;
 use ftl_args::{Change, Request, Task, Work, request_of};
 use ftl_files::Output;
 use std::process::ExitCode;
@@ -48,8 +50,9 @@ fn run_args(rt: &HostRuntime, words: &[String]) -> u8 {
     }
 }
 
-/// Answers standard input, or the paths that are named. The project speaks for paths, and not for a tree as JSON.
-fn answer(rt: &HostRuntime, mut work: Work<'_>) -> u8 {
+/// Answers standard input, or the paths that are named, those of each project by themselves. A project speaks for paths,
+/// and not for a tree as JSON.
+fn answer(rt: &HostRuntime, work: Work<'_>) -> u8 {
     let on_input = work.paths.is_empty();
     match work.task {
         Task::Format(Change::Write | Change::Name | Change::Show) if on_input =>
@@ -61,16 +64,26 @@ fn answer(rt: &HostRuntime, mut work: Work<'_>) -> u8 {
         _ => (),
     }
     let found = match work.task {
-        Task::FromJson => no_project(rt),
-        _ => project_of(rt, &work.excluded),
+        Task::FromJson => no_project(rt, &work.paths),
+        _ => projects_of(rt, &work.excluded, &work.paths),
     };
     match found {
-        Ok(project) => {
-            work.options = work.options.or(&project.settings);
-            run_status(rt, answer_paths(rt, &work, &project))
-        }
+        Ok(projects) => run_status(rt, answer_projects(rt, &work, &projects)),
         Err(status) => status,
     }
+}
+
+/// Answers the paths of one project after those of another; the greatest exit status.
+fn answer_projects(
+    rt: &HostRuntime,
+    work: &Work<'_>,
+    projects: &[ProjectPaths<'_>],
+) -> Result<u8, RunFault> {
+    let mut status = 0;
+    for project in projects {
+        status = status.max(answer_paths(rt, work, project)?);
+    }
+    Ok(status)
 }
 
 /// Answers standard input; as a file of its name where a form of files is asked for.

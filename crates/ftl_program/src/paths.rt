@@ -3,10 +3,10 @@
 use crate::colors::form_over_paths;
 use crate::listed::NamedFiles;
 use crate::messages::end_run;
-use crate::project::Project;
+use crate::project::ProjectPaths;
 use crate::standard_input::{all_input, print_terminal_hint};
 use ftl::{RunFault, Watched};
-use ftl_args::{Change, Task, Work};
+use ftl_args::{Change, Options, Task, Work};
 use ftl_files::{Disk, Memory, Store};
 use ftl_project::{
     CheckTask, ConvertTask, DiffTask, NameTask, PrintTask, RewriteCounts, Streams, Tally,
@@ -53,20 +53,21 @@ impl Met {
 pub(crate) fn answer_paths(
     rt: &HostRuntime,
     work: &Work<'_>,
-    project: &Project,
+    ProjectPaths { project, paths, .. }: &ProjectPaths<'_>,
 ) -> Result<u8, RunFault> {
+    let options = work.options.or(&project.settings);
     let mut met = Met::new();
     let mut named = NamedFiles::new(rt, project);
-    for path in &work.paths {
+    for path in paths {
         if *path == "-" {
-            answer_named_input(rt, work, &mut met)?;
+            answer_named_input(rt, work, options, &mut met)?;
         } else {
             let files = named.files_at(rt, *path, &mut met.tally)?;
             let mut disk = match work.task {
                 Task::Format(Change::Write) => Disk::of_regular_files(rt),
                 _ => Disk::new(rt),
             };
-            run_task(rt, &mut disk, &files, work, &mut met)?;
+            run_task(rt, &mut disk, &files, work.task, options, &mut met)?;
         }
     }
     Ok(met.end(rt, work))
@@ -75,12 +76,17 @@ pub(crate) fn answer_paths(
 /// Answers standard input as a file of its name; the exit status.
 pub(crate) fn answer_named(rt: &HostRuntime, work: &Work<'_>) -> Result<u8, RunFault> {
     let mut met = Met::new();
-    answer_named_input(rt, work, &mut met)?;
+    answer_named_input(rt, work, work.options, &mut met)?;
     Ok(met.tally.status())
 }
 
 /// Answers standard input as a file of its name.
-fn answer_named_input(rt: &HostRuntime, work: &Work<'_>, met: &mut Met) -> Result<(), RunFault> {
+fn answer_named_input(
+    rt: &HostRuntime,
+    work: &Work<'_>,
+    options: Options,
+    met: &mut Met,
+) -> Result<(), RunFault> {
     print_terminal_hint(rt);
     let input = all_input(rt)?;
     let mut memory = Memory::new(rt.alloc());
@@ -92,7 +98,7 @@ fn answer_named_input(rt: &HostRuntime, work: &Work<'_>, met: &mut Met) -> Resul
         work.stdin_name,
         input.as_slice(),
     ) {
-        Ok(()) => run_task(rt, &mut memory, files.as_slice(), work, met),
+        Ok(()) => run_task(rt, &mut memory, files.as_slice(), work.task, options, met),
         Err(AllocError) => Err(RunFault::Memory),
     }
 }
@@ -114,19 +120,20 @@ fn run_task<S: Store>(
     rt: &HostRuntime,
     store: &mut S,
     files: &[String],
-    work: &Work<'_>,
+    task: Task,
+    options: Options,
     met: &mut Met,
 ) -> Result<(), RunFault> {
     let alloc = rt.alloc();
     let Met { tally, counts } = met;
-    let reading = work.options.reading();
+    let reading = options.reading();
     let mut streams = Streams {
         out: &mut Watched::new(io::writer(rt)),
         err: &mut Watched::new(rt.stderr()),
     };
-    match (work.task, work.task.command(reading.edition)) {
+    match (task, task.command(reading.edition)) {
         (Task::Check, _) => {
-            let form = form_over_paths(rt, work.options);
+            let form = form_over_paths(rt, options);
             let task = CheckTask { reading, form };
             answer_files(alloc, &task, store, files, tally, &mut streams)
         }

@@ -4,10 +4,10 @@ use crate::messages::refuse_run;
 use ftl::RunFault;
 use ftl_files::{Disk, Excluded, Settings, SettingsFault, Store, absolute_path, settings_of};
 use ftl_project::{Fault, note_line};
-use std::alloc::AllocError;
-use std::env;
+use std::alloc::{AllocError, Global};
 use std::fmt::Display;
 use std::io::ErrorKind;
+use std::{env, fs};
 
 const NAME: &str = "ftl.toml";
 
@@ -25,28 +25,60 @@ pub(crate) struct Project {
     pub(crate) current: String,
 }
 
-/// The settings of the file `ftl.toml` of this folder, or of the nearest one above, where there is one; else no
-/// settings. `excluded` is what the words exclude. Where the file can't be gone by, that is reported, and the exit
-/// status is given.
-pub(crate) fn project_of(rt: &HostRuntime, excluded: &[&str]) -> Result<Project, u8> {
-    match project_of_file(rt, excluded) {
-        Ok(project) => Ok(project),
+/// A project, and the paths that are nearest to it.
+#[derive(Drop)]
+pub(crate) struct ProjectPaths<'a> {
+    pub(crate) project: Project,
+    /// The paths that it speaks for, in their order.
+    pub(crate) paths: Vec<&'a str>,
+    /// The folder of its settings, from the root on; none where there are no settings.
+    root: Option<String>,
+}
+
+/// The paths by project: that of each is what the file `ftl.toml` says of the folder itself, or of the nearest folder
+/// above the path that has one; `-` is in the current folder. `excluded` is what the words exclude. Where a file can't
+/// be gone by, that is reported, and the exit status is given.
+pub(crate) fn projects_of<'a>(
+    rt: &HostRuntime,
+    excluded: &[&str],
+    paths: &[&'a str],
+) -> Result<Vec<ProjectPaths<'a>>, u8> {
+    match paths_by_project(rt, excluded, paths) {
+        Ok(projects) => Ok(projects),
         Err(Refusal::Reported(status)) => Err(status),
         Err(Refusal::Memory) => Err(refuse_run(rt, RunFault::Memory)),
     }
 }
 
-/// No settings, whatever the folders above say. Where memory is refused, that is reported, and the exit status is
-/// given.
-pub(crate) fn no_project(rt: &HostRuntime) -> Result<Project, u8> {
-    match current_folder(rt) {
-        Ok(current) => Ok(Project {
-            settings: Settings::new(rt.alloc()),
-            excluded: Excluded::new(rt.alloc()),
-            current,
-        }),
+/// The paths without settings, whatever the folders above say. Where memory is refused, that is reported, and the exit
+/// status is given.
+pub(crate) fn no_project<'a>(
+    rt: &HostRuntime,
+    paths: &[&'a str],
+) -> Result<Vec<ProjectPaths<'a>>, u8> {
+    match paths_of_no_project(rt, paths) {
+        Ok(projects) => Ok(projects),
         Err(AllocError) => Err(refuse_run(rt, RunFault::Memory)),
     }
+}
+
+fn paths_of_no_project<'a>(
+    rt: &HostRuntime,
+    paths: &[&'a str],
+) -> Result<Vec<ProjectPaths<'a>>, AllocError> {
+    let alloc = rt.alloc();
+    let project = Project {
+        settings: Settings::new(alloc),
+        excluded: Excluded::new(alloc),
+        current: current_folder(rt)?,
+    };
+    let mut projects = Vec::new(alloc);
+    projects.push(ProjectPaths {
+        project,
+        paths: paths.to_vec(alloc)?,
+        root: None,
+    })?;
+    Ok(projects)
 }
 
 /// Why there are no settings.
@@ -64,45 +96,145 @@ impl From<AllocError> for Refusal {
     }
 }
 
-fn project_of_file(rt: &HostRuntime, words: &[&str]) -> Result<Project, Refusal> {
+fn paths_by_project<'a>(
+    rt: &HostRuntime,
+    excluded: &[&str],
+    paths: &[&'a str],
+) -> Result<Vec<ProjectPaths<'a>>, Refusal> {
     let current = current_folder(rt)?;
-    let mut above = String::new(rt.alloc());
-    // as many folders as there are above, and this one
-    for _ in current.as_str().split('/') {
-        if let Some(settings) = settings_in(rt, above.as_str())? {
-            return Ok(project_in(rt, current, above.as_str(), settings, words)?);
+    let mut projects = Vec::new(rt.alloc());
+    for path in paths {
+        let at = if *path == "-" { "" } else { *path };
+        let root = nearest_root(
+            rt,
+            absolute_path(rt.alloc(), current.as_str(), at)?.as_str(),
+        )?;
+        if !add_path(&mut projects, root.as_deref(), *path)? {
+            let project = project_at(rt, current.as_str(), root.as_deref(), excluded)?;
+            add_project(rt.alloc(), &mut projects, project, root, *path)?;
         }
-        above.push_str("../")?;
     }
-    Ok(project_in(rt, current, "", Settings::new(rt.alloc()), words)?)
+    Ok(projects)
 }
 
-/// What the settings of a folder above say, and what the words exclude.
+/// Adds a project with that root, which speaks for the path.
+fn add_project<'a>(
+    alloc: Global,
+    projects: &mut Vec<ProjectPaths<'a>>,
+    project: Project,
+    root: Option<String>,
+    path: &'a str,
+) -> Result<(), AllocError> {
+    let mut paths = Vec::new(alloc);
+    paths.push(path)?;
+    projects.push(ProjectPaths {
+        project,
+        paths,
+        root,
+    })?;
+    Ok(())
+}
+
+/// Adds the path to the project with that root, if there is one; whether there is.
+fn add_path<'a>(
+    projects: &mut Vec<ProjectPaths<'a>>,
+    root: Option<&str>,
+    path: &'a str,
+) -> Result<bool, AllocError> {
+    for project in projects.iter_mut() {
+        if project.root.as_deref() == root {
+            project.paths.push(path)?;
+            return Ok(true);
+        }
+    }
+    Ok(false)
+}
+
+/// The folder at the path, which begins at the root, or the nearest one above, that has an `ftl.toml`.
+fn nearest_root(rt: &HostRuntime, path: &str) -> Result<Option<String>, AllocError> {
+    let mut folder = path;
+    // as many folders as there are above, and this one
+    for _ in path.split('/') {
+        if has_settings(rt, folder)? {
+            return Ok(Some(String::from_str(rt.alloc(), folder)?));
+        }
+        match folder.rsplit_once('/') {
+            Some((above, _)) => folder = above,
+            None => return Ok(None),
+        }
+    }
+    Ok(None)
+}
+
+/// Whether there is an `ftl.toml` in the folder, or something that can't be looked at.
+fn has_settings(rt: &HostRuntime, folder: &str) -> Result<bool, AllocError> {
+    let path = format!(in rt.alloc(); "{folder}/{NAME}")?;
+    Ok(match fs::metadata(rt, path.as_str()) {
+        Ok(_) => true,
+        Err(error) => !matches!(error.kind(), ErrorKind::NotFound | ErrorKind::NotADirectory),
+    })
+}
+
+/// The project of the folder that has the settings; or one that has none.
+fn project_at(
+    rt: &HostRuntime,
+    current: &str,
+    root: Option<&str>,
+    words: &[&str],
+) -> Result<Project, Refusal> {
+    let Some(root) = root else {
+        return Ok(project_in(rt, current, "", Settings::new(rt.alloc()), words)?);
+    };
+    let folder = path_between(rt.alloc(), current, root)?;
+    let settings = settings_in(rt, folder.as_str())?;
+    Ok(project_in(rt, current, folder.as_str(), settings, words)?)
+}
+
+/// The way from one folder to another, with a `/` at its end; empty where they are the same: from `/app/de/old` to
+/// `/app/en` it is `../../en/`. Both paths are as `absolute_path` gives them.
+pub(crate) fn path_between(alloc: Global, from: &str, to: &str) -> Result<String, AllocError> {
+    let shared = from
+        .split('/')
+        .zip(to.split('/'))
+        .take_while(|(one, other)| one == other)
+        .count();
+    let mut way = String::new(alloc);
+    for _ in from.split('/').skip(shared) {
+        way.push_str("../")?;
+    }
+    for part in to.split('/').skip(shared) {
+        way.push_str(part)?;
+        way.push('/')?;
+    }
+    Ok(way)
+}
+
+/// What the settings of a folder say, whose path ends in a `/` or is empty, and what the words exclude.
 fn project_in(
     rt: &HostRuntime,
-    current: String,
-    above: &str,
+    current: &str,
+    folder: &str,
     mut settings: Settings,
     words: &[&str],
 ) -> Result<Project, AllocError> {
     let alloc = rt.alloc();
-    let root = absolute_path(alloc, current.as_str(), above)?;
+    let root = absolute_path(alloc, current, folder)?;
     let mut excluded = Excluded::new(alloc);
     for exclusion in &settings.excluded {
         excluded.add(alloc, root.as_str(), exclusion.as_str())?;
     }
     for exclusion in words {
-        excluded.add(alloc, current.as_str(), *exclusion)?;
+        excluded.add(alloc, current, *exclusion)?;
     }
     if let Some(path) = &settings.reference {
         if !path.starts_with('/') {
-            settings.reference = Some(format!(in alloc; "{above}{path}")?);
+            settings.reference = Some(format!(in alloc; "{folder}{path}")?);
         }
     }
     Ok(Project {
         settings,
         excluded,
-        current,
+        current: String::from_str(alloc, current)?,
     })
 }
 
@@ -115,13 +247,13 @@ fn current_folder(rt: &HostRuntime) -> Result<String, AllocError> {
     }
 }
 
-/// What the file of a folder says, whose path ends in a `/` or is empty; `None` where there is no such file.
-fn settings_in(rt: &HostRuntime, folder: &str) -> Result<Option<Settings>, Refusal> {
+/// What the file of a folder says, whose path ends in a `/` or is empty. It is read only if it is a regular file: the
+/// read of another one may never end.
+fn settings_in(rt: &HostRuntime, folder: &str) -> Result<Settings, Refusal> {
     let path = format!(in rt.alloc(); "{folder}{NAME}")?;
     let path = path.as_str();
-    let bytes = match Disk::new(rt).read(path) {
+    let bytes = match Disk::of_regular_files(rt).read(path) {
         Ok(bytes) => bytes,
-        Err(error) if error.kind() == ErrorKind::NotFound => return Ok(None),
         Err(error) => return Err(refuse_file(rt, path, &Fault::Read(error))),
     };
     let text = match str::from_utf8(bytes.as_slice()) {
@@ -129,7 +261,7 @@ fn settings_in(rt: &HostRuntime, folder: &str) -> Result<Option<Settings>, Refus
         Err(error) => return Err(refuse_file(rt, path, &Fault::NotText(error.valid_up_to()))),
     };
     match settings_of(rt.alloc(), text) {
-        Ok(settings) => Ok(Some(settings)),
+        Ok(settings) => Ok(settings),
         Err(SettingsFault::Memory) => Err(Refusal::Memory),
         Err(fault) => Err(refuse_settings(rt, path, &fault, WRONG_SETTINGS)),
     }
