@@ -38,18 +38,26 @@ pub(crate) fn keep_attributes<R: Files>(
     old: &Metadata,
 ) -> io::Result<()> {
     if !has_owner(&file.metadata()?, old) {
-        rt.lchown(path, Some(old.uid()), Some(old.gid()))?;
+        match rt.lchown(path, Some(old.uid()), Some(old.gid())) {
+            Err(error) if error.kind() == ErrorKind::PermissionDenied => return Err(not_kept()),
+            changed => changed?,
+        }
     }
     file.set_permissions(old.permissions())?;
     let new = file.metadata()?;
     if has_owner(&new, old) && new.mode() == old.mode() {
         Ok(())
     } else {
-        Err(io::Error::new(
-            ErrorKind::PermissionDenied,
-            "its mode and owner can't be kept",
-        ))
+        Err(not_kept())
     }
+}
+
+/// Why a file is not replaced whose replacement would be another's, or another group's.
+fn not_kept() -> io::Error {
+    io::Error::new(
+        ErrorKind::PermissionDenied,
+        "its mode, owner or group can't be kept",
+    )
 }
 
 fn has_owner(file: &Metadata, old: &Metadata) -> bool {

@@ -117,34 +117,34 @@ impl Comparison<'_> {
     ) -> Result<(), RunFault> {
         let mut named = NamedFiles::new(self.rt, self.project);
         let mut last: Option<(&str, Named)> = None;
-        for Counterparts { reference, other } in counterparts {
-            if !named.is_new(self.rt, other.as_str())? {
+        for counterpart in counterparts {
+            if !named.is_new(self.rt, counterpart.other.as_str())? {
                 continue;
             }
-            let reference = reference.as_str();
+            let reference = counterpart.reference.as_str();
             let own = match last {
                 Some((path, own)) if path == reference => own,
                 _ => listing_at(self.rt, self.project, reference, tally)?,
             };
             if !own.has_failed {
-                self.compare_other(reference, &own, other.as_str(), tally)?;
+                self.compare_other(counterpart, &own, tally)?;
             }
             last = Some((reference, own));
         }
         Ok(())
     }
 
-    /// Compares what the path names with the reference, which is named so.
+    /// Compares the other one with the reference, which has these files.
     fn compare_other(
         &self,
-        reference: &str,
+        counterpart: &Counterparts,
         own: &Named,
-        other: &str,
         tally: &mut Tally,
     ) -> Result<(), RunFault> {
         let rt = self.rt;
+        let (reference, other) = (counterpart.reference.as_str(), counterpart.other.as_str());
         let named = listing_at(rt, self.project, other, tally)?;
-        if named.has_failed {
+        if named.has_failed || (named.files.is_empty() && !counterpart.is_named) {
             return Ok(());
         }
         if named.is_file != own.is_file {

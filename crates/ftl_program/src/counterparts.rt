@@ -12,6 +12,8 @@ use std::fs;
 pub(crate) struct Counterparts {
     pub(crate) reference: String,
     pub(crate) other: String,
+    /// Whether the words name the other one. A folder that they don't name is a language only if it has a file.
+    pub(crate) is_named: bool,
 }
 
 /// What is compared with what, by the paths and the project's reference, if it names one; else the first of the paths is
@@ -46,6 +48,7 @@ fn counterparts(alloc: Global, reference: &str, other: &str) -> Result<Counterpa
     Ok(Counterparts {
         reference: String::from_str(alloc, reference)?,
         other: String::from_str(alloc, other)?,
+        is_named: true,
     })
 }
 
@@ -153,13 +156,17 @@ impl Finder<'_> {
         Ok(!is_below(self.languages, place.as_str()) && self.is_file(path))
     }
 
-    /// Adds each folder next to that of the reference, in the order of their names, with the reference.
+    /// Adds each folder next to that of the reference, which may be a language, in the order of their names, with the
+    /// reference.
     fn add_languages(&self, found: &mut Vec<Counterparts>) -> Result<(), AllocError> {
         let alloc = self.rt.alloc();
         let way = path_between(alloc, self.project.current.as_str(), self.languages)?;
         for name in self.language_names()? {
             let path = format!(in alloc; "{way}{name}")?;
-            found.push(counterparts(alloc, self.reference, path.as_str())?)?;
+            found.push(Counterparts {
+                is_named: false,
+                ..counterparts(alloc, self.reference, path.as_str())?
+            })?;
         }
         Ok(())
     }

@@ -1,7 +1,10 @@
 //! Which files are searched as one set: those of one language.
 
-use crate::project::Project;
-use ftl_files::{absolute_path, folder_of_languages, language_of};
+use crate::listed::listing_at;
+use crate::project::{Project, path_between};
+use ftl::RunFault;
+use ftl_files::{SeenPaths, absolute_path, folder_of_languages, language_of};
+use ftl_project::{LintFile, Tally};
 use std::alloc::{AllocError, Global};
 
 /// Files that are searched as one set.
@@ -9,11 +12,66 @@ use std::alloc::{AllocError, Global};
 pub(crate) struct FileSet {
     /// The folder of their language, from the root on; empty for files of none.
     language: String,
-    pub(crate) files: Vec<String>,
+    /// The same from the current folder on.
+    pub(crate) folder: String,
+    pub(crate) files: Vec<LintFile>,
 }
 
-/// Adds each file to the set of its language, which is the folder that it is in directly below the folder of languages.
-/// All files that are in none are a set of their own, and so are all where there is no folder of languages.
+impl FileSet {
+    /// Adds the files of the language that are not asked for: what they define counts too.
+    pub(crate) fn complete(
+        &mut self,
+        rt: &HostRuntime,
+        project: &Project,
+        tally: &mut Tally,
+    ) -> Result<(), RunFault> {
+        if self.language.is_empty() {
+            return Ok(());
+        }
+        let listed = listing_at(rt, project, self.folder.as_str(), tally)?.files;
+        match self.add_others(rt.alloc(), project, listed) {
+            Ok(()) => Ok(()),
+            Err(AllocError) => Err(RunFault::Memory),
+        }
+    }
+
+    fn add_others(
+        &mut self,
+        alloc: Global,
+        project: &Project,
+        listed: Vec<String>,
+    ) -> Result<(), AllocError> {
+        let current = project.current.as_str();
+        let mut seen = SeenPaths::new(alloc);
+        for file in &self.files {
+            seen.add(alloc, current, file.path.as_str())?;
+        }
+        for path in listed {
+            if seen.add(alloc, current, path.as_str())? {
+                self.files.push(LintFile {
+                    path,
+                    is_asked: false,
+                })?;
+            }
+        }
+        Ok(())
+    }
+}
+
+/// The path of the folder of a language, which begins at the root, from the current one on; empty for none.
+fn folder_from(alloc: Global, current: &str, language: &str) -> Result<String, AllocError> {
+    if language.is_empty() {
+        return Ok(String::new(alloc));
+    }
+    let way = path_between(alloc, current, language)?;
+    match way.as_str().trim_end_matches('/') {
+        "" => String::from_str(alloc, "."),
+        way => String::from_str(alloc, way),
+    }
+}
+
+/// Adds each file, which is asked for, to the set of its language, which is the folder that it is in directly below the
+/// folder of languages. All files that are in none are a set of their own, and so are all where there is no such folder.
 pub(crate) fn add_files(
     alloc: Global,
     sets: &mut Vec<FileSet>,
@@ -27,7 +85,7 @@ pub(crate) fn add_files(
             Some(folder) => language_or_empty(folder, path.as_str()),
             None => "",
         };
-        add_file(alloc, sets, language, file)?;
+        add_file(alloc, sets, project, language, file)?;
     }
     Ok(())
 }
@@ -40,9 +98,14 @@ fn language_or_empty<'p>(languages: &str, path: &'p str) -> &'p str {
 fn add_file(
     alloc: Global,
     sets: &mut Vec<FileSet>,
+    project: &Project,
     language: &str,
-    file: String,
+    path: String,
 ) -> Result<(), AllocError> {
+    let file = LintFile {
+        path,
+        is_asked: true,
+    };
     for set in sets.iter_mut() {
         if set.language.as_str() == language {
             set.files.push(file)?;
@@ -51,6 +114,7 @@ fn add_file(
     }
     sets.push(FileSet {
         language: String::from_str(alloc, language)?,
+        folder: folder_from(alloc, project.current.as_str(), language)?,
         files: vec![in alloc; file]?,
     })?;
     Ok(())

@@ -13,8 +13,8 @@ use ftl_project::{Fault, LintOptions, Streams, Tally, check_summary, lint_files}
 use std::alloc::{AllocError, Global};
 use std::{fs, io};
 
-/// Searches all files that the paths name, each language as a set of its own; the exit status. Kinds that the project
-/// ignores are not reported.
+/// Searches the files that the paths name, each language as a set of its own, which all its files are in; the exit status.
+/// Kinds that the project ignores are not reported.
 pub(crate) fn lint_paths(rt: &HostRuntime, lint: &Lint<'_>) -> u8 {
     if lint.paths.contains(&"-") {
         return refuse_input(rt, "lint");
@@ -51,12 +51,16 @@ fn lint_project(
         return Err(RunFault::Memory);
     };
     report_no_reference(rt, project, tally)?;
-    let sets = sets_of(rt, lint, project, paths, tally)?;
-    let lint_options = LintOptions {
-        form: form_over_paths(rt, options),
-        ignored: &ignored,
-    };
+    let mut sets = sets_of(rt, lint, project, paths, tally)?;
+    for set in sets.iter_mut() {
+        set.complete(rt, project, tally)?;
+    }
     for set in &sets {
+        let lint_options = LintOptions {
+            form: form_over_paths(rt, options),
+            ignored: &ignored,
+            set_name: set.folder.as_str(),
+        };
         lint_set(rt, set, options.reading(), lint_options, tally)?;
     }
     Ok(())

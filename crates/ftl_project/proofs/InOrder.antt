@@ -12,6 +12,7 @@ use Rattle.ftl_project.specs.Diagnostics.{ReportsEach, then_report}
 use Rattle.ftl_project.specs.declared.comparing.CompareOptions.{CompareOptions}
 use Rattle.ftl_project.specs.declared.comparing.Pair.{Pair}
 use Rattle.ftl_project.specs.declared.comparing.Share.{Share}
+use Rattle.ftl_project.specs.declared.linting.LintFile.{LintFile}
 use Rattle.ftl_project.specs.declared.linting.findings.Source.{Source}
 use Rattle.ftl_files.specs.declared.options.Reading.{Reading}
 use Rattle.ftl_project.specs.declared.tally.Tally.{Tally}
@@ -36,14 +37,12 @@ ComparesEach-more CallFails reading options at pairs index pair old now new had 
     that = rw (take_more pairs index pair below, sym is) (pair_more pair each that)
 
 -- The sources that were read first, and one more file.
-pub Reads-more : (CallFails : Failing) (at : List ℕ → Option (List ℕ)) (files : List (String Global)) (index : ℕ)
-    (file : String Global)
-    (path : List ℕ) (sources all : List Source) (old now new : Tally) → index < length files →
-    file ≡ get_or files index file → path ≡ string_bytes file → Reads CallFails at (take index files) sources old now →
-    ReadsSource CallFails at path sources all now new → Reads CallFails at (take (index + 1) files) all old new
-Reads-more CallFails at files index file path sources all old now new below is same reads that =
-    rw (take_more files index file below, sym is)
-    (read_more file reads (subst (λ p. ReadsSource CallFails at p sources all now new) same that))
+pub Reads-more : (CallFails : Failing) (at : List ℕ → Option (List ℕ)) (files : List LintFile) (index : ℕ)
+    (file : LintFile) (sources all : List Source) (old now new : Tally) → index < length files →
+    file ≡ get_or files index file → Reads CallFails at (take index files) sources old now →
+    ReadsSource CallFails at file sources all now new → Reads CallFails at (take (index + 1) files) all old new
+Reads-more CallFails at files index file sources all old now new below is reads that =
+    rw (take_more files index file below, sym is) (read_more file reads that)
 
 -- The name indexes of the first sources, and of one more.
 pub NameIndexesEach-more : (reading : Reading) (sources : List Source) (index : ℕ) (source : Source)

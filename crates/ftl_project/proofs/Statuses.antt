@@ -1,4 +1,4 @@
--- The statuses of faults, and which files were read where there is none.
+-- The statuses of faults.
 use Rattle.std.proofs.Common.{◌≤◌, ◌+◌, ◌∙◌, ℕ, arith, sym, ⊎_elim}
 use Rattle.std.specs.IoError.{error_kind}
 use Rattle.std.specs.declared.io.ErrorKind.{ErrorKind}
@@ -6,7 +6,6 @@ use Rattle.std.specs.declared.io.ErrorKind.TheVariants.{OutOfMemory}
 use Rattle.ftl.specs.declared.from_json.JsonFault.TheVariants as json
 use Rattle.ftl.specs.declared.from_json.JsonFault.TheVariants.{Shape, Syntax}
 use Rattle.ftl_project.specs.Faults.{HasStatus, status_of_call}
-use Rattle.ftl_project.specs.Linting.{HasRead, ReadsOne}
 use Rattle.ftl_project.specs.declared.fault.Fault.{Fault}
 use Rattle.ftl_project.specs.declared.fault.Fault.TheVariants.{Json, Memory, NotText, Read, TooDeep, Write}
 use Rattle.ftl_project.specs.declared.tally.Tally.{Tally}
@@ -25,16 +24,3 @@ status_least (Json (Syntax line column)) status has = omega (arith, has)
 status_least (Json Shape) status has = omega (arith, has)
 status_least (Json json.Memory) status has = omega (arith, has)
 status_least (Json json.TooDeep) status has = omega (arith, has)
-
--- One file more was met.
-pub HasRead-more : {index before after : ℕ} {old now next : Tally} → HasRead index before old now →
-    ReadsOne before after now next → HasRead (index + 1) after old next
-HasRead-more {index} {before} {after} {old} {now} {next} had more =
-    let some = had.some in
-    record {
-      some = ⊎_elim (λ read. omega (arith, read.0, some)) (λ none. omega (arith, none.0, some)) more.one;
-      all = λ clean. ⊎_elim
-          (λ read. let before_is = had.all (sym read.1 ∙ clean) in omega (arith, read.0, before_is))
-          (λ none. absurd (omega (arith, none.1, clean))) more.one;
-      files_same = more.files_same ∙ had.files_same;
-    }

@@ -20,55 +20,34 @@ use Rattle.ftl_project.specs.NameIndexes.{IsNameIndex, SaysNothing}
 use Rattle.ftl_project.specs.Diagnostics.{IsDiagnostic, ReportsEach, location_at}
 use Rattle.ftl_project.specs.Tally.{counted, failed}
 use Rattle.ftl_project.specs.declared.fault.Fault.TheVariants.{TooDeep}
+use Rattle.ftl_project.specs.declared.linting.LintFile.{LintFile}
 use Rattle.ftl_project.specs.declared.linting.findings.Source.{Source}
 use Rattle.ftl_files.specs.declared.options.Form.{Form}
 use Rattle.ftl_files.specs.declared.options.Reading.{Reading}
 use Rattle.ftl_project.specs.declared.reporting.diagnostics.SourceLocation.{SourceLocation}
 use Rattle.ftl_project.specs.declared.tally.Tally.{Tally}
 
--- ---- which files were counted
-
--- One file more was read; or it was not, and the tally has a fault.
-pub record ReadsOne (before after : ℕ) (old new : Tally) : Type 0 where
-  pub one : ((after ≡ before + 1) × (new.fault ≡ old.fault)) ⊎ ((after ≡ before) × (3 ≤ new.fault))
-  pub files_same : new.files ≡ old.files
-
--- So many of the files were read: all of them, where the tally has no fault.
-pub record HasRead (files read : ℕ) (old new : Tally) : Type 0 where
-  pub some : read ≤ files
-  pub all : new.fault ≡ 0 → read ≡ files
-  pub files_same : new.files ≡ old.files
-
--- So many files were counted, and no fault was forgotten.
-pub record AddsFiles (files : ℕ) (old new : Tally) : Type 0 where
-  pub files_more : new.files ≡ min (old.files + files) (2 ^ 64 - 1)
-  pub fault_stays : new.fault ≡ 0 → old.fault ≡ 0
-
--- The files that were read were counted, once each: all of them, where the tally has no fault.
-abbrev pub CountsRead : (files : ℕ) (old new : Tally) → Type 0
-CountsRead files old new = (read : ℕ) × (read ≤ files) × (new.fault ≡ 0 → read ≡ files)
-    × (new.files ≡ min (old.files + read) (2 ^ 64 - 1))
-
 -- ---- what was read
 
--- The source is the path and the bytes of the file.
-pub record IsSource (at : List ℕ → Option (List ℕ)) (path : List ℕ) (source : Source) : Type 0 where
-  pub path_is : string_bytes source.path ≡ path
-  pub text_is : IfSome (at path) (λ bytes. string_bytes source.text ≡ bytes)
+-- The source is the path and the bytes of the file, asked for or not as that is.
+pub record IsSource (at : List ℕ → Option (List ℕ)) (file : LintFile) (source : Source) : Type 0 where
+  pub path_is : string_bytes source.path ≡ string_bytes file.path
+  pub text_is : IfSome (at (string_bytes file.path)) (λ bytes. string_bytes source.text ≡ bytes)
+  pub asked_is : source.is_asked ≡ file.is_asked
 
 module _ (CallFails : Failing) (at : List ℕ → Option (List ℕ)) where
   -- A file was read; or it was not, and its fault was counted.
-  abbrev pub ReadsSource : (path : List ℕ) → (before after : List Source) → (old new : Tally) → Type 0
-  ReadsSource path before after old new =
-      ((source : Source) × IsSource at path source × (after ≡ before ++ (source ∷ [])) × (new ≡ old))
-      ⊎ ((status : ℕ) × Fails (IsUnread CallFails (at path)) status × (after ≡ before)
+  abbrev pub ReadsSource : LintFile → (before after : List Source) → (old new : Tally) → Type 0
+  ReadsSource file before after old new =
+      ((source : Source) × IsSource at file source × (after ≡ before ++ (source ∷ [])) × (new ≡ old))
+      ⊎ ((status : ℕ) × Fails (IsUnread CallFails (at (string_bytes file.path))) status × (after ≡ before)
       × (new ≡ counted old (failed status)))
 
   -- So were all of the files, in order.
-  pub data Reads : List (String Global) → List Source → (old new : Tally) → Type 0 where
+  pub data Reads : List LintFile → List Source → (old new : Tally) → Type 0 where
     no_files : {tally : Tally} → Reads [] [] tally tally
-    read_more : {files : List (String Global)} {sources all : List Source} {old now new : Tally} →
-        (file : String Global) → Reads files sources old now → ReadsSource (string_bytes file) sources all now new →
+    read_more : {files : List LintFile} {sources all : List Source} {old now new : Tally} →
+        (file : LintFile) → Reads files sources old now → ReadsSource file sources all now new →
         Reads (files ++ (file ∷ [])) all old new
 
 -- ---- what the files say
@@ -93,13 +72,19 @@ pub data NameIndexesEach (reading : Reading) : List Source → List NameIndex �
 abbrev pub same_kind : Kind → Kind → Bool
 same_kind one other = bytes_eq (name_of one) (name_of other)
 
--- whether it is of none of the kinds
-abbrev pub is_reported : List Kind → Finding → Bool
-is_reported ignored finding = not (list_any (same_kind finding.kind) ignored)
+-- whether the file is asked for, if there is one
+abbrev pub is_asked : Option Source → Bool
+is_asked None = false
+is_asked (Some source) = source.is_asked
 
--- all that is found in what the files say, without the kinds that are left out
-abbrev pub reported_findings : List Kind → List NameIndex → List Finding
-reported_findings ignored name_indexes = filter (is_reported ignored) (all_findings name_indexes)
+-- whether it is of none of the kinds, and in a file that is asked for
+abbrev pub is_reported : List Kind → List Source → Finding → Bool
+is_reported ignored sources finding =
+    not (list_any (same_kind finding.kind) ignored) && is_asked (slice_get sources finding.file)
+
+-- all that is found in what the files say, without the kinds that are left out, in those that are asked for
+abbrev pub reported_findings : List Kind → List Source → List NameIndex → List Finding
+reported_findings ignored sources name_indexes = filter (is_reported ignored sources) (all_findings name_indexes)
 
 -- ---- what is counted
 
@@ -116,6 +101,10 @@ with_problems_after last (finding ∷ findings) =
     if is_error finding && not (option_eq nat_eq last (Some finding.file))
     then with_problems_after (Some finding.file) findings + 1
     else with_problems_after last findings
+
+-- how many of the files are asked for
+abbrev pub asked_count : List Source → ℕ
+asked_count sources = count_by (λ source. source.is_asked) sources
 
 -- the tally once so many files and what was found in them are counted in it; a number that has come to the greatest
 -- `usize` stays there
@@ -149,8 +138,8 @@ IsFindingReport form sources name_indexes finding report_text =
     (location_in (text_of (slice_get name_indexes finding.file)) finding.place)
     (name_of finding.kind) message report_text
 
--- The texts were searched as one set: what is found in what they say was reported, in order, after what was written
--- before, and counted.
+-- The texts were searched as one set: what is found in those that are asked for was reported, in order, after what was
+-- written before, and counted.
 pub record Searches (reading : Reading) (form : Form) (ignored : List Kind) (sources : List Source) (old new : Tally)
     (before after : Option (List ℕ)) : Type 0 where
   pub name_indexes : List NameIndex
@@ -158,13 +147,13 @@ pub record Searches (reading : Reading) (form : Form) (ignored : List Kind) (sou
   pub has_name_indexes : NameIndexesEach reading sources name_indexes old now
   pub report_text : List ℕ
   pub reports : ReportsEach (IsFindingReport form sources name_indexes)
-      (reported_findings ignored name_indexes) report_text
-  pub counts : new ≡ searched now (length sources) (reported_findings ignored name_indexes)
+      (reported_findings ignored sources name_indexes) report_text
+  pub counts : new ≡ searched now (asked_count sources) (reported_findings ignored sources name_indexes)
   pub appends : Appends before after report_text
 
 -- The files were read, and the texts of those that could be were searched.
 pub record SearchesFiles (CallFails : Failing) (reading : Reading) (form : Form) (ignored : List Kind)
-    (at : List ℕ → Option (List ℕ)) (files : List (String Global)) (old new : Tally)
+    (at : List ℕ → Option (List ℕ)) (files : List LintFile) (old new : Tally)
     (before after : Option (List ℕ)) : Type 0 where
   pub sources : List Source
   pub now : Tally

@@ -25,7 +25,7 @@ pub use formatting::rewrite_counts::{RewriteCounts, write_summary};
 pub use formatting::rewriting::rewrite;
 pub use formatting::{NameTask, write_files};
 pub use ftl_files::{Form, Reading};
-pub use linting::{LintOptions, lint_files};
+pub use linting::{LintFile, LintOptions, lint_files};
 pub use reporting::excerpt::push_excerpt;
 pub use reporting::report;
 pub use reporting::text_with_errors::TextWithErrors;

@@ -1,11 +1,11 @@
 //! Files are searched for mistakes between names.
-ghost use Rattle.std.specs.Prelude.{◌≡◌, ◌≢◌, ◌⊎◌, ◌+◌, ◌++◌, ◌∷◌, [], All, Err, IfOk, None, OnOk, count_by, length};
-ghost use Rattle.std.specs.Prelude.{string_bytes, true, vec_len};
+ghost use Rattle.std.specs.Prelude.{◌≡◌, ◌≢◌, ◌⊎◌, ◌++◌, ◌∷◌, [], All, Err, IfOk, None, OnOk, count_by, slice_get};
+ghost use Rattle.std.specs.Prelude.{string_bytes, true};
 ghost use Rattle.ftl.specs.Watched.{has_failed, inner_of};
 ghost use Rattle.ftl_files.specs.Store.{AllUnchanged};
-ghost use Rattle.ftl_project.specs.Linting.{AddsFiles, CountsRead, HasRead, NameIndexesEach, NameIndexesSource, Reads};
-ghost use Rattle.ftl_project.specs.Linting.{ReadsOne, ReadsSource, Searches, SearchesFiles, with_problems_after};
-ghost use Rattle.ftl_project.specs.Linting.{is_error, is_reported, is_warning, searched, reported_findings};
+ghost use Rattle.ftl_project.specs.Linting.{IsSource, NameIndexesEach, NameIndexesSource, Reads, ReadsSource, Searches};
+ghost use Rattle.ftl_project.specs.Linting.{SearchesFiles, asked_count, is_asked, is_error, is_reported, is_warning};
+ghost use Rattle.ftl_project.specs.Linting.{searched, reported_findings, with_problems_after};
 ghost use Rattle.ftl_project.specs.NameIndexes.{IsShort};
 ghost use Rattle.ftl_project.specs.declared.linting.findings.Source.{Source};
 
@@ -16,6 +16,7 @@ use crate::fault::Fault;
 use crate::formatting::rewriting::read_text;
 use crate::linting::findings::{Source, report_findings};
 use crate::name_indexes::name_index;
+use crate::reporting::terminal_text::push_shown_text;
 use crate::streams::{Streams, byte_order_mark_note, report_fault};
 use crate::tally::Tally;
 use fluent_syntax_names::{Finding, Kind, NameIndex, findings};
@@ -25,29 +26,38 @@ use std::alloc::{AllocError, Global};
 use std::fmt::Write as _;
 use std::io::Write;
 
+/// A file of a set.
+#[derive(Debug, Drop)]
+pub struct LintFile {
+    pub path: String,
+    /// Whether what is found in it is reported; what it defines counts in any case.
+    pub is_asked: bool,
+}
+
 /// How findings are reported.
 #[derive(Clone, Copy, Debug)]
 pub struct LintOptions<'a> {
     pub form: Form,
     /// Kinds that are not reported, nor counted.
     pub ignored: &'a [Kind],
+    /// What the set is called where its findings are counted; empty where it has no name.
+    pub set_name: &'a str,
 }
 
-/// Reports what is found in the files, which are one set, in the order of the files; then, on the other stream, how
-/// many findings there are of each kind. No file is changed. A file that can't be read is reported, and the others are
-/// searched.
+/// Reports what is found in those of the files that are asked for, in their order; then, on the other stream, how many
+/// findings there are of each kind. All the files are one set, whose names are known. No file is changed. A file that
+/// can't be read is reported, and the others are searched.
 /// `Err` where the run stopped: `Memory`, or `Output`.
 pub fn lint_files<S: Store, O: Write, E: Write>(
     alloc: Global,
     store: &mut S,
-    files: &[String],
+    files: &[LintFile],
     reading: Reading,
     lint_options: LintOptions<'_>,
     tally: &mut Tally,
     streams: &mut Streams<'_, O, E>,
 ) -> Result<(), RunFault>
     ensures untouched { AllUnchanged (S.bytes_at store.old) (S.bytes_at store.new) }
-    ensures counted { OnOk result (CountsRead (length files.now) tally.old tally.new) }
     ensures searched { OnOk result (SearchesFiles S.fails reading lint_options.entry.form lint_options.entry.ignored.now
         (S.bytes_at store.old) files.now tally.old tally.new (O.contents (inner_of streams.old.out.now))
         (O.contents (inner_of streams.new.out.now))) }
@@ -63,12 +73,11 @@ pub fn lint_files<S: Store, O: Write, E: Write>(
 fn read_sources<S: Store, O: Write, E: Write>(
     alloc: Global,
     store: &mut S,
-    files: &[String],
+    files: &[LintFile],
     tally: &mut Tally,
     streams: &mut Streams<'_, O, E>,
 ) -> Result<Vec<Source>, RunFault>
     ensures untouched { AllUnchanged (S.bytes_at store.old) (S.bytes_at store.new) }
-    ensures read { IfOk result (λ sources. HasRead (length files.now) (vec_len sources) tally.old tally.new) }
     ensures sources { IfOk result (λ sources.
         Reads S.fails (S.bytes_at store.old) files.now sources.items tally.old tally.new) }
     ensures out { streams.new.out ≡ streams.old.out }
@@ -77,7 +86,7 @@ fn read_sources<S: Store, O: Write, E: Write>(
 {
     let mut sources = Vec::new(alloc);
     for file in files {
-        read_source(alloc, store, file.as_str(), &mut sources, tally, streams)?;
+        read_source(alloc, store, file, &mut sources, tally, streams)?;
     }
     Ok(sources)
 }
@@ -86,21 +95,21 @@ fn read_sources<S: Store, O: Write, E: Write>(
 fn read_source<S: Store, O: Write, E: Write>(
     alloc: Global,
     store: &mut S,
-    path: &str,
+    file: &LintFile,
     sources: &mut Vec<Source>,
     tally: &mut Tally,
     streams: &mut Streams<'_, O, E>,
 ) -> Result<(), RunFault>
     ensures untouched { AllUnchanged (S.bytes_at store.old) (S.bytes_at store.new) }
-    ensures read { OnOk result (ReadsOne (vec_len sources.old) (vec_len sources.new) tally.old tally.new) }
-    ensures source { OnOk result (ReadsSource S.fails (S.bytes_at store.old) path.now sources.old.items
+    ensures source { OnOk result (ReadsSource S.fails (S.bytes_at store.old) file.now sources.old.items
         sources.new.items tally.old tally.new) }
     ensures out { streams.new.out ≡ streams.old.out }
     ensures input { result ≢ Err RunFault.Input }
     ensures output { result ≡ Err RunFault.Output → has_failed streams.new.err.now ≡ true }
 {
+    let path = file.path.as_str();
     match read_text(store, path) {
-        Ok(text) => match add_source(alloc, sources, path, text) {
+        Ok(text) => match add_source(alloc, sources, file, text) {
             Ok(()) => Ok(()),
             Err(AllocError) => Err(RunFault::Memory),
         },
@@ -111,15 +120,18 @@ fn read_source<S: Store, O: Write, E: Write>(
 fn add_source(
     alloc: Global,
     sources: &mut Vec<Source>,
-    path: &str,
+    file: &LintFile,
     text: String,
 ) -> Result<(), AllocError>
-    ensures more { OnOk result (vec_len sources.new ≡ vec_len sources.old + 1) }
-    ensures source { OnOk result ((source : Source) × (string_bytes source.path ≡ path.now)
-        × (string_bytes source.text ≡ string_bytes text) × (sources.new.items ≡ sources.old.items ++ source ∷ [])) }
+    ensures { OnOk result ((source : Source) × (string_bytes source.path ≡ string_bytes file.now.path)
+        × (string_bytes source.text ≡ string_bytes text) × (source.is_asked ≡ file.now.is_asked)
+        × (sources.new.items ≡ sources.old.items ++ source ∷ [])) }
 {
-    let path = String::from_str(alloc, path)?;
-    sources.push(Source { path, text })?;
+    sources.push(Source {
+        path: String::from_str(alloc, file.path.as_str())?,
+        text,
+        is_asked: file.is_asked,
+    })?;
     Ok(())
 }
 
@@ -131,7 +143,6 @@ fn lint_sources<O: Write, E: Write>(
     tally: &mut Tally,
     streams: &mut Streams<'_, O, E>,
 ) -> Result<(), RunFault>
-    ensures counted { OnOk result (AddsFiles (length sources.now) tally.old tally.new) }
     ensures searched { OnOk result (Searches reading lint_options.entry.form lint_options.entry.ignored.now
         sources.now tally.old tally.new (O.contents (inner_of streams.old.out.now))
         (O.contents (inner_of streams.new.out.now))) }
@@ -140,15 +151,15 @@ fn lint_sources<O: Write, E: Write>(
         ⊎ (has_failed streams.new.err.now ≡ true) }
 {
     let name_indexes = name_indexes(alloc, sources, reading, tally, streams)?;
-    let Ok(found) = reported_findings(alloc, &name_indexes, lint_options.ignored) else {
+    let Ok(found) = reported_findings(alloc, sources, &name_indexes, lint_options.ignored) else {
         return Err(RunFault::Memory);
     };
-    count(tally, sources.len(), &found);
+    count(tally, asked_count(sources), &found);
     match report_findings(alloc, sources, &name_indexes, &found, lint_options.form) {
         Ok(report_text) => write_all(streams.out, report_text.as_bytes())?,
         Err(AllocError) => return Err(RunFault::Memory),
     }
-    match notes(alloc, sources, &found) {
+    match notes(alloc, sources, &found, lint_options.set_name) {
         Ok(notes) => write_all(streams.err, notes.as_bytes()),
         Err(AllocError) => Err(RunFault::Memory),
     }
@@ -162,8 +173,6 @@ fn name_indexes<'a, O: Write, E: Write>(
     tally: &mut Tally,
     streams: &mut Streams<'_, O, E>,
 ) -> Result<Vec<NameIndex<'a>>, RunFault>
-    ensures files { tally.new.files ≡ tally.old.files }
-    ensures fault { tally.new.fault ≡ 0 → tally.old.fault ≡ 0 }
     ensures name_indexes { IfOk result (λ name_indexes. NameIndexesEach reading sources.now name_indexes.items tally.old
         tally.new) }
     ensures short { IfOk result (λ name_indexes. All IsShort name_indexes.items) }
@@ -199,8 +208,6 @@ fn source_name_index<'a, O: Write, E: Write>(
     tally: &mut Tally,
     streams: &mut Streams<'_, O, E>,
 ) -> Result<NameIndex<'a>, RunFault>
-    ensures files { tally.new.files ≡ tally.old.files }
-    ensures fault { tally.new.fault ≡ 0 → tally.old.fault ≡ 0 }
     ensures name_index { IfOk result (λ name_index. NameIndexesSource reading source.now name_index tally.old
         tally.new) }
     ensures short { IfOk result IsShort }
@@ -218,26 +225,44 @@ fn source_name_index<'a, O: Write, E: Write>(
     }
 }
 
-/// What is found, without the kinds that are ignored.
+/// What is found in the files that are asked for, without the kinds that are ignored.
 fn reported_findings(
     alloc: Global,
+    sources: &[Source],
     name_indexes: &[NameIndex<'_>],
     ignored: &[Kind],
 ) -> Result<Vec<Finding>, AllocError>
-    ensures { IfOk result (λ found. found.items ≡ reported_findings ignored.now name_indexes.now) }
+    ensures { IfOk result (λ found. found.items ≡ reported_findings ignored.now sources.now name_indexes.now) }
 {
     let all = findings(alloc, name_indexes)?;
     all.iter()
         .copied()
-        .filter(|finding| is_reported(ignored, finding))
+        .filter(|finding| is_reported(ignored, sources, finding))
         .collect(alloc)
 }
 
-/// Whether it is of none of the kinds that are ignored.
-fn is_reported(ignored: &[Kind], finding: &Finding) -> bool
-    ensures { result ≡ is_reported ignored.now finding.now }
+/// Whether it is of none of the kinds that are ignored, and in a file that is asked for.
+fn is_reported(ignored: &[Kind], sources: &[Source], finding: &Finding) -> bool
+    ensures { result ≡ is_reported ignored.now sources.now finding.now }
 {
-    !ignored.contains(&finding.kind)
+    !ignored.contains(&finding.kind) && is_asked(sources, finding.file)
+}
+
+/// Whether the file of the number is asked for.
+fn is_asked(sources: &[Source], number: usize) -> bool
+    ensures { result ≡ is_asked (slice_get sources.now number) }
+{
+    match sources.get(number) {
+        Some(source) => source.is_asked,
+        None => false,
+    }
+}
+
+/// How many of the files are asked for.
+fn asked_count(sources: &[Source]) -> usize
+    ensures { result ≡ asked_count sources.now }
+{
+    sources.iter().filter(|source| source.is_asked).count()
 }
 
 /// Counts the files, and those that have an error among the findings.
@@ -300,16 +325,26 @@ const KINDS: [Kind; 8] = [
     Kind::CyclicReference,
 ];
 
-/// Which files begin with a byte order mark; and how many findings there are of each kind that has some. All on lines.
-fn notes(alloc: Global, sources: &[Source], found: &[Finding]) -> Result<String, AllocError> {
+/// Which files begin with a byte order mark; and how many findings there are of each kind that has some, in the set of that
+/// name. All on lines.
+fn notes(
+    alloc: Global,
+    sources: &[Source],
+    found: &[Finding],
+    set_name: &str,
+) -> Result<String, AllocError> {
     let mut out = String::new(alloc);
-    for source in sources {
+    for source in sources.iter().filter(|source| source.is_asked) {
         let note = byte_order_mark_note(alloc, source.path.as_str(), source.text.as_str())?;
         out.push_str(note.as_str())?;
     }
     for kind in &KINDS {
         let number = found.iter().filter(|finding| finding.kind == *kind).count();
         if number != 0 {
+            if !set_name.is_empty() {
+                push_shown_text(&mut out, set_name)?;
+                out.push_str(": ")?;
+            }
             writeln!(out, "{number} {}", kind.name())?;
         }
     }

@@ -19,6 +19,8 @@ use std::alloc::{AllocError, Global};
 pub(crate) struct Source {
     pub(crate) path: String,
     pub(crate) text: String,
+    /// Whether what is found in it is reported.
+    pub(crate) is_asked: bool,
 }
 
 /// What is reported of the findings in the files, which say this of names.

@@ -7,8 +7,6 @@ use Rattle.ftl_project.proofs.linting.name_indexes.Goals as goal
 
 pub loop-source-init : goal.loop-source-init
 loop-source-init g c = record {
-  files = refl;
-  fault = λ clean. clean;
   name_indexes = rw c.new-name_indexes.ensures.items no_sources;
   short = rw c.new-name_indexes.ensures.items (All-nil IsShort);
   out = refl;
@@ -21,8 +19,6 @@ loop-source-preserved g c =
     let name_indexes = c.loop-source.name_indexes.items in
     let added = c.in-Ok.ensures in
     record {
-      files = c.source_name_index.ensures.files ∙ inv.files;
-      fault = λ clean. inv.fault (c.source_name_index.ensures.fault clean);
       name_indexes = NameIndexesEach-more c.args.reading c.args.sources.now c.loop-source.source-index
           c.source-item.result
           name_indexes c.add_name_index.new.name_indexes.items here.name_index c.args.tally.now c.loop-source.tally

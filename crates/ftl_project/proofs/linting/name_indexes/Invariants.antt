@@ -6,8 +6,6 @@ use Rattle.ftl_project.proofs.linting.name_indexes.Given as goal
 
 abbrev pub invariant-loop-source : goal.invariant-loop-source
 invariant-loop-source g l = record {
-  files : l.tally.files ≡ l.fn.tally.files;
-  fault : l.tally.fault ≡ 0 → l.fn.tally.fault ≡ 0;
   name_indexes : NameIndexesEach l.reading (take l.source-index l.sources) l.name_indexes.items l.fn.tally l.tally;
   short : All IsShort l.name_indexes.items;
   out : l.streams.out ≡ l.fn.streams.out;
