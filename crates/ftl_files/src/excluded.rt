@@ -4,7 +4,7 @@ use crate::paths::absolute_path;
 use std::alloc::{AllocError, Global};
 
 /// What is passed over where a folder is listed: folders whose names begin with a `.`, and what it names. In a name a `*`
-/// stands for any characters but `/`.
+/// means any characters but `/`.
 #[derive(Debug, Drop)]
 pub struct Excluded {
     /// Names of files and folders, wherever they are.
@@ -74,7 +74,7 @@ fn is_path_like(pattern: &str, path: &str) -> bool {
             .all(|(pattern, part)| is_like(pattern, part))
 }
 
-/// Whether the pattern is the name, where each `*` in it stands for any characters.
+/// Whether the pattern is the name, where each `*` in it means any characters.
 fn is_like(pattern: &str, name: &str) -> bool {
     let Some((first, rest)) = pattern.split_once('*') else {
         return pattern == name;
