@@ -44,11 +44,11 @@ impl Excluded {
         let name = name_of(path);
         self.names
             .iter()
-            .any(|pattern| is_like(pattern.as_str(), name))
+            .any(|pattern| name_matches(pattern.as_str(), name))
             || self
                 .paths
                 .iter()
-                .any(|pattern| is_path_like(pattern.as_str(), path))
+                .any(|pattern| path_matches(pattern.as_str(), path))
     }
 
     /// Whether the file, or a folder between, is passed over where the folder is listed. Both paths begin at the root.
@@ -63,7 +63,7 @@ impl Excluded {
 }
 
 /// Whether the path has the parts that the pattern has, one by one.
-fn is_path_like(pattern: &str, path: &str) -> bool {
+fn path_matches(pattern: &str, path: &str) -> bool {
     if !pattern.contains('*') {
         return pattern == path;
     }
@@ -71,11 +71,11 @@ fn is_path_like(pattern: &str, path: &str) -> bool {
     pattern.split('/').count() == path.split('/').count()
         && patterns
             .zip(parts)
-            .all(|(pattern, part)| is_like(pattern, part))
+            .all(|(pattern, part)| name_matches(pattern, part))
 }
 
 /// Whether the pattern is the name, where each `*` in it means any characters.
-fn is_like(pattern: &str, name: &str) -> bool {
+fn name_matches(pattern: &str, name: &str) -> bool {
     let Some((first, rest)) = pattern.split_once('*') else {
         return pattern == name;
     };
