@@ -2,6 +2,7 @@ pub mod Command
 pub mod Outcome
 pub mod Watched
 pub mod Answer
+pub mod BlankLines
 pub mod Errors
 pub mod Run
 pub mod Formatted
