@@ -1,15 +1,17 @@
 -- Normal forms that keep the blank lines of their texts.
 use Rattle.std.specs.Prelude.{◌≡◌, ◌==◌, ◌&&◌, ◌||◌, ◌⊎◌, ◌+◌, ℕ, zero, suc, Bool, true, false, not}
 use Rattle.std.specs.Prelude.{if◌then◌else◌, List, [], ◌∷◌, ◌++◌, Option, Some, None, option_map, slice_get}
-use Rattle.fluent_syntax_tree.specs.Entry.{EntryTree, message, term}
+use Rattle.fluent_syntax_tree.specs.Entry.{BodyTree, EntryTree, message, term}
 use Rattle.fluent_syntax_tree.specs.declared.edition.Edition.{Edition}
 use Rattle.fluent_syntax_tree.specs.declared.spans.Span.{Span}
+use Rattle.fluent_syntax_grammar.specs.Body.{faults}
 use Rattle.fluent_syntax_grammar.specs.Bytes.{cr, lf, space}
 use Rattle.fluent_syntax_grammar.specs.Places.{has_byte}
 use Rattle.fluent_syntax_grammar.specs.RoundTrip.{tree_of}
 use Rattle.fluent_syntax_grammar.specs.Tiling.{Tile, Tiling, dropped, entry, refused}
 use Rattle.fluent_syntax_grammar.specs.Written.{Text}
 use Rattle.ftl.specs.Answer.{normal_text}
+use Rattle.ftl.specs.Lossless.{is_lossless, reread_tree}
 use Rattle.ftl.specs.declared.blank_lines.Gap.{Gap}
 
 -- ---- blank lines
@@ -119,13 +121,18 @@ module _ (edition : Edition) (t normal : Text) where
 
 -- ---- again
 
--- The text is its own normal form.
-abbrev pub IsNormal : Edition → Text → Type 0
-IsNormal edition t = (tiles : List Tile) × Tiling edition t tiles × (t ≡ normal_text t tiles)
+-- What is kept of a text with that tree and that normal form: it is read as the tree that the normal form is to be read
+-- as, has the same normal form, and keeping it again changes nothing.
+pub record IsKeptAgain (edition : Edition) (tree : BodyTree Text) (normal kept : Text) (tiles : List Tile) : Type 0
+  where
+    pub reads_as : tree_of kept tiles ≡ reread_tree edition tree
+    pub same_normal : normal_text kept tiles ≡ normal
+    pub settled : (again : Text) → IsKept edition kept normal again → again ≡ kept
 
--- What is kept of a text with that normal form, if that is its own, has the same normal form, and keeping it again
--- changes nothing.
-abbrev pub KeepsAgain : Edition → (t normal : Text) → Type 0
-KeepsAgain edition t normal = (kept : Text) → IsKept edition t normal kept → IsNormal edition normal →
-    (tiles : List Tile) → Tiling edition kept tiles →
-    (normal_text kept tiles ≡ normal) × ((again : Text) → IsKept edition kept normal again → again ≡ kept)
+-- This holds of a text without errors whose tree is safe to write.
+abbrev pub KeepsAgain : Text → Type 0
+KeepsAgain t =
+    (edition : Edition) (tiles : List Tile) → Tiling edition t tiles → faults tiles ≡ [] →
+    is_lossless edition (tree_of t tiles) ≡ true → (kept : Text) → IsKept edition t (normal_text t tiles) kept →
+    (others : List Tile) → Tiling edition kept others →
+    IsKeptAgain edition (tree_of t tiles) (normal_text t tiles) kept others

@@ -2,12 +2,12 @@ pub mod Command
 pub mod Outcome
 pub mod Watched
 pub mod Answer
-pub mod BlankLines
 pub mod Errors
 pub mod Run
 pub mod Formatted
 pub mod Formatting
 pub mod FromJson
 pub mod Lossless
+pub mod BlankLines
 pub mod OneByOne
 pub mod LookAlikes

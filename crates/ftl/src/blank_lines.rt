@@ -197,14 +197,15 @@ fn places_of(alloc: Global, wanted: &[Gap], there: &[Gap]) -> Result<Vec<usize>,
 fn with_line_ends(alloc: Global, text: &str, places: &[usize]) -> Result<String, AllocError>
     ensures { IfOk result (λ made. string_bytes made ≡ with_line_ends 0 text.now places.now) }
 {
+    let bytes = text.as_bytes();
     let mut made = Vec::new(alloc);
     let mut next = 0;
-    for (at, byte) in text.as_bytes().iter().enumerate() {
+    for at in 0..bytes.len() {
         if next < places.len() && places[next] == at {
             made.push(b'\n')?;
             next += 1;
         }
-        made.push(*byte)?;
+        made.push(bytes[at])?;
     }
     match String::from_utf8(made) {
         Ok(text) => Ok(text),

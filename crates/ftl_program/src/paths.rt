@@ -9,7 +9,7 @@ use ftl::{RunFault, Watched};
 use ftl_args::{Change, Task, Work};
 use ftl_files::{Disk, Memory, Store};
 use ftl_project::{
-    CheckTask, ConvertTask, DiffTask, NameTask, PrintTask, RewriteCounts, Streams, Tally,
+    CheckTask, ConvertTask, DiffTask, FormatOptions, NameTask, PrintTask, RewriteCounts, Streams, Tally,
     answer_files, check_summary, format_summary, write_files, write_summary,
 };
 use std::alloc::AllocError;
@@ -120,6 +120,11 @@ fn run_task<S: Store>(
     let alloc = rt.alloc();
     let Met { tally, counts } = met;
     let reading = work.options.reading();
+    let blank_lines = work.options.blank_lines();
+    let options = FormatOptions {
+        reading,
+        blank_lines,
+    };
     let mut streams = Streams {
         out: &mut Watched::new(io::writer(rt)),
         err: &mut Watched::new(rt.stderr()),
@@ -131,19 +136,22 @@ fn run_task<S: Store>(
             answer_files(alloc, &task, store, files, tally, &mut streams)
         }
         (Task::Format(Change::Write), _) => {
-            write_files(alloc, store, files, reading, tally, counts, &mut streams)
+            write_files(alloc, store, files, options, tally, counts, &mut streams)
         }
         (Task::Format(Change::Name), _) => {
-            let task = NameTask { reading };
+            let task = NameTask { options };
             answer_files(alloc, &task, store, files, tally, &mut streams)
         }
         (Task::Format(Change::Show), _) => {
-            let task = DiffTask { reading };
+            let task = DiffTask { options };
             answer_files(alloc, &task, store, files, tally, &mut streams)
         }
         (_, Some(command)) => {
-            let nesting = reading.nesting;
-            let task = PrintTask { command, nesting };
+            let task = PrintTask {
+                command,
+                nesting: reading.nesting,
+                blank_lines,
+            };
             answer_files(alloc, &task, store, files, tally, &mut streams)
         }
         (_, None) => answer_files(alloc, &ConvertTask, store, files, tally, &mut streams),
