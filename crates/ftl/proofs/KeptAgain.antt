@@ -49,6 +49,13 @@ module _ (edition : Edition) where
   kept_is t normal kept other a (inl b) = kept_once t normal kept other a b
   kept_is t normal kept other a (inr b) = absurd (b.1 kept a)
 
+  -- one text is kept
+  pub one_kept : (t normal kept other : Text) → IsKept edition t normal kept → IsKept edition t normal other →
+      other ≡ kept
+  one_kept t normal kept other (inl a) b = kept_is t normal kept other a b
+  one_kept t normal kept other (inr a) (inl b) = absurd (a.1 other b)
+  one_kept t normal kept other (inr a) (inr b) = b.0 ∙ sym a.0
+
   -- a kept text is what is kept of it, and a text is what is kept of it where it is its normal form
   kept_of_kept : (t normal kept : Text) → Keeps edition t normal kept → Keeps edition kept normal kept
   kept_of_kept t normal kept a = record {
