@@ -15,10 +15,10 @@ use Rattle.ftl.specs.BlankLines.{HasGaps, gaps, gaps_after, is_field, is_field_t
 use Rattle.ftl.specs.declared.blank_lines.Gap.{Gap}
 
 module _ (edition : Edition) (t : List ℕ) where
-  -- Whatever the tiles from the place on are: these gaps, and those after the open one, are the text's.
-  pub record GapsReadTo (i : ℕ) (found : List Gap) (open : Option Gap) : Type 0 where
+  -- Whatever the tiles from the place on are: these gaps, and those after the last one, are the text's.
+  pub record GapsReadTo (i : ℕ) (found : List Gap) (last : Option Gap) : Type 0 where
     pub whole : (more : List Tile) → Tiled t (TileAt edition t) i more →
-        (tiles : List Tile) × Tiling edition t tiles × (found ++ gaps_after t open more ≡ gaps t tiles)
+        (tiles : List Tile) × Tiling edition t tiles × (found ++ gaps_after t last more ≡ gaps t tiles)
 
   pub nothing_read : GapsReadTo 0 [] None
   nothing_read = record { whole = λ more tiled. (more, tiled, refl) }
@@ -32,12 +32,12 @@ module _ (edition : Edition) (t : List ℕ) where
       let same : junk s ≡ tree_of e = let given = g.entry in cc in (refl, ap is_field same)
 
   -- one tile more
-  pub gaps_read_on : (i j : ℕ) (before now : List Gap) (open next_open : Option Gap) (found : SpannedTile)
-      → GapsReadTo i before open → TileTo edition t i j found →
+  pub gaps_read_on : (i j : ℕ) (before now : List Gap) (last next_last : Option Gap) (found : SpannedTile)
+      → GapsReadTo i before last → TileTo edition t i j found →
       ((tile : Tile) (more : List Tile) → span_of tile ≡ found.span →
       is_field_tile tile ≡ is_field (tree_of found.entry) →
-      now ++ gaps_after t next_open more ≡ before ++ gaps_after t open (tile ∷ more)) → GapsReadTo j now next_open
-  gaps_read_on i j before now open next_open found read to add = record {
+      now ++ gaps_after t next_last more ≡ before ++ gaps_after t last (tile ∷ more)) → GapsReadTo j now next_last
+  gaps_read_on i j before now last next_last found read to add = record {
     whole = λ more a.
         let beyond = subst (λ k. Tiled t (TileAt edition t) k more) to.ends a in
         let (tiles, tiling, same) = read.whole (to.tile ∷ more) (next to.blank to.inside to.in_place beyond) in
@@ -46,7 +46,7 @@ module _ (edition : Edition) (t : List ℕ) where
   }
 
   -- no tile more
-  pub all_gaps : (i : ℕ) (found : List Gap) (open : Option Gap) → GapsReadTo i found open →
+  pub all_gaps : (i : ℕ) (found : List Gap) (last : Option Gap) → GapsReadTo i found last →
       BlankBlock t i (length t) → HasGaps edition t found
-  all_gaps i found open read blank =
+  all_gaps i found last read blank =
       let (tiles, tiling, same) = read.whole [] (done blank) in (tiles, tiling, sym (append-nil found) ∙ same)

@@ -34,10 +34,10 @@ module _ (edition : Edition) where
   pub same_gaps : (t : Text) (xs ys : List Gap) → HasGaps edition t xs → HasGaps edition t ys → xs ≡ ys
   same_gaps t xs ys (tiles, a, e) (others, b, f) = e ∙ ap (gaps t) (same_tilings edition t tiles others a b) ∙ sym f
 
-  same_places : (t normal : Text) (as bs cs ds : List Gap) → HasGaps edition t as → HasGaps edition t bs →
-      HasGaps edition normal cs → HasGaps edition normal ds → places_of as cs ≡ places_of bs ds
-  same_places t normal as bs cs ds a b c d =
-      ap (λ xs. places_of xs cs) (same_gaps t as bs a b) ∙ ap (places_of bs) (same_gaps normal cs ds c d)
+  same_places : (t normal : Text) (xs ys vs ws : List Gap) → HasGaps edition t xs → HasGaps edition t ys →
+      HasGaps edition normal vs → HasGaps edition normal ws → places_of xs vs ≡ places_of ys ws
+  same_places t normal xs ys vs ws a b c d =
+      ap (λ zs. places_of zs vs) (same_gaps t xs ys a b) ∙ ap (places_of ys) (same_gaps normal vs ws c d)
 
   -- there is one kept text at most
   kept_once : (t normal kept other : Text) → Keeps edition t normal kept → Keeps edition t normal other → other ≡ kept

@@ -58,12 +58,12 @@ module _ (t : Text) where
   abbrev pub seen_at : (place : ℕ) → Gap → Gap
   seen_at place gap = record gap { is_blank = gap.is_blank || ends_blank_line t place }
 
-  -- The gaps that end in these tiles, the first of which is the open one, if a message or a term came before. A gap is
-  -- blank if a blank line comes directly before something that begins in it, or before the message or the term after it.
-  abbrev pub gaps_after : (open : Option Gap) → List Tile → List Gap
-  gaps_after open [] = []
-  gaps_after open (x ∷ tiles) =
-      let now = option_map (seen_at (span_of x).start) open in
+  -- The gaps that end in these tiles, the first of which is the last one, if a message or a term came before. A gap is
+  -- blank if a blank line comes directly before something that begins in it, or before what ends it.
+  abbrev pub gaps_after : (last : Option Gap) → List Tile → List Gap
+  gaps_after last [] = []
+  gaps_after last (x ∷ tiles) =
+      let now = option_map (seen_at (span_of x).start) last in
       if is_field_tile x
       then in_list now ++ gaps_after (Some (record { place = (span_of x).end; is_blank = false })) tiles
       else gaps_after now tiles

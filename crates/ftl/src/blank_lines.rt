@@ -1,5 +1,6 @@
 //! Normal forms that keep the blank lines of their texts.
-ghost use Rattle.std.specs.Prelude.{◌≡◌, ◌==◌, ◌||◌, ◌≤◌, ◌∷◌, ◌++◌, ◌↔◌, List, IfErr, IfOk, IsTrue, length, option_map, string_bytes};
+ghost use Rattle.std.specs.Prelude.{◌≡◌, ◌==◌, ◌||◌, ◌≤◌, ◌∷◌, ◌++◌, ◌↔◌, List, IfErr, IfOk, IsTrue, length};
+ghost use Rattle.std.specs.Prelude.{option_map, string_bytes};
 ghost use Rattle.fluent_syntax_tree.specs.Entry.{body_map};
 ghost use Rattle.fluent_syntax_tree.specs.Spans.{bytes_at};
 ghost use Rattle.fluent_syntax_tree.specs.View.{resource_view};
@@ -120,12 +121,12 @@ fn is_field(entry: &Entry<Span>) -> bool
     matches!(entry, Entry::Message(_) | Entry::Term(_))
 }
 
-/// The gap, where one is open, once something begins at the place.
-fn seen_at(text: &[u8], place: usize, open: Option<Gap>) -> Option<Gap>
+/// The last gap, if there is one, once something begins at the place.
+fn seen_at(text: &[u8], place: usize, last: Option<Gap>) -> Option<Gap>
     requires { place ≤ length text.now }
-    ensures { result ≡ option_map (seen_at text.now place) open }
+    ensures { result ≡ option_map (seen_at text.now place) last }
 {
-    match open {
+    match last {
         Some(gap) => Some(Gap {
             place: gap.place,
             is_blank: gap.is_blank || ends_blank_line(text, place),
@@ -134,19 +135,21 @@ fn seen_at(text: &[u8], place: usize, open: Option<Gap>) -> Option<Gap>
     }
 }
 
-/// Adds the gap that ends where the tile is a message or a term, if one was open. What is open after the tile.
+/// Adds the last gap, if there is one, where a message or a term ends it. What is the last one after the tile.
 fn add_gap(
     gaps: &mut Vec<Gap>,
     text: &[u8],
-    open: Option<Gap>,
+    last: Option<Gap>,
     span: Span,
     at_field: bool,
 ) -> Result<Option<Gap>, AllocError>
     requires { span.start ≤ length text.now }
-    ensures { IfOk result (λ now. (tile : Tile) (more : List Tile) → span_of tile ≡ span → is_field_tile tile ≡ at_field →
-        gaps.new.items ++ gaps_after text.now now more ≡ gaps.old.items ++ gaps_after text.now open (tile ∷ more)) }
+    ensures { IfOk result (λ now. (tile : Tile) (more : List Tile) → span_of tile ≡ span →
+        is_field_tile tile ≡ at_field →
+        gaps.new.items ++ gaps_after text.now now more
+        ≡ gaps.old.items ++ gaps_after text.now last (tile ∷ more)) }
 {
-    let seen = seen_at(text, span.start, open);
+    let seen = seen_at(text, span.start, last);
     if !at_field {
         return Ok(seen);
     }
@@ -165,12 +168,12 @@ fn gaps(alloc: Global, text: &str, edition: Edition, nesting: usize) -> Result<V
 {
     let mut tiles = Tiles::new(text, edition, nesting, 0);
     let mut gaps = Vec::new(alloc);
-    let mut open = None;
+    let mut last = None;
     loop {
         match tiles.next_tile(alloc) {
             Ok(Some(found)) => {
                 let at_field = is_field(&found.entry);
-                open = add_gap(&mut gaps, text.as_bytes(), open, found.span, at_field)?;
+                last = add_gap(&mut gaps, text.as_bytes(), last, found.span, at_field)?;
             }
             Ok(None) => return Ok(gaps),
             // a normal form nests no deeper than its text

@@ -7,9 +7,7 @@ use crate::options::Options;
 use crate::request::{Change, Request, Task, Work};
 use clap::{ArgMatches, Error};
 use fluent_syntax_tree::edition::Edition;
-use ftl_files::{
-    BlankLines, Color, Output, blank_lines_of_name, color_of_name, output_of_name,
-};
+use ftl_files::{BlankLines, Color, Output, blank_lines_of_name, color_of_name, output_of_name};
 use std::alloc::{AllocError, Global};
 
 /// What the words ask for, the program's own name first; a mistake in them, or a wish for help, as `Err`.

@@ -9,8 +9,8 @@ use ftl::{RunFault, Watched};
 use ftl_args::{Change, Task, Work};
 use ftl_files::{Disk, Memory, Store};
 use ftl_project::{
-    CheckTask, ConvertTask, DiffTask, FormatOptions, NameTask, PrintTask, RewriteCounts, Streams, Tally,
-    answer_files, check_summary, format_summary, write_files, write_summary,
+    CheckTask, ConvertTask, DiffTask, FormatOptions, NameTask, PrintTask, RewriteCounts, Streams,
+    Tally, answer_files, check_summary, format_summary, write_files, write_summary,
 };
 use std::alloc::AllocError;
 use std::io;

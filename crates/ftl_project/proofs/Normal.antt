@@ -78,7 +78,8 @@ one_rewriting : (options : FormatOptions) (bytes t u : Text) → IsRewriting opt
 one_rewriting options bytes t u a b =
     let edition = options.reading.edition in
     one_written options.blank_lines edition bytes a.normal t u a.written
-    (subst (λ normal. IsWritten options.blank_lines edition bytes normal u) (one_normal options bytes t u a b) b.written)
+    (subst (λ normal. IsWritten options.blank_lines edition bytes normal u) (one_normal options bytes t u a b)
+    b.written)
 
 none_of_clean : (fs : List Fault) → Clean ≡ outcome_with fs → fs ≡ []
 none_of_clean [] clean = refl
@@ -167,7 +168,8 @@ rewrites_normal CallFails options path old new (replacement.Errors refused) byte
     (read, is_read, that, untouched) is =
     untouched path ∙ ⊎_elim
     (λ e. absurd (not_refused options bytes t refused.errors.items a (subst
-    (λ b. IsRefused options.reading.edition b refused.errors.items) (same_read options bytes t a (old path) read is_read e) that)))
+    (λ b. IsRefused options.reading.edition b refused.errors.items)
+    (same_read options bytes t a (old path) read is_read e) that)))
     (λ e. e) is
 rewrites_normal CallFails options path old new (replacement.Lossy entry) bytes t a (read, is_read, that, untouched) is =
     untouched path ∙ ⊎_elim
@@ -193,18 +195,17 @@ processed_ok (Err fault) before processed is none =
     let least = status_least fault is.0 is.1 in
     absurd (omega (arith, zero_status, least))
 
-faultless : (CallFails : Failing) (options : FormatOptions) (files : List (String Global)) (old new : List ℕ → Option (List
-    ℕ))
-    (before after : Tally) → FormatsEach CallFails options files old new before after → after.fault ≡ 0 → before.fault
-    ≡ 0
+faultless : (CallFails : Failing) (options : FormatOptions) (files : List (String Global))
+    (old new : List ℕ → Option (List ℕ)) (before after : Tally) → FormatsEach CallFails options files old new before after →
+    after.fault ≡ 0 → before.fault ≡ 0
 faultless CallFails options [] old new before after each none = sym (ap (λ (t : Tally). t.fault) each.1) ∙ none
 faultless CallFails options (file ∷ files) old new before after (now, between, formats, rest) none =
     let here = faultless CallFails options files now new between after rest none in
     counted_fault before formats.2 (sym (ap (λ (t : Tally). t.fault) formats.4) ∙ here)
 
-AllReach-each : (CallFails : Failing) (options : FormatOptions) (files : List (String Global)) (old new : List ℕ → Option
-    (List ℕ))
-    (before after : Tally) → FormatsEach CallFails options files old new before after → AllReach options old new
+AllReach-each : (CallFails : Failing) (options : FormatOptions) (files : List (String Global))
+    (old new : List ℕ → Option (List ℕ)) (before after : Tally) → FormatsEach CallFails options files old new before after →
+    AllReach options old new
 AllReach-each CallFails options [] old new before after each = AllReach-untouched options old new each.0
 AllReach-each CallFails options (file ∷ files) old new before after (now, between, formats, rest) =
     AllReach-trans options old now new
@@ -218,11 +219,9 @@ IsNormal-at : (options : FormatOptions) (old new : Option (List ℕ)) →
 IsNormal-at options None new normal = tt
 IsNormal-at options (Some bytes) new normal = λ t a. normal bytes t refl a
 
-pub AllNormal-each : (CallFails : Failing) (options : FormatOptions) (files : List (String Global)) (start old new : List ℕ
-    → Option (List ℕ))
-    (before after : Tally) → AllReach options start old → FormatsEach CallFails options files old new before
-    after →
-    after.fault ≡ 0 → AllNormal options files start new
+pub AllNormal-each : (CallFails : Failing) (options : FormatOptions) (files : List (String Global))
+    (start old new : List ℕ → Option (List ℕ)) (before after : Tally) → AllReach options start old →
+    FormatsEach CallFails options files old new before after → after.fault ≡ 0 → AllNormal options files start new
 AllNormal-each CallFails options [] start old new before after reach each none = λ k d below. absurd (omega arith)
 AllNormal-each CallFails options (file ∷ files) start old new before after reach (now, between, formats, rest) none =
     let path = string_bytes file in

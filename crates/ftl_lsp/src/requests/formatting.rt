@@ -15,8 +15,9 @@ use ftl_files::BlankLines;
 use serde_json::{Value, json};
 use std::alloc::{AllocError, Global};
 
-/// The text formatted, with the blank lines that are kept. None of a text that has an error, since its junk would be lost, of one that would not read back
-/// once it is formatted, and of one that nests deeper than `NESTING_LIMIT`. `AllocError` where a growth was refused.
+/// The text formatted, with the blank lines that are kept. None of a text that has an error, since its junk would be
+/// lost, of one that would not read back once it is formatted, and of one that nests deeper than `NESTING_LIMIT`.
+/// `AllocError` where a growth was refused.
 pub fn formatted_text(
     alloc: Global,
     text: &str,

@@ -4,8 +4,8 @@ use crate::sessions::notices::Notice;
 use crate::workspace::originals::Reference;
 use crate::workspace::settings::{ProjectSettings, nearest_settings};
 use ftl_files::{
-    BlankLines, Excluded, Folders, ReportedKind, Settings, absolute_path, folder_of_languages, is_below,
-    language_of,
+    BlankLines, Excluded, Folders, ReportedKind, Settings, absolute_path, folder_of_languages,
+    is_below, language_of,
 };
 use std::alloc::{AllocError, Global};
 

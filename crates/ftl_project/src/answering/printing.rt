@@ -25,8 +25,8 @@ struct Printed {
     doubtful: Option<Edition>,
 }
 
-/// Writes the command's text of each file, with the blank lines that are kept where it formats. A file that has errors, or whose normal form does not read back, is
-/// reported.
+/// Writes the command's text of each file, with the blank lines that are kept where it formats. A file that has errors,
+/// or whose normal form does not read back, is reported.
 #[derive(Clone, Copy)]
 pub struct PrintTask {
     pub command: Command,

@@ -13,8 +13,8 @@ use fluent_syntax::ast::Resource;
 use fluent_syntax::laws::reads_back;
 use fluent_syntax::parser::{ParseFault, parse_within};
 use fluent_syntax::serializer::serialize;
-use ftl::{first_lossy_entry, with_blank_lines};
 use ftl::laws::formatting_is_idempotent;
+use ftl::{first_lossy_entry, with_blank_lines};
 use ftl_files::{BlankLines, Reading};
 use std::alloc::{AllocError, Global};
 
@@ -40,8 +40,8 @@ pub enum Replacement {
     Lossy(LossyEntry),
 }
 
-/// What is to come in the place of the text: its normal form, where it has no error and reads back, with the blank lines
-/// that are kept.
+/// What is to come in the place of the text: its normal form, with the blank lines that are kept, where it has no error
+/// and reads back.
 ///
 /// `Memory`: a growth was refused, or the text is as long as the greatest `usize`. `TooDeep`: it nests deeper than it
 /// may.

@@ -5,9 +5,7 @@ use fluent_syntax::parser::Edition;
 use fluent_syntax_tests::alike::{assert_holds, assert_same};
 use ftl::Watched;
 use ftl_files::{Disk, Excluded, list};
-use ftl_project::{
-    BlankLines, FormatOptions, Reading, RewriteCounts, Streams, Tally, write_files,
-};
+use ftl_project::{BlankLines, FormatOptions, Reading, RewriteCounts, Streams, Tally, write_files};
 use std::alloc::Global;
 use std::test::Fail;
 

@@ -6,7 +6,7 @@ abbrev pub invariant-loop-found : goal.invariant-loop-found
 invariant-loop-found l = record {
   text : l.tiles.source.bytes.now ≡ l.text;
   edition : l.tiles.edition ≡ l.fn.edition;
-  read : GapsReadTo l.fn.edition l.text l.tiles.ptr l.gaps.items l.open;
+  read : GapsReadTo l.fn.edition l.text l.tiles.ptr l.gaps.items l.last;
 }
 
 abbrev pub decreases-loop-found : goal.decreases-loop-found

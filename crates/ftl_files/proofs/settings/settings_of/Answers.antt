@@ -89,7 +89,8 @@ returns-in_err-color-clause-refused c =
 
 pub returns-in_err-blank_lines-clause-refused : goal.returns-in_err-blank_lines-clause-refused
 returns-in_err-blank_lines-clause-refused c =
-    let p = err_from_is_err_and c.from_residual-in_err-blank_lines.result c.from_residual-in_err-blank_lines.ensures.1 in
+    let p =
+    err_from_is_err_and c.from_residual-in_err-blank_lines.result c.from_residual-in_err-blank_lines.ensures.1 in
     let value = table_get c.get-8.result (codes "blank-lines") c.in-Ok.table.entries c.get-8.ensures.value in
     let refused = rw value at c.in_err-blank_lines.ensures.refused in
     rw (p.1, p.2) (settings_refused c.args.text.now (table_view c.in-Ok.table) _ c.in-Ok.ensures.ok
