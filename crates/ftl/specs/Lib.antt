@@ -8,5 +8,6 @@ pub mod Formatted
 pub mod Formatting
 pub mod FromJson
 pub mod Lossless
+pub mod BlankLines
 pub mod OneByOne
 pub mod LookAlikes

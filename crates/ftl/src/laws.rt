@@ -1,5 +1,6 @@
 //! Laws of the commands' texts that callers may rely on.
 
+ghost use Rattle.ftl.specs.BlankLines.{KeepsAgain};
 ghost use Rattle.ftl.specs.Formatted.{FormatsAgain};
 
 /// The law of `Command::Format`, of a text and what `answer` gives for it, for that, and so on. The joined tree is the
@@ -11,4 +12,13 @@ ghost use Rattle.ftl.specs.Formatted.{FormatsAgain};
 /// where the first had no error. Formatting once more changes nothing.
 pub fn formatting_is_idempotent(text: &[u8])
     ensures { FormatsAgain text.now }
+{}
+
+/// The law of `formatted_keeping`, of a text that has no error and is safe to write (`first_lossy_entry`), and of what
+/// is kept of it.
+///
+/// That reads as the normal form does, as the joined tree or by edition two the tree itself; so it has the same
+/// messages and terms in the same order. It has the same normal form, and keeping it again changes nothing.
+pub fn keeping_is_idempotent(text: &[u8])
+    ensures { KeepsAgain text.now }
 {}

@@ -2,6 +2,7 @@
 #![tactic(auto)]
 
 mod answers;
+mod blank_lines;
 mod causes;
 mod command;
 mod error_advice;
@@ -19,6 +20,7 @@ mod watched;
 mod writers;
 
 pub use answers::{Formatted, answer, answer_within, formatted_within};
+pub use blank_lines::{formatted_keeping, with_blank_lines};
 pub use causes::{Cause, Lead, lead_of};
 pub use command::{Command, usage};
 pub use error_advice::advice;

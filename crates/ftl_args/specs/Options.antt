@@ -17,6 +17,7 @@ options_or options settings = record {
   output = option_or options.output settings.output;
   nesting = option_or options.nesting settings.nesting;
   color = option_or options.color settings.color;
+  blank_lines = option_or options.blank_lines settings.blank_lines;
 }
 
 -- edition one, and a nesting of 2,000, where nothing else is said

@@ -11,6 +11,8 @@ static FORMS: [&str; 4] = ["lines", "full", "json", "github"];
 
 static COLORS: [&str; 3] = ["auto", "always", "never"];
 
+static BLANK_LINES: [&str; 2] = ["normal", "keep"];
+
 /// What standard input is called.
 const STDIN_NAME: &str = "<stdin>";
 
@@ -135,6 +137,7 @@ fn format<'a>(alloc: Global, name: &'a str) -> Result<Command<'a>, AllocError> {
     .arg(write(alloc)?)?
     .arg(names_only(alloc))?
     .arg(diff(alloc)?)?
+    .arg(blank_lines(alloc))?
     .arg(quiet(alloc))?
     .arg(stdin_name(alloc))
 }
@@ -162,6 +165,15 @@ fn diff<'a>(alloc: Global) -> Result<Arg<'a>, AllocError> {
         .action(ArgAction::SetTrue)
         .conflicts_with("write")?
         .conflicts_with("check")
+}
+
+fn blank_lines<'a>(alloc: Global) -> Arg<'a> {
+    Arg::new(alloc, "blank-lines")
+        .long("blank-lines")
+        .value_name("HOW")
+        .help("With keep one is left where there are some between two messages; by default none is")
+        .action(ArgAction::Set)
+        .value_parser(BLANK_LINES.as_slice())
 }
 
 fn quiet<'a>(alloc: Global) -> Arg<'a> {

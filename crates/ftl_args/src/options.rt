@@ -1,10 +1,11 @@
 //! What the options of a word say, and what counts where they leave it open.
 ghost use Rattle.std.specs.Prelude.{◌≡◌, option_map, unwrap_or};
+ghost use Rattle.ftl_files.specs.declared.options.BlankLines.TheVariants as blank_lines;
 ghost use Rattle.ftl_files.specs.declared.options.Color.TheVariants as colors;
 ghost use Rattle.ftl_args.specs.Options.{form_of, options_or, reading_of};
 
 use fluent_syntax_tree::edition::Edition;
-use ftl_files::{Color, Form, Output, Reading, Settings};
+use ftl_files::{BlankLines, Color, Form, Output, Reading, Settings};
 
 /// A nesting that a stack of 8 MB bears with room to spare.
 const DEFAULT_NESTING: usize = 2000;
@@ -20,6 +21,8 @@ pub struct Options {
     pub nesting: Option<usize>,
     /// When errors are reported in colours.
     pub color: Option<Color>,
+    /// What becomes of blank lines where files are formatted.
+    pub blank_lines: Option<BlankLines>,
 }
 
 impl Options {
@@ -32,6 +35,7 @@ impl Options {
             output: self.output.or(settings.output),
             nesting: self.nesting.or(settings.nesting),
             color: self.color.or(settings.color),
+            blank_lines: self.blank_lines.or(settings.blank_lines),
         }
     }
 
@@ -60,6 +64,13 @@ impl Options {
         ensures { result ≡ unwrap_or self.color colors.Auto }
     {
         self.color.unwrap_or(Color::Auto)
+    }
+
+    /// What becomes of blank lines where files are formatted; as in the normal form, where that is left open.
+    pub fn blank_lines(self) -> BlankLines
+        ensures { result ≡ unwrap_or self.blank_lines blank_lines.Normal }
+    {
+        self.blank_lines.unwrap_or(BlankLines::Normal)
     }
 }
 

@@ -7,7 +7,7 @@ use crate::options::Options;
 use crate::request::{Change, Request, Task, Work};
 use clap::{ArgMatches, Error};
 use fluent_syntax_tree::edition::Edition;
-use ftl_files::{Color, Output, color_of_name, output_of_name};
+use ftl_files::{BlankLines, Color, Output, blank_lines_of_name, color_of_name, output_of_name};
 use std::alloc::{AllocError, Global};
 
 /// What the words ask for, the program's own name first; a mistake in them, or a wish for help, as `Err`.
@@ -76,6 +76,7 @@ fn options_of(word: &str, options: &ArgMatches<'_>) -> Options {
         output: output_of(options),
         nesting: options.get_one::<usize>("nesting"),
         color: color_of(options),
+        blank_lines: blank_lines_of(options),
     }
 }
 
@@ -95,4 +96,8 @@ fn output_of(options: &ArgMatches<'_>) -> Option<Output> {
 
 fn color_of(options: &ArgMatches<'_>) -> Option<Color> {
     color_of_name(options.get_str("color")?)
+}
+
+fn blank_lines_of(options: &ArgMatches<'_>) -> Option<BlankLines> {
+    blank_lines_of_name(options.get_str("blank-lines")?)
 }

@@ -7,8 +7,9 @@ use Rattle.toml.specs.Data.{Data, Members, array, get_member, integer, member, n
 use Rattle.toml.specs.View.{items_of}
 use Rattle.fluent_syntax_tree.specs.declared.edition.Edition.{Edition}
 use Rattle.ftl_files.specs.Kinds.{reported_name}
-use Rattle.ftl_files.specs.Options.{color_name, edition_number, output_name}
+use Rattle.ftl_files.specs.Options.{blank_lines_name, color_name, edition_number, output_name}
 use Rattle.ftl_files.specs.declared.kinds.ReportedKind.{ReportedKind}
+use Rattle.ftl_files.specs.declared.options.BlankLines.{BlankLines}
 use Rattle.ftl_files.specs.declared.options.Color.{Color}
 use Rattle.ftl_files.specs.declared.options.Output.{Output}
 use Rattle.ftl_files.specs.declared.settings.Settings.{Settings}
@@ -18,7 +19,7 @@ abbrev pub is_known : List ℕ → Bool
 is_known key =
     bytes_eq key (codes "reference") || bytes_eq key (codes "ignore") || bytes_eq key (codes "exclude")
     || bytes_eq key (codes "edition") || bytes_eq key (codes "output") || bytes_eq key (codes "nesting")
-    || bytes_eq key (codes "color")
+    || bytes_eq key (codes "color") || bytes_eq key (codes "blank-lines")
 
 abbrev pub are_known : Members → Bool
 are_known no_members = true
@@ -57,6 +58,10 @@ IsNesting value nesting = (value ≡ option_map (λ n. integer (pos n)) nesting)
 abbrev pub IsColor : Option Data → Option Color → Type 0
 IsColor value color = value ≡ option_map (λ c. string (color_name c)) color
 
+-- what becomes of blank lines is said by the name of its key, or there is neither
+abbrev pub IsBlankLines : Option Data → Option BlankLines → Type 0
+IsBlankLines value blank_lines = value ≡ option_map (λ b. string (blank_lines_name b)) blank_lines
+
 pub record Says (document : Members) (settings : Settings) : Type 0 where
   pub known : are_known document ≡ true
   pub reference : IsReference (get_member (codes "reference") document) settings.reference
@@ -66,3 +71,4 @@ pub record Says (document : Members) (settings : Settings) : Type 0 where
   pub output : IsOutput (get_member (codes "output") document) settings.output
   pub nesting : IsNesting (get_member (codes "nesting") document) settings.nesting
   pub color : IsColor (get_member (codes "color") document) settings.color
+  pub blank_lines : IsBlankLines (get_member (codes "blank-lines") document) settings.blank_lines

@@ -35,7 +35,9 @@ pub use limits::{BYTES_LIMIT, FILE_LIMIT, FILES_LIMIT, FOLDERS_LIMIT};
 pub use listing::{Listing, list};
 pub use memory::Memory;
 pub use nearness::shared_folders;
-pub use options::{Color, Form, Output, Reading, color_of_name, output_of_name};
+pub use options::{
+    BlankLines, Color, Form, Output, Reading, blank_lines_of_name, color_of_name, output_of_name,
+};
 pub use originals::original_of;
 pub use paths::{SeenPaths, absolute_path, is_below};
 pub use reading::{SourceFile, SourceFiles, read_files};

@@ -1,6 +1,7 @@
 //! What the words' options ask for: how a text is read, and how what is found is reported.
 ghost use Rattle.std.specs.Prelude.{◌≡◌, ◌≢◌, IfSome, None};
-ghost use Rattle.ftl_files.specs.Options.{color_name, output_name};
+ghost use Rattle.ftl_files.specs.Options.{blank_lines_name, color_name, output_name};
+ghost use Rattle.ftl_files.specs.declared.options.BlankLines.{BlankLines};
 ghost use Rattle.ftl_files.specs.declared.options.Color.{Color};
 ghost use Rattle.ftl_files.specs.declared.options.Output.{Output};
 
@@ -52,6 +53,15 @@ pub enum Color {
     Never,
 }
 
+/// What becomes of blank lines between messages and terms that are formatted.
+#[derive(Clone, Copy, Debug, PartialEq, Eq)]
+pub enum BlankLines {
+    /// None is left, as in the normal form.
+    Normal,
+    /// One is left where there are some.
+    Keep,
+}
+
 /// The form that has the name. `None` where none has it.
 pub fn output_of_name(name: &str) -> Option<Output>
     ensures named { IfSome result (λ output. output_name output ≡ name.now) }
@@ -75,6 +85,18 @@ pub fn color_of_name(name: &str) -> Option<Color>
         "auto" => Some(Color::Auto),
         "always" => Some(Color::Always),
         "never" => Some(Color::Never),
+        _ => None,
+    }
+}
+
+/// What becomes of blank lines, by its name. `None` where nothing has it.
+pub fn blank_lines_of_name(name: &str) -> Option<BlankLines>
+    ensures named { IfSome result (λ blank_lines. blank_lines_name blank_lines ≡ name.now) }
+    ensures none { result ≡ None → (blank_lines : BlankLines) → blank_lines_name blank_lines ≢ name.now }
+{
+    match name {
+        "normal" => Some(BlankLines::Normal),
+        "keep" => Some(BlankLines::Keep),
         _ => None,
     }
 }

@@ -8,15 +8,18 @@ ghost use Rattle.toml.specs.Data.{Members, no_members, string};
 ghost use Rattle.toml.specs.Parse.{parse_document};
 ghost use Rattle.toml.specs.View.{table_view, view};
 ghost use Rattle.fluent_syntax_tree.specs.declared.edition.Edition.{Edition};
-ghost use Rattle.ftl_files.specs.Settings.{IsColor, IsEdition, IsExcluded, IsIgnored, IsNesting, IsOutput};
-ghost use Rattle.ftl_files.specs.Settings.{IsReference, Says, are_known, is_known};
+ghost use Rattle.ftl_files.specs.Settings.{IsBlankLines, IsColor, IsEdition, IsExcluded, IsIgnored, IsNesting};
+ghost use Rattle.ftl_files.specs.Settings.{IsOutput, IsReference, Says, are_known, is_known};
+ghost use Rattle.ftl_files.specs.declared.options.BlankLines.{BlankLines};
 ghost use Rattle.ftl_files.specs.declared.options.Color.{Color};
 ghost use Rattle.ftl_files.specs.declared.options.Output.{Output};
 ghost use Rattle.ftl_files.specs.Kinds.{reported_name};
 ghost use Rattle.ftl_files.specs.declared.kinds.ReportedKind.{ReportedKind};
 
 use crate::kinds::{ReportedKind, reported_kind_of_name};
-use crate::options::{Color, Output, color_of_name, output_of_name};
+use crate::options::{
+    BlankLines, Color, Output, blank_lines_of_name, color_of_name, output_of_name,
+};
 use crate::settings_fault::SettingsFault;
 use fluent_syntax_tree::edition::Edition;
 use std::alloc::{AllocError, Global};
@@ -42,6 +45,8 @@ pub struct Settings {
     pub nesting: Option<usize>,
     /// `color`: when errors are reported in colours.
     pub color: Option<Color>,
+    /// `blank-lines`: what becomes of them where files are formatted.
+    pub blank_lines: Option<BlankLines>,
 }
 
 impl Settings {
@@ -57,6 +62,7 @@ impl Settings {
             output: None,
             nesting: None,
             color: None,
+            blank_lines: None,
         }
     }
 }
@@ -64,8 +70,8 @@ impl Settings {
 /// What the text of an `ftl.toml` says.
 ///
 /// `Memory`: a growth was refused. `Toml`: the text is no TOML document. `Key`: it has a key that has no meaning.
-/// `Reference`, `Ignore`, `Exclude`, `Edition`, `Output`, `Nesting`, `Color`: the value of that key is of another kind,
-/// or is none of those that the key may have. `Kind`: that of `ignore` has a text that names no kind.
+/// `Reference`, `Ignore`, `Exclude`, `Edition`, `Output`, `Nesting`, `Color`, `BlankLines`: the value of that key is of
+/// another kind, or is none of those that the key may have. `Kind`: that of `ignore` has a text that names no kind.
 pub fn settings_of(alloc: Global, text: &str) -> Result<Settings, SettingsFault>
     ensures says { IfOk result (λ settings. (document : Members)
         × (parse_document text.now ≡ Some document) × Says document settings) }
@@ -85,6 +91,7 @@ pub fn settings_of(alloc: Global, text: &str) -> Result<Settings, SettingsFault>
     let output = output_of(table.get("output"))?;
     let nesting = nesting_of(table.get("nesting"))?;
     let color = color_of(table.get("color"))?;
+    let blank_lines = blank_lines_of(table.get("blank-lines"))?;
     Ok(Settings {
         reference,
         ignored,
@@ -93,6 +100,7 @@ pub fn settings_of(alloc: Global, text: &str) -> Result<Settings, SettingsFault>
         output,
         nesting,
         color,
+        blank_lines,
     })
 }
 
@@ -123,7 +131,14 @@ fn is_known(key: &str) -> bool
 {
     matches!(
         key,
-        "reference" | "ignore" | "exclude" | "edition" | "output" | "nesting" | "color"
+        "reference"
+            | "ignore"
+            | "exclude"
+            | "edition"
+            | "output"
+            | "nesting"
+            | "color"
+            | "blank-lines"
     )
 }
 
@@ -276,5 +291,22 @@ fn color_of(value: Option<&Value>) -> Result<Option<Color>, SettingsFault>
     match color_of_name(name.as_str()) {
         Some(color) => Ok(Some(color)),
         None => Err(SettingsFault::Color),
+    }
+}
+
+fn blank_lines_of(value: Option<&Value>) -> Result<Option<BlankLines>, SettingsFault>
+    ensures says { IfOk result (IsBlankLines (option_map (λ v. view v.now) value.entry)) }
+    ensures refused { IfErr result (λ fault. (blank_lines : Option BlankLines) →
+        IsBlankLines (option_map (λ v. view v.now) value.entry) blank_lines → ⊥) }
+{
+    let Some(value) = value else {
+        return Ok(None);
+    };
+    let Value::String(name) = value else {
+        return Err(SettingsFault::BlankLines);
+    };
+    match blank_lines_of_name(name.as_str()) {
+        Some(blank_lines) => Ok(Some(blank_lines)),
+        None => Err(SettingsFault::BlankLines),
     }
 }

@@ -29,6 +29,8 @@ pub enum SettingsFault {
     Nesting,
     /// The value of `color` is not one of its names.
     Color,
+    /// The value of `blank-lines` is not one of its names.
+    BlankLines,
 }
 
 impl From<AllocError> for SettingsFault {
@@ -70,6 +72,9 @@ impl fmt::Display for SettingsFault {
             SettingsFault::Nesting => f.write_str("`nesting` wants a number from 0 to 4294967295"),
             SettingsFault::Color => {
                 f.write_str("`color` wants \"auto\", \"always\" or \"never\"")
+            }
+            SettingsFault::BlankLines => {
+                f.write_str("`blank-lines` wants \"normal\" or \"keep\"")
             }
         }
     }

@@ -14,7 +14,9 @@ use crate::workspace::closed_files::ClosedFile;
 use crate::workspace::file_sets::FileSet;
 use crate::workspace::workspace_folder::WorkspaceFolder;
 use fluent_syntax_names::DefinedNames;
-use ftl_files::{Folders, ReportedKind, SourceFile, SourceFiles, path_of_uri, read_files};
+use ftl_files::{
+    BlankLines, Folders, ReportedKind, SourceFile, SourceFiles, path_of_uri, read_files,
+};
 use serde_json::Value;
 use std::alloc::{AllocError, Global};
 use std::collections::BTreeMap;
@@ -174,6 +176,19 @@ impl Workspace {
             }
         }
         Ok(ignored)
+    }
+
+    /// What becomes of blank lines in a file at the path: what the first folder says below which it is.
+    pub fn blank_lines_at(&self, path: Option<&str>) -> BlankLines {
+        let Some(path) = path else {
+            return BlankLines::Normal;
+        };
+        for folder in &self.folders {
+            if folder.has(path) {
+                return folder.blank_lines;
+            }
+        }
+        BlankLines::Normal
     }
 
     /// The path of the file of the reference language that the one at the path is to be a translation of. None where

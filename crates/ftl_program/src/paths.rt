@@ -9,8 +9,8 @@ use ftl::{RunFault, Watched};
 use ftl_args::{Change, Options, Task, Work};
 use ftl_files::{Disk, Memory, Store};
 use ftl_project::{
-    CheckTask, ConvertTask, DiffTask, NameTask, PrintTask, RewriteCounts, Streams, Tally,
-    answer_files, check_summary, format_summary, write_files, write_summary,
+    CheckTask, ConvertTask, DiffTask, FormatOptions, NameTask, PrintTask, RewriteCounts, Streams,
+    Tally, answer_files, check_summary, format_summary, write_files, write_summary,
 };
 use std::alloc::AllocError;
 use std::io;
@@ -127,6 +127,10 @@ fn run_task<S: Store>(
     let alloc = rt.alloc();
     let Met { tally, counts } = met;
     let reading = options.reading();
+    let format_options = FormatOptions {
+        reading,
+        blank_lines: options.blank_lines(),
+    };
     let mut streams = Streams {
         out: &mut Watched::new(io::writer(rt)),
         err: &mut Watched::new(rt.stderr()),
@@ -138,19 +142,34 @@ fn run_task<S: Store>(
             answer_files(alloc, &task, store, files, tally, &mut streams)
         }
         (Task::Format(Change::Write), _) => {
-            write_files(alloc, store, files, reading, tally, counts, &mut streams)
+            write_files(
+                alloc,
+                store,
+                files,
+                format_options,
+                tally,
+                counts,
+                &mut streams,
+            )
         }
         (Task::Format(Change::Name), _) => {
-            let task = NameTask { reading };
+            let task = NameTask {
+                options: format_options,
+            };
             answer_files(alloc, &task, store, files, tally, &mut streams)
         }
         (Task::Format(Change::Show), _) => {
-            let task = DiffTask { reading };
+            let task = DiffTask {
+                options: format_options,
+            };
             answer_files(alloc, &task, store, files, tally, &mut streams)
         }
         (_, Some(command)) => {
-            let nesting = reading.nesting;
-            let task = PrintTask { command, nesting };
+            let task = PrintTask {
+                command,
+                nesting: reading.nesting,
+                blank_lines: format_options.blank_lines,
+            };
             answer_files(alloc, &task, store, files, tally, &mut streams)
         }
         (_, None) => answer_files(alloc, &ConvertTask, store, files, tally, &mut streams),

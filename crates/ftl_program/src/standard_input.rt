@@ -3,9 +3,11 @@
 use crate::messages::{refuse, refuse_run};
 use fluent_syntax::parser::TooDeep;
 use fluent_syntax::spans::Halt;
-use ftl::{Command, Formatted, Outcome, RunFault, Watched, formatted_within, run_within};
+use ftl::{
+    Command, Formatted, Outcome, RunFault, Watched, formatted_keeping, formatted_within, run_within,
+};
 use ftl_args::{Task, Work};
-use ftl_project::{Reading, lossy_note, note_line};
+use ftl_project::{BlankLines, Reading, lossy_note, note_line};
 use simdutf8::basic::from_utf8;
 use std::io;
 use std::io::{ErrorKind, IsTerminal, Read};
@@ -72,7 +74,11 @@ fn format_input<R: Input + Print + Eprint + AllocGlobal>(rt: &R, work: &Work<'_>
         return refuse_run(rt, RunFault::Input);
     };
     let Reading { edition, nesting } = work.options.reading();
-    match formatted_within(rt.alloc(), text, edition, nesting) {
+    let formatted = match work.options.blank_lines() {
+        BlankLines::Normal => formatted_within(rt.alloc(), text, edition, nesting),
+        BlankLines::Keep => formatted_keeping(rt.alloc(), text, edition, nesting),
+    };
+    match formatted {
         Ok(formatted) => put_formatted(rt, &formatted, text, work),
         Err(Halt::Memory) => refuse_run(rt, RunFault::Memory),
         Err(Halt::TooDeep) => refuse(rt, NESTS_DEEPER, TOO_DEEP),

@@ -10,21 +10,27 @@ use Rattle.fluent_syntax_grammar.specs.Body.{faults}
 use Rattle.fluent_syntax_grammar.specs.RoundTrip.{tree_of}
 use Rattle.fluent_syntax_grammar.specs.Tiling.{Fault, Tile, Tiling}
 use Rattle.fluent_syntax_grammar.specs.Written.{Text}
+use Rattle.fluent_syntax_tree.specs.Entry.{BodyTree}
 use Rattle.fluent_syntax_tree.specs.declared.edition.Edition.{Edition}
 use Rattle.fluent_syntax_tree.specs.declared.edition.Edition.TheVariants.{One, Two}
-use Rattle.ftl.specs.Answer.{normal_text, outcome_with}
+use Rattle.ftl.specs.Answer.{IsAnswer, normal_text, outcome_with}
+use Rattle.ftl.specs.BlankLines.{IsKept}
+use Rattle.ftl.proofs.KeptAgain.{keeping_is_idempotent, one_kept}
 use Rattle.ftl.specs.Lossless.{is_lossless}
+use Rattle.ftl.specs.declared.outcome.Outcome.{Outcome}
 use Rattle.ftl.specs.declared.outcome.Outcome.TheVariants.{Clean}
+use Rattle.ftl_files.specs.declared.options.BlankLines.{BlankLines}
+use Rattle.ftl_files.specs.declared.options.BlankLines.TheVariants.{Keep, Normal}
 use Rattle.ftl_project.proofs.Statuses.{status_least}
 use Rattle.ftl_project.proofs.Reaching.{AllReach-rewrites, AllReach-untouched, AllReach-trans, becomes_rewriting}
 use Rattle.ftl_project.specs.Errors.{IsRefused}
 use Rattle.ftl_project.specs.Faults.{Failing, IsRead}
 use Rattle.ftl_project.specs.Formatting.{AllNormal, FormatsEach, IsProcessed, IsNormal}
 use Rattle.ftl_project.specs.Rewriting.{AllReach, BecomesRewriting, IsLossy, Reaches, Rewrites, goes, stays}
-use Rattle.ftl_project.specs.Lossless.{IsRewriting}
+use Rattle.ftl_project.specs.Lossless.{IsRewriting, IsWritten, Settles, format_of}
 use Rattle.ftl_project.specs.Tally.{Processed, answered, counted, failed}
 use Rattle.ftl_project.specs.declared.fault.Fault as run
-use Rattle.ftl_files.specs.declared.options.Reading.{Reading}
+use Rattle.ftl_project.specs.declared.formatting.replacement.FormatOptions.{FormatOptions}
 use Rattle.ftl_project.specs.declared.formatting.replacement.Replacement.{Replacement}
 use Rattle.ftl_project.specs.declared.formatting.replacement.Replacement.TheVariants as replacement
 use Rattle.ftl_project.specs.declared.tally.Tally.{Tally}
@@ -32,62 +38,112 @@ use Rattle.ftl_project.specs.declared.formatting.lossy_entry.LossyEntry.{LossyEn
 
 -- ---- a rewriting
 
+-- the tiles of a text that has a normal text, by either edition
+answered_tiles : (edition : Edition) (bytes text : Text) (outcome : Outcome)
+    (answer : IsAnswer (format_of edition) bytes text outcome) → Tiling edition bytes answer.tiles
+answered_tiles One bytes text outcome answer = answer.has_tiles
+answered_tiles Two bytes text outcome answer = answer.has_tiles
+
+answered_text : (edition : Edition) (bytes text : Text) (outcome : Outcome)
+    (answer : IsAnswer (format_of edition) bytes text outcome) → text ≡ normal_text bytes answer.tiles
+answered_text One bytes text outcome answer = answer.text_is
+answered_text Two bytes text outcome answer = answer.text_is
+
+-- the tiles are those of the bytes
+tiles_same : (options : FormatOptions) (bytes t : Text) (a : IsRewriting options bytes t) (tiles : List Tile) →
+    Tiling options.reading.edition bytes tiles → tiles ≡ a.answer.tiles
+tiles_same options bytes t a tiles tiling =
+    let edition = options.reading.edition in
+    same_tilings edition bytes tiles a.answer.tiles tiling (answered_tiles edition bytes a.normal Clean a.answer)
+
+-- there is one normal text
+one_normal : (options : FormatOptions) (bytes t u : Text) (a : IsRewriting options bytes t)
+    (b : IsRewriting options bytes u) → b.normal ≡ a.normal
+one_normal options bytes t u a b =
+    let edition = options.reading.edition in
+    answered_text edition bytes b.normal Clean b.answer
+    ∙ (ap (normal_text bytes) (tiles_same options bytes t a b.answer.tiles
+    (answered_tiles edition bytes b.normal Clean b.answer))
+    ∙ sym (answered_text edition bytes a.normal Clean a.answer))
+
+-- what is written of a text is one text
+one_written : (blank_lines : BlankLines) (edition : Edition) (bytes normal t u : Text) →
+    IsWritten blank_lines edition bytes normal t → IsWritten blank_lines edition bytes normal u → u ≡ t
+one_written Normal edition bytes normal t u a b = b ∙ sym a
+one_written Keep edition bytes normal t u a b = one_kept edition bytes normal t u a b
+
 -- there is one at most
-one_rewriting : (edition : Edition) (bytes t u : Text) → IsRewriting edition bytes t → IsRewriting edition bytes u →
-    u ≡ t
-one_rewriting One bytes t u a b =
-    let same = same_tilings One bytes b.answer.tiles a.answer.tiles b.answer.has_tiles a.answer.has_tiles in
-    b.answer.text_is ∙ ap (normal_text bytes) same ∙ sym a.answer.text_is
-one_rewriting Two bytes t u a b =
-    let same = same_tilings Two bytes b.answer.tiles a.answer.tiles b.answer.has_tiles a.answer.has_tiles in
-    b.answer.text_is ∙ ap (normal_text bytes) same ∙ sym a.answer.text_is
-
--- it is its own
-settled : (edition : Edition) (bytes t u : Text) → IsRewriting edition bytes t → IsRewriting edition t u → u ≡ t
-settled One bytes t u a b = (a.settles u Clean b.answer).is_same refl
-settled Two bytes t u a b = (a.settles u Clean b.answer).2
-
--- the tiles are those of the bytes, and have no faults
-tiles_same : (edition : Edition) (bytes t : Text) (a : IsRewriting edition bytes t) (tiles : List Tile) →
-    Tiling edition bytes tiles → tiles ≡ a.answer.tiles
-tiles_same One bytes t a tiles tiling = same_tilings One bytes tiles a.answer.tiles tiling a.answer.has_tiles
-tiles_same Two bytes t a tiles tiling = same_tilings Two bytes tiles a.answer.tiles tiling a.answer.has_tiles
+one_rewriting : (options : FormatOptions) (bytes t u : Text) → IsRewriting options bytes t →
+    IsRewriting options bytes u → u ≡ t
+one_rewriting options bytes t u a b =
+    let edition = options.reading.edition in
+    one_written options.blank_lines edition bytes a.normal t u a.written
+    (subst (λ normal. IsWritten options.blank_lines edition bytes normal u) (one_normal options bytes t u a b)
+    b.written)
 
 none_of_clean : (fs : List Fault) → Clean ≡ outcome_with fs → fs ≡ []
 none_of_clean [] clean = refl
 none_of_clean (f ∷ fs) clean = cc
 
-not_refused : (edition : Edition) (bytes t : Text) (errors : _) → IsRewriting edition bytes t →
-    IsRefused edition bytes errors → ⊥
-not_refused edition bytes t errors a refused = refused.3 (ap faults (tiles_same edition bytes t a refused.0 refused.1)
+-- formatting a normal text again changes nothing
+normal_settled : (edition : Edition) (tree : BodyTree Text) (normal again : Text) → Settles edition tree normal →
+    IsAnswer (format_of edition) normal again Clean → again ≡ normal
+normal_settled One tree normal again settles answer = (settles again Clean answer).is_same refl
+normal_settled Two tree normal again settles answer = (settles again Clean answer).2
+
+settled_by : (blank_lines : BlankLines) (edition : Edition) (bytes normal t next u : Text)
+    (answer : IsAnswer (format_of edition) bytes normal Clean) →
+    is_lossless edition (tree_of bytes answer.tiles) ≡ true → Settles edition (tree_of bytes answer.tiles) normal →
+    IsWritten blank_lines edition bytes normal t → IsAnswer (format_of edition) t next Clean →
+    IsWritten blank_lines edition t next u → u ≡ t
+settled_by Normal edition bytes normal t next u answer lossless settles is second then =
+    let again = subst (λ x. IsAnswer (format_of edition) x next Clean) is second in
+    then ∙ (normal_settled edition (tree_of bytes answer.tiles) normal next settles again ∙ sym is)
+settled_by Keep edition bytes normal t next u answer lossless settles is second then =
+    let law = keeping_is_idempotent bytes edition answer.tiles (answered_tiles edition bytes normal Clean answer)
+    (none_of_clean (faults answer.tiles) answer.outcome_is) lossless t
+    (subst (λ n. IsKept edition bytes n t) (answered_text edition bytes normal Clean answer) is) second.tiles
+    (answered_tiles edition t next Clean second) in
+    let same = answered_text edition t next Clean second ∙ law.same_normal in
+    law.settled u (subst (λ n. IsKept edition t n u) same then)
+
+-- it is its own
+settled : (options : FormatOptions) (bytes t u : Text) → IsRewriting options bytes t → IsRewriting options t u → u ≡ t
+settled options bytes t u a b =
+    settled_by options.blank_lines options.reading.edition bytes a.normal t b.normal u a.answer a.lossless a.settles
+    a.written b.answer b.written
+
+not_refused : (options : FormatOptions) (bytes t : Text) (errors : _) → IsRewriting options bytes t →
+    IsRefused options.reading.edition bytes errors → ⊥
+not_refused options bytes t errors a refused = refused.3 (ap faults (tiles_same options bytes t a refused.0 refused.1)
     ∙ none_of_clean (faults a.answer.tiles) a.answer.outcome_is)
 
-not_lossy : (edition : Edition) (bytes t : Text) (entry : LossyEntry) → IsRewriting edition bytes t →
-    IsLossy edition bytes entry → ⊥
-not_lossy edition bytes t entry a lossy =
+not_lossy : (options : FormatOptions) (bytes t : Text) (entry : LossyEntry) → IsRewriting options bytes t →
+    IsLossy options.reading.edition bytes entry → ⊥
+not_lossy options bytes t entry a lossy =
     let reads = lossy.reads in
-    let same = ap (tree_of bytes) (sym (tiles_same edition bytes t a reads.tiles reads.tiling)) ∙ reads.same in
-    let lossless = sym (ap (is_lossless edition) same) ∙ a.lossless in
+    let same = ap (tree_of bytes) (sym (tiles_same options bytes t a reads.tiles reads.tiling)) ∙ reads.same in
+    let lossless = sym (ap (is_lossless options.reading.edition) same) ∙ a.lossless in
     let both = sym lossy.lossy ∙ lossless in
     cc
 
 -- ---- a file whose bytes have one
 
-module _ (edition : Edition) (bytes t : Text) (a : IsRewriting edition bytes t) where
+module _ (options : FormatOptions) (bytes t : Text) (a : IsRewriting options bytes t) where
   becomes_normal : (now new : Option (List ℕ)) → (now ≡ Some bytes) ⊎ (now ≡ Some t) →
-      BecomesRewriting edition now new → new ≡ Some t
+      BecomesRewriting options now new → new ≡ Some t
   becomes_normal now new is becomes = ⊎_elim
-      (λ e. let step = subst (λ o. BecomesRewriting edition o new) e becomes in
-      step.2 ∙ ap Some (one_rewriting edition bytes t step.0 a step.1))
-      (λ e. let step = subst (λ o. BecomesRewriting edition o new) e becomes in
-      step.2 ∙ ap Some (settled edition bytes t step.0 a step.1)) is
+      (λ e. let step = subst (λ o. BecomesRewriting options o new) e becomes in
+      step.2 ∙ ap Some (one_rewriting options bytes t step.0 a step.1))
+      (λ e. let step = subst (λ o. BecomesRewriting options o new) e becomes in
+      step.2 ∙ ap Some (settled options bytes t step.0 a step.1)) is
 
-  reaches_one : (old new : Option (List ℕ)) → Reaches edition old new → (old ≡ Some bytes) ⊎ (old ≡ Some t) →
+  reaches_one : (old new : Option (List ℕ)) → Reaches options old new → (old ≡ Some bytes) ⊎ (old ≡ Some t) →
       (new ≡ Some bytes) ⊎ (new ≡ Some t)
   reaches_one old new stays is = is
   reaches_one old new (goes {now = now} more step) is = inr (becomes_normal now new (reaches_one old now more is) step)
 
-  reaches_normal : (old new : Option (List ℕ)) → Reaches edition old new → old ≡ Some t → new ≡ Some t
+  reaches_normal : (old new : Option (List ℕ)) → Reaches options old new → old ≡ Some t → new ≡ Some t
   reaches_normal old new stays is = is
   reaches_normal old new (goes {now = now} more step) is =
       becomes_normal now new (inr (reaches_normal old now more is)) step
@@ -97,31 +153,28 @@ module _ (edition : Edition) (bytes t : Text) (a : IsRewriting edition bytes t) 
   same_read now read is e = subst (λ o. IsRead o read) e is
 
 -- What was not a fault leaves it as that.
-rewrites_normal : (CallFails : Failing) (reading : Reading) (path : List ℕ) (old new : List ℕ → Option (List ℕ))
-    (result : Replacement) (bytes t : Text) → IsRewriting reading.edition bytes t →
-    Rewrites CallFails reading path old new (Ok result) → (old path ≡ Some bytes) ⊎ (old path ≡ Some t) →
+rewrites_normal : (CallFails : Failing) (options : FormatOptions) (path : List ℕ) (old new : List ℕ → Option (List ℕ))
+    (result : Replacement) (bytes t : Text) → IsRewriting options bytes t →
+    Rewrites CallFails options path old new (Ok result) → (old path ≡ Some bytes) ⊎ (old path ≡ Some t) →
     new path ≡ Some t
-rewrites_normal CallFails reading path old new (replacement.Text text) bytes t a (read, is_read, that, puts) is =
-    let edition = reading.edition in
-    becomes_normal edition bytes t a (old path) (new path) is
-    (becomes_rewriting edition (old path) (new path) read (string_bytes text) is_read that.0 puts.0)
-rewrites_normal CallFails reading path old new replacement.Same bytes t a (read, is_read, that, untouched) is =
-    let edition = reading.edition in
+rewrites_normal CallFails options path old new (replacement.Text text) bytes t a (read, is_read, that, puts) is =
+    becomes_normal options bytes t a (old path) (new path) is
+    (becomes_rewriting options (old path) (new path) read (string_bytes text) is_read that.0 puts.0)
+rewrites_normal CallFails options path old new replacement.Same bytes t a (read, is_read, that, untouched) is =
     untouched path ∙ ⊎_elim
-    (λ e. e ∙ ap Some (one_rewriting edition bytes t bytes a (subst (λ b. IsRewriting edition b b)
-    (same_read edition bytes t a (old path) read is_read e) that))) (λ e. e) is
-rewrites_normal CallFails reading path old new (replacement.Errors refused) bytes t a
+    (λ e. e ∙ ap Some (one_rewriting options bytes t bytes a (subst (λ b. IsRewriting options b b)
+    (same_read options bytes t a (old path) read is_read e) that))) (λ e. e) is
+rewrites_normal CallFails options path old new (replacement.Errors refused) bytes t a
     (read, is_read, that, untouched) is =
-    let edition = reading.edition in
     untouched path ∙ ⊎_elim
-    (λ e. absurd (not_refused edition bytes t refused.errors.items a (subst
-    (λ b. IsRefused edition b refused.errors.items) (same_read edition bytes t a (old path) read is_read e) that)))
+    (λ e. absurd (not_refused options bytes t refused.errors.items a (subst
+    (λ b. IsRefused options.reading.edition b refused.errors.items)
+    (same_read options bytes t a (old path) read is_read e) that)))
     (λ e. e) is
-rewrites_normal CallFails reading path old new (replacement.Lossy entry) bytes t a (read, is_read, that, untouched) is =
-    let edition = reading.edition in
+rewrites_normal CallFails options path old new (replacement.Lossy entry) bytes t a (read, is_read, that, untouched) is =
     untouched path ∙ ⊎_elim
-    (λ e. absurd (not_lossy edition bytes t entry a (subst (λ b. IsLossy edition b entry)
-    (same_read edition bytes t a (old path) read is_read e) that))) (λ e. e) is
+    (λ e. absurd (not_lossy options bytes t entry a (subst (λ b. IsLossy options.reading.edition b entry)
+    (same_read options bytes t a (old path) read is_read e) that))) (λ e. e) is
 
 -- ---- a run without faults
 
@@ -142,49 +195,45 @@ processed_ok (Err fault) before processed is none =
     let least = status_least fault is.0 is.1 in
     absurd (omega (arith, zero_status, least))
 
-faultless : (CallFails : Failing) (reading : Reading) (files : List (String Global)) (old new : List ℕ → Option (List
-    ℕ))
-    (before after : Tally) → FormatsEach CallFails reading files old new before after → after.fault ≡ 0 → before.fault
-    ≡ 0
-faultless CallFails reading [] old new before after each none = sym (ap (λ (t : Tally). t.fault) each.1) ∙ none
-faultless CallFails reading (file ∷ files) old new before after (now, between, formats, rest) none =
-    let here = faultless CallFails reading files now new between after rest none in
+faultless : (CallFails : Failing) (options : FormatOptions) (files : List (String Global))
+    (old new : List ℕ → Option (List ℕ)) (before after : Tally) → FormatsEach CallFails options files old new before after →
+    after.fault ≡ 0 → before.fault ≡ 0
+faultless CallFails options [] old new before after each none = sym (ap (λ (t : Tally). t.fault) each.1) ∙ none
+faultless CallFails options (file ∷ files) old new before after (now, between, formats, rest) none =
+    let here = faultless CallFails options files now new between after rest none in
     counted_fault before formats.2 (sym (ap (λ (t : Tally). t.fault) formats.4) ∙ here)
 
-AllReach-each : (CallFails : Failing) (reading : Reading) (files : List (String Global)) (old new : List ℕ → Option
-    (List ℕ))
-    (before after : Tally) → FormatsEach CallFails reading files old new before after → AllReach reading.edition old new
-AllReach-each CallFails reading [] old new before after each = AllReach-untouched reading.edition old new each.0
-AllReach-each CallFails reading (file ∷ files) old new before after (now, between, formats, rest) =
-    AllReach-trans reading.edition old now new
-    (AllReach-rewrites CallFails reading (string_bytes file) old now formats.0 formats.1)
-    (AllReach-each CallFails reading files now new between after rest)
+AllReach-each : (CallFails : Failing) (options : FormatOptions) (files : List (String Global))
+    (old new : List ℕ → Option (List ℕ)) (before after : Tally) → FormatsEach CallFails options files old new before after →
+    AllReach options old new
+AllReach-each CallFails options [] old new before after each = AllReach-untouched options old new each.0
+AllReach-each CallFails options (file ∷ files) old new before after (now, between, formats, rest) =
+    AllReach-trans options old now new
+    (AllReach-rewrites CallFails options (string_bytes file) old now formats.0 formats.1)
+    (AllReach-each CallFails options files now new between after rest)
 
 -- ---- its files
 
-IsNormal-at : (edition : Edition) (old new : Option (List ℕ)) →
-    ((bytes t : List ℕ) → old ≡ Some bytes → IsRewriting edition bytes t → new ≡ Some t) → IsNormal edition old new
-IsNormal-at edition None new normal = tt
-IsNormal-at edition (Some bytes) new normal = λ t a. normal bytes t refl a
+IsNormal-at : (options : FormatOptions) (old new : Option (List ℕ)) →
+    ((bytes t : List ℕ) → old ≡ Some bytes → IsRewriting options bytes t → new ≡ Some t) → IsNormal options old new
+IsNormal-at options None new normal = tt
+IsNormal-at options (Some bytes) new normal = λ t a. normal bytes t refl a
 
-pub AllNormal-each : (CallFails : Failing) (reading : Reading) (files : List (String Global)) (start old new : List ℕ
-    → Option (List ℕ))
-    (before after : Tally) → AllReach reading.edition start old → FormatsEach CallFails reading files old new before
-    after →
-    after.fault ≡ 0 → AllNormal reading.edition files start new
-AllNormal-each CallFails reading [] start old new before after reach each none = λ k d below. absurd (omega arith)
-AllNormal-each CallFails reading (file ∷ files) start old new before after reach (now, between, formats, rest) none =
+pub AllNormal-each : (CallFails : Failing) (options : FormatOptions) (files : List (String Global))
+    (start old new : List ℕ → Option (List ℕ)) (before after : Tally) → AllReach options start old →
+    FormatsEach CallFails options files old new before after → after.fault ≡ 0 → AllNormal options files start new
+AllNormal-each CallFails options [] start old new before after reach each none = λ k d below. absurd (omega arith)
+AllNormal-each CallFails options (file ∷ files) start old new before after reach (now, between, formats, rest) none =
     let path = string_bytes file in
-    let edition = reading.edition in
-    let here = faultless CallFails reading files now new between after rest none in
+    let here = faultless CallFails options files now new between after rest none in
     let ok = processed_ok formats.0 before formats.2 formats.3 (sym (ap (λ (t : Tally). t.fault) formats.4) ∙ here) in
-    let rewrites = subst (λ r. Rewrites CallFails reading path old now r) ok.1 formats.1 in
-    let beyond = AllReach-each CallFails reading files now new between after rest in
-    let step = AllReach-rewrites CallFails reading path old now formats.0 formats.1 in
-    All-cons (λ file. IsNormal edition (start (string_bytes file)) (new (string_bytes file))) file files
-    (IsNormal-at edition (start path) (new path) (λ bytes t e a. reaches_normal edition bytes t a (now path) (new path)
-    (beyond path) (rewrites_normal CallFails reading path old now ok.0 bytes t a rewrites
-    (reaches_one edition bytes t a (start path) (old path) (reach path) (inl e)))))
-    (AllNormal-each CallFails reading files start now new between after (AllReach-trans edition start old now reach
+    let rewrites = subst (λ r. Rewrites CallFails options path old now r) ok.1 formats.1 in
+    let beyond = AllReach-each CallFails options files now new between after rest in
+    let step = AllReach-rewrites CallFails options path old now formats.0 formats.1 in
+    All-cons (λ file. IsNormal options (start (string_bytes file)) (new (string_bytes file))) file files
+    (IsNormal-at options (start path) (new path) (λ bytes t e a. reaches_normal options bytes t a (now path) (new path)
+    (beyond path) (rewrites_normal CallFails options path old now ok.0 bytes t a rewrites
+    (reaches_one options bytes t a (start path) (old path) (reach path) (inl e)))))
+    (AllNormal-each CallFails options files start now new between after (AllReach-trans options start old now reach
     step) rest
     none)

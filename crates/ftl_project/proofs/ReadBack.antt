@@ -12,7 +12,8 @@ use Rattle.ftl.specs.Formatted.{FormatsAgain}
 use Rattle.ftl.specs.declared.command.Command.TheVariants.{Format, FormatTwo}
 use Rattle.ftl.specs.declared.outcome.Outcome.TheVariants.{Clean}
 use Rattle.ftl.specs.Lossless.{is_lossless}
-use Rattle.ftl_project.specs.Lossless.{IsRewriting, Settles}
+use Rattle.ftl_project.specs.Lossless.{IsRewriting, IsWritten, Settles, format_of}
+use Rattle.ftl_project.specs.declared.formatting.replacement.FormatOptions.{FormatOptions}
 
 -- a text that reads as the tree, and is its text, stays so
 settled : (text : Text) (tree : BodyTree Text) → ReadsAs Two text tree → text ≡ written false tree →
@@ -25,10 +26,15 @@ settled text tree reads is_written again next second =
       second.text_is ∙ ap (written false) same_tree ∙ sym is_written,
     )
 
-pub rewriting : (edition : Edition) (t text : Text) (tree : BodyTree Text) → IsUtf8 t → ReadsAs edition t tree →
+-- The text is the answer for one that was read as the tree, which is safe to write, and settles.
+abbrev AnswersAndSettles : Edition → (t text : Text) → Type 0
+AnswersAndSettles edition t text = (answer : IsAnswer (format_of edition) t text Clean)
+    × (is_lossless edition (tree_of t answer.tiles) ≡ true) × Settles edition (tree_of t answer.tiles) text
+
+normal_settles : (edition : Edition) (t text : Text) (tree : BodyTree Text) → IsUtf8 t → ReadsAs edition t tree →
     text ≡ written false tree → is_lossless edition tree ≡ true → FormatsAgain t → ReadsBack Two tree →
-    IsRewriting edition t text
-rewriting One t text tree utf8 reads is_written lossless law back =
+    AnswersAndSettles edition t text
+normal_settles One t text tree utf8 reads is_written lossless law back =
     let first : IsAnswer Format t text Clean = record {
       is_utf8 = utf8;
       tiles = reads.tiles;
@@ -37,12 +43,8 @@ rewriting One t text tree utf8 reads is_written lossless law back =
       outcome_is = ap outcome_with (sym reads.no_faults);
     } in
     let is_canonical = ap (is_lossless One) reads.same ∙ lossless in
-    record {
-      answer = first;
-      lossless = is_canonical;
-      settles = λ again next second. law text again Clean next first second is_canonical;
-    }
-rewriting Two t text tree utf8 reads is_written lossless law back =
+    (first, is_canonical, λ again next second. law text again Clean next first second is_canonical)
+normal_settles Two t text tree utf8 reads is_written lossless law back =
     let first : IsAnswer FormatTwo t text Clean = record {
       is_utf8 = utf8;
       tiles = reads.tiles;
@@ -50,9 +52,17 @@ rewriting Two t text tree utf8 reads is_written lossless law back =
       text_is = is_written ∙ ap (written false) (sym reads.same);
       outcome_is = ap outcome_with (sym reads.no_faults);
     } in
-    let reads_back = subst (λ x. ReadsAs Two x tree) (sym is_written) (back false lossless) in
-    record {
-      answer = first;
-      lossless = ap (is_lossless Two) reads.same ∙ lossless;
-      settles = subst (λ r. Settles Two r text) (sym reads.same) (settled text tree reads_back is_written);
-    }
+    let reads_back = subst (λ x. ReadsAs Two x tree) (sym is_written) (back false lossless) in (
+      first,
+      ap (is_lossless Two) reads.same ∙ lossless,
+      subst (λ r. Settles Two r text) (sym reads.same) (settled text tree reads_back is_written),
+    )
+
+pub rewriting : (options : FormatOptions) (t normal text : Text) (tree : BodyTree Text) → IsUtf8 t →
+    ReadsAs options.reading.edition t tree → normal ≡ written false tree →
+    is_lossless options.reading.edition tree ≡ true → FormatsAgain t → ReadsBack Two tree →
+    IsWritten options.blank_lines options.reading.edition t normal text → IsRewriting options t text
+rewriting options t normal text tree utf8 reads is_written lossless law back is =
+    let (answer, safe, settles) =
+    normal_settles options.reading.edition t normal tree utf8 reads is_written lossless law back in
+    record { normal = normal; answer = answer; lossless = safe; settles = settles; written = is }

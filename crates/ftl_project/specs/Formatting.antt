@@ -2,7 +2,6 @@
 use Rattle.std.specs.Prelude.{◌≡◌, ◌++◌, ℕ, List, [], ◌∷◌, All, length, Bool, true, false, Option, None, Some}
 use Rattle.std.specs.Prelude.{Result, Ok, Err, String, codes, string_bytes}
 use Rattle.std.specs.Global.{Global}
-use Rattle.fluent_syntax_tree.specs.declared.edition.Edition.{Edition}
 use Rattle.ftl_files.specs.Store.{AllUnchanged}
 use Rattle.ftl_project.specs.Excerpt.{shown_text}
 use Rattle.ftl_project.specs.Faults.{Failing, HasStatus}
@@ -11,7 +10,7 @@ use Rattle.ftl_project.specs.Runs.{TaskAnswers}
 use Rattle.ftl_project.specs.Lossless.{IsRewriting}
 use Rattle.ftl_project.specs.Tally.{Processed, answered, counted, failed}
 use Rattle.ftl_project.specs.declared.fault.Fault.{Fault}
-use Rattle.ftl_files.specs.declared.options.Reading.{Reading}
+use Rattle.ftl_project.specs.declared.formatting.replacement.FormatOptions.{FormatOptions}
 use Rattle.ftl_project.specs.declared.formatting.replacement.Replacement.{Replacement}
 use Rattle.ftl_project.specs.declared.formatting.replacement.Replacement.TheVariants.{Errors, Same, Text, Lossy}
 use Rattle.ftl_project.specs.declared.tally.Tally.{Tally}
@@ -34,11 +33,11 @@ abbrev pub IsProcessed : Result Replacement Fault → Processed → Type 0
 IsProcessed (Ok replacement) processed = processed ≡ answered (errors_in replacement) (is_left_unchanged replacement)
 IsProcessed (Err fault) processed = (status : ℕ) × HasStatus fault status × (processed ≡ failed status)
 
-module _ (CallFails : Failing) (reading : Reading) where
+module _ (CallFails : Failing) (options : FormatOptions) where
   -- A file was rewritten, or left as it is, and counted by what became of it.
   abbrev pub Formats : (path : List ℕ) → (old new : List ℕ → Option (List ℕ)) → (before after : Tally) → Type 0
   Formats path old new before after = (result : Result Replacement Fault)
-      × Rewrites CallFails reading path old new result × (processed : Processed) × IsProcessed result processed
+      × Rewrites CallFails options path old new result × (processed : Processed) × IsProcessed result processed
       × (after ≡ counted before processed)
 
   -- So was each of the files, one after another.
@@ -49,13 +48,13 @@ module _ (CallFails : Failing) (reading : Reading) where
       × FormatsEach files now new between after
 
 -- The bytes that are known have become their rewriting, if they have one.
-abbrev pub IsNormal : Edition → (old new : Option (List ℕ)) → Type 0
-IsNormal edition None new = Unit {0}
-IsNormal edition (Some bytes) new = (text : List ℕ) → IsRewriting edition bytes text → new ≡ Some text
+abbrev pub IsNormal : FormatOptions → (old new : Option (List ℕ)) → Type 0
+IsNormal options None new = Unit {0}
+IsNormal options (Some bytes) new = (text : List ℕ) → IsRewriting options bytes text → new ≡ Some text
 
 -- So has each of the files.
-abbrev pub AllNormal : Edition → List (String Global) → (old new : List ℕ → Option (List ℕ)) → Type 0
-AllNormal edition files old new = All (λ file. IsNormal edition (old (string_bytes file)) (new (string_bytes file)))
+abbrev pub AllNormal : FormatOptions → List (String Global) → (old new : List ℕ → Option (List ℕ)) → Type 0
+AllNormal options files old new = All (λ file. IsNormal options (old (string_bytes file)) (new (string_bytes file)))
     files
 
 -- ---- by name
@@ -71,13 +70,13 @@ name_of path (Text text) = shown_text path ++ codes "\n"
 name_of path _ = []
 
 -- of a text of which it is shown what would change: how that is shown is for people
-abbrev pub IsShown : Reading → TaskAnswers
-IsShown reading path text errors has_problems shown = (replacement : Replacement)
-    × IsReplacement reading.edition text replacement × (errors ≡ errors_in replacement)
+abbrev pub IsShown : FormatOptions → TaskAnswers
+IsShown options path text errors has_problems shown = (replacement : Replacement)
+    × IsReplacement options text replacement × (errors ≡ errors_in replacement)
     × (has_problems ≡ is_not_normal replacement)
 
 -- of a text that is named where it would change
-abbrev pub IsNamed : Reading → TaskAnswers
-IsNamed reading path text errors has_problems named = (replacement : Replacement)
-    × IsReplacement reading.edition text replacement × (errors ≡ errors_in replacement)
+abbrev pub IsNamed : FormatOptions → TaskAnswers
+IsNamed options path text errors has_problems named = (replacement : Replacement)
+    × IsReplacement options text replacement × (errors ≡ errors_in replacement)
     × (has_problems ≡ is_not_normal replacement) × (named ≡ name_of path replacement)

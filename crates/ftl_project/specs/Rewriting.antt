@@ -17,7 +17,9 @@ use Rattle.ftl_project.specs.Errors.{IsRefused}
 use Rattle.ftl_project.specs.Faults.{Failing, IsFault, IsRead, IsTooDeep, IsUnparsed, IsUnwritten}
 use Rattle.ftl_project.specs.Lossless.{IsRewriting}
 use Rattle.ftl_project.specs.declared.fault.Fault.{Fault}
+use Rattle.ftl_files.specs.declared.options.BlankLines.TheVariants.{Normal}
 use Rattle.ftl_files.specs.declared.options.Reading.{Reading}
+use Rattle.ftl_project.specs.declared.formatting.replacement.FormatOptions.{FormatOptions}
 use Rattle.ftl_project.specs.declared.formatting.replacement.Replacement.{Replacement}
 use Rattle.ftl_project.specs.declared.formatting.replacement.Replacement.TheVariants.{Errors, Same, Lossy}
 use Rattle.ftl_project.specs.declared.formatting.replacement.Replacement.TheVariants as replacement
@@ -65,28 +67,29 @@ pub record IsLossy (edition : Edition) (bytes : Text) (entry : LossyEntry) : Typ
 
 -- ---- what is to come in the place of a text
 
-abbrev pub IsReplacement : Edition → List ℕ → Replacement → Type 0
-IsReplacement edition bytes Same = IsRewriting edition bytes bytes
-IsReplacement edition bytes (replacement.Text text) =
-    IsRewriting edition bytes (string_bytes text) × (string_bytes text ≢ bytes)
-IsReplacement edition bytes (Errors refused) = IsRefused edition bytes refused.errors.items
-IsReplacement edition bytes (Lossy entry) = IsLossy edition bytes entry
+abbrev pub IsReplacement : FormatOptions → List ℕ → Replacement → Type 0
+IsReplacement options bytes Same = IsRewriting options bytes bytes
+IsReplacement options bytes (replacement.Text text) =
+    IsRewriting options bytes (string_bytes text) × (string_bytes text ≢ bytes)
+IsReplacement options bytes (Errors refused) = IsRefused options.reading.edition bytes refused.errors.items
+IsReplacement options bytes (Lossy entry) = IsLossy options.reading.edition bytes entry
 
 abbrev pub lossy_entry_of : Replacement → Option LossyEntry
 lossy_entry_of (Lossy entry) = Some entry
 lossy_entry_of _ = None
 
 -- The entry is that of the text's replacement, if it has one.
-abbrev pub FindsLossy : Edition → Text → Option LossyEntry → Type 0
-FindsLossy edition bytes found =
-    (replacement : Replacement) × IsReplacement edition bytes replacement × (found ≡ lossy_entry_of replacement)
+abbrev pub FindsLossy : Reading → Text → Option LossyEntry → Type 0
+FindsLossy reading bytes found = (replacement : Replacement)
+    × IsReplacement (record { reading = reading; blank_lines = Normal }) bytes replacement
+    × (found ≡ lossy_entry_of replacement)
 
 -- ---- a file
 
 -- where the bytes were known, a rewriting of them is there now
-abbrev pub BecomesRewriting : Edition → (old new : Option (List ℕ)) → Type 0
-BecomesRewriting edition None new = Unit {0}
-BecomesRewriting edition (Some bytes) new = (text : List ℕ) × IsRewriting edition bytes text × (new ≡ Some text)
+abbrev pub BecomesRewriting : FormatOptions → (old new : Option (List ℕ)) → Type 0
+BecomesRewriting options None new = Unit {0}
+BecomesRewriting options (Some bytes) new = (text : List ℕ) × IsRewriting options bytes text × (new ≡ Some text)
 
 -- A text has come in the file's place, and no other file was touched; or all files are as they were.
 abbrev pub Puts : Replacement → (path : List ℕ) → (old new : List ℕ → Option (List ℕ)) → Type 0
@@ -96,21 +99,21 @@ Puts _ path old new = AllUnchanged old new
 
 -- The replacement of what was read of the file was put in its place; after a fault the old bytes are there, or a
 -- rewriting of them.
-abbrev pub Rewrites : Failing → Reading → (path : List ℕ) → (old new : List ℕ → Option (List ℕ)) →
+abbrev pub Rewrites : Failing → FormatOptions → (path : List ℕ) → (old new : List ℕ → Option (List ℕ)) →
     Result Replacement Fault → Type 0
-Rewrites CallFails reading path old new (Ok replacement) = (read : List ℕ) × IsRead (old path) read
-    × IsReplacement reading.edition read replacement × Puts replacement path old new
-Rewrites CallFails reading path old new (Err fault) =
-    ((new path ≡ old path) ⊎ BecomesRewriting reading.edition (old path) (new path)) × OthersUnchanged old new path
-    × (IsFault CallFails (old path) (λ text. IsUnparsed (IsTooDeep reading text)) fault
+Rewrites CallFails options path old new (Ok replacement) = (read : List ℕ) × IsRead (old path) read
+    × IsReplacement options read replacement × Puts replacement path old new
+Rewrites CallFails options path old new (Err fault) =
+    ((new path ≡ old path) ⊎ BecomesRewriting options (old path) (new path)) × OthersUnchanged old new path
+    × (IsFault CallFails (old path) (λ text. IsUnparsed (IsTooDeep options.reading text)) fault
     ⊎ IsUnwritten CallFails (old path) fault)
 
 -- A file is as it was, or has become a rewriting of what it was, once or more often where a run came to it so.
-pub data Reaches (edition : Edition) : (old new : Option (List ℕ)) → Type 0 where
-  stays : {bytes : Option (List ℕ)} → Reaches edition bytes bytes
-  goes : {old now new : Option (List ℕ)} → Reaches edition old now → BecomesRewriting edition now new →
-      Reaches edition old new
+pub data Reaches (options : FormatOptions) : (old new : Option (List ℕ)) → Type 0 where
+  stays : {bytes : Option (List ℕ)} → Reaches options bytes bytes
+  goes : {old now new : Option (List ℕ)} → Reaches options old now → BecomesRewriting options now new →
+      Reaches options old new
 
 -- so does each file
-abbrev pub AllReach : Edition → (old new : List ℕ → Option (List ℕ)) → Type 0
-AllReach edition old new = (path : List ℕ) → Reaches edition (old path) (new path)
+abbrev pub AllReach : FormatOptions → (old new : List ℕ → Option (List ℕ)) → Type 0
+AllReach options old new = (path : List ℕ) → Reaches options (old path) (new path)

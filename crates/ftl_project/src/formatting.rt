@@ -16,7 +16,7 @@ pub mod rewriting;
 use crate::answering::{Answer, FileTask};
 use crate::fault::Fault;
 use crate::formatting::lossy_entry::lossy_entry_line;
-use crate::formatting::replacement::{Replacement, replacement_for};
+use crate::formatting::replacement::{FormatOptions, Replacement, replacement_for};
 use crate::formatting::rewrite_counts::RewriteCounts;
 use crate::formatting::rewriting::rewrite;
 use crate::reporting::report;
@@ -24,16 +24,16 @@ use crate::reporting::terminal_text::push_shown_text;
 use crate::streams::{Streams, report_fault};
 use crate::tally::Tally;
 use ftl::{RunFault, write_all};
-use ftl_files::{Form, Reading, Store};
+use ftl_files::{Form, Store};
 use std::alloc::{AllocError, Global};
 use std::io::Write;
 
-/// Puts the normal form in the place of each file that has no syntax error and whose normal form reads back. However
-/// the run ends, each file is as it was, or is its normal form.
+/// Puts the normal form in the place of each file that has no syntax error and whose normal form reads back, with the
+/// blank lines that are kept. However the run ends, each file is as it was, or is so formatted.
 ///
 /// - `reaches`: so they are.
 /// - `each`: a run that ends in `Ok` came to each file, in order, and counted it by what became of it.
-/// - `normal`: where the tally has no fault then, each file that has such a normal form is that.
+/// - `normal`: where the tally has no fault then, each file that has such a normal form is so formatted.
 ///
 /// How many were rewritten, and why others were left, is added to the counts.
 ///
@@ -42,21 +42,21 @@ pub fn write_files<S: Store, O: Write, E: Write>(
     alloc: Global,
     store: &mut S,
     files: &[String],
-    reading: Reading,
+    options: FormatOptions,
     tally: &mut Tally,
     counts: &mut RewriteCounts,
     streams: &mut Streams<'_, O, E>,
 ) -> Result<(), RunFault>
-    ensures reaches { AllReach reading.edition (S.bytes_at store.old) (S.bytes_at store.new) }
+    ensures reaches { AllReach options (S.bytes_at store.old) (S.bytes_at store.new) }
     ensures each { OnOk result
-        (FormatsEach S.fails reading files.now (S.bytes_at store.old) (S.bytes_at store.new) tally.old tally.new) }
+        (FormatsEach S.fails options files.now (S.bytes_at store.old) (S.bytes_at store.new) tally.old tally.new) }
     ensures normal { OnOk result (tally.new.fault ≡ 0
-        → AllNormal reading.edition files.now (S.bytes_at store.old) (S.bytes_at store.new)) }
+        → AllNormal options files.now (S.bytes_at store.old) (S.bytes_at store.new)) }
     ensures input { result ≢ Err RunFault.Input }
     ensures output { result ≡ Err RunFault.Output → has_failed streams.new.err.now ≡ true }
 {
     for file in files {
-        write_file(alloc, store, file.as_str(), reading, tally, counts, streams)?;
+        write_file(alloc, store, file.as_str(), options, tally, counts, streams)?;
     }
     Ok(())
 }
@@ -65,18 +65,18 @@ fn write_file<S: Store, O: Write, E: Write>(
     alloc: Global,
     store: &mut S,
     path: &str,
-    reading: Reading,
+    options: FormatOptions,
     tally: &mut Tally,
     counts: &mut RewriteCounts,
     streams: &mut Streams<'_, O, E>,
 ) -> Result<(), RunFault>
-    ensures reaches { AllReach reading.edition (S.bytes_at store.old) (S.bytes_at store.new) }
+    ensures reaches { AllReach options (S.bytes_at store.old) (S.bytes_at store.new) }
     ensures counted { OnOk result
-        (Formats S.fails reading path.now (S.bytes_at store.old) (S.bytes_at store.new) tally.old tally.new) }
+        (Formats S.fails options path.now (S.bytes_at store.old) (S.bytes_at store.new) tally.old tally.new) }
     ensures input { result ≢ Err RunFault.Input }
     ensures output { result ≡ Err RunFault.Output → has_failed streams.new.err.now ≡ true }
 {
-    let replacement = match rewrite(alloc, store, path, reading) {
+    let replacement = match rewrite(alloc, store, path, options) {
         Ok(replacement) => replacement,
         Err(fault) => return report_fault(alloc, tally, path, &fault, streams),
     };
@@ -91,16 +91,16 @@ fn write_file<S: Store, O: Write, E: Write>(
 /// Names each file that `write_files` would change, on a line.
 #[derive(Clone, Copy)]
 pub struct NameTask {
-    pub reading: Reading,
+    pub options: FormatOptions,
 }
 
 impl FileTask for NameTask {
-    ghost answers = { λ naming. IsNamed naming.reading };
+    ghost answers = { λ naming. IsNamed naming.options };
 
-    ghost refuses = { λ naming text. IsUnparsed (IsTooDeep naming.reading text) };
+    ghost refuses = { λ naming text. IsUnparsed (IsTooDeep naming.options.reading text) };
 
     fn answer(&self, alloc: Global, path: &str, text: String) -> Result<Answer, Fault> {
-        let replacement = replacement_for(alloc, text, self.reading)?;
+        let replacement = replacement_for(alloc, text, self.options)?;
         Ok(Answer {
             errors: errors_in(&replacement),
             has_problems: is_not_normal(&replacement),

@@ -106,7 +106,8 @@ impl Server {
             return Ok(None);
         };
         let text = open.document.text();
-        let Some(formatted) = formatted_text(self.alloc, text)? else {
+        let blank_lines = self.workspace.blank_lines_at(open.path.as_deref());
+        let Some(formatted) = formatted_text(self.alloc, text, blank_lines)? else {
             let name = uri_of(message).unwrap_or("");
             let notice = Notice::of_unformatted(self.alloc, name, open, &self.workspace)?;
             self.notices.push(notice)?;

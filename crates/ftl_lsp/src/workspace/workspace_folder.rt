@@ -4,8 +4,8 @@ use crate::sessions::notices::Notice;
 use crate::workspace::originals::Reference;
 use crate::workspace::settings::{ProjectSettings, nearest_settings};
 use ftl_files::{
-    Excluded, Folders, ReportedKind, Settings, absolute_path, folder_of_languages, is_below,
-    language_of,
+    BlankLines, Excluded, Folders, ReportedKind, Settings, absolute_path, folder_of_languages,
+    is_below, language_of,
 };
 use std::alloc::{AllocError, Global};
 
@@ -18,6 +18,8 @@ pub struct WorkspaceFolder {
     pub ignored: Vec<ReportedKind>,
     /// What is passed over below it.
     pub excluded: Excluded,
+    /// What becomes of blank lines where its files are formatted.
+    pub blank_lines: BlankLines,
     /// Where the reference language has its files, if that is said.
     pub reference: Option<Reference>,
     /// The folder in which each language has its own, if the reference is a folder.
@@ -33,6 +35,7 @@ impl WorkspaceFolder {
             path: String::from_str(alloc, path)?,
             ignored: Vec::new(alloc),
             excluded: Excluded::new(alloc),
+            blank_lines: BlankLines::Normal,
             reference: None,
             languages: None,
             fault: None,
@@ -88,6 +91,7 @@ impl WorkspaceFolder {
         self.languages = None;
         self.ignored = Vec::new(alloc);
         self.excluded = Excluded::new(alloc);
+        self.blank_lines = BlankLines::Normal;
         let Some(ProjectSettings { folder, settings }) = project else {
             return Ok(());
         };
@@ -95,10 +99,12 @@ impl WorkspaceFolder {
             reference,
             ignored,
             excluded,
+            blank_lines,
             ..
         } = settings;
         let folder = folder.as_str();
         self.excluded = excluded_in(alloc, folder, &excluded)?;
+        self.blank_lines = blank_lines.unwrap_or(BlankLines::Normal);
         if let Some(name) = reference {
             let path = absolute_path(alloc, folder, name.as_str())?;
             let path = path.as_str();

@@ -1,10 +1,10 @@
 //! Files are answered on standard output.
-ghost use Rattle.std.specs.Prelude.{IfErr, IfOk, string_bytes};
+ghost use Rattle.std.specs.Prelude.{ℕ, IfErr, IfOk, List, string_bytes};
 ghost use Rattle.fluent_syntax_grammar.specs.Nesting.{NestsDeeper};
 ghost use Rattle.ftl.specs.Answer.{IsAnswer, ReadsDeeper};
-ghost use Rattle.ftl_project.specs.Answered.{IsPrinted};
+ghost use Rattle.ftl_project.specs.Answered.{IsPrinted, IsPrintedOf};
 ghost use Rattle.ftl_project.specs.Faults.{IsUnparsed};
-ghost use Rattle.ftl_project.specs.Lossless.{format_of};
+ghost use Rattle.ftl_project.specs.Lossless.{IsWritten, format_of};
 
 use crate::answering::{Answer, FileTask};
 use crate::fault::Fault;
@@ -12,8 +12,8 @@ use crate::formatting::lossy_entry::lossy_note;
 use crate::streams::{byte_order_mark_note, note_line};
 use fluent_syntax::parser::Edition;
 use fluent_syntax::spans::Halt;
-use ftl::{Command, Outcome, answer_within, formatted_within};
-use ftl_files::Reading;
+use ftl::{Command, Outcome, answer_within, formatted_keeping, formatted_within};
+use ftl_files::{BlankLines, Reading};
 use std::alloc::{AllocError, Global};
 
 /// What is written of a file.
@@ -25,17 +25,19 @@ struct Printed {
     doubtful: Option<Edition>,
 }
 
-/// Writes the command's text of each file. A file that has errors, or whose normal form does not read back, is
-/// reported.
+/// Writes the command's text of each file, with the blank lines that are kept where it formats. A file that has errors,
+/// or whose normal form does not read back, is reported.
 #[derive(Clone, Copy)]
 pub struct PrintTask {
     pub command: Command,
     /// How deep placeables and argument lists may nest.
     pub nesting: usize,
+    /// What becomes of blank lines where it formats.
+    pub blank_lines: BlankLines,
 }
 
 impl FileTask for PrintTask {
-    ghost answers = { λ printing. IsPrinted printing.command };
+    ghost answers = { λ printing. IsPrinted printing.blank_lines printing.command };
 
     ghost refuses = { λ printing text. IsUnparsed (ReadsDeeper printing.command text printing.nesting) };
 
@@ -54,8 +56,8 @@ impl FileTask for PrintTask {
 impl PrintTask {
     /// The command's text.
     fn printed(&self, alloc: Global, text: &str) -> Result<Printed, Fault>
-        ensures printed { IfOk result (λ printed. IsAnswer self.now.command text.now (string_bytes printed.text)
-            printed.outcome) }
+        ensures printed { IfOk result (λ printed. IsPrintedOf self.now.blank_lines self.now.command text.now
+            (string_bytes printed.text) printed.outcome) }
         ensures fault { IfErr result (IsUnparsed (ReadsDeeper self.now.command text.now self.now.nesting)) }
     {
         match self.command {
@@ -65,13 +67,18 @@ impl PrintTask {
         }
     }
 
-    /// The text's normal form.
+    /// The text's normal form, with the blank lines that are kept.
     fn formatted(&self, alloc: Global, text: &str, edition: Edition) -> Result<Printed, Fault>
-        ensures formatted { IfOk result (λ formatted. IsAnswer (format_of edition) text.now
-            (string_bytes formatted.text) formatted.outcome) }
+        ensures formatted { IfOk result (λ formatted. (normal : List ℕ)
+            × IsAnswer (format_of edition) text.now normal formatted.outcome
+            × IsWritten self.now.blank_lines edition text.now normal (string_bytes formatted.text)) }
         ensures fault { IfErr result (IsUnparsed (NestsDeeper edition text.now self.now.nesting)) }
     {
-        match formatted_within(alloc, text, edition, self.nesting) {
+        let formatted = match self.blank_lines {
+            BlankLines::Normal => formatted_within(alloc, text, edition, self.nesting),
+            BlankLines::Keep => formatted_keeping(alloc, text, edition, self.nesting),
+        };
+        match formatted {
             Ok(formatted) => Ok(Printed {
                 text: formatted.text,
                 outcome: formatted.outcome,

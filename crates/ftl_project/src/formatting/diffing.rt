@@ -5,25 +5,24 @@ ghost use Rattle.ftl_project.specs.Formatting.{IsShown};
 use crate::answering::{Answer, FileTask};
 use crate::fault::Fault;
 use crate::formatting::line_diff::line_diff;
-use crate::formatting::replacement::{Replacement, replacement_for};
+use crate::formatting::replacement::{FormatOptions, Replacement, replacement_for};
 use crate::formatting::{errors_in, is_not_normal, unchanged_note};
-use ftl_files::Reading;
 use std::alloc::{AllocError, Global};
 
 /// Writes of each file what `write_files` would change, as a unified diff.
 #[derive(Clone, Copy)]
 pub struct DiffTask {
-    pub reading: Reading,
+    pub options: FormatOptions,
 }
 
 impl FileTask for DiffTask {
-    ghost answers = { λ diffing. IsShown diffing.reading };
+    ghost answers = { λ diffing. IsShown diffing.options };
 
-    ghost refuses = { λ diffing text. IsUnparsed (IsTooDeep diffing.reading text) };
+    ghost refuses = { λ diffing text. IsUnparsed (IsTooDeep diffing.options.reading text) };
 
     fn answer(&self, alloc: Global, path: &str, text: String) -> Result<Answer, Fault> {
         let old = String::from_str(alloc, text.as_str())?;
-        let replacement = replacement_for(alloc, text, self.reading)?;
+        let replacement = replacement_for(alloc, text, self.options)?;
         Ok(Answer {
             errors: errors_in(&replacement),
             has_problems: is_not_normal(&replacement),

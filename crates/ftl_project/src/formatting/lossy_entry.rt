@@ -8,13 +8,13 @@ ghost use Rattle.ftl_project.specs.Summaries.{lossy_entry_line_of, lossy_note_of
 ghost use Rattle.ftl_project.specs.declared.formatting.lossy_entry.LossyEntry.{LossyEntry};
 
 use crate::fault::Fault;
-use crate::formatting::replacement::{Replacement, replacement_for};
+use crate::formatting::replacement::{FormatOptions, Replacement, replacement_for};
 use crate::reporting::terminal_text::push_shown_text;
 use fluent_syntax::ast::{Comment, Entry};
 use fluent_syntax::laws::{Rule, Uncanonical};
 use fluent_syntax::parser::recovered;
 use fluent_syntax::spans::{Lines, Span, parse_spans_within};
-use ftl_files::Reading;
+use ftl_files::{BlankLines, Reading};
 use std::alloc::{AllocError, Global};
 
 /// An entry of a text by which its normal form would not read back.
@@ -38,11 +38,15 @@ pub fn lossy_entry_in(
     text: &str,
     reading: Reading,
 ) -> Result<Option<LossyEntry>, Fault>
-    ensures found { IfOk result (FindsLossy reading.edition text.now) }
+    ensures found { IfOk result (FindsLossy reading text.now) }
     ensures fault { IfErr result (IsUnparsed (IsTooDeep reading text.now)) }
 {
     let text = String::from_str(alloc, text)?;
-    match replacement_for(alloc, text, reading)? {
+    let options = FormatOptions {
+        reading,
+        blank_lines: BlankLines::Normal,
+    };
+    match replacement_for(alloc, text, options)? {
         Replacement::Lossy(entry) => Ok(Some(entry)),
         _ => Ok(None),
     }
@@ -57,7 +61,7 @@ pub fn lossy_note(
     text: &str,
     reading: Reading,
 ) -> Result<String, AllocError>
-    ensures { IfOk result (λ note. (found : Option LossyEntry) × FindsLossy reading.edition text.now found
+    ensures { IfOk result (λ note. (found : Option LossyEntry) × FindsLossy reading text.now found
         × (rule : List ℕ) × (string_bytes note ≡ lossy_note_of path.now found rule)) }
 {
     match lossy_entry_in(alloc, text, reading) {

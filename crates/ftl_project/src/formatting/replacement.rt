@@ -3,6 +3,7 @@ ghost use Rattle.std.specs.Prelude.{◌≡◌, ◌+◌, ◌<◌, ◌^◌, IfErr,
 ghost use Rattle.fluent_syntax_grammar.specs.RoundTrip.{ReadsAs};
 ghost use Rattle.fluent_syntax_tree.specs.View.{resource_view};
 ghost use Rattle.ftl_project.specs.Faults.{IsTooDeep, IsUnparsed};
+ghost use Rattle.ftl_project.specs.Lossless.{IsWritten};
 ghost use Rattle.ftl_project.specs.Rewriting.{IsReplacement};
 
 use crate::fault::Fault;
@@ -12,10 +13,19 @@ use fluent_syntax::ast::Resource;
 use fluent_syntax::laws::reads_back;
 use fluent_syntax::parser::{ParseFault, parse_within};
 use fluent_syntax::serializer::serialize;
-use ftl::first_lossy_entry;
 use ftl::laws::formatting_is_idempotent;
-use ftl_files::Reading;
-use std::alloc::Global;
+use ftl::{first_lossy_entry, with_blank_lines};
+use ftl_files::{BlankLines, Reading};
+use std::alloc::{AllocError, Global};
+
+/// How files are formatted.
+#[derive(Clone, Copy, Debug, PartialEq, Eq)]
+pub struct FormatOptions {
+    /// How their texts are read.
+    pub reading: Reading,
+    /// What becomes of blank lines between messages and terms.
+    pub blank_lines: BlankLines,
+}
 
 /// What is to come in the place of a file's text.
 #[derive(Debug, Drop)]
@@ -30,19 +40,25 @@ pub enum Replacement {
     Lossy(LossyEntry),
 }
 
-/// What is to come in the place of the text: its normal form, where it has no error and reads back.
+/// What is to come in the place of the text: its normal form, with the blank lines that are kept, where it has no error
+/// and reads back.
 ///
 /// `Memory`: a growth was refused, or the text is as long as the greatest `usize`. `TooDeep`: it nests deeper than it
 /// may.
-pub fn replacement_for(alloc: Global, text: String, reading: Reading) -> Result<Replacement, Fault>
-    ensures is { IfOk result (IsReplacement reading.edition (string_bytes text)) }
-    ensures fault { IfErr result (IsUnparsed (IsTooDeep reading (string_bytes text))) }
+pub fn replacement_for(
+    alloc: Global,
+    text: String,
+    options: FormatOptions,
+) -> Result<Replacement, Fault>
+    ensures is { IfOk result (IsReplacement options (string_bytes text)) }
+    ensures fault { IfErr result (IsUnparsed (IsTooDeep options.reading (string_bytes text))) }
 {
+    let FormatOptions { reading, .. } = options;
     if text.len() == usize::MAX {
         return Err(Fault::Memory);
     }
     let errors = match parse_within(alloc, text.as_str(), reading.edition, reading.nesting) {
-        Ok(Ok(tree)) => return replacement_of(alloc, text.as_str(), &tree, reading),
+        Ok(Ok(tree)) => return replacement_of(alloc, text.as_str(), &tree, options),
         Ok(Err(ParseFault::Syntax(_, errors))) => errors,
         Ok(Err(ParseFault::Memory)) => return Err(Fault::Memory),
         Err(_) => return Err(Fault::TooDeep),
@@ -59,22 +75,41 @@ fn replacement_of(
     alloc: Global,
     text: &str,
     tree: &Resource<&str>,
-    reading: Reading,
+    options: FormatOptions,
 ) -> Result<Replacement, Fault>
-    requires reads { ReadsAs reading.edition text.now (resource_view (λ s. s.now) tree.now) }
+    requires reads { ReadsAs options.reading.edition text.now (resource_view (λ s. s.now) tree.now) }
     requires short { length text.now + 1 < 2 ^ 64 }
-    ensures is { IfOk result (IsReplacement reading.edition text.now) }
+    ensures is { IfOk result (IsReplacement options text.now) }
     ensures fault { IfErr result (λ fault. fault ≡ Fault.Memory) }
 {
+    let FormatOptions { reading, .. } = options;
     formatting_is_idempotent(text.as_bytes());
     reads_back(tree);
     if let Some(broken) = first_lossy_entry(alloc, tree, reading.edition)? {
         return Ok(Replacement::Lossy(lossy_entry(alloc, text, reading, broken)?));
     }
-    let formatted = serialize(alloc, tree)?;
+    let normal = serialize(alloc, tree)?;
+    let formatted = written(alloc, text, normal, options)?;
     if formatted.as_str() == text {
         Ok(Replacement::Same)
     } else {
         Ok(Replacement::Text(formatted))
+    }
+}
+
+/// The normal form of the text, with the blank lines that are kept.
+fn written(
+    alloc: Global,
+    text: &str,
+    normal: String,
+    options: FormatOptions,
+) -> Result<String, AllocError>
+    ensures { IfOk result (λ written.
+        IsWritten options.blank_lines options.reading.edition text.now (string_bytes normal) (string_bytes written)) }
+{
+    let Reading { edition, nesting } = options.reading;
+    match options.blank_lines {
+        BlankLines::Normal => Ok(normal),
+        BlankLines::Keep => with_blank_lines(alloc, text, normal, edition, nesting),
     }
 }

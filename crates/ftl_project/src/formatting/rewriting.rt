@@ -5,8 +5,8 @@ ghost use Rattle.ftl_project.specs.Faults.{IsRead, IsUnread};
 ghost use Rattle.ftl_project.specs.Rewriting.{Rewrites};
 
 use crate::fault::Fault;
-use crate::formatting::replacement::{Replacement, replacement_for};
-use ftl_files::{Reading, Store};
+use crate::formatting::replacement::{FormatOptions, Replacement, replacement_for};
+use ftl_files::Store;
 use std::alloc::Global;
 
 /// Puts the file's normal form in its place, if it has no syntax error and the normal form reads back. After a fault
@@ -15,12 +15,12 @@ pub fn rewrite<S: Store>(
     alloc: Global,
     store: &mut S,
     path: &str,
-    reading: Reading,
+    options: FormatOptions,
 ) -> Result<Replacement, Fault>
-    ensures { Rewrites S.fails reading path.now (S.bytes_at store.old) (S.bytes_at store.new) result }
+    ensures { Rewrites S.fails options path.now (S.bytes_at store.old) (S.bytes_at store.new) result }
 {
     let text = read_text(store, path)?;
-    let replacement = replacement_for(alloc, text, reading)?;
+    let replacement = replacement_for(alloc, text, options)?;
     if let Replacement::Text(formatted) = &replacement {
         if let Err(error) = store.replace(path, formatted.as_bytes()) {
             return Err(Fault::Write(error));

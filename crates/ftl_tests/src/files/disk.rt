@@ -5,7 +5,7 @@ use fluent_syntax::parser::Edition;
 use fluent_syntax_tests::alike::{assert_holds, assert_same};
 use ftl::Watched;
 use ftl_files::{Disk, Excluded, list};
-use ftl_project::{Reading, RewriteCounts, Streams, Tally, write_files};
+use ftl_project::{BlankLines, FormatOptions, Reading, RewriteCounts, Streams, Tally, write_files};
 use std::alloc::Global;
 use std::test::Fail;
 
@@ -35,9 +35,12 @@ fn format(alloc: Global, state: &State) -> Result<Tally, Fail> {
     if !listing.faults.is_empty() {
         tally.add_fault(3);
     }
-    let reading = Reading {
-        edition: Edition::One,
-        nesting: 10,
+    let options = FormatOptions {
+        reading: Reading {
+            edition: Edition::One,
+            nesting: 10,
+        },
+        blank_lines: BlankLines::Normal,
     };
     let mut streams = Streams {
         out: &mut Watched::new(Vec::new(alloc)),
@@ -48,7 +51,7 @@ fn format(alloc: Global, state: &State) -> Result<Tally, Fail> {
         alloc,
         &mut Disk::of_regular_files(&rt),
         files,
-        reading,
+        options,
         &mut tally,
         &mut RewriteCounts::new(),
         &mut streams,

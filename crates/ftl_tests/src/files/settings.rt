@@ -3,13 +3,13 @@
 use fluent_syntax::parser::Edition;
 use fluent_syntax_names::Difference;
 use fluent_syntax_tests::alike::{assert_holds, assert_same, assert_same_text};
-use ftl_files::{Color, Output, ReportedKind, settings_of};
+use ftl_files::{BlankLines, Color, Output, ReportedKind, settings_of};
 use std::alloc::Global;
 use std::test::Fail;
 
 const EACH: &str =
     "reference = \"l10n/en-US\"\nignore = ['obsolete', \"missing-file\"]\nexclude = ['locales/old']\n\
-    edition = 2\noutput = 'lines'\nnesting = 4294967295\ncolor = 'never'\n";
+    edition = 2\noutput = 'lines'\nnesting = 4294967295\ncolor = 'never'\nblank-lines = 'keep'\n";
 
 const KINDS: [ReportedKind; 2] = [
     ReportedKind::Difference(Difference::Obsolete),
@@ -33,7 +33,12 @@ fn settings(rt: HostRuntime) -> Result<(), Fail> {
     assert_holds(alloc, "edition", settings.edition == Some(Edition::Two))?;
     assert_holds(alloc, "output", settings.output == Some(Output::Lines))?;
     assert_same(alloc, "nesting", &settings.nesting, &Some(4294967295))?;
-    assert_holds(alloc, "color", settings.color == Some(Color::Never))
+    assert_holds(alloc, "color", settings.color == Some(Color::Never))?;
+    assert_holds(
+        alloc,
+        "blank lines",
+        settings.blank_lines == Some(BlankLines::Keep),
+    )
 }
 
 fn assert_refused(alloc: Global, text: &str, sentence: &str) -> Result<(), Fail> {

@@ -1,6 +1,7 @@
 //! Open documents and closed files: their tokens and names, and texts that nest too deep.
 
 use fluent_syntax_tests::alike::{assert_holds, assert_same_text};
+use ftl_files::BlankLines;
 use ftl_lsp::{
     ClosedFile, Document, NameKind, Occurrence, encoded_tokens, formatted_text, semantic_tokens_of,
     tokens_of,
@@ -37,13 +38,13 @@ fn nested_text(alloc: Global, depth: usize) -> Result<String, Fail> {
 fn a_text_that_nests_too_deeply(rt: HostRuntime) -> Result<(), Fail> {
     let alloc = rt.alloc();
     let shallow = nested_text(alloc, 500)?;
-    let is_written = formatted_text(alloc, shallow.as_str())?.is_some();
+    let is_written = formatted_text(alloc, shallow.as_str(), BlankLines::Normal)?.is_some();
     assert_holds(alloc, "500 in one another", is_written)?;
     let deep = nested_text(alloc, 501)?;
     let document = document_of(alloc, deep.as_str())?;
     let is_refused = document.is_too_deep() && document.body().is_empty();
     assert_holds(alloc, "501 in one another", is_refused)?;
-    let is_left = formatted_text(alloc, deep.as_str())?.is_none();
+    let is_left = formatted_text(alloc, deep.as_str(), BlankLines::Normal)?.is_none();
     assert_holds(alloc, "501 are not formatted", is_left)
 }
 

@@ -14,7 +14,8 @@ returns-clause-says c =
     let edition = table_get c.get-4.result (codes "edition") entries c.get-4.ensures.value in
     let output = table_get c.get-5.result (codes "output") entries c.get-5.ensures.value in
     let nesting = table_get c.get-6.result (codes "nesting") entries c.get-6.ensures.value in
-    let color = table_get c.get-7.result (codes "color") entries c.get-7.ensures.value in (
+    let color = table_get c.get-7.result (codes "color") entries c.get-7.ensures.value in
+    let blank_lines = table_get c.get-8.result (codes "blank-lines") entries c.get-8.ensures.value in (
       table_view c.in-Ok.table,
       c.in-Ok.ensures.ok,
       record {
@@ -26,6 +27,7 @@ returns-clause-says c =
         output = rw output at c.in_ok-output.ensures.says;
         nesting = rw nesting at c.in_ok-nesting.ensures.says;
         color = rw color at c.in_ok-color.ensures.says;
+        blank_lines = rw blank_lines at c.in_ok-blank_lines.ensures.says;
       },
     )
 
@@ -84,3 +86,12 @@ returns-in_err-color-clause-refused c =
     let refused = rw value at c.in_err-color.ensures.refused in
     rw (p.1, p.2) (settings_refused c.args.text.now (table_view c.in-Ok.table) _ c.in-Ok.ensures.ok
     (λ other settings says. refused settings.color says.color))
+
+pub returns-in_err-blank_lines-clause-refused : goal.returns-in_err-blank_lines-clause-refused
+returns-in_err-blank_lines-clause-refused c =
+    let p =
+    err_from_is_err_and c.from_residual-in_err-blank_lines.result c.from_residual-in_err-blank_lines.ensures.1 in
+    let value = table_get c.get-8.result (codes "blank-lines") c.in-Ok.table.entries c.get-8.ensures.value in
+    let refused = rw value at c.in_err-blank_lines.ensures.refused in
+    rw (p.1, p.2) (settings_refused c.args.text.now (table_view c.in-Ok.table) _ c.in-Ok.ensures.ok
+    (λ other settings says. refused settings.blank_lines says.blank_lines))

@@ -8,7 +8,7 @@ use Rattle.ftl_project.proofs.formatting.write_file.Goals as goal
 pub returns-in-Err-clause-reaches : goal.returns-in-Err-clause-reaches
 returns-in-Err-clause-reaches g c =
     let at = g.S.Store.bytes_at in
-    AllReach-rewrites g.S.Store.fails c.args.reading c.args.path.now (at c.args.store.now) (at c.rewrite.new.store)
+    AllReach-rewrites g.S.Store.fails c.args.options c.args.path.now (at c.args.store.now) (at c.rewrite.new.store)
     c.rewrite.result c.rewrite.ensures
 
 pub returns-in-Err-clause-counted : goal.returns-in-Err-clause-counted
@@ -27,11 +27,11 @@ returns-in-Err-clause-counted g c =
 pub returns-in-Ok-unchanged_note-clause-reaches : goal.returns-in-Ok-unchanged_note-clause-reaches
 returns-in-Ok-unchanged_note-clause-reaches g c =
     let at = g.S.Store.bytes_at in
-    AllReach-rewrites g.S.Store.fails c.args.reading c.args.path.now (at c.args.store.now) (at c.rewrite.new.store)
+    AllReach-rewrites g.S.Store.fails c.args.options c.args.path.now (at c.args.store.now) (at c.rewrite.new.store)
     c.rewrite.result c.rewrite.ensures
 
 pub returns-clause-reaches : goal.returns-clause-reaches
 returns-clause-reaches g c =
     let at = g.S.Store.bytes_at in
-    AllReach-rewrites g.S.Store.fails c.args.reading c.args.path.now (at c.args.store.now) (at c.rewrite.new.store)
+    AllReach-rewrites g.S.Store.fails c.args.options c.args.path.now (at c.args.store.now) (at c.rewrite.new.store)
     c.rewrite.result c.rewrite.ensures

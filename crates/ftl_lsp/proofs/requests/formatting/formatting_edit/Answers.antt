@@ -8,11 +8,12 @@ pub returns-then-eq : goal.returns-then-eq
 returns-then-eq c =
     let t = c.args.text.now in
     let same = (bytes_eq-Decides c.args.formatted.now t).0 (sym c.eq.ensures ∙ c.if-eq.true) in
-    subst (FormatsText t) (sym c.null.ensures) (stays (subst (IsFormatted t) same c.requires))
+    let (blank_lines, is) = c.requires in
+    subst (FormatsText t) (sym c.null.ensures) (stays blank_lines (subst (IsFormatted blank_lines t) same is))
 
 pub returns : goal.returns
 returns c =
     let t = c.args.text.now in
     IfOk-weaker c.whole_edit.result _ _
-    (λ value is. subst (FormatsText t) (sym is) (formats c.args.formatted.now c.requires))
+    (λ value is. subst (FormatsText t) (sym is) (formats c.requires.0 c.args.formatted.now c.requires.1))
     c.whole_edit.ensures

@@ -14,9 +14,9 @@ returns-then-eq-clause-is c =
     let back = c.reads_back.ensures.back Two in
     let lossless = sym c.in_ok-broken.ensures.none ∙ ap is_none c.in_default.is in
     let same : string_bytes c.in_ok-formatted.formatted ≡ text = search rules in
-    subst (λ t. IsRewriting c.args.reading.edition text t) same
-    (rewriting c.args.reading.edition text (string_bytes c.in_ok-formatted.formatted) _ c.utf8.text c.requires.reads
-    c.in_ok-formatted.ensures lossless law back)
+    subst (λ t. IsRewriting c.args.options text t) same
+    (rewriting c.args.options text (string_bytes c.in_ok-normal.normal) (string_bytes c.in_ok-formatted.formatted) _
+    c.utf8.text c.requires.reads c.in_ok-normal.ensures lossless law back c.in_ok-formatted.ensures)
 
 pub returns-else-eq-clause-is : goal.returns-else-eq-clause-is
 returns-else-eq-clause-is c =
@@ -24,7 +24,7 @@ returns-else-eq-clause-is c =
     let law = subst (λ t. FormatsAgain t) c.as_bytes.ensures.value c.formatting_is_idempotent.ensures in
     let back = c.reads_back.ensures.back Two in
     let lossless = sym c.in_ok-broken.ensures.none ∙ ap is_none c.in_default.is in (
-      rewriting c.args.reading.edition text (string_bytes c.in_ok-formatted.formatted) _ c.utf8.text c.requires.reads
-          c.in_ok-formatted.ensures lossless law back,
+      rewriting c.args.options text (string_bytes c.in_ok-normal.normal) (string_bytes c.in_ok-formatted.formatted) _
+          c.utf8.text c.requires.reads c.in_ok-normal.ensures lossless law back c.in_ok-formatted.ensures,
       λ same. other_text c.as_str.result.now text c.if-eq.ensures (c.as_str.ensures.value ∙ same),
     )
