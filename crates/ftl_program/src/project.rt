@@ -152,14 +152,14 @@ fn add_path<'a>(
 
 /// The folder at the path, which begins at the root, or the nearest one above, that has an `ftl.toml`.
 fn nearest_root(rt: &HostRuntime, path: &str) -> Result<Option<String>, AllocError> {
-    let mut folder = path;
+    let mut folder = String::from_str(rt.alloc(), path)?;
     // as many folders as there are above, and this one
     for _ in path.split('/') {
-        if has_settings(rt, folder)? {
-            return Ok(Some(String::from_str(rt.alloc(), folder)?));
+        if has_settings(rt, folder.as_str())? {
+            return Ok(Some(folder));
         }
-        match folder.rsplit_once('/') {
-            Some((above, _)) => folder = above,
+        match folder.as_str().rfind('/') {
+            Some(above) => folder.truncate(above),
             None => return Ok(None),
         }
     }
