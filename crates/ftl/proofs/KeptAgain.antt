@@ -1,5 +1,5 @@
 -- What is kept of texts of which something was kept.
-use Rattle.std.proofs.Common.{◌≡◌, ◌∙◌, ◌&&◌, ℕ, List, [], ◌∷◌, Bool, true, false, inl, inr, refl, sym, ap, subst}
+use Rattle.std.proofs.Common.{◌≡◌, ◌≢◌, ◌∙◌, ◌&&◌, ℕ, List, [], ◌∷◌, Bool, true, false, inl, inr, refl, sym, ap, subst}
 use Rattle.std.specs.Prelude.{not}
 use Rattle.fluent_syntax_tree.specs.Entry.{BodyTree}
 use Rattle.fluent_syntax_tree.specs.declared.edition.Edition.{Edition}
@@ -12,7 +12,8 @@ use Rattle.fluent_syntax_grammar.proofs.OneTiling.{same_tilings}
 use Rattle.fluent_syntax_grammar.proofs.marks.Again.{written_again}
 use Rattle.fluent_syntax_grammar.proofs.marks.Entries.{written_back}
 use Rattle.ftl.specs.Answer.{normal_text}
-use Rattle.ftl.specs.BlankLines.{HasGaps, IsKept, IsKeptAgain, Keeps, KeepsAgain, gaps, places_of, with_line_ends}
+use Rattle.ftl.specs.BlankLines.{HasGaps, HasPlaces, IsKept, IsKeptAgain, Keeps, KeepsAgain, gaps}
+use Rattle.ftl.specs.BlankLines.{ReadsAlike, place_in, places_of, with_line_ends}
 use Rattle.ftl.specs.Lossless.{is_lossless, reread_tree}
 use Rattle.ftl.specs.declared.blank_lines.Gap.{Gap}
 
@@ -34,16 +35,24 @@ module _ (edition : Edition) where
   pub same_gaps : (t : Text) (xs ys : List Gap) → HasGaps edition t xs → HasGaps edition t ys → xs ≡ ys
   same_gaps t xs ys (tiles, a, e) (others, b, f) = e ∙ ap (gaps t) (same_tilings edition t tiles others a b) ∙ sym f
 
-  same_places : (t normal : Text) (xs ys vs ws : List Gap) → HasGaps edition t xs → HasGaps edition t ys →
-      HasGaps edition normal vs → HasGaps edition normal ws → places_of xs vs ≡ places_of ys ws
-  same_places t normal xs ys vs ws a b c d =
-      ap (λ zs. places_of zs vs) (same_gaps t xs ys a b) ∙ ap (places_of ys) (same_gaps normal vs ws c d)
+  one_place_list : (t : Text) (there : List Gap) (ps qs : List ℕ) → HasPlaces edition t there ps →
+      HasPlaces edition t there qs → ps ≡ qs
+  one_place_list t there ps qs (xs, a, e) (ys, b, f) =
+      e ∙ (ap (λ zs. places_of zs there) (same_gaps t xs ys a b) ∙ sym f)
+
+  -- of whatever keeps the text, the gaps and the places are these
+  same_places : (t normal kept : Text) (there : List Gap) (ps : List ℕ) (a : Keeps edition t normal kept) →
+      HasGaps edition normal there → HasPlaces edition t there ps → (a.there ≡ there) × (a.places ≡ ps)
+  same_places t normal kept there ps a are places =
+      let same = same_gaps normal a.there there a.gaps_are are in
+      let own = subst (λ g. HasPlaces edition t g a.places) same a.places_are in
+      (same, one_place_list t there a.places ps own places)
 
   -- there is one kept text at most
   kept_once : (t normal kept other : Text) → Keeps edition t normal kept → Keeps edition t normal other → other ≡ kept
   kept_once t normal kept other a b =
-      b.is_made ∙ (ap (with_line_ends 0 normal) (same_places t normal b.wanted a.wanted b.there a.there b.wanted_are
-      a.wanted_are b.there_are a.there_are) ∙ sym a.is_made)
+      let same = same_places t normal other a.there a.places b a.gaps_are a.places_are in
+      b.is_made ∙ (ap (with_line_ends 0 normal) same.1 ∙ sym a.is_made)
 
   kept_is : (t normal kept other : Text) → Keeps edition t normal kept → IsKept edition t normal other → other ≡ kept
   kept_is t normal kept other a (inl b) = kept_once t normal kept other a b
@@ -59,32 +68,60 @@ module _ (edition : Edition) where
   -- a kept text is what is kept of it, and a text is what is kept of it where it is its normal form
   kept_of_kept : (t normal kept : Text) → Keeps edition t normal kept → Keeps edition kept normal kept
   kept_of_kept t normal kept a = record {
-    wanted = a.now;
     there = a.there;
-    now = a.now;
-    wanted_are = a.now_are;
-    there_are = a.there_are;
-    now_are = a.now_are;
-    is_made = a.is_made ∙ ap (with_line_ends 0 normal) (sym a.settled);
+    places = a.places;
+    gaps_are = a.gaps_are;
+    places_are = a.settled;
+    is_made = a.is_made;
     reads = a.reads;
-    settled = refl;
+    settled = a.settled;
   }
 
   kept_of_normal : (t : Text) (tiles : List Tile) → Tiling edition t tiles → Keeps edition t t t
   kept_of_normal t tiles tiling =
       let found : List Gap = gaps t tiles in
       let are : HasGaps edition t found = (tiles, tiling, refl) in
+      let places : HasPlaces edition t found [] = (found, are, sym (no_places found)) in
       record {
-        wanted = found;
         there = found;
-        now = found;
-        wanted_are = are;
-        there_are = are;
-        now_are = are;
-        is_made = sym (ap (with_line_ends 0 t) (no_places found) ∙ no_line_ends t);
+        places = [];
+        gaps_are = are;
+        places_are = places;
+        is_made = sym (no_line_ends t);
         reads = (tiles, tiles, tiling, tiling, refl);
-        settled = refl;
+        settled = places;
       }
+
+  -- ---- the text that was made
+
+  module _ (t normal made : Text) (there : List Gap) (places : List ℕ) (gaps_are : HasGaps edition normal there)
+      (places_are : HasPlaces edition t there places) (is_made : made ≡ with_line_ends 0 normal places) where
+    pub keeps_made : HasPlaces edition made there places → ReadsAlike edition made normal → IsKept edition t normal made
+    keeps_made settled reads = inl (record {
+      there = there;
+      places = places;
+      gaps_are = gaps_are;
+      places_are = places_are;
+      is_made = is_made;
+      reads = reads;
+      settled = settled;
+    })
+
+    -- what is kept could only be that
+    pub keeps_none : (HasPlaces edition made there places → ReadsAlike edition made normal → ⊥) →
+        IsKept edition t normal normal
+    keeps_none not = inr (refl, λ other a.
+        let same = same_places t normal other there places a gaps_are places_are in
+        let same_text = a.is_made ∙ (ap (with_line_ends 0 normal) same.1 ∙ sym is_made) in
+        let settled = subst (λ g. HasPlaces edition other g a.places) same.0 a.settled in
+        not (subst (λ u. HasPlaces edition u there places) same_text
+        (subst (HasPlaces edition other there) same.1 settled))
+        (subst (λ u. ReadsAlike edition u normal) same_text a.reads))
+
+    -- other places in what was made
+    pub not_settled : (now : List ℕ) → HasPlaces edition made there now → now ≢ places → IsKept edition t normal normal
+    not_settled now are other = keeps_none
+        (λ settled reads. other (one_place_list made there now places are settled))
 
   -- ---- a normal form that reads as a tree, and is its text
 

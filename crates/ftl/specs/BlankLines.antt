@@ -78,12 +78,15 @@ HasGaps edition t found = (tiles : List Tile) × Tiling edition t tiles × (foun
 
 -- ---- texts with more blank lines
 
--- where the gaps of the second list that are not blank begin, as far as the gaps of their numbers in the first are
+-- where the gap that is there begins, if it is not blank, and the wanted one is
+abbrev pub place_in : (wanted there : Gap) → List ℕ
+place_in wanted there = if wanted.is_blank && not there.is_blank then there.place ∷ [] else []
+
+-- so for gaps of one number each
 abbrev pub places_of : (wanted there : List Gap) → List ℕ
 places_of [] there = []
 places_of (x ∷ wanted) [] = []
-places_of (x ∷ wanted) (y ∷ there) =
-    if x.is_blank && not y.is_blank then y.place ∷ places_of wanted there else places_of wanted there
+places_of (x ∷ wanted) (y ∷ there) = place_in x y ++ places_of wanted there
 
 -- the bytes, the first of which is at that place, with an LF put in at each of the places
 abbrev pub with_line_ends : (at : ℕ) → Text → (places : List ℕ) → Text
@@ -101,19 +104,22 @@ abbrev pub ReadsAlike : Edition → (t other : Text) → Type 0
 ReadsAlike edition t other = (tiles : List Tile) × (others : List Tile) × Tiling edition t tiles
     × Tiling edition other others × (tree_of t tiles ≡ tree_of other others)
 
+-- There the gaps begin that are blank in the text, and not among those gaps.
+abbrev pub HasPlaces : Edition → Text → (there : List Gap) → (places : List ℕ) → Type 0
+HasPlaces edition t there places =
+    (wanted : List Gap) × HasGaps edition t wanted × (places ≡ places_of wanted there)
+
 module _ (edition : Edition) (t normal : Text) where
   -- The kept text is the normal one with an LF where a gap begins that is blank in the text t, and not in the normal
-  -- one. Both are read as one tree, and of the kept text those gaps are blank that are blank in t.
+  -- one. Both are read as one tree, and such gaps of the kept text begin at the same places.
   pub record Keeps (kept : Text) : Type 0 where
-    pub wanted : List Gap
     pub there : List Gap
-    pub now : List Gap
-    pub wanted_are : HasGaps edition t wanted
-    pub there_are : HasGaps edition normal there
-    pub now_are : HasGaps edition kept now
-    pub is_made : kept ≡ with_line_ends 0 normal (places_of wanted there)
+    pub places : List ℕ
+    pub gaps_are : HasGaps edition normal there
+    pub places_are : HasPlaces edition t there places
+    pub is_made : kept ≡ with_line_ends 0 normal places
     pub reads : ReadsAlike edition kept normal
-    pub settled : places_of now there ≡ places_of wanted there
+    pub settled : HasPlaces edition kept there places
 
   -- It is such a text; or there is none, and it is the normal one.
   abbrev pub IsKept : Text → Type 0

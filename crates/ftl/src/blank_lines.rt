@@ -1,5 +1,5 @@
 //! Normal forms that keep the blank lines of their texts.
-ghost use Rattle.std.specs.Prelude.{◌≡◌, ◌==◌, ◌||◌, ◌≤◌, ◌∷◌, ◌++◌, ◌↔◌, List, IfErr, IfOk, IsTrue, length};
+ghost use Rattle.std.specs.Prelude.{◌≡◌, ◌==◌, ◌||◌, ◌≤◌, ◌∷◌, ◌++◌, ◌↔◌, List, IfErr, IfOk, IsTrue, OnOk, length};
 ghost use Rattle.std.specs.Prelude.{option_map, string_bytes};
 ghost use Rattle.fluent_syntax_tree.specs.Entry.{body_map};
 ghost use Rattle.fluent_syntax_tree.specs.Spans.{bytes_at};
@@ -13,8 +13,8 @@ ghost use Rattle.fluent_syntax_grammar.specs.Tiling.{Tile, Tiling};
 ghost use Rattle.fluent_syntax_parser.specs.Halts.{HaltsWithin, OnHalt};
 ghost use Rattle.fluent_syntax_parser.specs.Rest as rest;
 ghost use Rattle.ftl.specs.Answer.{normal_text, outcome_of};
-ghost use Rattle.ftl.specs.BlankLines.{HasGaps, IsKept, ReadsAlike, ends_blank_line, gaps_after, is_field};
-ghost use Rattle.ftl.specs.BlankLines.{is_field_tile, places_of, seen_at, span_of, with_line_ends};
+ghost use Rattle.ftl.specs.BlankLines.{HasGaps, HasPlaces, IsKept, ReadsAlike, ends_blank_line, gaps_after, is_field};
+ghost use Rattle.ftl.specs.BlankLines.{is_field_tile, place_in, places_of, seen_at, span_of, with_line_ends};
 
 use crate::answers::{Formatted, formatted_within};
 use fluent_syntax::ast::{Entry, Resource};
@@ -79,14 +79,15 @@ pub fn with_blank_lines(
 ) -> Result<String, AllocError>
     ensures { IfOk result (λ kept. IsKept edition text.now (string_bytes normal) (string_bytes kept)) }
 {
-    let wanted = gaps(alloc, text, edition, nesting)?;
     let there = gaps(alloc, normal.as_str(), edition, nesting)?;
-    let places = places_of(alloc, wanted.as_slice(), there.as_slice())?;
+    let there = there.as_slice();
+    let places = blank_places(alloc, text, there, edition, nesting)?;
     let made = with_line_ends(alloc, normal.as_str(), places.as_slice())?;
-    let now = gaps(alloc, made.as_str(), edition, nesting)?;
-    let places_now = places_of(alloc, now.as_slice(), there.as_slice())?;
-    let is_settled = places_now.as_slice() == places.as_slice();
-    if is_settled && reads_alike(alloc, made.as_str(), normal.as_str(), edition, nesting)? {
+    let places_now = blank_places(alloc, made.as_str(), there, edition, nesting)?;
+    if !is_same(places_now.as_slice(), places.as_slice()) {
+        return Ok(normal);
+    }
+    if reads_alike(alloc, made.as_str(), normal.as_str(), edition, nesting)? {
         Ok(made)
     } else {
         Ok(normal)
@@ -182,18 +183,45 @@ fn gaps(alloc: Global, text: &str, edition: Edition, nesting: usize) -> Result<V
     }
 }
 
-/// Where the gaps begin that are to be blank, and are not.
+/// Adds where the gap that is there begins, if it is not blank, and the wanted one is.
+fn add_place(places: &mut Vec<usize>, wanted: Gap, there: Gap) -> Result<(), AllocError>
+    ensures { OnOk result (places.new.items ≡ places.old.items ++ place_in wanted there) }
+{
+    if wanted.is_blank && !there.is_blank {
+        places.push(there.place)?;
+    }
+    Ok(())
+}
+
+/// So for gaps of one number each.
 fn places_of(alloc: Global, wanted: &[Gap], there: &[Gap]) -> Result<Vec<usize>, AllocError>
     ensures { IfOk result (λ places. places.items ≡ places_of wanted.now there.now) }
 {
     let mut places = Vec::new(alloc);
     for index in 0..wanted.len().min(there.len()) {
-        let gap = there[index];
-        if wanted[index].is_blank && !gap.is_blank {
-            places.push(gap.place)?;
-        }
+        add_place(&mut places, wanted[index], there[index])?;
     }
     Ok(places)
+}
+
+/// Where the gaps begin that are blank in the text, and not among those that are there.
+fn blank_places(
+    alloc: Global,
+    text: &str,
+    there: &[Gap],
+    edition: Edition,
+    nesting: usize,
+) -> Result<Vec<usize>, AllocError>
+    ensures { IfOk result (λ places. HasPlaces edition text.now there.now places.items) }
+{
+    let wanted = gaps(alloc, text, edition, nesting)?;
+    places_of(alloc, wanted.as_slice(), there)
+}
+
+fn is_same(places: &[usize], others: &[usize]) -> bool
+    ensures { IsTrue result ↔ (places.now ≡ others.now) }
+{
+    places == others
 }
 
 /// The text with an LF put in at each of the places.

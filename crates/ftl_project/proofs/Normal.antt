@@ -196,16 +196,16 @@ processed_ok (Err fault) before processed is none =
     absurd (omega (arith, zero_status, least))
 
 faultless : (CallFails : Failing) (options : FormatOptions) (files : List (String Global))
-    (old new : List ℕ → Option (List ℕ)) (before after : Tally) → FormatsEach CallFails options files old new before after →
-    after.fault ≡ 0 → before.fault ≡ 0
+    (old new : List ℕ → Option (List ℕ)) (before after : Tally) →
+    FormatsEach CallFails options files old new before after → after.fault ≡ 0 → before.fault ≡ 0
 faultless CallFails options [] old new before after each none = sym (ap (λ (t : Tally). t.fault) each.1) ∙ none
 faultless CallFails options (file ∷ files) old new before after (now, between, formats, rest) none =
     let here = faultless CallFails options files now new between after rest none in
     counted_fault before formats.2 (sym (ap (λ (t : Tally). t.fault) formats.4) ∙ here)
 
 AllReach-each : (CallFails : Failing) (options : FormatOptions) (files : List (String Global))
-    (old new : List ℕ → Option (List ℕ)) (before after : Tally) → FormatsEach CallFails options files old new before after →
-    AllReach options old new
+    (old new : List ℕ → Option (List ℕ)) (before after : Tally) →
+    FormatsEach CallFails options files old new before after → AllReach options old new
 AllReach-each CallFails options [] old new before after each = AllReach-untouched options old new each.0
 AllReach-each CallFails options (file ∷ files) old new before after (now, between, formats, rest) =
     AllReach-trans options old now new
