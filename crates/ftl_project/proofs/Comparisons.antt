@@ -31,26 +31,31 @@ of_text at path own text said same_path same_text read =
 
 module _ (CallFails : Failing) (reading : Reading) (options : CompareOptions) (at : List ℕ → Option (List ℕ))
     (pair : Pair) where
-  pub alone : (text : List ℕ) (errors : ℕ) (share : Share) (report_text : List ℕ) → pair.is_there ≡ false →
+  pub alone : (text : List ℕ) (errors warnings : ℕ) (share : Share) (report_text : List ℕ) →
+      pair.is_there ≡ false →
       IsRead (at (string_bytes pair.reference)) text →
       ((name_index : NameIndex) × IsNameIndex reading.edition text name_index
-      × IsFileMissing options pair name_index errors share report_text) →
-      IsComparison CallFails reading options at pair.is_there pair errors share report_text
-  alone text errors share report_text gone same that =
-      subst (λ is_there. IsComparison CallFails reading options at is_there pair errors share report_text) (sym gone) (
+      × IsFileMissing options pair name_index errors warnings share report_text) →
+      IsComparison CallFails reading options at pair.is_there pair errors warnings share report_text
+  alone text errors warnings share report_text gone same that =
+      subst (λ is_there. IsComparison CallFails reading options at is_there pair errors warnings share report_text)
+      (sym gone) (
         that.0,
         (text, same, that.1),
         that.2,
       )
 
-  pub with_other : (text more : List ℕ) (errors : ℕ) (share : Share) (report_text : List ℕ) → pair.is_there ≡ true →
+  pub with_other : (text more : List ℕ) (errors warnings : ℕ) (share : Share) (report_text : List ℕ) →
+      pair.is_there ≡ true →
       IsRead (at (string_bytes pair.reference)) text →
       IsRead (at (string_bytes pair.other)) more →
       ((reference : NameIndex) × IsNameIndex reading.edition text reference × (other : NameIndex)
-      × IsNameIndex reading.edition more other × IsPairCompared options pair reference other errors share report_text) →
-      IsComparison CallFails reading options at pair.is_there pair errors share report_text
-  with_other text more errors share report_text there same alike that =
-      subst (λ is_there. IsComparison CallFails reading options at is_there pair errors share report_text) (sym there) (
+      × IsNameIndex reading.edition more other
+      × IsPairCompared options pair reference other errors warnings share report_text) →
+      IsComparison CallFails reading options at pair.is_there pair errors warnings share report_text
+  with_other text more errors warnings share report_text there same alike that =
+      subst (λ is_there. IsComparison CallFails reading options at is_there pair errors warnings share report_text)
+      (sym there) (
         that.0,
         (text, same, that.1),
         that.2,

@@ -179,7 +179,7 @@ rewrites_normal CallFails options path old new (replacement.Lossy entry) bytes t
 -- ---- a run without faults
 
 counted_fault : (before : Tally) (processed : Processed) → (counted before processed).fault ≡ 0 → before.fault ≡ 0
-counted_fault before (answered errors has_problems) none = none
+counted_fault before (answered errors warnings has_problems) none = none
 counted_fault before (failed status) none = omega (arith, none)
 
 failed_fault : (before : Tally) (status : ℕ) → (counted before (failed status)).fault ≡ 0 → status ≡ 0

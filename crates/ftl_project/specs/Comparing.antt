@@ -83,6 +83,11 @@ missing_entries missing_parts = count_by (λ (missing : MissingPart). is_entry_p
 abbrev pub errors_of : Side → List MissingPart → ℕ
 errors_of side missing_parts = count_by (λ (missing : MissingPart). counts_as_error side missing.part) missing_parts
 
+-- and how many as warnings
+abbrev pub warnings_of : Side → List MissingPart → ℕ
+warnings_of side missing_parts =
+    count_by (λ (missing : MissingPart). not (counts_as_error side missing.part)) missing_parts
+
 -- the sum of what was met before and this part; a number that has come to the greatest `usize` stays there
 abbrev pub with_share : Share → Option Share → Share
 with_share share None = share
@@ -101,10 +106,11 @@ IsFileReport form pair true report_text =
     (codes "there is no such file; the reference has " ++ string_bytes pair.reference) report_text
 
 -- The other file is not there: that is the one error, if it is reported, and all of the reference is missing.
-pub record IsFileMissing (options : CompareOptions) (pair : Pair) (reference : NameIndex) (errors : ℕ) (share : Share)
-    (text : List ℕ) : Type 0 where
+pub record IsFileMissing (options : CompareOptions) (pair : Pair) (reference : NameIndex) (errors warnings : ℕ)
+    (share : Share) (text : List ℕ) : Type 0 where
   pub report_is : IsFileReport options.form pair (is_reported options.ignored.now (codes "missing-file")) text
   pub errors_are : errors ≡ (if is_reported options.ignored.now (codes "missing-file") then 1 else 0)
+  pub no_warnings : warnings ≡ 0
   pub share_is : share ≡ record { wanted = entry_count reference; missing = entry_count reference }
 
 -- what is reported of that which the reference has and the other lacks, and the other way round
@@ -117,8 +123,8 @@ reported_extra options reference other = reported_parts options.ignored.now Othe
 
 -- What the reference has and the other lacks is reported, in the order of the reference, and after it what the other
 -- and the reference lacks, in the order of the other. All that is missing counts for the share.
-pub record IsPairCompared (options : CompareOptions) (pair : Pair) (reference other : NameIndex) (errors : ℕ)
-    (share : Share) (text : List ℕ) : Type 0 where
+pub record IsPairCompared (options : CompareOptions) (pair : Pair) (reference other : NameIndex)
+    (errors warnings : ℕ) (share : Share) (text : List ℕ) : Type 0 where
   pub missing : List ℕ
   pub reports_missing : ReportsEach (IsMissingReport options.form pair reference.text.now other.text.now)
       (reported_missing options reference other) missing
@@ -129,6 +135,9 @@ pub record IsPairCompared (options : CompareOptions) (pair : Pair) (reference ot
   pub errors_are : errors
       ≡ min (errors_of Reference (reported_missing options reference other) + errors_of Other
       (reported_extra options reference other)) (2 ^ 64 - 1)
+  pub warnings_are : warnings
+      ≡ min (warnings_of Reference (reported_missing options reference other) + warnings_of Other
+      (reported_extra options reference other)) (2 ^ 64 - 1)
   pub share_is : share
       ≡ record { wanted = entry_count reference; missing = missing_entries (all_missing_parts reference other) }
 
@@ -138,14 +147,14 @@ module _ (CallFails : Failing) (reading : Reading) (options : CompareOptions) (a
   IsNameIndexAt path name_index = (text : List ℕ) × IsRead (at path) text × IsNameIndex reading.edition text name_index
 
   -- what comes of a pair, by whether the other file is there
-  abbrev pub IsComparison : (is_there : Bool) → Pair → (errors : ℕ) → Share → (text : List ℕ) → Type 0
-  IsComparison false pair errors share text = (reference : NameIndex)
+  abbrev pub IsComparison : (is_there : Bool) → Pair → (errors warnings : ℕ) → Share → (text : List ℕ) → Type 0
+  IsComparison false pair errors warnings share text = (reference : NameIndex)
       × IsNameIndexAt (string_bytes pair.reference) reference
-      × IsFileMissing options pair reference errors share text
-  IsComparison true pair errors share text = (reference : NameIndex)
+      × IsFileMissing options pair reference errors warnings share text
+  IsComparison true pair errors warnings share text = (reference : NameIndex)
       × IsNameIndexAt (string_bytes pair.reference) reference
       × (other : NameIndex) × IsNameIndexAt (string_bytes pair.other) other
-      × IsPairCompared options pair reference other errors share text
+      × IsPairCompared options pair reference other errors warnings share text
 
   -- Why a pair was not compared: one of its files was not answered.
   abbrev pub IsFileFault : (path : List ℕ) → Fault → Type 0
@@ -162,8 +171,8 @@ module _ (CallFails : Failing) (reading : Reading) (options : CompareOptions) (a
 
   -- how a pair is met, with how much of it is there, and what is reported of it
   abbrev pub IsCompared : Pair → Processed → Option Share → (text : List ℕ) → Type 0
-  IsCompared pair (answered errors has_problems) share text =
-      (part : Share) × (share ≡ Some part) × IsComparison pair.is_there pair errors part text
+  IsCompared pair (answered errors warnings has_problems) share text =
+      (part : Share) × (share ≡ Some part) × IsComparison pair.is_there pair errors warnings part text
       × (has_problems ≡ not (errors == 0))
   IsCompared pair (failed status) share text = Fails (IsPairFault pair) status × (share ≡ None) × (text ≡ [])
 

@@ -30,7 +30,7 @@ is_left_unchanged _ = false
 
 -- how a file is met of which this became
 abbrev pub IsProcessed : Result Replacement Fault → Processed → Type 0
-IsProcessed (Ok replacement) processed = processed ≡ answered (errors_in replacement) (is_left_unchanged replacement)
+IsProcessed (Ok replacement) processed = processed ≡ answered (errors_in replacement) 0 (is_left_unchanged replacement)
 IsProcessed (Err fault) processed = (status : ℕ) × HasStatus fault status × (processed ≡ failed status)
 
 module _ (CallFails : Failing) (options : FormatOptions) where

@@ -27,8 +27,8 @@ TaskAnswers = (path text : List ℕ) (errors : ℕ) (has_problems : Bool) (writt
 module _ (CallFails : Failing) (Is : TaskAnswers) (OfText : List ℕ → Fault → Type 0) where
   -- How a file of these bytes is met: what was read of it is answered so; or it failed, and nothing is written.
   abbrev pub ProcessesFile : (path : List ℕ) → Option (List ℕ) → Processed → (written : List ℕ) → Type 0
-  ProcessesFile path bytes (answered errors has_problems) written =
-      (read : List ℕ) × IsRead bytes read × Is path read errors has_problems written
+  ProcessesFile path bytes (answered errors warnings has_problems) written =
+      (read : List ℕ) × IsRead bytes read × Is path read errors has_problems written × (warnings ≡ 0)
   ProcessesFile path bytes (failed status) written = Fails (IsFault CallFails bytes OfText) status × (written ≡ [])
 
   -- So are all of the files, one after another.

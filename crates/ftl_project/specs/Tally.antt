@@ -2,19 +2,19 @@
 use Rattle.std.specs.Prelude.{ℕ, ◌+◌, ◌-◌, ◌^◌, ◌==◌, Bool, max, min, if◌then◌else◌}
 use Rattle.ftl_project.specs.declared.tally.Tally.{Tally}
 
--- How a file was met: it was answered, with so many errors, and with problems or not; or it was not, with a fault of
--- that status.
+-- How a file was met: it was answered, with so many errors and warnings, and with problems or not; or it was not, with
+-- a fault of that status.
 pub data Processed : Type 0 where
-  answered : (errors : ℕ) (has_problems : Bool) → Processed
+  answered : (errors warnings : ℕ) (has_problems : Bool) → Processed
   failed : (status : ℕ) → Processed
 
 -- the tally once the file is counted in it; a number that has come to the greatest `usize` stays there
 abbrev pub counted : Tally → Processed → Tally
-counted tally (answered errors has_problems) = record {
+counted tally (answered errors warnings has_problems) = record {
   files = min (tally.files + 1) (2 ^ 64 - 1);
   with_problems = min (tally.with_problems + (if has_problems then 1 else 0)) (2 ^ 64 - 1);
   errors = min (tally.errors + errors) (2 ^ 64 - 1);
-  warnings = tally.warnings;
+  warnings = min (tally.warnings + warnings) (2 ^ 64 - 1);
   fault = tally.fault;
 }
 counted tally (failed status) = record tally { fault = max tally.fault status }

@@ -118,14 +118,14 @@ fn put_answer<O: Write, E: Write>(
     tally: &mut Tally,
     streams: &mut Streams<'_, O, E>,
 ) -> Result<(), RunFault>
-    ensures counted { tally.new ≡ counted tally.old (answered answer.now.errors answer.now.has_problems) }
+    ensures counted { tally.new ≡ counted tally.old (answered answer.now.errors 0 answer.now.has_problems) }
     ensures written { OnOk result (Appends (O.contents (inner_of streams.old.out.now))
         (O.contents (inner_of streams.new.out.now)) (string_bytes answer.now.text)) }
     ensures input { result ≢ Err RunFault.Input }
     ensures output { result ≡ Err RunFault.Output → (has_failed streams.new.out.now ≡ true)
         ⊎ (has_failed streams.new.err.now ≡ true) }
 {
-    tally.count(answer.errors, answer.has_problems);
+    tally.count(answer.errors, 0, answer.has_problems);
     write_all(streams.out, answer.text.as_bytes())?;
     write_all(streams.err, answer.note.as_bytes())
 }

@@ -5,7 +5,7 @@ ghost use Rattle.fluent_syntax_names.specs.declared.name_index.NameIndex.{NameIn
 ghost use Rattle.ftl_files.specs.Store.{AllUnchanged};
 ghost use Rattle.ftl_project.specs.Comparing.{Compares, ComparesEach, IsFileMissing, IsPairCompared, IsComparison};
 ghost use Rattle.ftl_project.specs.Comparing.{IsFileReport, IsSideFault};
-ghost use Rattle.ftl_project.specs.Comparing.{errors_of, missing_entries, with_share};
+ghost use Rattle.ftl_project.specs.Comparing.{errors_of, missing_entries, warnings_of, with_share};
 ghost use Rattle.ftl.specs.Watched.{has_failed, inner_of};
 ghost use Rattle.ftl_project.specs.Faults.{IsRead, IsTooDeep, IsUnparsed, IsUnread};
 ghost use Rattle.ftl_project.specs.NameIndexes.{IsNameIndex, IsShort};
@@ -20,7 +20,7 @@ use crate::fault::Fault;
 use crate::formatting::rewriting::read_text;
 use crate::name_indexes::{entry_count, name_index};
 use crate::reporting::diagnostics::{Diagnostic, diagnostic_text};
-use crate::streams::{Streams, report_fault};
+use crate::streams::{Streams, byte_order_mark_note, report_fault};
 use crate::tally::Tally;
 use fluent_syntax_names::{MissingPart, NameIndex, Part, Side, missing_parts};
 use ftl::{RunFault, write_all};
@@ -74,11 +74,14 @@ impl Share {
     }
 }
 
-/// What is reported of a pair, how many errors it has, and how much of it is there.
+/// What is reported of a pair, how many errors and warnings it has, and how much of it is there.
 #[derive(Drop)]
 struct PairComparison {
     report_text: String,
+    /// Which of the two begin with a byte order mark, on lines.
+    notes: String,
     errors: usize,
+    warnings: usize,
     share: Share,
 }
 
@@ -166,9 +169,10 @@ impl Comparing<'_> {
     {
         match self.compare_pair(store, pair) {
             Ok(compared) => {
-                tally.count(compared.errors, compared.errors != 0);
+                tally.count(compared.errors, compared.warnings, compared.errors != 0);
                 share.add(compared.share);
-                write_all(streams.out, compared.report_text.as_bytes())
+                write_all(streams.out, compared.report_text.as_bytes())?;
+                write_all(streams.err, compared.notes.as_bytes())
             }
             Err(fault) => {
                 let path = pair.path(fault.side);
@@ -184,7 +188,7 @@ impl Comparing<'_> {
     ) -> Result<PairComparison, PairFault>
         ensures untouched { AllUnchanged (S.bytes_at store.old) (S.bytes_at store.new) }
         ensures compared { IfOk result (λ compared. IsComparison S.fails self.now.reading self.now.options
-            (S.bytes_at store.old) pair.now.is_there pair.now compared.errors compared.share
+            (S.bytes_at store.old) pair.now.is_there pair.now compared.errors compared.warnings compared.share
             (string_bytes compared.report_text)) }
         ensures fault { IfErr result (λ fault. IsSideFault S.fails self.now.reading self.now.options
             (S.bytes_at store.old) pair.now fault.side fault.fault) }
@@ -205,7 +209,7 @@ impl Comparing<'_> {
     ) -> Result<PairComparison, PairFault>
         ensures compared { IfOk result (λ compared. (name_index : NameIndex)
             × IsNameIndex self.now.reading.edition reference.now name_index
-            × IsFileMissing self.now.options pair.now name_index compared.errors compared.share
+            × IsFileMissing self.now.options pair.now name_index compared.errors compared.warnings compared.share
             (string_bytes compared.report_text)) }
         ensures fault { IfErr result (λ fault. (fault.side ≡ Reference)
             × IsUnparsed (IsTooDeep self.now.reading reference.now) fault.fault) }
@@ -216,7 +220,9 @@ impl Comparing<'_> {
         let report_text = self.no_file(pair, is_reported)?;
         Ok(PairComparison {
             report_text,
+            notes: String::new(self.alloc),
             errors: usize::from(is_reported),
+            warnings: 0,
             share: Share {
                 wanted,
                 missing: wanted,
@@ -260,7 +266,7 @@ impl Comparing<'_> {
             × IsNameIndex self.now.reading.edition reference.now reference_name_index × (other_name_index : NameIndex)
             × IsNameIndex self.now.reading.edition other.now other_name_index
             × IsPairCompared self.now.options pair.now reference_name_index other_name_index compared.errors
-            compared.share (string_bytes compared.report_text)) }
+            compared.warnings compared.share (string_bytes compared.report_text)) }
         ensures fault { IfErr result (λ fault.
             ((fault.side ≡ Reference) × IsUnparsed (IsTooDeep self.now.reading reference.now) fault.fault)
             ⊎ ((fault.side ≡ Other) × IsUnparsed (IsTooDeep self.now.reading other.now) fault.fault)) }
@@ -284,6 +290,19 @@ impl Comparing<'_> {
         }
     }
 
+    /// Which of the two files begin with a byte order mark, on lines.
+    fn mark_notes(
+        &self,
+        pair: &Pair,
+        reference: &NameIndex<'_>,
+        other: &NameIndex<'_>,
+    ) -> Result<String, AllocError> {
+        let mut notes = byte_order_mark_note(self.alloc, pair.reference.as_str(), reference.text)?;
+        let note = byte_order_mark_note(self.alloc, pair.other.as_str(), other.text)?;
+        notes.push_str(note.as_str())?;
+        Ok(notes)
+    }
+
     /// What comes of a pair whose files say this.
     fn comparison_of_indexes(
         &self,
@@ -294,7 +313,7 @@ impl Comparing<'_> {
         requires reference { IsShort reference.now }
         requires other { IsShort other.now }
         ensures { IfOk result (λ compared. IsPairCompared self.now.options pair.now reference.now other.now
-            compared.errors compared.share (string_bytes compared.report_text)) }
+            compared.errors compared.warnings compared.share (string_bytes compared.report_text)) }
     {
         let missing = missing_parts(self.alloc, reference, other)?;
         let reported = reported_parts(self.alloc, self.options.ignored, Side::Reference, &missing)?;
@@ -319,9 +338,12 @@ impl Comparing<'_> {
         report_text.push_str(other_report.as_str())?;
         let missed = errors_of(Side::Reference, &reported);
         let unknown = errors_of(Side::Other, &extra);
+        let warnings = warnings_of(Side::Reference, &reported);
         Ok(PairComparison {
             report_text,
+            notes: self.mark_notes(pair, reference, other)?,
             errors: missed.saturating_add(unknown),
+            warnings: warnings.saturating_add(warnings_of(Side::Other, &extra)),
             share: Share {
                 wanted: entry_count(reference),
                 missing: missing_entries(&missing),
@@ -350,6 +372,16 @@ fn errors_of(side: Side, missing_parts: &[MissingPart]) -> usize
     missing_parts
         .iter()
         .filter(|missing| counts_as_error(side, missing.part))
+        .count()
+}
+
+/// How many of the parts that this file has and the other one lacks are reported as warnings.
+fn warnings_of(side: Side, missing_parts: &[MissingPart]) -> usize
+    ensures { result ≡ warnings_of side missing_parts.now }
+{
+    missing_parts
+        .iter()
+        .filter(|missing| !counts_as_error(side, missing.part))
         .count()
 }
 

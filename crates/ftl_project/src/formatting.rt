@@ -80,7 +80,7 @@ fn write_file<S: Store, O: Write, E: Write>(
         Ok(replacement) => replacement,
         Err(fault) => return report_fault(alloc, tally, path, &fault, streams),
     };
-    tally.count(errors_in(&replacement), is_left_unchanged(&replacement));
+    tally.count(errors_in(&replacement), 0, is_left_unchanged(&replacement));
     counts.count(&replacement);
     match unchanged_note(alloc, path, &replacement) {
         Ok(note) => write_all(streams.err, note.as_bytes()),

@@ -48,12 +48,14 @@ impl Tally {
         }
     }
 
-    /// One file more was answered, with so many errors. It has problems if it has some, or is not as it is to be.
-    pub fn count(&mut self, errors: usize, has_problems: bool)
-        ensures { self.new ≡ counted self.old (answered errors has_problems) }
+    /// One file more was answered, with so many errors and warnings. It has problems if it has errors, or is not as it is
+    /// to be.
+    pub fn count(&mut self, errors: usize, warnings: usize, has_problems: bool)
+        ensures { self.new ≡ counted self.old (answered errors warnings has_problems) }
     {
         self.files = self.files.saturating_add(1);
         self.errors = self.errors.saturating_add(errors);
+        self.warnings = self.warnings.saturating_add(warnings);
         self.with_problems = self.with_problems.saturating_add(usize::from(has_problems));
     }
 

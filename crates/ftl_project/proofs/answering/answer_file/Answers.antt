@@ -11,9 +11,9 @@ returns-in-Ok-clause-counted g c =
     let answer = c.in-Ok.answer in
     let found = c.in-Ok.ensures.answer in
     on_ok_then c.put_answer.result (λ appends. (
-      answered answer.errors answer.has_problems,
+      answered answer.errors 0 answer.has_problems,
       string_bytes answer.text,
-      (found.0, found.1, found.2),
+      (found.0, found.1, found.2, refl),
       c.put_answer.ensures.counted,
       appends,
     )) c.put_answer.ensures.written

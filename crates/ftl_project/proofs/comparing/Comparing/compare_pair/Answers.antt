@@ -16,7 +16,7 @@ returns-then-not-pair-clause-compared g c =
     c.in_ok-reference.ensures.text in
     IfOk-weaker c.comparison_without_file.result _ _ (λ compared that. alone g.S.Store.fails self.reading self.options
     at pair text
-    compared.errors compared.share (string_bytes compared.report_text) gone read that)
+    compared.errors compared.warnings compared.share (string_bytes compared.report_text) gone read that)
     c.comparison_without_file.ensures.compared
 
 pub returns-clause-compared : goal.returns-clause-compared
@@ -36,5 +36,5 @@ returns-clause-compared g c =
     (string_bytes c.in_ok-other.other) c.as_str-2.ensures.value c.as_str-4.ensures.value in_place in
     IfOk-weaker c.comparison_of_texts.result _ _ (λ compared that. with_other g.S.Store.fails self.reading self.options
     at pair text more
-    compared.errors compared.share (string_bytes compared.report_text) there read other that)
+    compared.errors compared.warnings compared.share (string_bytes compared.report_text) there read other that)
     c.comparison_of_texts.ensures.compared

@@ -17,6 +17,7 @@ returns-clause-compared c =
         report_is = subst (λ stated. IsFileReport self.options.form c.args.pair.now stated report_text)
             c.is_reported-is_reported.ensures c.in_ok-report_text.ensures;
         errors_are = rw (c.from.ensures, c.is_reported-is_reported.ensures) (one_if _);
+        no_warnings = refl;
         share_is = rw c.entry_count-wanted.ensures refl;
       },
     )

@@ -12,7 +12,7 @@ returns-in-Ok-clause-counted g c =
     let compared = c.in-Ok.compared in
     let after = written (inner_of c.write_all.new.writer) in
     on_ok_then c.write_all.result (λ appends. (
-      answered compared.errors (not (compared.errors == 0)),
+      answered compared.errors compared.warnings (not (compared.errors == 0)),
       Some compared.share,
       string_bytes compared.report_text,
       (compared.share, refl, c.in-Ok.ensures.compared, refl),
