@@ -8,7 +8,7 @@ use Rattle.fluent_syntax_names.specs.declared.missing_part.MissingPart.{MissingP
 use Rattle.fluent_syntax_names.specs.declared.name_index.NameIndex.{NameIndex}
 use Rattle.fluent_syntax_names.specs.Differences.{difference_name, side_difference}
 use Rattle.fluent_syntax_names.specs.Sentences.{part_sentence}
-use Rattle.ftl_project.specs.Differences.{counts_as_error, is_reported, reported_parts}
+use Rattle.ftl_project.specs.Differences.{counts_as_error, counts_as_warning, is_reported, reported_parts}
 use Rattle.ftl_project.specs.Faults.{Failing, Fails, IsFault, IsRead, IsTooDeep, IsUnparsed}
 use Rattle.ftl_project.specs.NameIndexes.{IsNameIndex, entry_count}
 use Rattle.ftl_project.specs.Diagnostics.{IsDiagnostic, ReportsEach, location_at}
@@ -86,7 +86,7 @@ errors_of side missing_parts = count_by (λ (missing : MissingPart). counts_as_e
 -- and how many as warnings
 abbrev pub warnings_of : Side → List MissingPart → ℕ
 warnings_of side missing_parts =
-    count_by (λ (missing : MissingPart). not (counts_as_error side missing.part)) missing_parts
+    count_by (λ (missing : MissingPart). counts_as_warning side missing.part) missing_parts
 
 -- the sum of what was met before and this part; a number that has come to the greatest `usize` stays there
 abbrev pub with_share : Share → Option Share → Share

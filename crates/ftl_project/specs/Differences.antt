@@ -25,6 +25,14 @@ is_error_difference (Some difference) = is_error_severity (difference_severity d
 abbrev pub counts_as_error : Side → Part → Bool
 counts_as_error side part = is_error_difference (side_difference side part)
 
+-- or as a warning
+abbrev pub is_warning_difference : Option Difference → Bool
+is_warning_difference None = false
+is_warning_difference (Some difference) = not (is_error_severity (difference_severity difference))
+
+abbrev pub counts_as_warning : Side → Part → Bool
+counts_as_warning side part = is_warning_difference (side_difference side part)
+
 -- whether the kind of that name is none of those that are left out
 abbrev pub is_reported : (ignored : List ReportedKind) → (name : List ℕ) → Bool
 is_reported ignored name = not (list_any (λ kind. bytes_eq (reported_name kind) name) ignored)

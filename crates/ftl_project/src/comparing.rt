@@ -15,7 +15,9 @@ pub mod comparison_report;
 pub mod differences;
 
 use crate::comparing::comparison_report::PairReporter;
-use crate::comparing::differences::{counts_as_error, is_reported, reported_parts};
+use crate::comparing::differences::{
+    counts_as_error, counts_as_warning, is_reported, reported_parts,
+};
 use crate::fault::Fault;
 use crate::formatting::rewriting::read_text;
 use crate::name_indexes::{entry_count, name_index};
@@ -381,7 +383,7 @@ fn warnings_of(side: Side, missing_parts: &[MissingPart]) -> usize
 {
     missing_parts
         .iter()
-        .filter(|missing| !counts_as_error(side, missing.part))
+        .filter(|missing| counts_as_warning(side, missing.part))
         .count()
 }
 

@@ -1,7 +1,7 @@
 //! What is reported of a part that one of two files lacks, and whether it is an error.
 ghost use Rattle.std.specs.Prelude.{◌≡◌, IfOk};
-ghost use Rattle.ftl_project.specs.Differences.{counts_as_error, is_error_severity, is_part_reported, is_reported};
-ghost use Rattle.ftl_project.specs.Differences.{reported_parts};
+ghost use Rattle.ftl_project.specs.Differences.{counts_as_error, counts_as_warning, is_error_severity};
+ghost use Rattle.ftl_project.specs.Differences.{is_part_reported, is_reported, reported_parts};
 
 use fluent_syntax_names::{MissingPart, Part, Severity, Side};
 use ftl_files::ReportedKind;
@@ -13,6 +13,16 @@ pub(crate) fn counts_as_error(side: Side, part: Part) -> bool
 {
     match side.difference(part) {
         Some(difference) => is_error_severity(difference.severity()),
+        None => false,
+    }
+}
+
+/// Whether it is reported as a warning.
+pub(crate) fn counts_as_warning(side: Side, part: Part) -> bool
+    ensures { result ≡ counts_as_warning side part }
+{
+    match side.difference(part) {
+        Some(difference) => !is_error_severity(difference.severity()),
         None => false,
     }
 }
