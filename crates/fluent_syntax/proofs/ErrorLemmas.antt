@@ -26,12 +26,12 @@ use Rattle.fluent_syntax.specs.Errors.{junk_texts, refused_text, JunkIsRefused, 
 
 -- ---- junk
 
-junk_mapped : {X Y : Type 0} (f : X → Y) (b : BodyTree X) → junk_texts (body_map f b) ≡ map f (junk_texts b)
-junk_mapped f [] = refl
-junk_mapped f (message m ∷ b) = junk_mapped f b
-junk_mapped f (term m ∷ b) = junk_mapped f b
-junk_mapped f (comment level lines ∷ b) = junk_mapped f b
-junk_mapped f (junk x ∷ b) = ap (λ ys. f x ∷ ys) (junk_mapped f b)
+junk_texts-map : {X Y : Type 0} (f : X → Y) (b : BodyTree X) → junk_texts (body_map f b) ≡ map f (junk_texts b)
+junk_texts-map f [] = refl
+junk_texts-map f (message m ∷ b) = junk_texts-map f b
+junk_texts-map f (term m ∷ b) = junk_texts-map f b
+junk_texts-map f (comment level lines ∷ b) = junk_texts-map f b
+junk_texts-map f (junk x ∷ b) = ap (λ ys. f x ∷ ys) (junk_texts-map f b)
 
 module _ (t : List ℕ) where
   abbrev fault_text : Fault → List ℕ
@@ -72,7 +72,7 @@ module _ {S : Type 0} (text : S → List ℕ) (t : List ℕ) (tiles : List Tile)
       junk_texts (resource_view text tree) ≡ map (bytes_at t) (map fault_slice (faults tiles))
   junk_of tree same law =
       ap junk_texts same
-      ∙ (junk_mapped (bytes_at t) (body tiles) ∙ ap (map (bytes_at t)) law)
+      ∙ (junk_texts-map (bytes_at t) (body tiles) ∙ ap (map (bytes_at t)) law)
 
   junk_given : (result : Result (Resource S) (ParseFault S)) →
       flat_map junk_slice (body tiles) ≡ map fault_slice (faults tiles) → Given result → JunkIsRefused t text result

@@ -5,10 +5,10 @@ use Rattle.ftl.specs.declared.command.Command.TheVariants.{Check, Format, Runtim
 use Rattle.fluent_syntax_c.specs.Arguments.{command_number, from_json_number}
 
 -- no command of a text has the number of that of JSON
-pub is_of_text : (command : Command) → command_number command ≢ from_json_number
-is_of_text Check = λ e. cc
-is_of_text Format = λ e. cc
-is_of_text Runtime = λ e. cc
-is_of_text Json = λ e. cc
-is_of_text CheckTwo = λ e. cc
-is_of_text FormatTwo = λ e. cc
+pub text_command_is_not_json : (command : Command) → command_number command ≢ from_json_number
+text_command_is_not_json Check = λ e. cc
+text_command_is_not_json Format = λ e. cc
+text_command_is_not_json Runtime = λ e. cc
+text_command_is_not_json Json = λ e. cc
+text_command_is_not_json CheckTwo = λ e. cc
+text_command_is_not_json FormatTwo = λ e. cc

@@ -57,27 +57,27 @@ known_on_line t last start known placed from at units chars =
 
 -- ---- sums over ranges
 
-rest_sum : (f : ℕ → ℕ) (t : List ℕ) (a b : ℕ) → a ≤ b →
+rest_sum_splits : (f : ℕ → ℕ) (t : List ℕ) (a b : ℕ) → a ≤ b →
     sum_by f (slice_range t a b) + sum_by f (drop b t) ≡ sum_by f (drop a t)
-rest_sum f t a b l =
+rest_sum_splits f t a b l =
     let whole : a + (b - a) ≡ b = omega arith in
     ap (λ rest. sum_by f (slice_range t a b) + sum_by f rest)
     (sym (drop-drop (b - a) a t ∙ ap (λ n. drop n t) whole))
     ∙ sum_by-take-drop f (drop a t) (b - a)
 
 -- a sum over a range and one over the range after it
-range_sums : (f : ℕ → ℕ) (t : List ℕ) (a b c : ℕ) → a ≤ b → b ≤ c →
+adjacent_ranges_sum_up : (f : ℕ → ℕ) (t : List ℕ) (a b c : ℕ) → a ≤ b → b ≤ c →
     sum_by f (slice_range t a b) + sum_by f (slice_range t b c) ≡ sum_by f (slice_range t a c)
-range_sums f t a b c l m =
-    omega (arith, rest_sum f t a b l, rest_sum f t b c m, rest_sum f t a c (omega (arith, l, m)))
+adjacent_ranges_sum_up f t a b c l m =
+    omega (arith, rest_sum_splits f t a b l, rest_sum_splits f t b c m, rest_sum_splits f t a c (omega (arith, l, m)))
 
 -- what was counted on over the whole range
-pub counted_all : (f : ℕ → ℕ) (t s : List ℕ) (start from to i known found : ℕ) → s ≡ t → start ≤ from → from ≤ to →
+pub range_is_counted : (f : ℕ → ℕ) (t s : List ℕ) (start from to i known found : ℕ) → s ≡ t → start ≤ from → from ≤ to →
     length (slice_range s from to) ≤ i → known ≡ 1 + sum_by f (slice_range t start from) →
     found ≡ known + sum_by f (take i (slice_range s from to)) → found ≡ 1 + sum_by f (slice_range t start to)
-counted_all f t s start from to i known found source l m end before is =
+range_is_counted f t s start from to i known found source l m end before is =
     let all = ap (sum_by f) (take_all i (slice_range s from to) end ∙ ap (λ u. slice_range u from to) source) in
-    omega (arith, all, range_sums f t start from to l m, before, is)
+    omega (arith, all, adjacent_ranges_sum_up f t start from to l m, before, is)
 
 -- ---- how large sums are
 
@@ -90,23 +90,23 @@ range_sum_small f t a b small =
     omega (arith, most, range_length t a b)
 
 -- 1 and sums of small numbers over two ranges, with one number more
-pub counted_fits : (f : ℕ → ℕ) (t s : List ℕ) (start from to i d known found given : ℕ) → ((b : ℕ) → f b ≤ 2) →
+pub count_fits_one_more : (f : ℕ → ℕ) (t s : List ℕ) (start from to i d known found given : ℕ) → ((b : ℕ) → f b ≤ 2) →
     length t < 2 ^ 63 → start ≤ from → from ≤ to → to ≤ length t → i < length (slice_range s from to) →
     known ≡ 1 + sum_by f (slice_range t start from) → found ≡ known + sum_by f (take i (slice_range s from to)) →
     given ≡ f (get_or (slice_range s from to) i d) → found + given < 2 ^ 64
-counted_fits f t s start from to i d known found given small short l m inside at before is one =
+count_fits_one_more f t s start from to i d known found given small short l m inside at before is one =
     let more = sum_by_more_le f (slice_range s from to) i d at in
     let beyond = range_sum_small f s from to small in
     let ahead = range_sum_small f t start from small in
     omega (arith, more, beyond, ahead, before, is, one, short, inside)
 
-chosen_small : (goes_on is_long : Bool) → cond goes_on 0 (cond is_long 2 1) ≤ 2
-chosen_small true is_long = omega arith
-chosen_small false true = omega arith
-chosen_small false false = omega arith
+two_or_one_is_small : (goes_on is_long : Bool) → cond goes_on 0 (cond is_long 2 1) ≤ 2
+two_or_one_is_small true is_long = omega arith
+two_or_one_is_small false true = omega arith
+two_or_one_is_small false false = omega arith
 
 pub units_small : (b : ℕ) → utf16_units b ≤ 2
-units_small b = chosen_small _ _
+units_small b = two_or_one_is_small _ _
 
 one_small : (goes_on : Bool) → cond goes_on 0 1 ≤ 2
 one_small true = omega arith

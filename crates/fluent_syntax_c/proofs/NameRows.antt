@@ -28,27 +28,27 @@ use Rattle.fluent_syntax_c.specs.Names.{NamesTiles, are_names, entry_rows, tile_
 use Rattle.fluent_syntax_c.specs.declared.names.FtlName.{FtlName}
 
 -- the name of an attribute of a tree of the text lies within the text
-pub attribute_inside : (t s : List ℕ) (attributes items : List (Attribute Span)) (i : ℕ) (a : Attribute Span) →
+pub attribute_name_is_in_text : (t s : List ℕ) (attributes items : List (Attribute Span)) (i : ℕ) (a : Attribute Span) →
     list_every (attribute_every (IsTextRange t)) (map (attribute_view (λ s. s)) attributes) → items ≡ attributes →
     i < length items → a ≡ get_or items i a → s ≡ t → a.id.name.start ≤ length s
-attribute_inside t s attributes items i a all same l is text =
+attribute_name_is_in_text t s attributes items i a all same l is text =
     let h : attribute_every (IsTextRange t) (attribute_view (λ s. s) a) =
     every_item (attribute_every (IsTextRange t)) (attribute_view (λ s. s)) attributes items i a all same l is in
     subst (λ u. a.id.name.start ≤ length u) (sym text) h.0.1.0
 
 -- one more tile's rows
-rows_after : (t : List ℕ) (n : ℕ) (tiles : List Tile) (tile : Tile) →
+tiles_rows-append : (t : List ℕ) (n : ℕ) (tiles : List Tile) (tile : Tile) →
     tiles_rows t n (tiles ++ (tile ∷ []))
     ≡ tiles_rows t n tiles ++ tile_rows t (n + length (tiles_rows t n tiles)) tile
-rows_after t n [] tile =
+tiles_rows-append t n [] tile =
     let same : n ≡ n + 0 = omega arith in
     append-nil (tile_rows t n tile) ∙ ap (λ m. tile_rows t m tile) same
-rows_after t n (x ∷ xs) tile =
+tiles_rows-append t n (x ∷ xs) tile =
     let own = tile_rows t n x in
     let m = n + length own in
     let others = tiles_rows t m xs in
     let counted : m + length others ≡ n + length (own ++ others) = omega (arith, length-append own others) in
-    ap (λ rows. own ++ rows) (rows_after t m xs tile)
+    ap (λ rows. own ++ rows) (tiles_rows-append t m xs tile)
     ∙ sym (append_assoc own others (tile_rows t (m + length others) tile))
     ∙ ap (λ k. (own ++ others) ++ tile_rows t k tile) counted
 
@@ -108,7 +108,7 @@ module _ (edition : Edition) (t : List ℕ) where
               added ∙ ap (λ given. rows ++ given) (sym own)
               ∙ ap (λ n. rows ++ tile_rows t n to.tile) counted
               ∙ ap (λ before. before ++ tile_rows t (0 + length before) to.tile) names.rows_are
-              ∙ sym (rows_after t 0 names.tiles to.tile);
+              ∙ sym (tiles_rows-append t 0 names.tiles to.tile);
           whole = λ more tiled.
               subst (Tiled t (TileAt edition t) 0) (sym (append_assoc names.tiles (to.tile ∷ []) more))
               (names.whole (to.tile ∷ more)
@@ -125,9 +125,9 @@ module _ (edition : Edition) (t : List ℕ) where
   }
 
 -- the rows of a tiling of the text are those of each
-pub names_of_tiling : {E : Type 0} (edition : Edition) (t : List ℕ) (tiles : List Tile) → Tiling edition t tiles →
+pub tiling_has_its_names : {E : Type 0} (edition : Edition) (t : List ℕ) (tiles : List Tile) → Tiling edition t tiles →
     (answer : Result (Vec FtlName Global) E) → IfOk answer (λ rows. NamesTiles edition t rows.items) →
     IfOk answer (λ rows. are_names edition t tiles rows.items)
-names_of_tiling edition t tiles tiling (Ok rows) found =
+tiling_has_its_names edition t tiles tiling (Ok rows) found =
     found.rows_are ∙ ap (tiles_rows t 0) (same_tilings edition t found.tiles tiles found.has_tiles tiling)
-names_of_tiling edition t tiles tiling (Err e) found = found
+tiling_has_its_names edition t tiles tiling (Err e) found = found

@@ -31,22 +31,22 @@ use Rattle.fluent_syntax_c.specs.Status.{EndsAs, edit_refusal_number, refusal_nu
 use Rattle.fluent_syntax_c.specs.declared.status.EditRefusal.{EditRefusal}
 use Rattle.fluent_syntax_c.specs.declared.status.Refusal.{Refusal}
 use Rattle.fluent_syntax_c.specs.declared.status.Refusal.TheVariants.{Argument, Input, Depth, Tree}
-use Rattle.fluent_syntax_c.proofs.Statuses.{either_absurd, gives_edited, not_edited_of}
+use Rattle.fluent_syntax_c.proofs.Statuses.{either_absurd, new_text_is_given, unmade_edit_has_reason}
 use Rattle.fluent_syntax_c.specs.declared.edited.Action.{Action}
 use Rattle.fluent_syntax_c.specs.declared.edited.Action.TheVariants.{SetValue, Replace, Insert}
 use Rattle.fluent_syntax_c.specs.declared.text_trees.TextTree.{TextTree}
 
 -- no two editions have one number
-pub same_edition : (a b : Edition) → edition_number a ≡ edition_number b → a ≡ b
-same_edition One One e = refl
-same_edition One Two e = cc
-same_edition Two One e = cc
-same_edition Two Two e = refl
+pub edition_number_is_injective : (a b : Edition) → edition_number a ≡ edition_number b → a ≡ b
+edition_number_is_injective One One e = refl
+edition_number_is_injective One Two e = cc
+edition_number_is_injective Two One e = cc
+edition_number_is_injective Two Two e = refl
 
 -- what has no errors has no faults
-clean_faults : (fs : List Fault) → outcome_with fs ≡ Clean → fs ≡ []
-clean_faults [] e = refl
-clean_faults (f ∷ fs) e = cc
+clean_text_has_no_faults : (fs : List Fault) → outcome_with fs ≡ Clean → fs ≡ []
+clean_text_has_no_faults [] e = refl
+clean_text_has_no_faults (f ∷ fs) e = cc
 
 module _ (edition : Edition) (t : List ℕ) (read : TextTree) (is : IsTextTree edition t read) where
   -- a text without errors reads as its tree
@@ -55,7 +55,7 @@ module _ (edition : Edition) (t : List ℕ) (read : TextTree) (is : IsTextTree e
   reads_clean tree clean same = record {
     tiles = is.tiles;
     tiling = is.has_tiles;
-    no_faults = clean_faults (faults is.tiles) (sym is.outcome_is ∙ clean);
+    no_faults = clean_text_has_no_faults (faults is.tiles) (sym is.outcome_is ∙ clean);
     same = sym is.tree_is ∙ same;
   }
 
@@ -93,19 +93,19 @@ module _ (edition : Edition) (t : List ℕ) (read : TextTree) (is : IsTextTree e
   errors_read_none errors e reads = let clean = clean_read (e ∷ []) reads in cc
 
 -- a text reads as one tree
-pub one_read : (edition : Edition) (t : List ℕ) (e other : EntryTree Text) → ReadsAs edition t (e ∷ []) →
+pub text_reads_as_one_entry : (edition : Edition) (t : List ℕ) (e other : EntryTree Text) → ReadsAs edition t (e ∷ []) →
     ReadsAs edition t (other ∷ []) → e ≡ other
-one_read edition t e other reads again =
+text_reads_as_one_entry edition t e other reads again =
     let same = same_tilings edition t reads.tiles again.tiles reads.tiling again.tiling in
     let trees : e ∷ [] ≡ other ∷ [] = sym reads.same ∙ ap (tree_of t) same ∙ again.same in cc
 
 -- what is said of nothing, where there is nothing
-pub none_from : {X : Type 0} {P : Type 0} (answer : Option X) → answer ≡ None → P → IfNone answer P
-none_from answer e p = rw e p
+pub IfNone-none : {X : Type 0} {P : Type 0} (answer : Option X) → answer ≡ None → P → IfNone answer P
+IfNone-none answer e p = rw e p
 
-pub none_on : {X : Type 0} {P Q : Type 0} (answer : Option X) → (P → Q) → IfNone answer P → IfNone answer Q
-none_on None to p = to p
-none_on (Some x) to p = p
+pub IfNone-weaker : {X : Type 0} {P Q : Type 0} (answer : Option X) → (P → Q) → IfNone answer P → IfNone answer Q
+IfNone-weaker None to p = to p
+IfNone-weaker (Some x) to p = p
 
 module _ (action : Action) (edition : Edition) (p : Text) (part : TextTree)
     (is : IsTextTree edition (part_source action p) part) where
@@ -170,31 +170,31 @@ module _ (action : Action) (edition : Edition) (p : Text) (part : TextTree)
         )
 
 -- where the edit is made, by the tree that was read
-pub place_read : (edition : Edition) (t : List ℕ) (source : TextTree) (is : IsTextTree edition t source)
+pub edit_place_is_by_tree : (edition : Edition) (t : List ℕ) (source : TextTree) (is : IsTextTree edition t source)
     (action : Action) (name : Text) (place found : Option ℕ) →
     place ≡ place_of action name (resource_view (λ text. text.now) source.tree) → place ≡ found →
     place_of action name (tree_of t is.tiles) ≡ found
-place_read edition t source is action name place found stated e =
+edit_place_is_by_tree edition t source is action name place found stated e =
     ap (place_of action name) (sym is.tree_is) ∙ sym stated ∙ e
 
 -- what holds by the edition by which two texts were read, holds by its number
-pub reads_both : (number : ℕ) (input : List ℕ) (action : Action) (source other : TextTree) (u p : List ℕ) →
+pub both_have_one_edition : (number : ℕ) (input : List ℕ) (action : Action) (source other : TextTree) (u p : List ℕ) →
     IsEditionTextTree number input source → IsEditionTextTree number u other → u ≡ part_source action p →
     (P : ℕ → Type 0) → ((edition : Edition) → IsTextTree edition input source →
     IsTextTree edition (part_source action p) other → P (edition_number edition)) → P number
-reads_both number input action source other u p one two same P call =
-    let editions : two.0 ≡ one.0 = same_edition two.0 one.0 (two.1 ∙ sym one.1) in
+both_have_one_edition number input action source other u p one two same P call =
+    let editions : two.0 ≡ one.0 = edition_number_is_injective two.0 one.0 (two.1 ∙ sym one.1) in
     let text = subst (λ t. IsTextTree two.0 t other) same two.2 in
     let part = subst (λ e. IsTextTree e (part_source action p) other) editions text in
     subst P one.1 (call one.0 one.2 part)
 
 -- what holds anyway, where there is an answer of which something is known
-pub ok_on : {X E P : Type 0} (Q : X → Type 0) (answer : Result X E) → IfOk answer Q → P → IfOk answer (λ x. P)
-ok_on Q (Ok x) q p = p
-ok_on Q (Err e) q p = q
+pub IfOk-anyway : {X E P : Type 0} (Q : X → Type 0) (answer : Result X E) → IfOk answer Q → P → IfOk answer (λ x. P)
+IfOk-anyway Q (Ok x) q p = p
+IfOk-anyway Q (Err e) q p = q
 
 -- The edit that was made, or the reason why it was not, is given.
-pub gives_edit : (number nesting : ℕ) (t name : List ℕ) (action : Action) (part : List ℕ)
+pub edit_is_given : (number nesting : ℕ) (t name : List ℕ) (action : Action) (part : List ℕ)
     (answer : Result (Result (Vec ℕ Global × Outcome) EditRefusal) Refusal) (before after : List ℕ)
     (count status : ℕ) →
     IfOk answer (λ made. IfOk made (λ given. IsEdited number t name action part given.0.items given.1)) →
@@ -212,12 +212,12 @@ pub gives_edit : (number nesting : ℕ) (t name : List ℕ) (action : Action) (p
     ((why : Refusal) → (status ≡ refusal_number why) ↔ (answer ≡ Err why)) →
     ((why : EditRefusal) → status ≡ edit_refusal_number why → answer ≡ Ok (Err why)) →
     GivesEdit number t name action part nesting before after count status
-gives_edit number nesting t name action part answer before after count status edited not_edited argument input deep
+edit_is_given number nesting t name action part answer before after count status edited not_edited argument input deep
     deeper shallow tree leaves refused stated = record {
       gives =
-          gives_edited number (IsEdited number t name action part) _ _ _ answer before after count status edited
+          new_text_is_given number (IsEdited number t name action part) _ _ _ answer before after count status edited
           argument input deep deeper shallow
           (λ none nests. either_absurd (λ d. none d.0 d.1) (λ d. none d.0 d.1) nests) tree leaves refused;
       not_edited = λ why is.
-          not_edited_of (IsNotEdited number t name action part) answer why (stated why is) not_edited;
+          unmade_edit_has_reason (IsNotEdited number t name action part) answer why (stated why is) not_edited;
     }

@@ -38,21 +38,21 @@ number_reads_back (NotEdited NotOneEntry) = refl
 number_reads_back (NotEdited ReadsOtherwise) = refl
 
 -- no two statuses have one number
-same_status : (a b : Status) → status_number a ≡ status_number b → a ≡ b
-same_status a b e = sym (number_reads_back a) ∙ ap status_at e ∙ number_reads_back b
+status_number_is_injective : (a b : Status) → status_number a ≡ status_number b → a ≡ b
+status_number_is_injective a b e = sym (number_reads_back a) ∙ ap status_at e ∙ number_reads_back b
 
 -- The number of a refusal is given exactly where the answer is that refusal.
 pub refusal_exactly : {X : Type 0} (answer : Result X Refusal) (number : ℕ) (status : Status) →
     number ≡ status_number status → ((why : Refusal) → (status ≡ Refused why) ↔ (answer ≡ Err why)) → (why : Refusal) →
     (number ≡ refusal_number why) ↔ (answer ≡ Err why)
 refusal_exactly answer number status is refused why = (
-  (λ e. (refused why).0 (same_status status (Refused why) (sym is ∙ e))),
+  (λ e. (refused why).0 (status_number_is_injective status (Refused why) (sym is ∙ e))),
   (λ e. is ∙ ap status_number ((refused why).1 e)),
 )
 
 -- What is stated exactly of an answer that is given exactly where P holds, is stated exactly there.
-pub status_where : {Stated Answered P : Type 0} → (Stated ↔ Answered) → (Answered ↔ P) → Stated ↔ P
-status_where stated answered = ((λ e. answered.0 (stated.0 e)), (λ p. stated.1 (answered.1 p)))
+pub iff_is_transitive : {Stated Answered P : Type 0} → (Stated ↔ Answered) → (Answered ↔ P) → Stated ↔ P
+iff_is_transitive stated answered = ((λ e. answered.0 (stated.0 e)), (λ p. stated.1 (answered.1 p)))
 
 -- Where nothing that nests deeper is answered, no number is wrong and no tree is asked for, what nests deeper is
 -- refused: for its bytes, for want of memory, or for its depth.
@@ -78,27 +78,27 @@ expected_is expected items_of found_of (Ok given) is items found same =
 expected_is expected items_of found_of (Err e) is items found same = absurd same
 
 -- a call leaves what another one asked for, if that is all that was asked for
-leaves_other : {A : Type 0} (P Q : List A → Outcome → Type 0) (before after : List A) (count : ℕ) (status : Status) →
+LeavesOutput-as : {A : Type 0} (P Q : List A → Outcome → Type 0) (before after : List A) (count : ℕ) (status : Status) →
     ((items : List A) (found : Outcome) → P items found → Q items found) →
     LeavesOutput P before after count status → LeavesOutput Q before after count status
-leaves_other P Q before after count Clean to h = (h.0, to h.0 outcome.Clean h.1, h.2)
-leaves_other P Q before after count SyntaxErrors to h = (h.0, to h.0 outcome.SyntaxErrors h.1, h.2)
-leaves_other P Q before after count TooSmall to h = (h.0, (h.1.0, to h.0 h.1.0 h.1.1), h.2, h.3)
-leaves_other P Q before after count (Refused why) to h = h
-leaves_other P Q before after count (NotEdited why) to h = h
+LeavesOutput-as P Q before after count Clean to h = (h.0, to h.0 outcome.Clean h.1, h.2)
+LeavesOutput-as P Q before after count SyntaxErrors to h = (h.0, to h.0 outcome.SyntaxErrors h.1, h.2)
+LeavesOutput-as P Q before after count TooSmall to h = (h.0, (h.1.0, to h.0 h.1.0 h.1.1), h.2, h.3)
+LeavesOutput-as P Q before after count (Refused why) to h = h
+LeavesOutput-as P Q before after count (NotEdited why) to h = h
 
 -- What was asked for was answered, and the answer given.
-pub leaves_answered : {A X E : Type 0} (expected : List A → Outcome → Type 0) (items_of : X → List A)
+pub answered_is_left : {A X E : Type 0} (expected : List A → Outcome → Type 0) (items_of : X → List A)
     (found_of : X → Outcome) (answer : Result X E) (before after : List A) (count number : ℕ) →
     IfOk answer (λ given. expected (items_of given) (found_of given)) →
     EndsAs number
     (LeavesOutput (λ items found. IsOkAnd answer (λ given. (items_of given ≡ items) × (found_of given ≡ found)))
     before after count) → EndsAs number (LeavesOutput expected before after count)
-leaves_answered expected items_of found_of answer before after count number is h =
-    (h.0, h.1, leaves_other _ expected before after count h.0 (expected_is expected items_of found_of answer is) h.2)
+answered_is_left expected items_of found_of answer before after count number is h =
+    (h.0, h.1, LeavesOutput-as _ expected before after count h.0 (expected_is expected items_of found_of answer is) h.2)
 
 -- Rows that were answered are given.
-pub gives_answered : {A : Type 0} (number : ℕ) (expected : List A → Outcome → Type 0) (AreTexts Long Deeper : Type 0)
+pub answer_is_given : {A : Type 0} (number : ℕ) (expected : List A → Outcome → Type 0) (AreTexts Long Deeper : Type 0)
     (answer : Result (Vec A Global × Outcome) Refusal) (before after : List A) (count status : ℕ) →
     IsCallResult number expected AreTexts Long Deeper answer →
     EndsAs status
@@ -106,12 +106,12 @@ pub gives_answered : {A : Type 0} (number : ℕ) (expected : List A → Outcome 
     count) →
     ((why : Refusal) → (status ≡ refusal_number why) ↔ (answer ≡ Err why)) →
     Gives number expected AreTexts Long Deeper before after count status
-gives_answered number expected AreTexts Long Deeper answer before after count status h leaves refused = record {
+answer_is_given number expected AreTexts Long Deeper answer before after count status h leaves refused = record {
   leaves =
-      leaves_answered expected (λ given. given.0.items) (λ given. given.1) answer before after count status h.rows
+      answered_is_left expected (λ given. given.0.items) (λ given. given.1) answer before after count status h.rows
       leaves;
-  argument = status_where (refused Argument) h.argument;
-  input = λ known. status_where (refused Input) (h.input known);
+  argument = iff_is_transitive (refused Argument) h.argument;
+  input = λ known. iff_is_transitive (refused Input) (h.input known);
   deep = λ stated. h.deep ((refused Depth).0 stated);
   deeper = λ stated. h.deeper ((refused Depth).0 stated);
   shallow = λ deeper. refused_deeper answer status Deeper refused h.shallow h.read (λ e d. h.tree e) deeper;
@@ -119,10 +119,10 @@ gives_answered number expected AreTexts Long Deeper answer before after count st
 
 -- These are the rows, where they are those that are asked for, the edition is known, all texts are UTF-8, and none
 -- nests deeper than it may.
-pub answers_ok : {A : Type 0} (number : ℕ) (expected : List A → Outcome → Type 0) (AreTexts Long Deeper : Type 0)
+pub answers_expected : {A : Type 0} (number : ℕ) (expected : List A → Outcome → Type 0) (AreTexts Long Deeper : Type 0)
     (rows : Vec A Global) (outcome : Outcome) → expected rows.items outcome → ¬ (IsNoEdition number) → AreTexts →
     (Deeper → ⊥) → IsCallResult number expected AreTexts Long Deeper (Ok (rows, outcome))
-answers_ok number expected AreTexts Long Deeper rows outcome is known texts shallow = record {
+answers_expected number expected AreTexts Long Deeper rows outcome is known texts shallow = record {
   rows = is;
   argument = ((λ e. cc), (λ none. absurd (known none)));
   input = λ known. ((λ e. cc), (λ no. absurd (no texts)));
@@ -139,17 +139,17 @@ either_absurd first second (inl p) = first p
 either_absurd first second (inr q) = second q
 
 -- what an edit made is what was asked for
-edited_is : (expected : List ℕ → Outcome → Type 0)
+edited_text_is_expected : (expected : List ℕ → Outcome → Type 0)
     (answer : Result (Result (Vec ℕ Global × Outcome) EditRefusal) Refusal) →
     IfOk answer (λ made. IfOk made (λ given. expected given.0.items given.1)) → (items : List ℕ) (found : Outcome) →
     IsOkAnd answer (λ made. IsOkAnd made (λ given. (given.0.items ≡ items) × (given.1 ≡ found))) →
     expected items found
-edited_is expected (Ok made) is items found same =
+edited_text_is_expected expected (Ok made) is items found same =
     expected_is expected (λ given. given.0.items) (λ given. given.1) made is items found same
-edited_is expected (Err e) is items found same = absurd same
+edited_text_is_expected expected (Err e) is items found same = absurd same
 
 -- The new text that was answered is given.
-pub gives_edited : (number : ℕ) (expected : List ℕ → Outcome → Type 0) (AreTexts Long Deeper : Type 0)
+pub new_text_is_given : (number : ℕ) (expected : List ℕ → Outcome → Type 0) (AreTexts Long Deeper : Type 0)
     (answer : Result (Result (Vec ℕ Global × Outcome) EditRefusal) Refusal) (before after : List ℕ)
     (count status : ℕ) → IfOk answer (λ made. IfOk made (λ given. expected given.0.items given.1)) →
     ((answer ≡ Err Argument) ↔ IsNoEdition number) →
@@ -161,15 +161,15 @@ pub gives_edited : (number : ℕ) (expected : List ℕ → Outcome → Type 0) (
     (λ given. (given.0.items ≡ items) × (given.1 ≡ found)))) before after count) →
     ((why : Refusal) → (status ≡ refusal_number why) ↔ (answer ≡ Err why)) →
     Gives number expected AreTexts Long Deeper before after count status
-gives_edited number expected AreTexts Long Deeper answer before after count status made argument input deep deeper
+new_text_is_given number expected AreTexts Long Deeper answer before after count status made argument input deep deeper
     shallow read tree leaves refused = record {
       leaves = (
         leaves.0,
         leaves.1,
-        leaves_other _ expected before after count leaves.0 (edited_is expected answer made) leaves.2,
+        LeavesOutput-as _ expected before after count leaves.0 (edited_text_is_expected expected answer made) leaves.2,
       );
-      argument = status_where (refused Argument) argument;
-      input = λ known. status_where (refused Input) (input known);
+      argument = iff_is_transitive (refused Argument) argument;
+      input = λ known. iff_is_transitive (refused Input) (input known);
       deep = λ stated. deep ((refused Depth).0 stated);
       deeper = λ stated. deeper ((refused Depth).0 stated);
       shallow = λ nests.
@@ -179,14 +179,14 @@ gives_edited number expected AreTexts Long Deeper answer before after count stat
 -- An edit that is not made is reported exactly as it was answered.
 pub not_edited_exactly : (number : ℕ) (status : Status) (why : EditRefusal) → number ≡ status_number status →
     number ≡ edit_refusal_number why → status ≡ NotEdited why
-not_edited_exactly number status why is stated = same_status status (NotEdited why) (sym is ∙ stated)
+not_edited_exactly number status why is stated = status_number_is_injective status (NotEdited why) (sym is ∙ stated)
 
 -- no two refusals have one number
 pub same_refusal : (why other : Refusal) → refusal_number why ≡ refusal_number other → why ≡ other
 same_refusal why other e =
-    let same : Refused why ≡ Refused other = same_status (Refused why) (Refused other) e in cc
+    let same : Refused why ≡ Refused other = status_number_is_injective (Refused why) (Refused other) e in cc
 
 -- what is said of an edit that was not made
-pub not_edited_of : {X : Type 0} (P : EditRefusal → Type 0) (answer : Result (Result X EditRefusal) Refusal)
+pub unmade_edit_has_reason : {X : Type 0} (P : EditRefusal → Type 0) (answer : Result (Result X EditRefusal) Refusal)
     (why : EditRefusal) → answer ≡ Ok (Err why) → IfOk answer (λ made. IfErr made P) → P why
-not_edited_of P answer why e h = subst (λ r. IfOk r (λ made. IfErr made P)) e h
+unmade_edit_has_reason P answer why e h = subst (λ r. IfOk r (λ made. IfErr made P)) e h

@@ -80,10 +80,10 @@ module _ (edition : Edition) (t : List ℕ) where
   }
 
 -- the rows of a tiling of the text are those of each
-pub values_of_tiling : {E : Type 0} (edition : Edition) (t : List ℕ) (tiles : List Tile) → Tiling edition t tiles →
+pub tiling_has_its_values : {E : Type 0} (edition : Edition) (t : List ℕ) (tiles : List Tile) → Tiling edition t tiles →
     (answer : Result (Vec FtlValue Global) E) → IfOk answer (λ rows. ValuesTiling edition t rows.items) →
     IfOk answer (λ rows. TilesValues edition t tiles rows.items)
-values_of_tiling edition t tiles tiling (Ok rows) found =
+tiling_has_its_values edition t tiles tiling (Ok rows) found =
     subst (λ ts. TilesValues edition t ts rows.items)
     (same_tilings edition t found.tiles tiles found.has_tiles tiling) found.values
-values_of_tiling edition t tiles tiling (Err e) found = found
+tiling_has_its_values edition t tiles tiling (Err e) found = found

@@ -10,7 +10,7 @@ use Rattle.fluent_syntax_tree.specs.declared.spans.Span.{Span}
 use Rattle.fluent_syntax_grammar.specs.Body.{faults}
 use Rattle.fluent_syntax_grammar.specs.RoundTrip.{tree_of}
 use Rattle.fluent_syntax_grammar.specs.Tiling.{Fault, Tile, Tiling}
-use Rattle.fluent_syntax_grammar.proofs.OneTiling.{one_tile, tiled_same}
+use Rattle.fluent_syntax_grammar.proofs.OneTiling.{one_tile, tiled_is_unique}
 use Rattle.fluent_syntax_parser.specs.Faults.{fault_of}
 use Rattle.fluent_syntax_edits.specs.Changes.{Change, tree_after, replacement_text}
 use Rattle.fluent_syntax_edits.specs.Edits.{ReadAs, ReadsChanged}
@@ -18,23 +18,23 @@ use Rattle.fluent_syntax_edits.specs.Errors.{moved_fault}
 
 -- ---- lists
 
-some_of_moved : {X : Type 0} (f : X → X) (xs : List X) →
+some_commutes_with_map : {X : Type 0} (f : X → X) (xs : List X) →
     map Some (map f xs) ≡ map (option_map f) (map Some xs)
-some_of_moved f [] = refl
-some_of_moved f (x ∷ xs) = ap (λ ys. Some (f x) ∷ ys) (some_of_moved f xs)
+some_commutes_with_map f [] = refl
+some_commutes_with_map f (x ∷ xs) = ap (λ ys. Some (f x) ∷ ys) (some_commutes_with_map f xs)
 
-without_some : {X : Type 0} (xs ys : List X) → map Some xs ≡ map Some ys → xs ≡ ys
-without_some [] [] e = refl
-without_some [] (y ∷ ys) e = cc
-without_some (x ∷ xs) [] e = cc
-without_some (x ∷ xs) (y ∷ ys) e =
-    let rest = without_some xs ys (cc) in let first : x ≡ y = cc in ap (λ zs. x ∷ zs) rest ∙ ap (λ z. z ∷ ys) first
+map_some_injects : {X : Type 0} (xs ys : List X) → map Some xs ≡ map Some ys → xs ≡ ys
+map_some_injects [] [] e = refl
+map_some_injects [] (y ∷ ys) e = cc
+map_some_injects (x ∷ xs) [] e = cc
+map_some_injects (x ∷ xs) (y ∷ ys) e =
+    let rest = map_some_injects xs ys (cc) in let first : x ≡ y = cc in ap (λ zs. x ∷ zs) rest ∙ ap (λ z. z ∷ ys) first
 
 -- ---- readings
 
-one_tiling : (edition : Edition) (t : List ℕ) (tiles others : List Tile) → Tiling edition t tiles →
+tiling_is_unique : (edition : Edition) (t : List ℕ) (tiles others : List Tile) → Tiling edition t tiles →
     Tiling edition t others → tiles ≡ others
-one_tiling edition t tiles others a b = tiled_same t _ (one_tile edition t) 0 tiles others a b
+tiling_is_unique edition t tiles others a b = tiled_is_unique t _ (one_tile edition t) 0 tiles others a b
 
 module _ (edition : Edition) (t u : List ℕ) (n : ℕ) (change : Change) (s : Span) where
   abbrev moved : Fault → Fault
@@ -56,17 +56,17 @@ module _ (edition : Edition) (t u : List ℕ) (n : ℕ) (change : Change) (s : S
         tiling = a.tiling;
         new_tiling = b.tiling;
         tree = sym b.tree ∙ (so.0 ∙ ap (tree_after change n) a.tree);
-        errors = without_some _ _
+        errors = map_some_injects _ _
             (sym b.errors
-            ∙ (so.1 ∙ (ap (map (option_map moved)) a.errors ∙ sym (some_of_moved moved (faults a.tiles)))));
+            ∙ (so.1 ∙ (ap (map (option_map moved)) a.errors ∙ sym (some_commutes_with_map moved (faults a.tiles)))));
       }),
       (λ x.
-          let same = one_tiling edition t x.tiles a.tiles x.tiling a.tiling in
-          let new_same = one_tiling edition u b.tiles x.others b.tiling x.new_tiling in (
+          let same = tiling_is_unique edition t x.tiles a.tiles x.tiling a.tiling in
+          let new_same = tiling_is_unique edition u b.tiles x.others b.tiling x.new_tiling in (
             b.tree ∙ (ap (tree_of u) new_same
                 ∙ (x.tree ∙ ap (tree_after change n) (ap (tree_of t) same ∙ sym a.tree))),
             b.errors ∙ (ap (λ ts. map Some (faults ts)) new_same
-                ∙ (ap (map Some) x.errors ∙ (some_of_moved moved (faults x.tiles)
+                ∙ (ap (map Some) x.errors ∙ (some_commutes_with_map moved (faults x.tiles)
                 ∙ ap (map (option_map moved)) (ap (λ ts. map Some (faults ts)) same ∙ sym a.errors)))),
           )),
     )

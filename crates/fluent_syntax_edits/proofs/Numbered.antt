@@ -43,9 +43,9 @@ module _ {X Y : Type 0} (v : X → Y) where
   remove_there (suc n) (x ∷ xs) = ap (λ ys. v x ∷ ys) (remove_there n xs)
 
 -- Where the images of two lists are the same up to a map, those of two items at one number are.
-pub same_at : {X Y : Type 0} (f : X → Y) (g : Y → Y) (xs ys : List X) (i : ℕ) (x y : X) → i < length xs →
+pub images_agree_at : {X Y : Type 0} (f : X → Y) (g : Y → Y) (xs ys : List X) (i : ℕ) (x y : X) → i < length xs →
     i < length ys → x ≡ get_or xs i x → y ≡ get_or ys i y → map f ys ≡ map g (map f xs) → f y ≡ g (f x)
-same_at f g xs ys i x y short long at_x at_y e =
+images_agree_at f g xs ys i x y short long at_x at_y e =
     ap f at_y
     ∙ (sym (get_or-map f ys i y (f y) long)
     ∙ (ap (λ l. get_or l i (f y)) e

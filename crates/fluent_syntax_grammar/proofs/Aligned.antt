@@ -22,17 +22,17 @@ use Rattle.fluent_syntax_grammar.specs.Tiling.{RuntimeTiling}
 use Rattle.fluent_syntax_tree.specs.declared.edition.Edition.{Edition}
 use Rattle.fluent_syntax_tree.specs.declared.spans.Span.{Span}
 use Rattle.fluent_syntax_grammar.proofs.Functional.{single_block}
-use Rattle.fluent_syntax_grammar.proofs.HoareTriple.{gave}
+use Rattle.fluent_syntax_grammar.proofs.HoareTriple.{yields_value}
 use Rattle.fluent_syntax_grammar.proofs.OneTiling.{one_tile, junk_same, whole_line_is_functional}
-use Rattle.fluent_syntax_grammar.proofs.Cuts.{block_forward}
+use Rattle.fluent_syntax_grammar.proofs.Cuts.{block_goes_on}
 use Rattle.fluent_syntax_grammar.proofs.Sound.{IsPlain}
-use Rattle.fluent_syntax_grammar.proofs.SoundEntries.{plain_place}
+use Rattle.fluent_syntax_grammar.proofs.SoundEntries.{plain_kind_fails_at_its_start}
 use Rattle.fluent_syntax_grammar.proofs.LineEnds.{IsLineStart, hash_entry, block_no_entry, block_at_entry, letter_entry}
 use Rattle.fluent_syntax_grammar.proofs.LineEnds.{block_at_end, block_start}
 use Rattle.fluent_syntax_grammar.proofs.WholeLines.{IsLine, whole_line_is_line, line_to, line_start, line_in_text}
 use Rattle.fluent_syntax_grammar.proofs.WholeLines.{no_start, hash_bytes, comment_whole, hashes_onward}
 use Rattle.fluent_syntax_grammar.proofs.CommentFaults.{IsAt, comment_fault, name_fault, some_hash}
-use Rattle.fluent_syntax_grammar.proofs.Facts.{byte_found, byte_holds, differs, implies, left_true, lt_or_same}
+use Rattle.fluent_syntax_grammar.proofs.Facts.{byte_exists, holds-some, differs, tests_imply, left_true, lt_or_same}
 use Rattle.fluent_syntax_grammar.proofs.Facts.{right_false, right_true, lt_or_le, has_inside}
 
 -- Tiles of the one and of the other that are the same; comments of the one and dropped lines of the other; and junk
@@ -52,7 +52,7 @@ module _ (t : List ℕ) where
   block_end i j (line {m = m} a b c) = block_end m j c
 
   pub hash_there : (i : ℕ) → has_byte t 35 i ≡ true → has t is_entry_byte i ≡ true
-  hash_there i e = implies (λ c. c == 35) is_entry_byte (slice_get t i) hash_entry e
+  hash_there i e = tests_imply (λ c. c == 35) is_entry_byte (slice_get t i) hash_entry e
 
 module _ (edition : Edition) (t : List ℕ) where
   abbrev Runtime : ℕ → List Tile → Type 0
@@ -103,7 +103,7 @@ module _ (edition : Edition) (t : List ℕ) where
       let one = some_hash t i h in
       let q = drop_line i m ys h (comment_whole t (hashes t i) i m c refl x) r in
       let p = drop_lines (hashes t i) m n more q.rest one y q.tiled in
-      let g = gave (comment (level_of (hashes t i)) (c ++ more)) a n j z in
+      let g = yields_value (comment (level_of (hashes t i)) (c ++ more)) a n j z in
       record {
         rest = p.rest;
         tiled = subst (λ k. Runtime k p.rest) g.1 p.tiled;
@@ -158,15 +158,15 @@ module _ (edition : Edition) (t : List ℕ) where
   message_there i o e (goes_on at_place (stops {from = from} {to = to} {k = k} x)) =
       (k, from, to, refl, name_fault t i from to k x)
   message_there i o e (goes_on at_place (goes_on {j = j} {a = a} x y)) =
-      differs (implies is_letter is_entry_byte (slice_get t i) letter_entry (letter_of i j a x)) e
+      differs (tests_imply is_letter is_entry_byte (slice_get t i) letter_entry (letter_of i j a x)) e
 
   entry_there : (i : ℕ) (o : Outcome (EntryTree Span)) (b : Option ℕ) → slice_get t i ≡ b →
       has t is_entry_byte i ≡ false → entry_of edition t (family edition t) b i o → (k : Kind) × (from : ℕ) × (to : ℕ) ×
       (o ≡ Refused k from to) × IsAt i k from to
   entry_there i o None f e x = message_there i o e x
-  entry_there i o (Some b) f e (first g x) = differs (byte_holds is_entry_byte (slice_get t i) b f (hash_entry b g)) e
+  entry_there i o (Some b) f e (first g x) = differs (holds-some is_entry_byte (slice_get t i) b f (hash_entry b g)) e
   entry_there i o (Some b) f e (second g (first h x)) =
-      differs (byte_holds is_entry_byte (slice_get t i) b f (minus_entry b h)) e
+      differs (holds-some is_entry_byte (slice_get t i) b f (minus_entry b h)) e
   entry_there i o (Some b) f e (second g (second h x)) = message_there i o e x
 
   -- where no entry may begin, every entry is refused at once
@@ -206,7 +206,7 @@ module _ (edition : Edition) (t : List ℕ) where
       let same_kind : k.0 ≡ kind = cc in
       let same_from : k.1 ≡ from = cc in
       let place : failing_place kind from to ≡ s =
-      plain_place kind (subst IsPlain same_kind at.plain) from to ∙ (sym same_from ∙ at.at) in
+      plain_kind_fails_at_its_start kind (subst IsPlain same_kind at.plain) from to ∙ (sym same_from ∙ at.at) in
       let same_end : end ≡ e =
       junk_same t s end e (subst (λ p. JunkEnd t p end) place n) (earlier_end m s e l (omega arith) j) in
       record {
@@ -232,7 +232,7 @@ module _ (edition : Edition) (t : List ℕ) where
   junk_align m e f ys h j (next {start = s} {end = end} {tile = tile} {tiles = more} b l x r) =
       let inside = j.in_text in
       let forward = j.forward in
-      let on = block_forward t m s b in
+      let on = block_goes_on t m s b in
       elim (lt_or_le e s) [
         | inl y ↦ absurd (no_entry_in_block m s e b forward y (omega arith) j)
         | inr y ↦ elim (lt_or_same s e y) [
@@ -259,7 +259,7 @@ module _ (edition : Edition) (t : List ℕ) where
   junk_step i e from to k f ys h x j r =
       let d = dropped_first i ys h r in
       let at = comment_fault t i from to k x in
-      let place : failing_place k from to ≡ i + hashes t i = plain_place k at.plain from to ∙ at.at in
+      let place : failing_place k from to ≡ i + hashes t i = plain_kind_fails_at_its_start k at.plain from to ∙ at.at in
       let j' = subst (λ p. JunkEnd t p e) place j in
       let one = some_hash t i h in
       let l = has_inside (λ c. c == 35) t i h in
@@ -272,7 +272,7 @@ module _ (edition : Edition) (t : List ℕ) where
       record { rest = q.rest; tiled = q.tiled; aligned = λ xs a. d.aligned (refused f ∷ xs) (q.aligned xs a) }
 
   hash_not : (i : ℕ) (o : Option ℕ) (p : ℕ → Bool) → has_byte t 35 i ≡ true → slice_get t i ≡ o → o ≡ None → ⊥
-  hash_not i o p h e f = let b = byte_found (λ c. c == 35) (slice_get t i) h in absurd cc
+  hash_not i o p h e f = let b = byte_exists (λ c. c == 35) (slice_get t i) h in absurd cc
 
   other_byte : (i b : ℕ) → has_byte t 35 i ≡ true → slice_get t i ≡ Some b → (b == 35) ≡ false → ⊥
   other_byte i b h e f = false≢true (sym f ∙ (rw e at h))

@@ -29,8 +29,8 @@ AnyFault k from to = Unit {0}
 abbrev Bare : EntryTree Span → ℕ → Type 0
 Bare e j = IsBare e
 
-any : {A : Type 0} {c : Construct A} → HoareTriple AnyPlace c AnyValue AnyFault
-any = record { on_read = λ i j a p x. tt; on_refused = λ i from to k p x. tt }
+any_triple_holds : {A : Type 0} {c : Construct A} → HoareTriple AnyPlace c AnyValue AnyFault
+any_triple_holds = record { on_read = λ i j a p x. tt; on_refused = λ i from to k p x. tt }
 
 module _ (edition : Edition) (t : List ℕ) where
   bare_message : (start : ℕ) (id : Span) (value : Option (PatternTree Span)) (rest : List (AttributeTree Span)) →
@@ -46,22 +46,22 @@ module _ (edition : Edition) (t : List ℕ) where
 
   pub message_bare : HoareTriple AnyPlace (message_entry edition t) Bare AnyFault
   message_bare =
-      holds_bind {mid = AnyValue} any
-      (λ start. holds_bind {mid = AnyValue} any
-      (λ id. holds_bind {mid = AnyValue} any (λ u. holds_bind {mid = AnyValue} any (λ v.
-      holds_bind {mid = AnyValue} any
-      (λ value. holds_bind {mid = AnyValue} any
-      (λ w. holds_bind {mid = AnyValue} any (λ rest. bare_message start id value rest)))))))
+      holds_bind {mid = AnyValue} any_triple_holds
+      (λ start. holds_bind {mid = AnyValue} any_triple_holds
+      (λ id. holds_bind {mid = AnyValue} any_triple_holds (λ u. holds_bind {mid = AnyValue} any_triple_holds (λ v.
+      holds_bind {mid = AnyValue} any_triple_holds
+      (λ value. holds_bind {mid = AnyValue} any_triple_holds
+      (λ w. holds_bind {mid = AnyValue} any_triple_holds (λ rest. bare_message start id value rest)))))))
 
   pub term_bare : HoareTriple AnyPlace (term_entry edition t) Bare AnyFault
   term_bare =
-      holds_bind {mid = AnyValue} any
-      (λ start. holds_bind {mid = AnyValue} any
-      (λ z. holds_bind {mid = AnyValue} any
-      (λ id. holds_bind {mid = AnyValue} any (λ u. holds_bind {mid = AnyValue} any (λ v.
-      holds_bind {mid = AnyValue} any
-      (λ value. holds_bind {mid = AnyValue} any
-      (λ w. holds_bind {mid = AnyValue} any (λ rest. bare_term start id value rest))))))))
+      holds_bind {mid = AnyValue} any_triple_holds
+      (λ start. holds_bind {mid = AnyValue} any_triple_holds
+      (λ z. holds_bind {mid = AnyValue} any_triple_holds
+      (λ id. holds_bind {mid = AnyValue} any_triple_holds (λ u. holds_bind {mid = AnyValue} any_triple_holds (λ v.
+      holds_bind {mid = AnyValue} any_triple_holds
+      (λ value. holds_bind {mid = AnyValue} any_triple_holds
+      (λ w. holds_bind {mid = AnyValue} any_triple_holds (λ rest. bare_term start id value rest))))))))
 
   a_hash : (i b : ℕ) (o : Option ℕ) → o ≡ Some b → (b == 35) ≡ true → holds (λ c. c == 35) o ≡ true
   a_hash i b o e f = rw e f

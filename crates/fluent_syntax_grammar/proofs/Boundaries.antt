@@ -14,13 +14,13 @@ text_cuts t = record {
   at_end = omega arith;
 }
 
-small_there : (t : List ℕ) (i : ℕ) → AsciiAt t i → get_or t i 0 < 128
-small_there t i a = let e = get_or_from_slice_get t i a.byte 0 a.in_place in let s = a.ascii in omega arith
+ascii_byte_is_small : (t : List ℕ) (i : ℕ) → AsciiAt t i → get_or t i 0 < 128
+ascii_byte_is_small t i a = let e = get_or_from_slice_get t i a.byte 0 a.in_place in let s = a.ascii in omega arith
 
 pub boundary_cuts : (t : List ℕ) → IsUtf8 t → AreBoundaries t (IsCharBoundary t)
 boundary_cuts t u = record {
   in_text = λ i p. p.0;
-  before = λ i a. IsCharBoundary-before_ascii t i (slice_get_within t i a.byte a.in_place) (small_there t i a);
-  after = λ i a. IsCharBoundary-after_ascii t i u (slice_get_within t i a.byte a.in_place) (small_there t i a);
+  before = λ i a. IsCharBoundary-before_ascii t i (slice_get_within t i a.byte a.in_place) (ascii_byte_is_small t i a);
+  after = λ i a. IsCharBoundary-after_ascii t i u (slice_get_within t i a.byte a.in_place) (ascii_byte_is_small t i a);
   at_end = IsCharBoundary-end t;
 }

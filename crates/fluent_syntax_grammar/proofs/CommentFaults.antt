@@ -22,17 +22,17 @@ AnyPlace i = Unit {0}
 abbrev AnyValue : {A : Type 0} → A → ℕ → Type 0
 AnyValue a i = Unit {0}
 
-true_false : {X : Type 0} → true ≡ false → X
-true_false e = cc
+true_not_false : {X : Type 0} → true ≡ false → X
+true_not_false e = cc
 
 no_fault : (X : Type 0) (t : List ℕ) (level i from to : ℕ) (k : Kind) → comment_lines t level i (Refused k from to) → X
 no_fault X t level i from to k x = elim x [ ]
 
-some_hashes : (a b c : Bool) → a ≡ true → 1 ≤ (if not a then 0 else if not b then 1 else if not c then 2 else 3)
-some_hashes false b c e = cc
-some_hashes true false c e = omega arith
-some_hashes true true false e = omega arith
-some_hashes true true true e = omega arith
+at_least_one_hash : (a b c : Bool) → a ≡ true → 1 ≤ (if not a then 0 else if not b then 1 else if not c then 2 else 3)
+at_least_one_hash false b c e = cc
+at_least_one_hash true false c e = omega arith
+at_least_one_hash true true false e = omega arith
+at_least_one_hash true true true e = omega arith
 
 module _ (t : List ℕ) (F : Kind → ℕ → ℕ → Type 0) where
   never_spanned : (start : ℕ) → HoareTriple AnyPlace (spanned start) AnyValue F
@@ -57,7 +57,7 @@ module _ (t : List ℕ) (F : Kind → ℕ → ℕ → Type 0) where
 module _ (t : List ℕ) (p : ℕ) where
   token_at : (b : ℕ) → HoareTriple (λ i. i ≡ p) (token t b) AnyValue (IsAt p)
   token_at b = holds_bind {mid = λ found i. found ≡ false → i ≡ p} (holds_peek (λ found. holds_branch_on
-      (λ e. holds_bind {mid = AnyValue} (holds_skip (λ i j q w. tt)) (λ u. holds_yields (λ i q no. true_false no)))
+      (λ e. holds_bind {mid = AnyValue} (holds_skip (λ i j q w. tt)) (λ u. holds_yields (λ i q no. true_not_false no)))
       (λ e. holds_yields (λ i q no. q.0))))
       (λ found. holds_branch_on (λ e. holds_yields (λ i q. tt))
       (λ e. holds_fails (λ i q. record { at = q e; plain = tt })))
@@ -90,7 +90,7 @@ module _ (t : List ℕ) where
 
   -- where there is a `#`, there are hashes
   pub some_hash : (i : ℕ) → has_byte t 35 i ≡ true → 1 ≤ hashes t i
-  some_hash i e = some_hashes (has_byte t 35 i) (has_byte t 35 (i + 1)) (has_byte t 35 (i + 2)) e
+  some_hash i e = at_least_one_hash (has_byte t 35 i) (has_byte t 35 (i + 1)) (has_byte t 35 (i + 2)) e
 
   name_at : (p : ℕ) → HoareTriple (λ i. i ≡ p) (identifier t) AnyValue (IsAt p)
   name_at p =

@@ -9,7 +9,7 @@ use Rattle.std.specs.Char.{is_ascii_hexdigit}
 use Rattle.fluent_syntax_grammar.specs.Places.{holds, LongestRun, ByteRun, has, has_byte, has_eol, after_eol}
 use Rattle.fluent_syntax_grammar.specs.Places.{is_line_place, is_blank_place, Blank, BlankBlock, no_line, line}
 use Rattle.fluent_syntax_grammar.specs.Lines.{is_run_place}
-use Rattle.fluent_syntax_grammar.proofs.Facts.{byte_found, longest_run_in_text, two_on, add_one, has_inside, some_none}
+use Rattle.fluent_syntax_grammar.proofs.Facts.{byte_exists, longest_run_in_text, two_on, add_one, has_inside, some_none}
 use Rattle.fluent_syntax_grammar.proofs.Tests.{or_cases}
 
 -- there is an ASCII byte
@@ -31,27 +31,27 @@ pub record AreBoundaries (t : List ℕ) (P : ℕ → Type 0) : Type 0 where
 pub record IsAsciiSet (test : ℕ → Bool) : Type 0 where
   pub small : (b : ℕ) → test b ≡ true → b < 128
 
-pub ascii_has : (t : List ℕ) (test : ℕ → Bool) (i : ℕ) → IsAsciiSet test → has t test i ≡ true → AsciiAt t i
-ascii_has t test i s e = let f = byte_found test (slice_get t i) e in
+pub has_ascii : (t : List ℕ) (test : ℕ → Bool) (i : ℕ) → IsAsciiSet test → has t test i ≡ true → AsciiAt t i
+has_ascii t test i s e = let f = byte_exists test (slice_get t i) e in
     record { byte = f.0; in_place = f.1; ascii = s.small f.0 f.2 }
 
-small_byte : (c : ℕ) → c < 128 → (b : ℕ) → (b == c) ≡ true → b < 128
-small_byte c l b e = grind (arith, nat_tests)
+byte_equal_to_ascii_is_ascii : (c : ℕ) → c < 128 → (b : ℕ) → (b == c) ≡ true → b < 128
+byte_equal_to_ascii_is_ascii c l b e = grind (arith, nat_tests)
 
 pub ascii_byte : (t : List ℕ) (c i : ℕ) → c < 128 → has_byte t c i ≡ true → AsciiAt t i
-ascii_byte t c i l e = ascii_has t (λ b. b == c) i (record { small = small_byte c l }) e
+ascii_byte t c i l e = has_ascii t (λ b. b == c) i (record { small = byte_equal_to_ascii_is_ascii c l }) e
 
 pub ascii_space : IsAsciiSet is_space
 ascii_space = record { small = λ b e. grind (arith, nat_tests) }
 
-pub ascii_digit : IsAsciiSet is_digit
-ascii_digit = record { small = λ b e. grind (arith, nat_tests) }
+pub digit_is_ascii : IsAsciiSet is_digit
+digit_is_ascii = record { small = λ b e. grind (arith, nat_tests) }
 
-pub ascii_name : IsAsciiSet is_name_byte
-ascii_name = record { small = λ b e. grind (arith, nat_tests) }
+pub name_set_is_ascii : IsAsciiSet is_name_byte
+name_set_is_ascii = record { small = λ b e. grind (arith, nat_tests) }
 
-pub ascii_hex : IsAsciiSet is_ascii_hexdigit
-ascii_hex = record { small = λ b e. grind (arith, nat_tests) }
+pub hex_digit_is_ascii : IsAsciiSet is_ascii_hexdigit
+hex_digit_is_ascii = record { small = λ b e. grind (arith, nat_tests) }
 
 -- ---- line ends
 
@@ -68,36 +68,36 @@ pub eol_cases : (t : List ℕ) (i k : ℕ) → after_eol t i ≡ Some k →
 eol_cases t i k e = eol_of (has_byte t lf i) (has_byte t cr i) (has_byte t lf (i + 1)) i k e
 
 -- and it ends within the text
-pub eol_text : (t : List ℕ) (i k : ℕ) → after_eol t i ≡ Some k → k ≤ length t
-eol_text t i k e = elim (eol_cases t i k e) [
+pub line_end_is_in_text : (t : List ℕ) (i k : ℕ) → after_eol t i ≡ Some k → k ≤ length t
+line_end_is_in_text t i k e = elim (eol_cases t i k e) [
   | inl x ↦ (let l = has_inside (λ b. b == lf) t i x.0 in let f = x.1 in omega arith)
   | inr x ↦ (let l = has_inside (λ b. b == lf) t (i + 1) x.1 in let f = x.2 in omega arith)
 ]
 
-branch_on_true : (a b c : Bool) → (a || b && c) ≡ true → (a ≡ true) ⊎ (b ≡ true)
-branch_on_true true b c e = inl refl
-branch_on_true false true c e = inr refl
-branch_on_true false false c e = cc
+first_or_second_is_true : (a b c : Bool) → (a || b && c) ≡ true → (a ≡ true) ⊎ (b ≡ true)
+first_or_second_is_true true b c e = inl refl
+first_or_second_is_true false true c e = inr refl
+first_or_second_is_true false false c e = cc
 
-ascii_eol : (t : List ℕ) (i : ℕ) → has_eol t i ≡ true → AsciiAt t i
-ascii_eol t i e =
-    elim (branch_on_true (has_byte t lf i) (has_byte t cr i) (has_byte t lf (i + 1)) e)
+eol_is_ascii : (t : List ℕ) (i : ℕ) → has_eol t i ≡ true → AsciiAt t i
+eol_is_ascii t i e =
+    elim (first_or_second_is_true (has_byte t lf i) (has_byte t cr i) (has_byte t lf (i + 1)) e)
     [ inl x ↦ ascii_byte t lf i (omega arith) x | inr x ↦ ascii_byte t cr i (omega arith) x ]
 
-pub ascii_blank : (t : List ℕ) (i : ℕ) → is_blank_place t i ≡ true → AsciiAt t i
-ascii_blank t i e =
+pub blank_is_ascii : (t : List ℕ) (i : ℕ) → is_blank_place t i ≡ true → AsciiAt t i
+blank_is_ascii t i e =
     elim (or_cases (has_byte t space i) (has_eol t i) e)
-    [ inl x ↦ ascii_byte t space i (omega arith) x | inr x ↦ ascii_eol t i x ]
+    [ inl x ↦ ascii_byte t space i (omega arith) x | inr x ↦ eol_is_ascii t i x ]
 
 -- ---- words
 
-some_inside : (t : List ℕ) (k : ℕ) (o : Option ℕ) (e : Bool) → slice_get t k ≡ o → (is_some o && not e) ≡ true →
+place_is_in_text : (t : List ℕ) (k : ℕ) (o : Option ℕ) (e : Bool) → slice_get t k ≡ o → (is_some o && not e) ≡ true →
     k < length t
-some_inside t k None e g h = cc
-some_inside t k (Some b) e g h = slice_get_within t k b g
+place_is_in_text t k None e g h = cc
+place_is_in_text t k (Some b) e g h = slice_get_within t k b g
 
 pub line_inside : (t : List ℕ) (k : ℕ) → is_line_place t k ≡ true → k < length t
-line_inside t k h = some_inside t k (slice_get t k) (has_eol t k) refl h
+line_inside t k h = place_is_in_text t k (slice_get t k) (has_eol t k) refl h
 
 some_stops : (o : Option ℕ) (e : Bool) → (is_some o && not e) ≡ false → (o ≡ None) ⊎ (e ≡ true)
 some_stops None e h = inl refl
@@ -105,7 +105,7 @@ some_stops (Some b) true h = inr refl
 some_stops (Some b) false h = cc
 
 line_ends : (t : List ℕ) (j : ℕ) → is_line_place t j ≡ false → (slice_get t j ≡ None) ⊎ AsciiAt t j
-line_ends t j h = elim (some_stops (slice_get t j) (has_eol t j) h) [ inl e ↦ inl e | inr e ↦ inr (ascii_eol t j e) ]
+line_ends t j h = elim (some_stops (slice_get t j) (has_eol t j) h) [ inl e ↦ inl e | inr e ↦ inr (eol_is_ascii t j e) ]
 
 abbrev is_run_byte : ℕ → Bool
 is_run_byte b = not (b == lf || b == 123 || b == 125)
@@ -118,33 +118,33 @@ run_some t k (Some b) e g h = slice_get_within t k b g
 pub run_inside : (t : List ℕ) (k : ℕ) → is_run_place t k ≡ true → k < length t
 run_inside t k h = run_some t k (slice_get t k) (has_eol t k) refl h
 
-and_true_is : (a : Bool) → (a && true) ≡ false → a ≡ false
-and_true_is true h = h
-and_true_is false h = refl
+and_true_keeps_false : (a : Bool) → (a && true) ≡ false → a ≡ false
+and_true_keeps_false true h = h
+and_true_keeps_false false h = refl
 
-brace_small : (b : ℕ) → is_run_byte b ≡ false → b < 128
-brace_small b e = grind (arith, nat_tests)
+byte_that_ends_run_is_ascii : (b : ℕ) → is_run_byte b ≡ false → b < 128
+byte_that_ends_run_is_ascii b e = grind (arith, nat_tests)
 
-run_stops : (o : Option ℕ) (e : Bool) → (holds is_run_byte o && not e) ≡ false → (o ≡ None) ⊎
+run_stops_at_none_or_other : (o : Option ℕ) (e : Bool) → (holds is_run_byte o && not e) ≡ false → (o ≡ None) ⊎
     ((b : ℕ) × (o ≡ Some b) × (is_run_byte b ≡ false)) ⊎ (e ≡ true)
-run_stops None e h = inl refl
-run_stops (Some b) true h = inr (inr refl)
-run_stops (Some b) false h = inr (inl (b, refl, (and_true_is (is_run_byte b) h)))
+run_stops_at_none_or_other None e h = inl refl
+run_stops_at_none_or_other (Some b) true h = inr (inr refl)
+run_stops_at_none_or_other (Some b) false h = inr (inl (b, refl, (and_true_keeps_false (is_run_byte b) h)))
 
-run_ends : (t : List ℕ) (j : ℕ) → is_run_place t j ≡ false → (slice_get t j ≡ None) ⊎ AsciiAt t j
-run_ends t j h = elim (run_stops (slice_get t j) (has_eol t j) h) [
+run_ends_at_end_or_ascii : (t : List ℕ) (j : ℕ) → is_run_place t j ≡ false → (slice_get t j ≡ None) ⊎ AsciiAt t j
+run_ends_at_end_or_ascii t j h = elim (run_stops_at_none_or_other (slice_get t j) (has_eol t j) h) [
   | inl e ↦ inl e
-  | inr (inl x) ↦ inr (record { byte = x.0; in_place = x.1; ascii = brace_small x.0 x.2 })
-  | inr (inr e) ↦ inr (ascii_eol t j e)
+  | inr (inl x) ↦ inr (record { byte = x.0; in_place = x.1; ascii = byte_that_ends_run_is_ascii x.0 x.2 })
+  | inr (inr e) ↦ inr (eol_is_ascii t j e)
 ]
 
-pub eol_forward : (t : List ℕ) (i k : ℕ) → after_eol t i ≡ Some k → i < k
-eol_forward t i k e = elim (eol_cases t i k e) [ inl x ↦ omega arith | inr x ↦ omega arith ]
+pub eol_goes_on : (t : List ℕ) (i k : ℕ) → after_eol t i ≡ Some k → i < k
+eol_goes_on t i k e = elim (eol_cases t i k e) [ inl x ↦ omega arith | inr x ↦ omega arith ]
 
-pub block_forward : (t : List ℕ) (i j : ℕ) → BlankBlock t i j → i ≤ j
-block_forward t i j (no_line a b) = omega arith
-block_forward t i j (line {k = k} {m = m} a b c) = let f = a.forward in let g = eol_forward t k m b in
-    let h = block_forward t m j c in omega arith
+pub block_goes_on : (t : List ℕ) (i j : ℕ) → BlankBlock t i j → i ≤ j
+block_goes_on t i j (no_line a b) = omega arith
+block_goes_on t i j (line {k = k} {m = m} a b c) = let f = a.forward in let g = eol_goes_on t k m b in
+    let h = block_goes_on t m j c in omega arith
 
 module _ (t : List ℕ) (P : ℕ → Type 0) (cuts : AreBoundaries t P) where
   -- every place of a stretch over ASCII bytes
@@ -160,11 +160,11 @@ module _ (t : List ℕ) (P : ℕ → Type 0) (cuts : AreBoundaries t P) where
 
   pub word_place : (set : ℕ → Bool) → IsAsciiSet set → (i j : ℕ) → P i → ByteRun t set i j → P j
   word_place set s i j p w =
-      longest_run_places (has t set) (λ k e. ascii_has t set k s e) i j p w j w.forward (omega arith)
+      longest_run_places (has t set) (λ k e. has_ascii t set k s e) i j p w j w.forward (omega arith)
 
   pub blank_place : (i j : ℕ) → P i → Blank t i j → P j
   blank_place i j p w =
-      longest_run_places (is_blank_place t) (λ k e. ascii_blank t k e) i j p w j w.forward (omega arith)
+      longest_run_places (is_blank_place t) (λ k e. blank_is_ascii t k e) i j p w j w.forward (omega arith)
 
   pub eol_place : (i k : ℕ) → after_eol t i ≡ Some k → P k
   eol_place i k e =
@@ -199,4 +199,4 @@ module _ (t : List ℕ) (P : ℕ → Type 0) (cuts : AreBoundaries t P) where
   pub run_stop : (i j : ℕ) → P i → LongestRun (is_run_place t) i j → P j
   run_stop i j p s =
       stop_place j (longest_run_in_text (length t) (is_run_place t) (run_inside t) i j (cuts.in_text i p) s)
-      (run_ends t j s.longest)
+      (run_ends_at_end_or_ascii t j s.longest)

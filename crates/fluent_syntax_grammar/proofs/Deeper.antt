@@ -25,9 +25,9 @@ module _ {A B : Type 0} {c : Construct A} {f : A → Construct B} {i : ℕ} wher
       let value : b ≡ a = cc in
       d o (subst (λ k. f a k o) place (subst (λ b. f b k o) value z))
 
-pub deeper_peek : {A B : Type 0} {look : ℕ → A} {part : A → Construct B} {i : ℕ} → TooDeep (part (look i)) i →
+pub peek_is_too_deep : {A B : Type 0} {look : ℕ → A} {part : A → Construct B} {i : ℕ} → TooDeep (part (look i)) i →
     TooDeep (peek look part) i
-deeper_peek d o (chosen x) = d o x
+peek_is_too_deep d o (chosen x) = d o x
 
 module _ {A : Type 0} {test : Bool} {c d : Construct A} {i : ℕ} where
   pub deeper_yes : test ≡ true → TooDeep c i → TooDeep (branch_on test c d) i

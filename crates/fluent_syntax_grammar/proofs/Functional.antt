@@ -134,20 +134,20 @@ many_is_functional {next = next} {add = add} {none = none} {s = s} f =
 longest_run_unique : (test : ℕ → Bool) (i j k : ℕ) → LongestRun test i j → LongestRun test i k → j ≡ k
 longest_run_unique test i j k a b = grind (arith, a.each k b.forward, b.each j a.forward, a.longest, b.longest)
 
-pub longest_run_functional : {test : ℕ → Bool} → IsFunctionalRelation (LongestRun test)
-longest_run_functional {test = test} = record { same = longest_run_unique test }
+pub longest_run_is_functional : {test : ℕ → Bool} → IsFunctionalRelation (LongestRun test)
+longest_run_is_functional {test = test} = record { same = longest_run_unique test }
 
 steps_unique : (n i j k : ℕ) → Steps n i j → Steps n i k → j ≡ k
 steps_unique n i j k a b = a.by ∙ sym b.by
 
-pub single_steps : {n : ℕ} → IsFunctionalRelation (Steps n)
-single_steps {n = n} = record { same = steps_unique n }
+pub steps_is_functional : {n : ℕ} → IsFunctionalRelation (Steps n)
+steps_is_functional {n = n} = record { same = steps_unique n }
 
-reaches_unique : (n i j k : ℕ) → JumpsTo n i j → JumpsTo n i k → j ≡ k
-reaches_unique n i j k a b = a.there ∙ sym b.there
+jumps_to_unique : (n i j k : ℕ) → JumpsTo n i j → JumpsTo n i k → j ≡ k
+jumps_to_unique n i j k a b = a.there ∙ sym b.there
 
-pub single_reaches : {n : ℕ} → IsFunctionalRelation (JumpsTo n)
-single_reaches {n = n} = record { same = reaches_unique n }
+pub jumps_to_is_functional : {n : ℕ} → IsFunctionalRelation (JumpsTo n)
+jumps_to_is_functional {n = n} = record { same = jumps_to_unique n }
 
 block_unique : (t : List ℕ) (i j k : ℕ) → BlankBlock t i j → BlankBlock t i k → j ≡ k
 block_unique t i j k (no_line a b) (no_line c d) = refl
@@ -171,8 +171,8 @@ pub ruleset functional = (
   peek_is_functional,
   branch_on_is_functional,
   many_is_functional,
-  longest_run_functional,
-  single_steps,
-  single_reaches,
+  longest_run_is_functional,
+  steps_is_functional,
+  jumps_to_is_functional,
   single_block,
 )

@@ -20,7 +20,7 @@ use Rattle.fluent_syntax_grammar.specs.Grammar.{next}
 use Rattle.fluent_syntax_tree.specs.declared.edition.Edition.{Edition}
 use Rattle.fluent_syntax_tree.specs.declared.spans.Span.{Span}
 use Rattle.fluent_syntax_grammar.specs.UniqueReading.{IsFunctional}
-use Rattle.fluent_syntax_grammar.proofs.Functional.{functional, many_is_functional, longest_run_functional}
+use Rattle.fluent_syntax_grammar.proofs.Functional.{functional, many_is_functional, longest_run_is_functional}
 use Rattle.fluent_syntax_grammar.proofs.FunctionalWords.{optional_is_functional, token_is_functional}
 use Rattle.fluent_syntax_grammar.proofs.FunctionalWords.{identifier_is_functional}
 use Rattle.fluent_syntax_grammar.proofs.FunctionalWords.{number_is_functional, string_is_functional}
@@ -38,9 +38,9 @@ pub record IsFunctionalFamily (R : Family) : Type 0 where
   pub expression : IsFunctional R.expression
   pub argument_list : IsFunctional R.argument_list
 
-pub arrow_is_functional : (o : Option ℕ) → IsFunctional (arrow_line_end o)
-arrow_is_functional None = search functional depth 30
-arrow_is_functional (Some k) = search functional depth 30
+pub arrow_line_end_is_functional : (o : Option ℕ) → IsFunctional (arrow_line_end o)
+arrow_line_end_is_functional None = search functional depth 30
+arrow_line_end_is_functional (Some k) = search functional depth 30
 
 module _ (t : List ℕ) where
   pub accessor_is_functional : IsFunctional (accessor t)
@@ -183,7 +183,7 @@ module _ (edition : Edition) (t : List ℕ) (R : Family) (h : IsFunctionalFamily
   variants_are_functional starred = many_is_functional next_variant_is_functional
 
   select_is_functional : (e : InlineTree Span) (o : Option Kind) → IsFunctional (select_with edition t R e o)
-  select_is_functional e None = search (words, arrow_is_functional, variants_are_functional) depth 30
+  select_is_functional e None = search (words, arrow_line_end_is_functional, variants_are_functional) depth 30
   select_is_functional e (Some k) = search words depth 30
 
   pub expression_is_functional : IsFunctional (expression edition t R)

@@ -12,24 +12,24 @@ use Rattle.fluent_syntax_grammar.specs.Canonical.{canonical_rules, further_rules
 use Rattle.fluent_syntax_grammar.specs.Canonical.{is_flush, is_plain_comment}
 use Rattle.fluent_syntax_grammar.proofs.RuleConjunction.{ArePartsOf, body_obeys_each}
 
-and_true : (x : Bool) → x ≡ (x && true)
-and_true true = refl
-and_true false = refl
+and_true_is_itself : (x : Bool) → x ≡ (x && true)
+and_true_is_itself true = refl
+and_true_is_itself false = refl
 
 module _ (edition : Edition) where
   canonical_parts :
       ArePartsOf (readable_rules edition ∷ further_rules edition ∷ []) (λ rules. rules) (canonical_rules edition)
   canonical_parts = record {
     junk_parts = refl;
-    message_parts = λ m. and_true (is_message m);
-    comment_parts = λ content. ap (λ b. are_lines content && b) (and_true (is_plain_comment content));
-    pattern_parts = λ p. ap (λ b. is_pattern edition p && b) (and_true (is_flush edition p));
-    expression_parts = λ e. ap (λ b. is_expression e && b) (and_true (has_one_default e));
-    callee_parts = λ v. and_true (is_callee v);
-    arguments_parts = λ a. and_true (are_arguments a);
-    string_parts = λ v. and_true (is_string v);
-    number_parts = λ v. and_true (is_number v);
-    name_parts = λ v. and_true (is_name v);
+    message_parts = λ m. and_true_is_itself (is_message m);
+    comment_parts = λ content. ap (λ b. are_lines content && b) (and_true_is_itself (is_plain_comment content));
+    pattern_parts = λ p. ap (λ b. is_pattern edition p && b) (and_true_is_itself (is_flush edition p));
+    expression_parts = λ e. ap (λ b. is_expression e && b) (and_true_is_itself (has_one_default e));
+    callee_parts = λ v. and_true_is_itself (is_callee v);
+    arguments_parts = λ a. and_true_is_itself (are_arguments a);
+    string_parts = λ v. and_true_is_itself (is_string v);
+    number_parts = λ v. and_true_is_itself (is_number v);
+    name_parts = λ v. and_true_is_itself (is_name v);
   }
 
   -- A readable tree is canonical exactly where it obeys the four.
@@ -39,4 +39,4 @@ module _ (edition : Edition) where
       body_obeys_each (readable_rules edition ∷ further_rules edition ∷ []) (λ rules. rules) (canonical_rules edition)
       canonical_parts es
       ∙ ap (λ b. b && (body_obeys (further_rules edition) es && true)) h
-      ∙ sym (and_true (body_obeys (further_rules edition) es))
+      ∙ sym (and_true_is_itself (body_obeys (further_rules edition) es))

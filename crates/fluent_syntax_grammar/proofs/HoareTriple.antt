@@ -43,42 +43,42 @@ pub holds_bind :
 holds_bind {pre = pre} {c = c} {f = f} {mid = mid} {read = read} {refused = refused} h g =
     record { on_read = bind_read pre c f mid read refused h g; on_refused = bind_refused pre c f mid read refused h g }
 
-yields_read : {A : Type 0} (pre : ℕ → Type 0) (a : A) (read : A → ℕ → Type 0) → ((i : ℕ) → pre i → read a i) →
+yields_reads_value : {A : Type 0} (pre : ℕ → Type 0) (a : A) (read : A → ℕ → Type 0) → ((i : ℕ) → pre i → read a i) →
     (i j : ℕ) (b : A) → pre i → yields a i (Read b j) → read b j
-yields_read pre a read h i j b p given = h i p
+yields_reads_value pre a read h i j b p given = h i p
 
-yields_refused : {A : Type 0} (a : A) (X : Type 0) (i from to : ℕ) (k : Kind) → yields a i (Refused k from to) → X
-yields_refused a X i from to k x = elim x [ ]
+yields_never_refuses : {A : Type 0} (a : A) (X : Type 0) (i from to : ℕ) (k : Kind) → yields a i (Refused k from to) → X
+yields_never_refuses a X i from to k x = elim x [ ]
 
 -- what was given is the value, at the same place
-pub gave : {A : Type 0} (a b : A) (i j : ℕ) → yields a i (Read b j) → (a ≡ b) × (i ≡ j)
-gave a b i j given = (refl, refl)
+pub yields_value : {A : Type 0} (a b : A) (i j : ℕ) → yields a i (Read b j) → (a ≡ b) × (i ≡ j)
+yields_value a b i j given = (refl, refl)
 
 pub holds_yields : {A : Type 0} {pre : ℕ → Type 0} {a : A} {read : A → ℕ → Type 0} {refused : Kind → ℕ → ℕ → Type 0} →
     ((i : ℕ) → pre i → read a i) → HoareTriple pre (yields a) read refused
 holds_yields {pre = pre} {a = a} {read = read} {refused = refused} h =
     record {
-      on_read = yields_read pre a read h;
-      on_refused = λ i from to k p x. yields_refused a (refused k from to) i from to k x;
+      on_read = yields_reads_value pre a read h;
+      on_refused = λ i from to k p x. yields_never_refuses a (refused k from to) i from to k x;
     }
 
-here_read : (pre : ℕ → Type 0) (read : ℕ → ℕ → Type 0) → ((i : ℕ) → pre i → read i i) → (i j a : ℕ) → pre i →
+here_reads_its_place : (pre : ℕ → Type 0) (read : ℕ → ℕ → Type 0) → ((i : ℕ) → pre i → read i i) → (i j a : ℕ) → pre i →
     here i (Read a j) → read a j
-here_read pre read h i j a p at_place = h i p
+here_reads_its_place pre read h i j a p at_place = h i p
 
-here_refused : (X : Type 0) (i from to : ℕ) (k : Kind) → here i (Refused k from to) → X
-here_refused X i from to k x = elim x [ ]
+here_is_never_refused : (X : Type 0) (i from to : ℕ) (k : Kind) → here i (Refused k from to) → X
+here_is_never_refused X i from to k x = elim x [ ]
 
 pub holds_here : {pre : ℕ → Type 0} {read : ℕ → ℕ → Type 0} {refused : Kind → ℕ → ℕ → Type 0} →
     ((i : ℕ) → pre i → read i i) → HoareTriple pre here read refused
 holds_here {pre = pre} {read = read} {refused = refused} h =
     record {
-      on_read = here_read pre read h;
-      on_refused = λ i from to k p x. here_refused (refused k from to) i from to k x;
+      on_read = here_reads_its_place pre read h;
+      on_refused = λ i from to k p x. here_is_never_refused (refused k from to) i from to k x;
     }
 
-fails_read : {A : Type 0} (k : Kind) (X : Type 0) (i j : ℕ) (a : A) → fails k i (Read a j) → X
-fails_read k X i j a x = elim x [ ]
+fails_never_reads : {A : Type 0} (k : Kind) (X : Type 0) (i j : ℕ) (a : A) → fails k i (Read a j) → X
+fails_never_reads k X i j a x = elim x [ ]
 
 fails_refused : {A : Type 0} (pre : ℕ → Type 0) (k : Kind) (refused : Kind → ℕ → ℕ → Type 0) →
     ((i : ℕ) → pre i → refused k i (i + 1)) → (i from to : ℕ) (l : Kind) → pre i →
@@ -88,15 +88,15 @@ fails_refused pre k refused h i from to l p (failed e) = rw e (h i p)
 pub holds_fails : {A : Type 0} {pre : ℕ → Type 0} {k : Kind} {read : A → ℕ → Type 0} {refused : Kind → ℕ → ℕ → Type 0} →
     ((i : ℕ) → pre i → refused k i (i + 1)) → HoareTriple pre (fails k) read refused
 holds_fails {pre = pre} {k = k} {read = read} {refused = refused} h =
-    record { on_read = λ i j a p x. fails_read k (read a j) i j a x; on_refused = fails_refused pre k refused h }
+    record { on_read = λ i j a p x. fails_never_reads k (read a j) i j a x; on_refused = fails_refused pre k refused h }
 
 from_read : {A : Type 0} (k : Kind) (start : ℕ) (X : Type 0) (i j : ℕ) (a : A) → fails_from k start i (Read a j) → X
 from_read k start X i j a x = elim x [ ]
 
-from_refused : {A : Type 0} (pre : ℕ → Type 0) (k : Kind) (start : ℕ) (refused : Kind → ℕ → ℕ → Type 0) →
+fails_from_refuses_there : {A : Type 0} (pre : ℕ → Type 0) (k : Kind) (start : ℕ) (refused : Kind → ℕ → ℕ → Type 0) →
     ((i : ℕ) → pre i → refused k start i) → (i from to : ℕ) (l : Kind) → pre i →
     fails_from {A = A} k start i (Refused l from to) → refused l from to
-from_refused pre k start refused h i from to l p failed_from = h i p
+fails_from_refuses_there pre k start refused h i from to l p failed_from = h i p
 
 pub holds_fails_from :
     {A : Type 0} {pre : ℕ → Type 0} {k : Kind} {start : ℕ} {read : A → ℕ → Type 0} {refused : Kind → ℕ → ℕ → Type 0} →
@@ -104,23 +104,23 @@ pub holds_fails_from :
 holds_fails_from {pre = pre} {k = k} {start = start} {read = read} {refused = refused} h =
     record {
       on_read = λ i j a p x. from_read k start (read a j) i j a x;
-      on_refused = from_refused pre k start refused h;
+      on_refused = fails_from_refuses_there pre k start refused h;
     }
 
-skip_read : (pre : ℕ → Type 0) (W : ℕ → ℕ → Type 0) (read : Unit {0} → ℕ → Type 0) →
+skip_reads_to_its_end : (pre : ℕ → Type 0) (W : ℕ → ℕ → Type 0) (read : Unit {0} → ℕ → Type 0) →
     ((i j : ℕ) → pre i → W i j → read tt j) → (i j : ℕ) (a : Unit {0}) → pre i → skip W i (Read a j) → read a j
-skip_read pre W read h i j a p (passed w) = h i j p w
+skip_reads_to_its_end pre W read h i j a p (passed w) = h i j p w
 
-skip_refused : (W : ℕ → ℕ → Type 0) (X : Type 0) (i from to : ℕ) (k : Kind) → skip W i (Refused k from to) → X
-skip_refused W X i from to k x = elim x [ ]
+skip_is_never_refused : (W : ℕ → ℕ → Type 0) (X : Type 0) (i from to : ℕ) (k : Kind) → skip W i (Refused k from to) → X
+skip_is_never_refused W X i from to k x = elim x [ ]
 
 pub holds_skip :
     {pre : ℕ → Type 0} {W : ℕ → ℕ → Type 0} {read : Unit {0} → ℕ → Type 0} {refused : Kind → ℕ → ℕ → Type 0} →
     ((i j : ℕ) → pre i → W i j → read tt j) → HoareTriple pre (skip W) read refused
 holds_skip {pre = pre} {W = W} {read = read} {refused = refused} h =
     record {
-      on_read = skip_read pre W read h;
-      on_refused = λ i from to k p x. skip_refused W (refused k from to) i from to k x;
+      on_read = skip_reads_to_its_end pre W read h;
+      on_refused = λ i from to k p x. skip_is_never_refused W (refused k from to) i from to k x;
     }
 
 module _ {A B : Type 0} (pre : ℕ → Type 0) (look : ℕ → A) (part : A → Construct B) (read : B → ℕ → Type 0)

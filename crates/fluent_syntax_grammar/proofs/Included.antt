@@ -29,22 +29,22 @@ pub record IsIncluded {A : Type 0} (c d : Construct A) : Type 0 where
 pub itself_is_included : {A : Type 0} {c : Construct A} → IsIncluded c c
 itself_is_included = record { part = λ i o x. x }
 
-bind_part : {A B : Type 0} (c d : Construct A) (f g : A → Construct B) → IsIncluded c d →
+bind_outcome_is_included : {A B : Type 0} (c d : Construct A) (f g : A → Construct B) → IsIncluded c d →
     ((a : A) → IsIncluded (f a) (g a)) → (i : ℕ) (o : Outcome B) → (c >>= f) i o → (d >>= g) i o
-bind_part c d f g cd fg i o (stops r) = stops (cd.part i _ r)
-bind_part c d f g cd fg i o (goes_on x y) = goes_on (cd.part i _ x) ((fg _).part _ o y)
+bind_outcome_is_included c d f g cd fg i o (stops r) = stops (cd.part i _ r)
+bind_outcome_is_included c d f g cd fg i o (goes_on x y) = goes_on (cd.part i _ x) ((fg _).part _ o y)
 
 pub bind_is_included : {A B : Type 0} {c d : Construct A} {f g : A → Construct B} → IsIncluded c d →
     ((a : A) → IsIncluded (f a) (g a)) → IsIncluded (c >>= f) (d >>= g)
-bind_is_included {c = c} {d = d} {f = f} {g = g} cd fg = record { part = bind_part c d f g cd fg }
+bind_is_included {c = c} {d = d} {f = f} {g = g} cd fg = record { part = bind_outcome_is_included c d f g cd fg }
 
-peek_part : {A B : Type 0} (look : ℕ → A) (f g : A → Construct B) → ((a : A) → IsIncluded (f a) (g a)) →
+peek_outcome_is_included : {A B : Type 0} (look : ℕ → A) (f g : A → Construct B) → ((a : A) → IsIncluded (f a) (g a)) →
     (i : ℕ) (o : Outcome B) → peek look f i o → peek look g i o
-peek_part look f g fg i o (chosen x) = chosen ((fg (look i)).part i o x)
+peek_outcome_is_included look f g fg i o (chosen x) = chosen ((fg (look i)).part i o x)
 
 pub peek_is_included : {A B : Type 0} {look : ℕ → A} {f g : A → Construct B} → ((a : A) → IsIncluded (f a) (g a)) →
     IsIncluded (peek look f) (peek look g)
-peek_is_included {look = look} {f = f} {g = g} fg = record { part = peek_part look f g fg }
+peek_is_included {look = look} {f = f} {g = g} fg = record { part = peek_outcome_is_included look f g fg }
 
 branch_on_part : {A : Type 0} (b : Bool) (c c' d d' : Construct A) → IsIncluded c c' → IsIncluded d d' →
     (i : ℕ) (o : Outcome A) → branch_on b c d i o → branch_on b c' d' i o

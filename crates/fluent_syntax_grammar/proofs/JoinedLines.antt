@@ -24,8 +24,8 @@ mutual
   holds_same (variable_reference id) = refl
   holds_same (inline_placeable e) = select_same e
 
-or_same : (a b c d : Bool) → a ≡ b → c ≡ d → (a || c) ≡ (b || d)
-or_same a b c d e f = rw (e, f) refl
+or_is_congruent : (a b c d : Bool) → a ≡ b → c ≡ d → (a || c) ≡ (b || d)
+or_is_congruent a b c d e f = rw (e, f) refl
 
 or_assoc : (a b c : Bool) → ((a || b) || c) ≡ (a || (b || c))
 or_assoc true b c = refl
@@ -37,7 +37,7 @@ after_text_multiline : (v w : Text) (es : PatternTree Text) (x : Bool) →
     is_multiline (if x then elements (text_element (v ++ w)) (joined_pattern es) else elements (text_element v)
     (joined_after w es)) ≡ (has_lf v || (has_lf w || is_multiline es))
 after_text_multiline v w es true g h =
-    or_same (has_lf (v ++ w)) (has_lf v || has_lf w) _ _ (list_any-append (λ b. b == lf) v w) g
+    or_is_congruent (has_lf (v ++ w)) (has_lf v || has_lf w) _ _ (list_any-append (λ b. b == lf) v w) g
     ∙ or_assoc (has_lf v) (has_lf w) (is_multiline es)
 after_text_multiline v w es false g h = ap (λ x. has_lf v || x) h
 
@@ -45,13 +45,13 @@ mutual
   pub multiline_same : (p : PatternTree Text) → is_multiline (joined_pattern p) ≡ is_multiline p
   multiline_same no_elements = refl
   multiline_same (elements (placeable e) es) =
-      or_same _ (is_select e) _ (is_multiline es) (select_same e) (multiline_same es)
+      or_is_congruent _ (is_select e) _ (is_multiline es) (select_same e) (multiline_same es)
   multiline_same (elements (text_element v) es) = after_multiline es v
 
   after_multiline : (es : PatternTree Text) (v : Text) →
       is_multiline (joined_after v es) ≡ (has_lf v || is_multiline es)
   after_multiline no_elements v = refl
   after_multiline (elements (placeable e) es) v =
-      ap (λ x. has_lf v || x) (or_same _ (is_select e) _ (is_multiline es) (select_same e) (multiline_same es))
+      ap (λ x. has_lf v || x) (or_is_congruent _ (is_select e) _ (is_multiline es) (select_same e) (multiline_same es))
   after_multiline (elements (text_element w) es) v =
       after_text_multiline v w es (is_joined v w) (multiline_same es) (after_multiline es w)

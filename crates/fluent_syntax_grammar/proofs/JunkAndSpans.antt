@@ -19,8 +19,8 @@ use Rattle.fluent_syntax_grammar.specs.UniqueReading.{RuntimeJunkOfErrors}
 use Rattle.fluent_syntax_grammar.specs.UniqueReading.{ErrorsAscend, RuntimeErrorsAscend, BodyInText, RuntimeBodyInText}
 use Rattle.fluent_syntax_tree.specs.declared.edition.Edition.{Edition}
 use Rattle.fluent_syntax_tree.specs.declared.spans.Span.{Span}
-use Rattle.fluent_syntax_grammar.proofs.HoareTriple.{gave}
-use Rattle.fluent_syntax_grammar.proofs.Cuts.{AreBoundaries, block_forward}
+use Rattle.fluent_syntax_grammar.proofs.HoareTriple.{yields_value}
+use Rattle.fluent_syntax_grammar.proofs.Cuts.{AreBoundaries, block_goes_on}
 use Rattle.fluent_syntax_grammar.proofs.Sound.{IsSpan}
 use Rattle.fluent_syntax_grammar.proofs.SoundStrings.{InText}
 use Rattle.fluent_syntax_grammar.proofs.SoundTiling.{IsTileWellFormed, tile_good, whole_line_inside, tiled_good}
@@ -28,7 +28,7 @@ use Rattle.fluent_syntax_grammar.proofs.SoundTiling.{runtime_good}
 use Rattle.fluent_syntax_grammar.proofs.Boundaries.{text_cuts, boundary_cuts}
 use Rattle.fluent_syntax_grammar.proofs.BareEntries.{message_bare, term_bare}
 use Rattle.fluent_syntax_grammar.proofs.Runtime.{IsBare}
-use Rattle.fluent_syntax_grammar.proofs.Facts.{append_nothing, flat_append}
+use Rattle.fluent_syntax_grammar.proofs.Facts.{append_nothing, flat_map_of_append}
 
 -- ---- the texts of a body
 
@@ -137,11 +137,11 @@ module _ (edition : Edition) (t : List ℕ) where
   ascend_tile i start end tile more b p l (reads {e = e} x) a =
       let q = tile_good edition t AllPlaces (text_cuts t) start end _ (omega arith) l (reads x) in
       let on = q.onward in
-      let blank = block_forward t i start b in
+      let blank = block_goes_on t i start b in
       later i end (faults more) (omega arith) a
   ascend_tile i start end tile more b p l (refuses x e) a =
       let q = tile_good edition t AllPlaces (text_cuts t) start end _ (omega arith) l (refuses x e) in
-      let blank = block_forward t i start b in
+      let blank = block_goes_on t i start b in
       let g = q.good in
       (blank, g.0, g.2, g.3, a)
 
@@ -157,7 +157,7 @@ module _ (edition : Edition) (t : List ℕ) where
   runtime_ascend i tiles p (done b) = p
   runtime_ascend i tiles p (next {start = start} {end = end} {tiles = more} b l (drops h x) m) =
       let q = whole_line_inside edition t AllPlaces (text_cuts t) start end (omega arith) x in
-      let blank = block_forward t i start b in
+      let blank = block_goes_on t i start b in
       let on = q.late in
       later i end (faults more) (omega arith) (runtime_ascend end more q.place m)
   runtime_ascend i tiles p (next {start = start} {end = end} {tile = tile} {tiles = more} b l (keeps_tile h x) m) =
@@ -192,7 +192,7 @@ bare_is_not_junk (junk s) b = b
 module _ (edition : Edition) (t : List ℕ) where
   comment_is : (i j : ℕ) (e : EntryTree Span) → comment_entry t i (Read e j) → IsNotJunk e
   comment_is i j e (chosen (goes_on {a = c} x (goes_on {j = m} {a = more} y z))) =
-      subst IsNotJunk (gave (comment (level_of (hashes t i)) (c ++ more)) e m j z).0 tt
+      subst IsNotJunk (yields_value (comment (level_of (hashes t i)) (c ++ more)) e m j z).0 tt
 
   entry_is : (i j : ℕ) (e : EntryTree Span) (o : Option ℕ) → entry_of edition t (family edition t) o i (Read e j) →
       IsNotJunk e
@@ -223,44 +223,44 @@ tile_junk (entry s e) = []
 tile_junk (refused f) = f.slice ∷ []
 tile_junk dropped = []
 
-no_junk : (e : EntryTree Span) → IsNotJunk e → junk_slice e ≡ []
-no_junk (message m) b = refl
-no_junk (term m) b = refl
-no_junk (comment level content) b = refl
-no_junk (junk s) b = absurd b
+non_junk_has_no_junk_slice : (e : EntryTree Span) → IsNotJunk e → junk_slice e ≡ []
+non_junk_has_no_junk_slice (message m) b = refl
+non_junk_has_no_junk_slice (term m) b = refl
+non_junk_has_no_junk_slice (comment level content) b = refl
+non_junk_has_no_junk_slice (junk s) b = absurd b
 
-alone_junk : (x : Tile) → HoldsEntry x → flat_map junk_slice (alone x) ≡ tile_junk x
-alone_junk (entry s e) b = append_nothing (junk_slice e) ∙ no_junk e b
-alone_junk (refused f) b = refl
-alone_junk dropped b = refl
+alone_keeps_junk : (x : Tile) → HoldsEntry x → flat_map junk_slice (alone x) ≡ tile_junk x
+alone_keeps_junk (entry s e) b = append_nothing (junk_slice e) ∙ non_junk_has_no_junk_slice e b
+alone_keeps_junk (refused f) b = refl
+alone_keeps_junk dropped b = refl
 
-attached_junk : (content : List Span) (e : EntryTree Span) (o : Option (EntryTree Span)) → attached content e ≡ o →
+no_junk_attached : (content : List Span) (e : EntryTree Span) (o : Option (EntryTree Span)) → attached content e ≡ o →
     (h : EntryTree Span) → o ≡ Some h → junk_slice h ≡ []
-attached_junk content (message m) o p h q = let same : message (record m { comment = Some content }) ≡ h = cc in
+no_junk_attached content (message m) o p h q = let same : message (record m { comment = Some content }) ≡ h = cc in
     ap junk_slice (sym same)
-attached_junk content (term m) o p h q = let same : term (record m { comment = Some content }) ≡ h = cc in
+no_junk_attached content (term m) o p h q = let same : term (record m { comment = Some content }) ≡ h = cc in
     ap junk_slice (sym same)
-attached_junk content (comment level c) o p h q = cc
-attached_junk content (junk s) o p h q = cc
+no_junk_attached content (comment level c) o p h q = cc
+no_junk_attached content (junk s) o p h q = cc
 
 if_junk : (b : Bool) (content : List Span) (e h : EntryTree Span) → (if b then attached content e else None) ≡ Some h →
     junk_slice h ≡ []
-if_junk true content e h p = attached_junk content e (attached content e) refl h p
+if_junk true content e h p = no_junk_attached content e (attached content e) refl h p
 if_junk false content e h p = cc
 
-attaches_junk : (x y : Tile) (h : EntryTree Span) → attached_entry x y ≡ Some h → (junk_slice h ≡ [])
+attaching_has_no_junk : (x y : Tile) (h : EntryTree Span) → attached_entry x y ≡ Some h → (junk_slice h ≡ [])
     × (tile_junk x ≡ []) ×
     (tile_junk y ≡ [])
-attaches_junk (entry s (comment regular c)) (entry r e) h p = (if_junk (s.end == r.start) c e h p, refl, refl)
-attaches_junk (entry s (comment regular c)) (refused f) h p = cc
-attaches_junk (entry s (comment regular c)) dropped h p = cc
-attaches_junk (entry s (comment group c)) y h p = cc
-attaches_junk (entry s (comment resource c)) y h p = cc
-attaches_junk (entry s (message m)) y h p = cc
-attaches_junk (entry s (term m)) y h p = cc
-attaches_junk (entry s (junk x)) y h p = cc
-attaches_junk (refused f) y h p = cc
-attaches_junk dropped y h p = cc
+attaching_has_no_junk (entry s (comment regular c)) (entry r e) h p = (if_junk (s.end == r.start) c e h p, refl, refl)
+attaching_has_no_junk (entry s (comment regular c)) (refused f) h p = cc
+attaching_has_no_junk (entry s (comment regular c)) dropped h p = cc
+attaching_has_no_junk (entry s (comment group c)) y h p = cc
+attaching_has_no_junk (entry s (comment resource c)) y h p = cc
+attaching_has_no_junk (entry s (message m)) y h p = cc
+attaching_has_no_junk (entry s (term m)) y h p = cc
+attaching_has_no_junk (entry s (junk x)) y h p = cc
+attaching_has_no_junk (refused f) y h p = cc
+attaching_has_no_junk dropped y h p = cc
 
 joined_junk : (x y : Tile) (others after : BodyTree Span) (tiles : List Tile) (o : Option (EntryTree Span)) →
     attached_entry x y ≡ o → HoldsEntry x →
@@ -269,32 +269,32 @@ joined_junk : (x y : Tile) (others after : BodyTree Span) (tiles : List Tile) (o
     flat_map junk_slice (or_attached o (alone x) others after) ≡ tile_junk x
     ++ (tile_junk y ++ flat_map tile_junk tiles)
 joined_junk x y others after tiles None e b p q =
-    flat_append junk_slice (alone x) others
-    ∙ (ap (λ zs. zs ++ flat_map junk_slice others) (alone_junk x b) ∙ ap (λ zs. tile_junk x ++ zs) p)
+    flat_map_of_append junk_slice (alone x) others
+    ∙ (ap (λ zs. zs ++ flat_map junk_slice others) (alone_keeps_junk x b) ∙ ap (λ zs. tile_junk x ++ zs) p)
 joined_junk x y others after tiles (Some h) e b p q =
-    let z = attaches_junk x y h e in
+    let z = attaching_has_no_junk x y h e in
     let left : junk_slice h ++ flat_map junk_slice after ≡ flat_map tile_junk tiles =
     ap (λ zs. zs ++ flat_map junk_slice after) z.0 ∙ q in
     let right : tile_junk x ++ (tile_junk y ++ flat_map tile_junk tiles) ≡ flat_map tile_junk tiles =
     ap (λ zs. zs ++ (tile_junk y ++ flat_map tile_junk tiles)) z.1 ∙ ap (λ zs. zs ++ flat_map tile_junk tiles) z.2 in
     left ∙ sym right
 
-body_junk : (xs : List Tile) → list_every HoldsEntry xs → flat_map junk_slice (body xs) ≡ flat_map tile_junk xs
-body_junk [] b = refl
-body_junk (x ∷ []) (b, c) = alone_junk x b ∙ sym (append_nothing (tile_junk x))
-body_junk (x ∷ y ∷ tiles) (b, (c, d)) =
-    joined_junk x y (body (y ∷ tiles)) (body tiles) tiles (attached_entry x y) refl b (body_junk (y ∷ tiles) (c, d))
-    (body_junk tiles d)
+junk_is_kept : (xs : List Tile) → list_every HoldsEntry xs → flat_map junk_slice (body xs) ≡ flat_map tile_junk xs
+junk_is_kept [] b = refl
+junk_is_kept (x ∷ []) (b, c) = alone_keeps_junk x b ∙ sym (append_nothing (tile_junk x))
+junk_is_kept (x ∷ y ∷ tiles) (b, (c, d)) =
+    joined_junk x y (body (y ∷ tiles)) (body tiles) tiles (attached_entry x y) refl b (junk_is_kept (y ∷ tiles) (c, d))
+    (junk_is_kept tiles d)
 
-junk_faults : (xs : List Tile) → flat_map tile_junk xs ≡ map fault_slice (faults xs)
-junk_faults [] = refl
-junk_faults (entry s e ∷ xs) = junk_faults xs
-junk_faults (refused f ∷ xs) = ap (λ zs. f.slice ∷ zs) (junk_faults xs)
-junk_faults (dropped ∷ xs) = junk_faults xs
+junk_is_faults : (xs : List Tile) → flat_map tile_junk xs ≡ map fault_slice (faults xs)
+junk_is_faults [] = refl
+junk_is_faults (entry s e ∷ xs) = junk_is_faults xs
+junk_is_faults (refused f ∷ xs) = ap (λ zs. f.slice ∷ zs) (junk_is_faults xs)
+junk_is_faults (dropped ∷ xs) = junk_is_faults xs
 
 module _ (edition : Edition) (t : List ℕ) where
   pub junk_of_errors : JunkOfErrors edition t
-  junk_of_errors = λ tiles a. body_junk tiles (tiles_are edition t 0 tiles a) ∙ junk_faults tiles
+  junk_of_errors = λ tiles a. junk_is_kept tiles (tiles_are edition t 0 tiles a) ∙ junk_is_faults tiles
 
   pub runtime_junk_of_errors : RuntimeJunkOfErrors edition t
-  runtime_junk_of_errors = λ tiles a. body_junk tiles (runtime_are edition t 0 tiles a) ∙ junk_faults tiles
+  runtime_junk_of_errors = λ tiles a. junk_is_kept tiles (runtime_are edition t 0 tiles a) ∙ junk_is_faults tiles

@@ -18,13 +18,13 @@ use Rattle.fluent_syntax_grammar.specs.Places.{holds, has}
 abbrev pub lanes_before : (n mask : ℕ) → ℕ
 lanes_before n mask = cond (eqb mask 0) n (count_trailing_zeros 64 mask)
 
-not_not : (a b : Bool) → a ≡ not b → a ≡ false → b ≡ true
-not_not a true e f = refl
-not_not a false e f = cc
+negation_false_is_true : (a b : Bool) → a ≡ not b → a ≡ false → b ≡ true
+negation_false_is_true a true e f = refl
+negation_false_is_true a false e f = cc
 
-not_true : (a b : Bool) → a ≡ not b → a ≡ true → b ≡ false
-not_true a true e f = cc
-not_true a false e f = refl
+negation_true_is_false : (a b : Bool) → a ≡ not b → a ≡ true → b ≡ false
+negation_true_is_false a true e f = cc
+negation_true_is_false a false e f = refl
 
 module _ (test : ℕ → Bool) (t : List ℕ) (i n r : ℕ) (room : i + n ≤ length t) (few : n ≤ 64)
     (fits : (k : ℕ) → Fits w8 (get_or t k 0)) (lane : ℕ → ℕ)
@@ -54,10 +54,10 @@ module _ (test : ℕ → Bool) (t : List ℕ) (i n r : ℕ) (room : i + n ≤ le
     within = inside;
     each = λ k from to.
         rw (slice_get-get_or t k 0 (omega (arith, inside)))
-        (not_not _ _ (byte_at k) (run_in_chunk_fails stops t i n r 0 room counted k from to));
+        (negation_false_is_true _ _ (byte_at k) (run_in_chunk_fails stops t i n r 0 room counted k from to));
     stops = λ short.
         rw (slice_get-get_or t (i + r) 0 (omega arith))
-        (not_true _ _ (byte_at (i + r)) (run_in_chunk_stops stops t i n r 0 room counted short));
+        (negation_true_is_false _ _ (byte_at (i + r)) (run_in_chunk_stops stops t i n r 0 room counted short));
   }
 
 -- ---- How many bytes pass

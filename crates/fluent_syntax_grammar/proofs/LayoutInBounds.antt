@@ -20,7 +20,7 @@ use Rattle.fluent_syntax_tree.specs.declared.edition.Edition.TheVariants.{One, T
 use Rattle.fluent_syntax_tree.specs.declared.spans.Span.{Span}
 use Rattle.fluent_syntax_grammar.proofs.Cuts.{AsciiAt, AreBoundaries}
 use Rattle.fluent_syntax_grammar.proofs.Sound.{IsSpan}
-use Rattle.fluent_syntax_tree.proofs.Every.{every-append}
+use Rattle.fluent_syntax_tree.proofs.Every.{list_every-append}
 
 module _ (P : ℕ → Type 0) where
   -- a piece that lies between two places
@@ -79,7 +79,7 @@ module _ (P : ℕ → Type 0) where
   every_flat : {X Y : Type 0} (Q : X → Type 0) (R : Y → Type 0) (f : X → List Y) →
       ((x : X) → Q x → list_every R (f x)) → (xs : List X) → list_every Q xs → list_every R (flat_map f xs)
   every_flat Q R f g [] h = tt
-  every_flat Q R f g (x ∷ xs) (h, k) = every-append R (f x) (flat_map f xs) (g x h) (every_flat Q R f g xs k)
+  every_flat Q R f g (x ∷ xs) (h, k) = list_every-append R (f x) (flat_map f xs) (g x h) (every_flat Q R f g xs k)
 
   text_if_in_bounds : (b : Bool) (from to : ℕ) → from ≤ to → P from → P to →
       list_every ItemInBounds (if b then text from to ∷ [] else [])
@@ -101,7 +101,7 @@ module _ (P : ℕ → Type 0) where
       with_in_bounds kept e (omega arith) (run kept to ∷ ps) x
       ((omega arith, omega arith, c, p, f), earlier_pieces first kept e l ps g) h
   items_from_in_bounds edition kept first e l m p q (placed y ∷ ps) x (g, h) k =
-      every-append ItemInBounds (indented edition kept first) (placeable_item y ∷ with_ending ps x)
+      list_every-append ItemInBounds (indented edition kept first) (placeable_item y ∷ with_ending ps x)
       (indented_in_bounds edition kept first l p q) (g, with_in_bounds first e m ps x h k)
 
   kept_in_bounds : (common : Option ℕ) (l : Line) → LineInBounds l → (common_indent_end common l ≤ l.start + l.spaces) ×
@@ -122,7 +122,7 @@ module _ (P : ℕ → Type 0) where
 
   items_in_bounds : (edition : Edition) (y : Layout) → LayoutInBounds y → list_every ItemInBounds (items edition y)
   items_in_bounds edition y g =
-      every-append ItemInBounds (opening_items y.opening)
+      list_every-append ItemInBounds (opening_items y.opening)
       (flat_map (line_items edition (common_indent edition y)) y.lines)
       (opening_in_bounds y.opening g.opening)
       (every_flat LineInBounds ItemInBounds (line_items edition (common_indent edition y))
@@ -131,10 +131,10 @@ module _ (P : ℕ → Type 0) where
 trimmed_small : (b : ℕ) → is_trimmed b ≡ true → b < 128
 trimmed_small b e = grind (arith, nat_tests)
 
-branch_on_place : (P : ℕ → Type 0) (from : ℕ) (test : Bool) (m n : ℕ) → (test ≡ true → P (from + m)) → P (from + n) →
+either_place_holds : (P : ℕ → Type 0) (from : ℕ) (test : Bool) (m n : ℕ) → (test ≡ true → P (from + m)) → P (from + n) →
     P (from + (if test then m else n))
-branch_on_place P from true m n f p = f refl
-branch_on_place P from false m n f p = p
+either_place_holds P from true m n f p = f refl
+either_place_holds P from false m n f p = p
 
 module _ (t : List ℕ) (P : ℕ → Type 0) (cuts : AreBoundaries t P) where
   if_in_bounds : (b : Bool) (x : Item) → ItemInBounds P x → list_every (ItemInBounds P) (if b then x ∷ [] else [])
@@ -167,7 +167,7 @@ module _ (t : List ℕ) (P : ℕ → Type 0) (cuts : AreBoundaries t P) where
       let more =
       λ (e : test ≡ true). trimmed_place from to n l (omega arith) p
       (cuts.before (from + n) (trimmed_byte from to n l (omega arith) e)) in
-      branch_on_place P from test (trimmed_len_below (slice_range t from to) n) (suc n) more q
+      either_place_holds P from test (trimmed_len_below (slice_range t from to) n) (suc n) more q
 
   end_in_bounds : (from to : ℕ) → from ≤ to → P from → P to → (from ≤ trimmed_end t from to) × P (trimmed_end t from to)
   end_in_bounds from to l p q =

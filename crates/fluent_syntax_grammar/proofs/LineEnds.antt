@@ -9,33 +9,33 @@ use Rattle.fluent_syntax_grammar.specs.Places.{has, has_byte, after_eol, starts_
 use Rattle.fluent_syntax_grammar.specs.Places.{has_eol}
 use Rattle.fluent_syntax_grammar.specs.Tiling.{is_entry_byte}
 use Rattle.fluent_syntax_grammar.proofs.Cuts.{eol_cases}
-use Rattle.fluent_syntax_grammar.proofs.Facts.{excludes, implies, none_holds, lt_or_le}
-use Rattle.fluent_syntax_grammar.proofs.Tests.{true_by_right, or_none, and_left}
+use Rattle.fluent_syntax_grammar.proofs.Facts.{tests_exclude, tests_imply, holds-none, lt_or_le}
+use Rattle.fluent_syntax_grammar.proofs.Tests.{true_by_right, or_is_false, and_left}
 
 -- spaces and the bytes of line ends
 abbrev pub is_blank_byte : ℕ → Bool
 is_blank_byte b = b == space || b == lf || b == cr
 
-space_blank : (b : ℕ) → is_space b ≡ true → is_blank_byte b ≡ true
-space_blank b e = grind (arith, nat_tests)
+space_is_blank_byte : (b : ℕ) → is_space b ≡ true → is_blank_byte b ≡ true
+space_is_blank_byte b e = grind (arith, nat_tests)
 
-lf_blank : (b : ℕ) → (b == lf) ≡ true → is_blank_byte b ≡ true
-lf_blank b e = grind (arith, nat_tests)
+lf_is_blank_byte : (b : ℕ) → (b == lf) ≡ true → is_blank_byte b ≡ true
+lf_is_blank_byte b e = grind (arith, nat_tests)
 
-cr_blank : (b : ℕ) → (b == cr) ≡ true → is_blank_byte b ≡ true
-cr_blank b e = grind (arith, nat_tests)
+cr_is_blank_byte : (b : ℕ) → (b == cr) ≡ true → is_blank_byte b ≡ true
+cr_is_blank_byte b e = grind (arith, nat_tests)
 
-blank_no_entry : (b : ℕ) → is_blank_byte b ≡ true → is_entry_byte b ≡ false
-blank_no_entry b e = grind (arith, nat_tests)
+blank_byte_begins_no_entry : (b : ℕ) → is_blank_byte b ≡ true → is_entry_byte b ≡ false
+blank_byte_begins_no_entry b e = grind (arith, nat_tests)
 
-entry_no_space : (b : ℕ) → is_entry_byte b ≡ true → is_space b ≡ false
-entry_no_space b e = grind (arith, nat_tests)
+entry_byte_is_no_space : (b : ℕ) → is_entry_byte b ≡ true → is_space b ≡ false
+entry_byte_is_no_space b e = grind (arith, nat_tests)
 
-entry_no_lf : (b : ℕ) → is_entry_byte b ≡ true → (b == lf) ≡ false
-entry_no_lf b e = grind (arith, nat_tests)
+entry_byte_is_no_lf : (b : ℕ) → is_entry_byte b ≡ true → (b == lf) ≡ false
+entry_byte_is_no_lf b e = grind (arith, nat_tests)
 
-entry_no_cr : (b : ℕ) → is_entry_byte b ≡ true → (b == cr) ≡ false
-entry_no_cr b e = grind (arith, nat_tests)
+entry_byte_is_no_cr : (b : ℕ) → is_entry_byte b ≡ true → (b == cr) ≡ false
+entry_byte_is_no_cr b e = grind (arith, nat_tests)
 
 pub letter_entry : (b : ℕ) → is_letter b ≡ true → is_entry_byte b ≡ true
 letter_entry b e = grind (arith, nat_tests)
@@ -43,35 +43,35 @@ letter_entry b e = grind (arith, nat_tests)
 pub hash_entry : (b : ℕ) → (b == 35) ≡ true → is_entry_byte b ≡ true
 hash_entry b e = grind (arith, nat_tests)
 
-eol_between : (i k m : ℕ) → k ≤ i → i < m → (m ≡ k + 1) ⊎ (m ≡ k + 2) → (i ≡ k) ⊎ ((i ≡ k + 1) × (m ≡ k + 2))
-eol_between i k m a b (inl e) = inl (omega arith)
-eol_between i k m a b (inr e) = grind arith
+place_in_eol_cases : (i k m : ℕ) → k ≤ i → i < m → (m ≡ k + 1) ⊎ (m ≡ k + 2) → (i ≡ k) ⊎ ((i ≡ k + 1) × (m ≡ k + 2))
+place_in_eol_cases i k m a b (inl e) = inl (omega arith)
+place_in_eol_cases i k m a b (inr e) = grind arith
 
 -- where there is neither an LF nor a CRLF there is no line end, and conversely
-pub eol_none : (a b : Bool) (x y : Option ℕ) → (a || b) ≡ false → (if a then x else if b then y else None) ≡ None
-eol_none true b x y e = cc
-eol_none false true x y e = cc
-eol_none false false x y e = refl
+pub no_bytes_no_eol : (a b : Bool) (x y : Option ℕ) → (a || b) ≡ false → (if a then x else if b then y else None) ≡ None
+no_bytes_no_eol true b x y e = cc
+no_bytes_no_eol false true x y e = cc
+no_bytes_no_eol false false x y e = refl
 
-none_eol : (a b : Bool) (m n : ℕ) → (if a then Some m else if b then Some n else None) ≡ None → (a || b) ≡ false
-none_eol true b m n e = cc
-none_eol false true m n e = cc
-none_eol false false m n e = refl
+no_eol_no_bytes : (a b : Bool) (m n : ℕ) → (if a then Some m else if b then Some n else None) ≡ None → (a || b) ≡ false
+no_eol_no_bytes true b m n e = cc
+no_eol_no_bytes false true m n e = cc
+no_eol_no_bytes false false m n e = refl
 
 module _ (t : List ℕ) where
   pub after_none : (i : ℕ) → after_eol t i ≡ None → has_eol t i ≡ false
-  after_none i e = none_eol (has_byte t lf i) (has_byte t cr i && has_byte t lf (i + 1)) (i + 1) (i + 2) e
+  after_none i e = no_eol_no_bytes (has_byte t lf i) (has_byte t cr i && has_byte t lf (i + 1)) (i + 1) (i + 2) e
 
   eol_blank : (k m i : ℕ) → after_eol t k ≡ Some m → k ≤ i → i < m → has t is_blank_byte i ≡ true
   eol_blank k m i e a b = elim (eol_cases t k m e) [
     | inl x ↦ (let same : k ≡ i = omega arith in
         subst (λ i. has t is_blank_byte i ≡ true) same
-        (implies (λ c. c == lf) is_blank_byte (slice_get t k) lf_blank x.0))
-    | inr x ↦ elim (eol_between i k m a b (inr x.2)) [
+        (tests_imply (λ c. c == lf) is_blank_byte (slice_get t k) lf_is_blank_byte x.0))
+    | inr x ↦ elim (place_in_eol_cases i k m a b (inr x.2)) [
       | inl same ↦ subst (λ i. has t is_blank_byte i ≡ true) (sym same)
-          (implies (λ c. c == cr) is_blank_byte (slice_get t k) cr_blank x.0)
+          (tests_imply (λ c. c == cr) is_blank_byte (slice_get t k) cr_is_blank_byte x.0)
       | inr y ↦ subst (λ i. has t is_blank_byte i ≡ true) (sym y.0)
-          (implies (λ c. c == lf) is_blank_byte (slice_get t (k + 1)) lf_blank x.1)
+          (tests_imply (λ c. c == lf) is_blank_byte (slice_get t (k + 1)) lf_is_blank_byte x.1)
     ]
   ]
 
@@ -79,30 +79,30 @@ module _ (t : List ℕ) where
   block_bytes : (i j k : ℕ) → BlankBlock t i j → i ≤ k → k < j → has t is_blank_byte k ≡ true
   block_bytes i j k (no_line a b) l m = absurd (omega arith)
   block_bytes i j k (line {k = n} {m = p} a b c) l m = elim (lt_or_le k n) [
-    | inl x ↦ implies is_space is_blank_byte (slice_get t k) space_blank (a.each k l x)
+    | inl x ↦ tests_imply is_space is_blank_byte (slice_get t k) space_is_blank_byte (a.each k l x)
     | inr x ↦ elim (lt_or_le k p) [ inl y ↦ eol_blank n p k b x y | inr y ↦ block_bytes p j k c y m ]
   ]
 
   pub block_no_entry : (i j k : ℕ) → BlankBlock t i j → i ≤ k → k < j → has t is_entry_byte k ≡ false
   block_no_entry i j k b l m =
-      excludes is_blank_byte is_entry_byte (slice_get t k) blank_no_entry (block_bytes i j k b l m)
+      tests_exclude is_blank_byte is_entry_byte (slice_get t k) blank_byte_begins_no_entry (block_bytes i j k b l m)
 
   empty_block : (i : ℕ) → has t is_space i ≡ false → has_byte t lf i ≡ false → has_byte t cr i ≡ false →
       BlankBlock t i i
   empty_block i e f g =
       no_line (record { forward = omega arith; each = λ k a b. absurd (omega arith); longest = e })
-      (eol_none (has_byte t lf i) (has_byte t cr i && has_byte t lf (i + 1)) _ _
-      (or_none (has_byte t lf i) _ f (and_left (has_byte t cr i) _ g)))
+      (no_bytes_no_eol (has_byte t lf i) (has_byte t cr i && has_byte t lf (i + 1)) _ _
+      (or_is_false (has_byte t lf i) _ f (and_left (has_byte t cr i) _ g)))
 
   -- where an entry may begin, and at the text's end, the blank block is empty
   pub block_at_entry : (i : ℕ) → has t is_entry_byte i ≡ true → BlankBlock t i i
   block_at_entry i e =
-      empty_block i (excludes is_entry_byte is_space (slice_get t i) entry_no_space e)
-      (excludes is_entry_byte (λ b. b == lf) (slice_get t i) entry_no_lf e)
-      (excludes is_entry_byte (λ b. b == cr) (slice_get t i) entry_no_cr e)
+      empty_block i (tests_exclude is_entry_byte is_space (slice_get t i) entry_byte_is_no_space e)
+      (tests_exclude is_entry_byte (λ b. b == lf) (slice_get t i) entry_byte_is_no_lf e)
+      (tests_exclude is_entry_byte (λ b. b == cr) (slice_get t i) entry_byte_is_no_cr e)
 
   pub past_end : (p : ℕ → Bool) → has t p (length t) ≡ false
-  past_end p = none_holds p (slice_get t (length t)) (slice_get_past t (length t) (omega arith))
+  past_end p = holds-none p (slice_get t (length t)) (slice_get_past t (length t) (omega arith))
 
   pub block_at_end : BlankBlock t (length t) (length t)
   block_at_end = empty_block (length t) (past_end is_space) (past_end (λ b. b == lf)) (past_end (λ b. b == cr))

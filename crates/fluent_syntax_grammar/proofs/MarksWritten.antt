@@ -7,8 +7,8 @@ use Rattle.fluent_syntax_grammar.proofs.Bytes.{last_of-append, Outcome-append, A
 use Rattle.fluent_syntax_grammar.specs.declared.text_writer.TextWriter.{TextWriter}
 
 -- a literal that has no indent
-pub literal-top : (last : Option ℕ) (bs : Text) → mark_text last (literal 0 bs) ≡ bs
-literal-top last bs = top (is_last 10 last)
+pub unindented_literal_is_its_bytes : (last : Option ℕ) (bs : Text) → mark_text last (literal 0 bs) ≡ bs
+unindented_literal_is_its_bytes last bs = top (is_last 10 last)
   where
     top : (b : Bool) → (if b then indent 0 else []) ++ bs ≡ bs
     top true = refl

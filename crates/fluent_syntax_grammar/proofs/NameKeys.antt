@@ -13,9 +13,9 @@ use Rattle.std.proofs.lemmas.Map.Text.{is_eq-slice_cmp}
 use Rattle.fluent_syntax_grammar.specs.Arguments.{is_used}
 use Rattle.fluent_syntax_grammar.specs.NameKeys.{NotesAll, is_key}
 
-or_twice : (b c : Bool) → (b || c) ≡ (b || (b || c))
-or_twice true c = refl
-or_twice false c = refl
+or_absorbs_repetition : (b c : Bool) → (b || c) ≡ (b || (b || c))
+or_absorbs_repetition true c = refl
+or_absorbs_repetition false c = refl
 
 or_swap : (a b c : Bool) → (a || (b || c)) ≡ (b || (a || c))
 or_swap true true c = refl
@@ -24,11 +24,11 @@ or_swap false true c = refl
 or_swap false false c = refl
 
 -- one more name after others
-used_after : (name n : List ℕ) (names : List (List ℕ)) →
+is_used-append : (name n : List ℕ) (names : List (List ℕ)) →
     is_used name (names ++ n ∷ []) ≡ (bytes_eq name n || is_used name names)
-used_after name n [] = refl
-used_after name n (x ∷ xs) =
-    ap (λ b. bytes_eq name x || b) (used_after name n xs)
+is_used-append name n [] = refl
+is_used-append name n (x ∷ xs) =
+    ap (λ b. bytes_eq name x || b) (is_used-append name n xs)
     ∙ or_swap (bytes_eq name x) (bytes_eq name n) (is_used name xs)
 
 module _ {K : Type 0} (text : K → List ℕ) where
@@ -45,7 +45,7 @@ module _ {K : Type 0} (text : K → List ℕ) where
         ≡ (bytes_eq name (text k) || (bytes_eq name (text x) || is_key text keys name))
     by_order x keys Less e more = rw e refl
     by_order x keys Equal e more =
-        rw (e, same k x e) (or_twice (bytes_eq name (text x)) (is_key text keys name))
+        rw (e, same k x e) (or_absorbs_repetition (bytes_eq name (text x)) (is_key text keys name))
     by_order x keys Greater e more =
         rw (e, more) (or_swap (bytes_eq name (text x)) (bytes_eq name (text k)) (is_key text keys name))
 
@@ -60,4 +60,4 @@ module _ {K : Type 0} (text : K → List ℕ) where
       NotesAll text (insert_key cmp keys k) (names ++ text k ∷ [])
   notes_after cmp same keys names k all = λ name.
       key_inserted cmp same name k keys ∙ ap (λ b. bytes_eq name (text k) || b) (all name)
-      ∙ sym (used_after name (text k) names)
+      ∙ sym (is_used-append name (text k) names)

@@ -31,19 +31,19 @@ pub record IsOneTile (at : (i j : ℕ) → Tile → Type 0) : Type 0 where
   pub same_end : (i j k : ℕ) (x y : Tile) → at i j x → at i k y → j ≡ k
   pub same_tile : (i j k : ℕ) (x y : Tile) → at i j x → at i k y → x ≡ y
 
-pub tiled_same : (t : List ℕ) (at : (i j : ℕ) → Tile → Type 0) → IsOneTile at → (i : ℕ) (xs ys : List Tile) →
+pub tiled_is_unique : (t : List ℕ) (at : (i j : ℕ) → Tile → Type 0) → IsOneTile at → (i : ℕ) (xs ys : List Tile) →
     Tiled t at i xs → Tiled t at i ys → xs ≡ ys
-tiled_same t at one i xs ys (done a) (done b) = refl
-tiled_same t at one i xs ys (done a) (next b l c d) = let h = single_block.same i _ _ a b in absurd (omega arith)
-tiled_same t at one i xs ys (next a l b c) (done d) = let h = single_block.same i _ _ a d in absurd (omega arith)
-tiled_same t at one i xs ys (next {start = start} {end = j} {tile = x} {tiles = more} a l b c)
+tiled_is_unique t at one i xs ys (done a) (done b) = refl
+tiled_is_unique t at one i xs ys (done a) (next b l c d) = let h = single_block.same i _ _ a b in absurd (omega arith)
+tiled_is_unique t at one i xs ys (next a l b c) (done d) = let h = single_block.same i _ _ a d in absurd (omega arith)
+tiled_is_unique t at one i xs ys (next {start = start} {end = j} {tile = x} {tiles = more} a l b c)
     (next {start = start'} {end = k} {tile = y} {tiles = others} d m e f) =
     let same_start : start ≡ start' = single_block.same i _ _ a d in
     let e' = subst (λ s. at s k y) (sym same_start) e in
     let same_end : j ≡ k = one.same_end start j k x y b e' in
     let same_tile : x ≡ y = one.same_tile start j k x y b e' in
     let rest : more ≡ others =
-    tiled_same t at one j more others c (subst (λ k. Tiled t at k others) (sym same_end) f) in
+    tiled_is_unique t at one j more others c (subst (λ k. Tiled t at k others) (sym same_end) f) in
     cc
 
 module _ (edition : Edition) (t : List ℕ) (R : Family) (h : IsFunctionalFamily R) where
@@ -96,8 +96,8 @@ module _ (edition : Edition) (t : List ℕ) where
 
   -- a text has at most one tiling
   pub same_tilings : (xs ys : List Tile) → Tiling edition t xs → Tiling edition t ys → xs ≡ ys
-  same_tilings xs ys a b = tiled_same t (TileAt edition t) one_tile 0 xs ys a b
+  same_tilings xs ys a b = tiled_is_unique t (TileAt edition t) one_tile 0 xs ys a b
 
   -- a text has at most one tiling without comments
   pub same_runtime_tilings : (xs ys : List Tile) → RuntimeTiling edition t xs → RuntimeTiling edition t ys → xs ≡ ys
-  same_runtime_tilings xs ys a b = tiled_same t (RuntimeTileAt edition t) one_runtime_tile 0 xs ys a b
+  same_runtime_tilings xs ys a b = tiled_is_unique t (RuntimeTileAt edition t) one_runtime_tile 0 xs ys a b

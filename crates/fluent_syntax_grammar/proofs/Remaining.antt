@@ -42,8 +42,8 @@ module _ {T W : Type 0} {text : W → List ℕ} {room : W → ℕ} where
   RemainingBytes-last h k = h.finish k
 
 -- the item that a loop takes next, and those after it
-pub drop_at : {A : Type 0} (xs : List A) (i : ℕ) (x : A) → i < length xs → x ≡ get_or xs i x
+pub drop_gives_item : {A : Type 0} (xs : List A) (i : ℕ) (x : A) → i < length xs → x ≡ get_or xs i x
     → drop i xs ≡ x ∷ drop (i + 1) xs
-drop_at xs i x h e =
+drop_gives_item xs i x h e =
     let next : i + 1 ≡ suc i = omega arith in
     drop-cons xs i x h ∙ ap (λ y. y ∷ drop (suc i) xs) (sym e) ∙ ap (λ n. x ∷ drop n xs) (sym next)

@@ -16,18 +16,18 @@ use Rattle.fluent_syntax_grammar.specs.Rules.{arguments_obey, inlines_obey, name
 use Rattle.fluent_syntax_grammar.specs.Rules.{pattern_obeys, elements_obey, element_obeys, variants_obey, variant_obeys}
 use Rattle.fluent_syntax_grammar.specs.Rules.{option_obeys, attribute_obeys, entry_obeys, body_obeys}
 
-swap : (a b c d : Bool) → ((a && b) && (c && d)) ≡ ((a && c) && (b && d))
-swap true true c d = refl
-swap true false true d = refl
-swap true false false d = refl
-swap false b c d = refl
+and_swaps_inner : (a b c d : Bool) → ((a && b) && (c && d)) ≡ ((a && c) && (b && d))
+and_swaps_inner true true c d = refl
+and_swaps_inner true false true d = refl
+and_swaps_inner true false false d = refl
+and_swaps_inner false b c d = refl
 
 module _ {K : Type 0} where
   -- each passes two tests exactly where each passes the one, and each the other
   pub both_pass : (a b : K → Bool) (ks : List K) → list_all (λ k. a k && b k) ks ≡ (list_all a ks && list_all b ks)
   both_pass a b [] = refl
   both_pass a b (k ∷ ks) =
-      ap (λ rest. (a k && b k) && rest) (both_pass a b ks) ∙ swap (a k) (b k) (list_all a ks) (list_all b ks)
+      ap (λ rest. (a k && b k) && rest) (both_pass a b ks) ∙ and_swaps_inner (a k) (b k) (list_all a ks) (list_all b ks)
 
   pub none_asked : (ks : List K) → true ≡ list_all (λ (k : K). true) ks
   none_asked [] = refl

@@ -10,7 +10,7 @@ use Rattle.fluent_syntax_grammar.specs.UniqueReading.{bare, without_comments, na
 use Rattle.fluent_syntax_tree.specs.declared.spans.Span.{Span}
 use Rattle.fluent_syntax_grammar.proofs.Aligned.{Aligned, nothing, both, comment_left, dropped_right, junk_left}
 use Rattle.fluent_syntax_grammar.proofs.Aligned.{junk_both}
-use Rattle.fluent_syntax_grammar.proofs.Facts.{append_nothing, flat_append}
+use Rattle.fluent_syntax_grammar.proofs.Facts.{append_nothing, flat_map_of_append}
 
 -- what a tile gives without comments
 abbrev pub bare_tile : Tile → BodyTree Span
@@ -23,29 +23,29 @@ bare_tiles = flat_map bare_tile
 
 -- ---- the tiling
 
-alone_bare : (x : Tile) → without_comments (alone x) ≡ bare_tile x
-alone_bare (entry s e) = append_nothing (bare e)
-alone_bare (refused f) = refl
-alone_bare dropped = refl
+alone_is_bare_tile : (x : Tile) → without_comments (alone x) ≡ bare_tile x
+alone_is_bare_tile (entry s e) = append_nothing (bare e)
+alone_is_bare_tile (refused f) = refl
+alone_is_bare_tile dropped = refl
 
-attached_bare : (content : List Span) (e : EntryTree Span) (o : Option (EntryTree Span)) → attached content e ≡ o →
+attached_is_bare : (content : List Span) (e : EntryTree Span) (o : Option (EntryTree Span)) → attached content e ≡ o →
     (h : EntryTree Span) → o ≡ Some h → bare h ≡ bare e
-attached_bare content (message m) o p h q = let same : message (record m { comment = Some content }) ≡ h = cc in
+attached_is_bare content (message m) o p h q = let same : message (record m { comment = Some content }) ≡ h = cc in
     ap bare (sym same)
-attached_bare content (term m) o p h q = let same : term (record m { comment = Some content }) ≡ h = cc in
+attached_is_bare content (term m) o p h q = let same : term (record m { comment = Some content }) ≡ h = cc in
     ap bare (sym same)
-attached_bare content (comment level c) o p h q = cc
-attached_bare content (junk s) o p h q = cc
+attached_is_bare content (comment level c) o p h q = cc
+attached_is_bare content (junk s) o p h q = cc
 
-if_attached : (b : Bool) (content : List Span) (e h : EntryTree Span)
+attached_if_stays_bare : (b : Bool) (content : List Span) (e h : EntryTree Span)
     → (if b then attached content e else None) ≡ Some h →
     bare h ≡ bare e
-if_attached true content e h p = attached_bare content e (attached content e) refl h p
-if_attached false content e h p = cc
+attached_if_stays_bare true content e h p = attached_is_bare content e (attached content e) refl h p
+attached_if_stays_bare false content e h p = cc
 
 attaches_bare : (x y : Tile) (h : EntryTree Span) → attached_entry x y ≡ Some h → (bare_tile x ≡ [])
     × (bare h ≡ bare_tile y)
-attaches_bare (entry s (comment regular c)) (entry r e) h p = (refl, if_attached (s.end == r.start) c e h p)
+attaches_bare (entry s (comment regular c)) (entry r e) h p = (refl, attached_if_stays_bare (s.end == r.start) c e h p)
 attaches_bare (entry s (comment regular c)) (refused f) h p = cc
 attaches_bare (entry s (comment regular c)) dropped h p = cc
 attaches_bare (entry s (comment group c)) y h p = cc
@@ -56,14 +56,14 @@ attaches_bare (entry s (junk x)) y h p = cc
 attaches_bare (refused f) y h p = cc
 attaches_bare dropped y h p = cc
 
-bare_joined : (x y : Tile) (others after : BodyTree Span) (tiles : List Tile) (o : Option (EntryTree Span)) →
+joined_is_bare_tiles : (x y : Tile) (others after : BodyTree Span) (tiles : List Tile) (o : Option (EntryTree Span)) →
     attached_entry x y ≡ o →
     without_comments others ≡ bare_tile y ++ bare_tiles tiles → without_comments after ≡ bare_tiles tiles →
     without_comments (or_attached o (alone x) others after) ≡ bare_tile x ++ (bare_tile y ++ bare_tiles tiles)
-bare_joined x y others after tiles None e p q =
-    flat_append bare (alone x) others
-    ∙ (ap (λ zs. zs ++ without_comments others) (alone_bare x) ∙ ap (λ zs. bare_tile x ++ zs) p)
-bare_joined x y others after tiles (Some h) e p q =
+joined_is_bare_tiles x y others after tiles None e p q =
+    flat_map_of_append bare (alone x) others
+    ∙ (ap (λ zs. zs ++ without_comments others) (alone_is_bare_tile x) ∙ ap (λ zs. bare_tile x ++ zs) p)
+joined_is_bare_tiles x y others after tiles (Some h) e p q =
     let b = attaches_bare x y h e in
     ap (λ zs. zs ++ without_comments after) b.1
     ∙ (ap (λ zs. bare_tile y ++ zs) q ∙ sym (ap (λ zs. zs ++ (bare_tile y ++ bare_tiles tiles)) b.0))
@@ -71,9 +71,9 @@ bare_joined x y others after tiles (Some h) e p q =
 -- the body without comments is what the tiles give without comments
 pub bare_body : (xs : List Tile) → without_comments (body xs) ≡ bare_tiles xs
 bare_body [] = refl
-bare_body (x ∷ []) = alone_bare x ∙ sym (append_nothing (bare_tile x))
+bare_body (x ∷ []) = alone_is_bare_tile x ∙ sym (append_nothing (bare_tile x))
 bare_body (x ∷ y ∷ tiles) =
-    bare_joined x y (body (y ∷ tiles)) (body tiles) tiles (attached_entry x y) refl (bare_body (y ∷ tiles))
+    joined_is_bare_tiles x y (body (y ∷ tiles)) (body tiles) tiles (attached_entry x y) refl (bare_body (y ∷ tiles))
     (bare_body tiles)
 
 -- ---- the tiling without comments
@@ -90,42 +90,42 @@ IsBareTile (entry s e) = IsBare e
 IsBareTile (refused f) = Unit {0}
 IsBareTile dropped = Unit {0}
 
-bare_alone : (x : Tile) → IsBareTile x → alone x ≡ bare_tile x
-bare_alone (entry s (message m)) b = ap (λ c. message (record m { comment = c }) ∷ []) b
-bare_alone (entry s (term m)) b = ap (λ c. term (record m { comment = c }) ∷ []) b
-bare_alone (entry s (comment level c)) b = absurd b
-bare_alone (entry s (junk x)) b = absurd b
-bare_alone (refused f) b = refl
-bare_alone dropped b = refl
+bare_tile_is_kept : (x : Tile) → IsBareTile x → alone x ≡ bare_tile x
+bare_tile_is_kept (entry s (message m)) b = ap (λ c. message (record m { comment = c }) ∷ []) b
+bare_tile_is_kept (entry s (term m)) b = ap (λ c. term (record m { comment = c }) ∷ []) b
+bare_tile_is_kept (entry s (comment level c)) b = absurd b
+bare_tile_is_kept (entry s (junk x)) b = absurd b
+bare_tile_is_kept (refused f) b = refl
+bare_tile_is_kept dropped b = refl
 
-bare_attaches : (x y : Tile) → IsBareTile x → attached_entry x y ≡ None
-bare_attaches (entry s (message m)) y b = refl
-bare_attaches (entry s (term m)) y b = refl
-bare_attaches (entry s (comment level c)) y b = absurd b
-bare_attaches (entry s (junk x)) y b = refl
-bare_attaches (refused f) y b = refl
-bare_attaches dropped y b = refl
+bare_tile_attaches_nothing : (x y : Tile) → IsBareTile x → attached_entry x y ≡ None
+bare_tile_attaches_nothing (entry s (message m)) y b = refl
+bare_tile_attaches_nothing (entry s (term m)) y b = refl
+bare_tile_attaches_nothing (entry s (comment level c)) y b = absurd b
+bare_tile_attaches_nothing (entry s (junk x)) y b = refl
+bare_tile_attaches_nothing (refused f) y b = refl
+bare_tile_attaches_nothing dropped y b = refl
 
 pub body_bare : (xs : List Tile) → list_every IsBareTile xs → body xs ≡ bare_tiles xs
 body_bare [] b = refl
-body_bare (x ∷ []) (b, c) = bare_alone x b ∙ sym (append_nothing (bare_tile x))
+body_bare (x ∷ []) (b, c) = bare_tile_is_kept x b ∙ sym (append_nothing (bare_tile x))
 body_bare (x ∷ y ∷ tiles) (b, c) =
-    ap (λ o. or_attached o (alone x) (body (y ∷ tiles)) (body tiles)) (bare_attaches x y b) ∙
-    (ap (λ zs. zs ++ body (y ∷ tiles)) (bare_alone x b) ∙ ap (λ zs. bare_tile x ++ zs) (body_bare (y ∷ tiles) c))
+    ap (λ o. or_attached o (alone x) (body (y ∷ tiles)) (body tiles)) (bare_tile_attaches_nothing x y b) ∙
+    (ap (λ zs. zs ++ body (y ∷ tiles)) (bare_tile_is_kept x b) ∙ ap (λ zs. bare_tile x ++ zs) (body_bare (y ∷ tiles) c))
 
 -- ---- next to one another
 
-pub aligned_named : (xs ys : List Tile) → Aligned xs ys →
+pub aligned_keep_names : (xs ys : List Tile) → Aligned xs ys →
     messages_and_terms (bare_tiles ys) ≡ messages_and_terms (bare_tiles xs)
-aligned_named xs ys nothing = refl
-aligned_named xs ys (both {x = x} {xs = more} {ys = others} a) =
-    flat_append named (bare_tile x) (bare_tiles others)
-    ∙ (ap (λ zs. messages_and_terms (bare_tile x) ++ zs) (aligned_named more others a)
-    ∙ sym (flat_append named (bare_tile x) (bare_tiles more)))
-aligned_named xs ys (comment_left {xs = more} a) = aligned_named more ys a
-aligned_named xs ys (dropped_right {ys = others} a) = aligned_named xs others a
-aligned_named xs ys (junk_left {xs = more} a) = aligned_named more ys a
-aligned_named xs ys (junk_both {xs = more} {ys = others} a) = aligned_named more others a
+aligned_keep_names xs ys nothing = refl
+aligned_keep_names xs ys (both {x = x} {xs = more} {ys = others} a) =
+    flat_map_of_append named (bare_tile x) (bare_tiles others)
+    ∙ (ap (λ zs. messages_and_terms (bare_tile x) ++ zs) (aligned_keep_names more others a)
+    ∙ sym (flat_map_of_append named (bare_tile x) (bare_tiles more)))
+aligned_keep_names xs ys (comment_left {xs = more} a) = aligned_keep_names more ys a
+aligned_keep_names xs ys (dropped_right {ys = others} a) = aligned_keep_names xs others a
+aligned_keep_names xs ys (junk_left {xs = more} a) = aligned_keep_names more ys a
+aligned_keep_names xs ys (junk_both {xs = more} {ys = others} a) = aligned_keep_names more others a
 
 pub aligned_faults : (xs ys : List Tile) → Aligned xs ys → faults xs ≡ [] → faults ys ≡ []
 aligned_faults xs ys nothing e = refl

@@ -10,7 +10,7 @@ use Rattle.fluent_syntax_grammar.specs.Tiling.{next, entry_at, TileAt, reads, re
 use Rattle.fluent_syntax_grammar.specs.Tiling.{keeps_tile, SomeTiling, SomeRuntimeTiling}
 use Rattle.fluent_syntax_tree.specs.declared.edition.Edition.{Edition}
 use Rattle.fluent_syntax_tree.specs.declared.spans.Span.{Span}
-use Rattle.fluent_syntax_grammar.proofs.Cuts.{block_forward, line_inside}
+use Rattle.fluent_syntax_grammar.proofs.Cuts.{block_goes_on, line_inside}
 use Rattle.fluent_syntax_grammar.proofs.SoundStrings.{InText}
 use Rattle.fluent_syntax_grammar.proofs.SoundTiling.{entry_refused, tile_good}
 use Rattle.fluent_syntax_grammar.proofs.Boundaries.{text_cuts}
@@ -105,7 +105,7 @@ module _ (edition : Edition) (t : List ℕ) where
       ((j : ℕ) → i < j → j ≤ length t → (tiles : List Tile) × Tiled t (TileAt edition t) j tiles) →
       (tiles : List Tile) × Tiled t (TileAt edition t) i tiles
   tiles_at i l s b m more = elim (lt_or_same s (length t) m) [
-    | inl n ↦ (let x = tile_exists s n in let on = x.on in let f = block_forward t i s b in
+    | inl n ↦ (let x = tile_exists s n in let on = x.on in let f = block_goes_on t i s b in
         let r = more x.end (omega arith) x.in_text in (x.tile ∷ r.0, next b n x.tile_there r.1))
     | inr same ↦ ([], done (subst (λ s. BlankBlock t i s) same b))
   ]
@@ -120,7 +120,7 @@ module _ (edition : Edition) (t : List ℕ) where
       ((j : ℕ) → i < j → j ≤ length t → (tiles : List Tile) × Tiled t (RuntimeTileAt edition t) j tiles) →
       (tiles : List Tile) × Tiled t (RuntimeTileAt edition t) i tiles
   runtime_at i l s b m more = elim (lt_or_same s (length t) m) [
-    | inl n ↦ (let x = runtime_tile s n (has_byte t 35 s) refl in let on = x.on in let f = block_forward t i s b in
+    | inl n ↦ (let x = runtime_tile s n (has_byte t 35 s) refl in let on = x.on in let f = block_goes_on t i s b in
         let r = more x.end (omega arith) x.in_text in (x.tile ∷ r.0, next b n x.tile_there r.1))
     | inr same ↦ ([], done (subst (λ s. BlankBlock t i s) same b))
   ]

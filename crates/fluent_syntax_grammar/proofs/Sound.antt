@@ -14,7 +14,7 @@ use Rattle.fluent_syntax_tree.specs.declared.spans.Span.{Span}
 use Rattle.fluent_syntax_grammar.proofs.HoareTriple.{HoareTriple, holds_weaker, holds_bind, holds_yields, holds_fails}
 use Rattle.fluent_syntax_grammar.proofs.HoareTriple.{holds_skip, holds_peek, holds_branch_on, holds_many}
 use Rattle.fluent_syntax_grammar.proofs.Cuts.{AreBoundaries, IsAsciiSet, ascii_space, word_place, blank_place}
-use Rattle.fluent_syntax_grammar.proofs.Cuts.{block_place, block_forward, eol_forward, eol_place, line_stop, run_stop}
+use Rattle.fluent_syntax_grammar.proofs.Cuts.{block_place, block_goes_on, eol_goes_on, eol_place, line_stop, run_stop}
 
 -- an ordered range between two places of the kind
 abbrev pub IsSpan : (ℕ → Type 0) → Span → Type 0
@@ -54,20 +54,20 @@ pub record IsOnward (P : ℕ → Type 0) (W : ℕ → ℕ → Type 0) : Type 0 w
   pub forward : (i j : ℕ) → W i j → i ≤ j
   pub place : (i j : ℕ) → P i → W i j → P j
 
-weaker_end : {A : Type 0} {P : ℕ → Type 0} {Good : A → Type 0} (s m : ℕ) → s ≤ m → (a : A) (j : ℕ) →
+ended_from_earlier_start : {A : Type 0} {P : ℕ → Type 0} {Good : A → Type 0} (s m : ℕ) → s ≤ m → (a : A) (j : ℕ) →
     Ended P m Good a j → Ended P s Good a j
-weaker_end s m l a j e = let f = e.late in record { late = omega arith; place = e.place; good = e.good }
+ended_from_earlier_start s m l a j e = let f = e.late in record { late = omega arith; place = e.place; good = e.good }
 
-pub weaker_fault : {t : List ℕ} (s m : ℕ) → s ≤ m → (k : Kind) (from to : ℕ) → IsFault t m k from to →
+pub fault_from_earlier : {t : List ℕ} (s m : ℕ) → s ≤ m → (k : Kind) (from to : ℕ) → IsFault t m k from to →
     IsFault t s k from to
-weaker_fault s m l k from to e = let f = e.late in
+fault_from_earlier s m l k from to e = let f = e.late in
     record { late = omega arith; in_text = e.in_text; one = e.one; plain = e.plain; means = e.means }
 
-here_read : {B : Type 0} (t : List ℕ) (P : ℕ → Type 0) (s : ℕ) (Good : B → Type 0) (f : ℕ → Construct B) →
+here_part_is_read : {B : Type 0} (t : List ℕ) (P : ℕ → Type 0) (s : ℕ) (Good : B → Type 0) (f : ℕ → Construct B) →
     ((m : ℕ) → Inside P s m → Sound t P m (f m) Good) → (i j : ℕ) (b : B) → Inside P s i → (here >>= f) i (Read b j) →
     Ended P s Good b j
-here_read t P s Good f g i j b p (goes_on at_place y) =
-    weaker_end {Good = Good} s i p.late b j
+here_part_is_read t P s Good f g i j b p (goes_on at_place y) =
+    ended_from_earlier_start {Good = Good} s i p.late b j
     ((g i p).holds.on_read i j b (record { late = omega arith; place = p.place }) y)
 
 here_refused : {B : Type 0} (t : List ℕ) (P : ℕ → Type 0) (s : ℕ) (Good : B → Type 0) (f : ℕ → Construct B) →
@@ -75,7 +75,7 @@ here_refused : {B : Type 0} (t : List ℕ) (P : ℕ → Type 0) (s : ℕ) (Good 
     (here >>= f) i (Refused k from to) → IsFault t s k from to
 here_refused t P s Good f g i from to k p (stops x) = elim x [ ]
 here_refused t P s Good f g i from to k p (goes_on at_place y) =
-    weaker_fault s i p.late k from to
+    fault_from_earlier s i p.late k from to
     ((g i p).holds.on_refused i from to k (record { late = omega arith; place = p.place }) y)
 
 module _ {t : List ℕ} {P : ℕ → Type 0} {s : ℕ} where
@@ -124,7 +124,7 @@ module _ {t : List ℕ} {P : ℕ → Type 0} {s : ℕ} where
   pub here_is_sound : {B : Type 0} {Good : B → Type 0} {f : ℕ → Construct B} →
       ((m : ℕ) → Inside P s m → Sound t P m (f m) Good) → Sound t P s (here >>= f) Good
   here_is_sound {Good = Good} {f = f} g =
-      record { holds = record { on_read = here_read t P s Good f g; on_refused = here_refused t P s Good f g } }
+      record { holds = record { on_read = here_part_is_read t P s Good f g; on_refused = here_refused t P s Good f g } }
 
 -- what is good of a list's item, where there is one
 abbrev pub good_more : {A S : Type 0} → (A → Type 0) → More A S → Type 0
@@ -156,7 +156,7 @@ module _ (t : List ℕ) (P : ℕ → Type 0) (cuts : AreBoundaries t P) where
   blank_is_onward = record { forward = λ i j w. w.forward; place = λ i j p w. blank_place t P cuts i j p w }
 
   pub block_is_onward : IsOnward P (BlankBlock t)
-  block_is_onward = record { forward = λ i j w. block_forward t i j w; place = λ i j p w. block_place t P cuts i j p w }
+  block_is_onward = record { forward = λ i j w. block_goes_on t i j w; place = λ i j p w. block_place t P cuts i j p w }
 
   pub line_is_onward : IsOnward P (LongestRun (is_line_place t))
   line_is_onward = record { forward = λ i j w. w.forward; place = λ i j p w. line_stop t P cuts i j p w }
@@ -181,7 +181,7 @@ module _ (t : List ℕ) (P : ℕ → Type 0) (cuts : AreBoundaries t P) where
       HoareTriple (λ i. Inside P s i × (after_eol t i ≡ o)) (past_eol o) (Ended P s (λ u. Unit {0})) (IsFault t s)
   past_holds s None = holds_yields (λ i p. let q = p.0 in record { late = q.late; place = q.place; good = tt })
   past_holds s (Some k) =
-      holds_skip (λ i j p w. let q = p.0 in let l = q.late in let f = eol_forward t i k p.1 in let e = w.there in
+      holds_skip (λ i j p w. let q = p.0 in let l = q.late in let f = eol_goes_on t i k p.1 in let e = w.there in
       record { late = omega arith; place = subst P (sym e) (eol_place t P cuts i k p.1); good = tt })
 
   pub optional_eol_is_sound : {s : ℕ} → Sound t P s (optional_eol t) (λ u. Unit {0})

@@ -15,17 +15,17 @@ use Rattle.fluent_syntax_grammar.proofs.Sound.{IsSpan, Inside, Ended, IsFault, S
 use Rattle.fluent_syntax_grammar.proofs.Sound.{peek_is_sound, here_is_sound, spanned_is_sound, known}
 use Rattle.fluent_syntax_grammar.proofs.Sound.{rest_of_line_is_sound, optional_eol_is_sound}
 use Rattle.fluent_syntax_grammar.proofs.SoundWords.{token_is_sound}
-use Rattle.fluent_syntax_tree.proofs.Every.{every-append}
+use Rattle.fluent_syntax_tree.proofs.Every.{list_every-append}
 use Rattle.fluent_syntax_grammar.proofs.CommentFaults.{some_hash}
-use Rattle.fluent_syntax_grammar.proofs.SoundEntries.{IsEntryFault, entry_fault, earlier_fault}
+use Rattle.fluent_syntax_grammar.proofs.SoundEntries.{IsEntryFault, fault_is_entry_fault, earlier_fault}
 
-hashes_place : (P : ℕ → Type 0) (i : ℕ) (a b c : Bool) → P i → (a ≡ true → P (i + 1)) → (b ≡ true → P (i + 2)) →
+hashes_place_holds : (P : ℕ → Type 0) (i : ℕ) (a b c : Bool) → P i → (a ≡ true → P (i + 1)) → (b ≡ true → P (i + 2)) →
     (c ≡ true → P (i + 3)) →
     P (i + (if not a then 0 else if not b then 1 else if not c then 2 else 3))
-hashes_place P i false b c p f g h = let e : i ≡ i + 0 = omega arith in subst P e p
-hashes_place P i true false c p f g h = f refl
-hashes_place P i true true false p f g h = g refl
-hashes_place P i true true true p f g h = h refl
+hashes_place_holds P i false b c p f g h = let e : i ≡ i + 0 = omega arith in subst P e p
+hashes_place_holds P i true false c p f g h = f refl
+hashes_place_holds P i true true false p f g h = g refl
+hashes_place_holds P i true true true p f g h = h refl
 
 plus_one : (i m n : ℕ) → m + 1 ≡ n → (i + m) + 1 ≡ i + n
 plus_one i m n e = omega arith
@@ -35,7 +35,7 @@ module _ (t : List ℕ) (P : ℕ → Type 0) (cuts : AreBoundaries t P) where
   hash_after i m n e h = subst P (plus_one i m n e) (cuts.after (i + m) (ascii_byte t 35 (i + m) (omega arith) h))
 
   pub place_after_hashes : (i : ℕ) → P i → P (i + hashes t i)
-  place_after_hashes i p = hashes_place P i (has_byte t 35 i) (has_byte t 35 (i + 1)) (has_byte t 35 (i + 2)) p
+  place_after_hashes i p = hashes_place_holds P i (has_byte t 35 i) (has_byte t 35 (i + 1)) (has_byte t 35 (i + 2)) p
       (λ e. cuts.after i (ascii_byte t 35 i (omega arith) e)) (λ e. hash_after i 1 2 refl e)
       (λ e. hash_after i 2 3 refl e)
 
@@ -65,7 +65,7 @@ module _ (t : List ℕ) (P : ℕ → Type 0) (cuts : AreBoundaries t P) where
       let late = p.late in
       let q = (line_from s i level (omega arith) p.place e).on_read i m content refl x in
       let r = lines_read s level m j more (record { late = q.late; place = q.place }) y in
-      record { late = r.late; place = r.place; good = every-append (IsSpan P) content more q.good r.good }
+      record { late = r.late; place = r.place; good = list_every-append (IsSpan P) content more q.good r.good }
 
   lines_refused : (X : Type 0) (level i from to : ℕ) (k : Kind) → comment_lines t level i (Refused k from to) → X
   lines_refused X level i from to k x = elim x [ ]
@@ -86,7 +86,7 @@ module _ (t : List ℕ) (P : ℕ → Type 0) (cuts : AreBoundaries t P) where
   comment_from i level p e = holds_bind (line_from (i + level) i level (omega arith) p e) (λ content.
       known {Mid = list_every (IsSpan P)}
       (λ g. bind_is_sound (lines_are_sound level) (λ rest k. yields_is_sound
-      (every-append (IsSpan P) content rest g k))))
+      (list_every-append (IsSpan P) content rest g k))))
 
   pub comment_read : (i j : ℕ) (a : EntryTree Span) → P i → has_byte t 35 i ≡ true → comment_entry t i (Read a j) →
       Ended P (i + 1) (entry_every (IsSpan P)) a j
@@ -101,5 +101,5 @@ module _ (t : List ℕ) (P : ℕ → Type 0) (cuts : AreBoundaries t P) where
   comment_refused i from to k p e (chosen x) =
       let one = some_hash t i e in
       earlier_fault t i (i + hashes t i) (i + 1) (omega arith) k from to
-      (entry_fault t i (i + hashes t i) (omega arith) k from to
+      (fault_is_entry_fault t i (i + hashes t i) (omega arith) k from to
       ((comment_from i (hashes t i) p refl).on_refused i from to k refl x))

@@ -21,14 +21,14 @@ use Rattle.fluent_syntax_tree.specs.declared.edition.Edition.{Edition}
 use Rattle.fluent_syntax_tree.specs.declared.spans.Span.{Span}
 use Rattle.fluent_syntax_grammar.proofs.HoareTriple.{HoareTriple, holds_weaker, holds_bind, holds_yields, holds_fails}
 use Rattle.fluent_syntax_grammar.proofs.HoareTriple.{holds_fails_from, holds_skip, holds_peek, holds_branch_on}
-use Rattle.fluent_syntax_grammar.proofs.Cuts.{AreBoundaries, word_place, ascii_name, ascii_byte}
+use Rattle.fluent_syntax_grammar.proofs.Cuts.{AreBoundaries, word_place, name_set_is_ascii, ascii_byte}
 use Rattle.fluent_syntax_grammar.proofs.Sound.{IsSpan, IsPlain, Inside, Ended, IsFault, Sound, bind_is_sound}
 use Rattle.fluent_syntax_grammar.proofs.Sound.{yields_is_sound}
 use Rattle.fluent_syntax_grammar.proofs.Sound.{fails_is_sound, inline_blank_is_sound, blank_block_is_sound}
 use Rattle.fluent_syntax_grammar.proofs.SoundWords.{token_is_sound, identifier_is_sound}
 use Rattle.fluent_syntax_grammar.proofs.SoundLines as lines
 use Rattle.fluent_syntax_grammar.proofs.SoundLines.{family_is_sound}
-use Rattle.fluent_syntax_grammar.proofs.Facts.{differs, implies}
+use Rattle.fluent_syntax_grammar.proofs.Facts.{differs, tests_imply}
 use Rattle.fluent_syntax_grammar.proofs.Tests.{letter_name}
 
 -- the fault of an entry that begins at i, whose failing place is not before s
@@ -39,17 +39,17 @@ pub record IsEntryFault (t : List ℕ) (i s : ℕ) (k : Kind) (from to : ℕ) : 
   pub in_text : failing_place k from to ≤ length t
   pub means : kind_means t k from
 
-pub plain_place : (k : Kind) → IsPlain k → (from to : ℕ) → failing_place k from to ≡ from
-plain_place (ExpectedMessageField id) p from to = absurd p
-plain_place (ExpectedTermField id) p from to = absurd p
-plain_place k p from to = refl
+pub plain_kind_fails_at_its_start : (k : Kind) → IsPlain k → (from to : ℕ) → failing_place k from to ≡ from
+plain_kind_fails_at_its_start (ExpectedMessageField id) p from to = absurd p
+plain_kind_fails_at_its_start (ExpectedTermField id) p from to = absurd p
+plain_kind_fails_at_its_start k p from to = refl
 
-pub entry_fault : (t : List ℕ) (i s : ℕ) → i ≤ s → (k : Kind) (from to : ℕ) → IsFault t s k from to →
+pub fault_is_entry_fault : (t : List ℕ) (i s : ℕ) → i ≤ s → (k : Kind) (from to : ℕ) → IsFault t s k from to →
     IsEntryFault t i s k from to
-entry_fault t i s l k from to f =
+fault_is_entry_fault t i s l k from to f =
     let late = f.late in
     let inside = f.in_text in
-    let e = plain_place k f.plain from to in
+    let e = plain_kind_fails_at_its_start k f.plain from to in
     record { late = omega arith; ordered = omega arith; onward = omega arith; in_text = omega arith; means = f.means }
 
 pub earlier_fault : (t : List ℕ) (i s s' : ℕ) → s' ≤ s → (k : Kind) (from to : ℕ) → IsEntryFault t i s k from to →
@@ -76,7 +76,7 @@ module _ {t : List ℕ} {P : ℕ → Type 0} {i s : ℕ} where
   entry_bind {Mid = Mid} l x g =
       record {
         holds =
-            holds_bind (holds_weaker (λ i p. p) (λ a j e. e) (entry_fault t i s l) x.holds)
+            holds_bind (holds_weaker (λ i p. p) (λ a j e. e) (fault_is_entry_fault t i s l) x.holds)
             (λ a. known_entry {Mid = Mid} (g a));
       }
 
@@ -176,11 +176,11 @@ module _ (edition : Edition) (t : List ℕ) (P : ℕ → Type 0) (cuts : AreBoun
       entry_bind l (blank_block_is_sound t P cuts) (λ u v. entry_bind l attributes_are_sound
       (λ rest m. g value rest k m)))))
 
-name_goes_on : (t : List ℕ) (i j : ℕ) → has t is_letter i ≡ true → ByteRun t is_name_byte i j → i < j
-name_goes_on t i j e w =
+name_moves_forward : (t : List ℕ) (i j : ℕ) → has t is_letter i ≡ true → ByteRun t is_name_byte i j → i < j
+name_moves_forward t i j e w =
     let forward = w.forward in
     let split : (i < j) ⊎ (i ≡ j) = grind arith in
-    let there = implies is_letter is_name_byte (slice_get t i) letter_name e in
+    let there = tests_imply is_letter is_name_byte (slice_get t i) letter_name e in
     elim split [ inl l ↦ l | inr same ↦ differs (subst (λ k. has t is_name_byte k ≡ true) same there) w.longest ]
 
 module _ (t : List ℕ) (P : ℕ → Type 0) (cuts : AreBoundaries t P) where
@@ -188,8 +188,8 @@ module _ (t : List ℕ) (P : ℕ → Type 0) (cuts : AreBoundaries t P) where
   identifier_advances i j a p
       (goes_on at_place (goes_on (chosen given) (first e (goes_on (passed w) (goes_on at_place given))))) =
       let forward = w.forward in
-      let place = word_place t P cuts is_name_byte ascii_name i j p w in
-      let on = name_goes_on t i j e w in
+      let place = word_place t P cuts is_name_byte name_set_is_ascii i j p w in
+      let on = name_moves_forward t i j e w in
       record { late = omega arith; place = place; good = (forward, p, place) }
   identifier_advances i j a p (goes_on at_place (goes_on (chosen given) (second e x))) = elim x [ ]
 
@@ -211,7 +211,7 @@ module _ (t : List ℕ) (P : ℕ → Type 0) (cuts : AreBoundaries t P) where
   name_holds i p = record {
     on_read = λ j m a e x. at_name i j a p e m x;
     on_refused = λ j from to k e x.
-        entry_fault t i i (omega arith) k from to
+        fault_is_entry_fault t i i (omega arith) k from to
         ((identifier_is_sound t P cuts {s = i}).holds.on_refused j from to k
         (record { late = omega arith; place = subst P (sym e) p }) x);
   }

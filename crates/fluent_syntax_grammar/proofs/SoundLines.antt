@@ -23,11 +23,11 @@ use Rattle.fluent_syntax_grammar.specs.Variants.{variant_of, variant_after, next
 use Rattle.fluent_syntax_grammar.specs.Grammar.{next, within, family}
 use Rattle.fluent_syntax_tree.specs.declared.edition.Edition.{Edition}
 use Rattle.fluent_syntax_tree.specs.declared.spans.Span.{Span}
-use Rattle.fluent_syntax_grammar.proofs.HoareTriple.{HoareTriple, gave, holds_weaker, holds_bind, holds_yields}
+use Rattle.fluent_syntax_grammar.proofs.HoareTriple.{HoareTriple, yields_value, holds_weaker, holds_bind, holds_yields}
 use Rattle.fluent_syntax_grammar.proofs.HoareTriple.{holds_fails, holds_skip, holds_peek, holds_branch_on}
-use Rattle.fluent_syntax_grammar.proofs.Cuts.{AreBoundaries, ascii_byte, ascii_has, ascii_space, eol_cases, eol_forward}
+use Rattle.fluent_syntax_grammar.proofs.Cuts.{AreBoundaries, ascii_byte, has_ascii, ascii_space, eol_cases, eol_goes_on}
 use Rattle.fluent_syntax_grammar.proofs.Cuts.{eol_place, longest_run_places, word_place}
-use Rattle.fluent_syntax_grammar.proofs.Sound.{IsSpan, Inside, Ended, IsFault, Sound, weaker_fault, bind_is_sound}
+use Rattle.fluent_syntax_grammar.proofs.Sound.{IsSpan, Inside, Ended, IsFault, Sound, fault_from_earlier, bind_is_sound}
 use Rattle.fluent_syntax_grammar.proofs.Sound.{yields_is_sound, fails_is_sound, branch_on_is_sound, here_is_sound}
 use Rattle.fluent_syntax_grammar.proofs.Sound.{known, IsPlain, good_more, many_is_sound, inline_blank_is_sound}
 use Rattle.fluent_syntax_grammar.proofs.Sound.{blank_is_sound, blank_block_is_sound, run_is_onward}
@@ -35,22 +35,22 @@ use Rattle.fluent_syntax_grammar.proofs.SoundWords.{optional_is_sound, token_is_
 use Rattle.fluent_syntax_grammar.proofs.LayoutInBounds.{PieceInBounds, EndingInBounds, LineInBounds, LayoutInBounds}
 use Rattle.fluent_syntax_grammar.proofs.LayoutInBounds.{later_piece, earlier_pieces, pattern_in_bounds}
 use Rattle.fluent_syntax_grammar.proofs.SoundRules.{IsSoundFamily, key_is_sound, only_star_is_sound}
-use Rattle.fluent_syntax_grammar.proofs.SoundRules.{variants_end_is_sound, plain_fault, arrow_is_sound, AtArrow}
+use Rattle.fluent_syntax_grammar.proofs.SoundRules.{variants_end_is_sound, fault_is_plain, arrow_is_sound, AtArrow}
 use Rattle.fluent_syntax_grammar.proofs.SoundRules.{after_arrow, placeable_is_sound, inline_is_sound}
 use Rattle.fluent_syntax_grammar.proofs.SoundRules.{arguments_are_sound}
-use Rattle.fluent_syntax_grammar.proofs.Facts.{byte_holds, two_on, two_on_as_one, not_next}
+use Rattle.fluent_syntax_grammar.proofs.Facts.{holds-some, two_on, two_on_is_not_next, not_next}
 
-good_ending_if : (P : ℕ → Type 0) (s i : ℕ) (test : Bool) → (test ≡ true → EndingInBounds P s (lf_at i)) →
+either_ending_is_in_bounds : (P : ℕ → Type 0) (s i : ℕ) (test : Bool) → (test ≡ true → EndingInBounds P s (lf_at i)) →
     (test ≡ false → EndingInBounds P s (crlf_at i)) → EndingInBounds P s (if test then lf_at i else crlf_at i)
-good_ending_if P s i true f g = f refl
-good_ending_if P s i false f g = g refl
+either_ending_is_in_bounds P s i true f g = f refl
+either_ending_is_in_bounds P s i false f g = g refl
 
 module _ (t : List ℕ) (P : ℕ → Type 0) (cuts : AreBoundaries t P) where
   lf_good : (s i k : ℕ) → Inside P s i → after_eol t i ≡ Some k → (k == i + 1) ≡ true → EndingInBounds P s (lf_at i)
   lf_good s i k p e f =
       elim (eol_cases t i k e) [
         | inl x ↦ (p.late, p.place, cuts.after i (ascii_byte t lf i (omega arith) x.0))
-        | inr x ↦ absurd (two_on_as_one i k x.2 f)
+        | inr x ↦ absurd (two_on_is_not_next i k x.2 f)
       ]
 
   crlf_good : (s i k : ℕ) → Inside P s i → after_eol t i ≡ Some k → (k == i + 1) ≡ false →
@@ -67,15 +67,15 @@ module _ (t : List ℕ) (P : ℕ → Type 0) (cuts : AreBoundaries t P) where
   ending_at s i j x p (Some k) e (goes_on {j = m} (passed w) y) =
       let late = p.late in
       let there = w.there in
-      let f = eol_forward t i k e in
-      let value = gave (if k == i + 1 then lf_at i else crlf_at i) x m j y in
+      let f = eol_goes_on t i k e in
+      let value = yields_value (if k == i + 1 then lf_at i else crlf_at i) x m j y in
       let same = value.1 in
       let place : k ≡ j = omega arith in
       record {
         late = omega arith;
         place = subst P place (eol_place t P cuts i k e);
         good =
-            subst (EndingInBounds P s) value.0 (good_ending_if P s i (k == i + 1) (lf_good s i k p e)
+            subst (EndingInBounds P s) value.0 (either_ending_is_in_bounds P s i (k == i + 1) (lf_good s i k p e)
             (crlf_good s i k p e));
       }
 
@@ -143,7 +143,7 @@ module _ (t : List ℕ) (P : ℕ → Type 0) (cuts : AreBoundaries t P) (R : Fam
         in_text = cuts.in_text i q.place;
         one = refl;
         plain = tt;
-        means = byte_holds (λ c. c == 125) (slice_get t i) b p.0.1 f;
+        means = holds-some (λ c. c == 125) (slice_get t i) b p.0.1 f;
       }))
       (λ f. holds_branch_on
       (λ g. holds_bind {mid = Ended P s (expression_every (IsSpan P))}
@@ -186,7 +186,7 @@ module _ (t : List ℕ) (P : ℕ → Type 0) (cuts : AreBoundaries t P) (R : Fam
 
   leading_places : (i f m : ℕ) → P i → InlineBlank t i f → m ≤ f - i → P (i + m)
   leading_places i f m p w l = let forward = w.forward in
-      longest_run_places t P cuts (has t is_space) (λ k e. ascii_has t is_space k ascii_space e) i f p w (i + m)
+      longest_run_places t P cuts (has t is_space) (λ k e. has_ascii t is_space k ascii_space e) i f p w (i + m)
       (omega arith) (omega arith)
 
   line_read : (s i j : ℕ) (l : Line) → Inside P s i → line t R i (Read l j) → Ended P s (LineInBounds P) l j
@@ -200,7 +200,7 @@ module _ (t : List ℕ) (P : ℕ → Type 0) (cuts : AreBoundaries t P) (R : Fam
       let on = r.late in
       let q = (ending_holds t P cuts m).on_read m n e (record { late = omega arith; place = r.place }) y in
       let end = q.late in
-      let value = gave (record { start = i; spaces = f - i; pieces = ps; ending = e }) l n j z in
+      let value = yields_value (record { start = i; spaces = f - i; pieces = ps; ending = e }) l n j z in
       let same = value.1 in
       record {
         late = omega arith;
@@ -221,7 +221,7 @@ module _ (t : List ℕ) (P : ℕ → Type 0) (cuts : AreBoundaries t P) (R : Fam
   line_refused s i from to k p (goes_on at_place (goes_on (passed {j = f} w) (goes_on at_place (stops x)))) =
       let late = p.late in
       let forward = w.forward in
-      weaker_fault s f (omega arith) k from to
+      fault_from_earlier s f (omega arith) k from to
       ((pieces_are_sound f).on_refused f from to k
       (record { late = omega arith; place = word_place t P cuts is_space ascii_space i f p.place w }) x)
   line_refused s i from to k p
@@ -291,7 +291,7 @@ module _ (t : List ℕ) (P : ℕ → Type 0) (cuts : AreBoundaries t P) (R : Fam
       })).holds
   layout_holds s (Some k) = holds_bind {mid = λ u. Inside P s}
       (holds_skip (λ i j p w. let q = p.0 in let late = q.late in let there = w.there in
-      let f = eol_forward t i k p.1 in
+      let f = eol_goes_on t i k p.1 in
       record { late = omega arith; place = subst P (sym there) (eol_place t P cuts i k p.1) }))
       (λ u. (bind_is_sound (blank_block_is_sound t P cuts)
       (λ u v. bind_is_sound lines_are_sound (λ ls g. yields_is_sound (record { opening = tt; lines = g })))).holds)
@@ -361,7 +361,7 @@ module _ (edition : Edition) (t : List ℕ) (P : ℕ →
         (Ended P s (expression_every (IsSpan P))) (IsFault t s)
     after_blank s e g arrow = holds_branch_on
         (λ y. holds_weaker (λ i p. (p.0, p.1 ∙ y)) (λ a j x. x) (λ k from to x. x)
-        (select_holds s e g (selector_fault e) (plain_fault t e)))
+        (select_holds s e g (selector_fault e) (fault_is_plain t e)))
         (λ y. holds_weaker {pre = Inside P s} (λ i p. p.0) (λ a j x. x) (λ k from to x. x)
         (branch_on_is_sound (λ z. fails_is_sound cuts.in_text tt (λ i. tt)) (λ z. yields_is_sound g)).holds)
 

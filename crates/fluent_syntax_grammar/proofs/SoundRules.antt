@@ -23,14 +23,14 @@ use Rattle.fluent_syntax_grammar.specs.Variants.{variant_key, only_star, variant
 use Rattle.fluent_syntax_tree.specs.declared.edition.Edition.{Edition}
 use Rattle.fluent_syntax_tree.specs.declared.spans.Span.{Span}
 use Rattle.fluent_syntax_grammar.proofs.HoareTriple.{HoareTriple, holds_weaker, holds_fails, holds_skip, holds_peek}
-use Rattle.fluent_syntax_grammar.proofs.Cuts.{AreBoundaries, ascii_byte, eol_forward, eol_place}
+use Rattle.fluent_syntax_grammar.proofs.Cuts.{AreBoundaries, ascii_byte, eol_goes_on, eol_place}
 use Rattle.fluent_syntax_grammar.proofs.Sound.{IsSpan, IsPlain, Inside, Ended, IsFault, Sound, bind_is_sound}
 use Rattle.fluent_syntax_grammar.proofs.Sound.{yields_is_sound, fails_is_sound, peek_is_sound, branch_on_is_sound}
 use Rattle.fluent_syntax_grammar.proofs.Sound.{inline_blank_is_sound, blank_is_sound, good_more, many_is_sound}
 use Rattle.fluent_syntax_grammar.proofs.SoundWords.{optional_is_sound, token_is_sound, identifier_is_sound}
 use Rattle.fluent_syntax_grammar.proofs.SoundWords.{number_is_sound}
 use Rattle.fluent_syntax_grammar.proofs.SoundStrings.{string_is_sound}
-use Rattle.fluent_syntax_grammar.proofs.Facts.{none_holds, right_true}
+use Rattle.fluent_syntax_grammar.proofs.Facts.{holds-none, right_true}
 
 pub record IsSoundFamily (t : List ℕ) (P : ℕ → Type 0) (R : Family) : Type 0 where
   pub expression : (s : ℕ) → Sound t P s R.expression (expression_every (IsSpan P))
@@ -78,37 +78,37 @@ abbrev pub good_argument : (ℕ → Type 0) → Argument → Type 0
 good_argument P (positional e) = inline_every (IsSpan P) e
 good_argument P (named name e) = IsSpan P name × inline_every (IsSpan P) e
 
-good_arguments : (P : ℕ → Type 0) (x : Argument) (a : ArgumentsTree Span) → good_argument P x →
+arguments_stay_good : (P : ℕ → Type 0) (x : Argument) (a : ArgumentsTree Span) → good_argument P x →
     arguments_every (IsSpan P) a → arguments_every (IsSpan P) (add_argument x a)
-good_arguments P (positional e) (arguments ps ns) g (h, k) = ((g, h), k)
-good_arguments P (named name e) (arguments ps ns) g (h, k) = (h, (g, k))
+arguments_stay_good P (positional e) (arguments ps ns) g (h, k) = ((g, h), k)
+arguments_stay_good P (named name e) (arguments ps ns) g (h, k) = (h, (g, k))
 
-good_name : (P : ℕ → Type 0) (e : InlineTree Span) → inline_every (IsSpan P) e →
+argument_name_is_good : (P : ℕ → Type 0) (e : InlineTree Span) → inline_every (IsSpan P) e →
     option_every (IsSpan P) (argument_name e)
-good_name P (string_literal v) g = tt
-good_name P (number_literal v) g = tt
-good_name P (function_reference id a) g = tt
-good_name P (message_reference id None) g = g.0
-good_name P (message_reference id (Some a)) g = tt
-good_name P (term_reference id attribute a) g = tt
-good_name P (variable_reference id) g = tt
-good_name P (inline_placeable e) g = tt
+argument_name_is_good P (string_literal v) g = tt
+argument_name_is_good P (number_literal v) g = tt
+argument_name_is_good P (function_reference id a) g = tt
+argument_name_is_good P (message_reference id None) g = g.0
+argument_name_is_good P (message_reference id (Some a)) g = tt
+argument_name_is_good P (term_reference id attribute a) g = tt
+argument_name_is_good P (variable_reference id) g = tt
+argument_name_is_good P (inline_placeable e) g = tt
 
 -- the kinds of selectors that are none say nothing of a byte
-pub plain_fault : (t : List ℕ) (e : InlineTree Span) (k : Kind) → selector_fault e ≡ Some k → (i : ℕ) → IsPlain k ×
+pub fault_is_plain : (t : List ℕ) (e : InlineTree Span) (k : Kind) → selector_fault e ≡ Some k → (i : ℕ) → IsPlain k ×
     kind_means t k i
-plain_fault t (string_literal v) k h i = cc
-plain_fault t (number_literal v) k h i = cc
-plain_fault t (function_reference id a) k h i = cc
-plain_fault t (message_reference id None) k h i = let e : MessageReferenceAsSelector ≡ k = cc in
+fault_is_plain t (string_literal v) k h i = cc
+fault_is_plain t (number_literal v) k h i = cc
+fault_is_plain t (function_reference id a) k h i = cc
+fault_is_plain t (message_reference id None) k h i = let e : MessageReferenceAsSelector ≡ k = cc in
     subst (λ k. IsPlain k × kind_means t k i) e (tt, tt)
-plain_fault t (message_reference id (Some a)) k h i = let e : MessageAttributeAsSelector ≡ k = cc in
+fault_is_plain t (message_reference id (Some a)) k h i = let e : MessageAttributeAsSelector ≡ k = cc in
     subst (λ k. IsPlain k × kind_means t k i) e (tt, tt)
-plain_fault t (term_reference id None a) k h i = let e : TermReferenceAsSelector ≡ k = cc in
+fault_is_plain t (term_reference id None a) k h i = let e : TermReferenceAsSelector ≡ k = cc in
     subst (λ k. IsPlain k × kind_means t k i) e (tt, tt)
-plain_fault t (term_reference id (Some attribute) a) k h i = cc
-plain_fault t (variable_reference id) k h i = cc
-plain_fault t (inline_placeable e) k h i = let e : ExpectedSimpleExpressionAsSelector ≡ k = cc in
+fault_is_plain t (term_reference id (Some attribute) a) k h i = cc
+fault_is_plain t (variable_reference id) k h i = cc
+fault_is_plain t (inline_placeable e) k h i = let e : ExpectedSimpleExpressionAsSelector ≡ k = cc in
     subst (λ k. IsPlain k × kind_means t k i) e (tt, tt)
 
 module _ (t : List ℕ) (P : ℕ → Type 0) (cuts : AreBoundaries t P) where
@@ -118,7 +118,7 @@ module _ (t : List ℕ) (P : ℕ → Type 0) (cuts : AreBoundaries t P) where
       holds_fails (λ i p. let q = p.0 in
       record { late = q.late; in_text = cuts.in_text i q.place; one = refl; plain = tt; means = tt })
   arrow_holds s (Some k) =
-      holds_skip (λ i j p w. let q = p.0 in let l = q.late in let f = eol_forward t i k p.1 in let e = w.there in
+      holds_skip (λ i j p w. let q = p.0 in let l = q.late in let f = eol_goes_on t i k p.1 in let e = w.there in
       record { late = omega arith; place = subst P (sym e) (eol_place t P cuts i k p.1); good = tt })
 
   pub arrow_is_sound : {s : ℕ} → Sound t P s (peek (after_eol t) arrow_line_end) (λ u. Unit {0})
@@ -215,15 +215,15 @@ module _ (t : List ℕ) (P : ℕ → Type 0) (cuts : AreBoundaries t P) (R : Fam
         in_text = cuts.in_text i q.place;
         one = refl;
         plain = tt;
-        means = none_holds (λ c. c == 41) (slice_get t i) p.1;
+        means = holds-none (λ c. c == 41) (slice_get t i) p.1;
       })
   argument_holds s names (Some b) = holds_weaker {pre = Inside P s} (λ i p. p.0) (λ a j x. x) (λ k from to x. x)
       (branch_on_is_sound (λ e. bind_is_sound (token_is_sound t P cuts 41 refl) (λ u v. yields_is_sound tt))
       (λ e. bind_is_sound inline_is_sound
       (λ e g. bind_is_sound look_is_sound
-      (λ colon u. argument_rest_is_sound names e (argument_name e) colon g (good_name P e g))))).holds
+      (λ colon u. argument_rest_is_sound names e (argument_name e) colon g (argument_name_is_good P e g))))).holds
 
   pub arguments_are_sound : {s : ℕ} (names : List (List ℕ)) →
       Sound t P s (more_arguments t R names) (arguments_every (IsSpan P))
   arguments_are_sound {s = s} names =
-      many_is_sound (λ names. record { holds = holds_peek (argument_holds s names) }) (tt, tt) (good_arguments P)
+      many_is_sound (λ names. record { holds = holds_peek (argument_holds s names) }) (tt, tt) (arguments_stay_good P)

@@ -12,11 +12,11 @@ use Rattle.fluent_syntax_grammar.specs.Strings.{HexDigits, hex_digits, all_there
 use Rattle.fluent_syntax_grammar.specs.Strings.{string_units, before_quote, unit_and_more, bad_unit, string_literal}
 use Rattle.fluent_syntax_grammar.proofs.HoareTriple.{HoareTriple, holds_weaker, holds_bind, holds_fails, holds_skip}
 use Rattle.fluent_syntax_grammar.proofs.HoareTriple.{holds_peek, holds_branch_on}
-use Rattle.fluent_syntax_grammar.proofs.Cuts.{AsciiAt, AreBoundaries, ascii_has, ascii_byte, ascii_hex}
+use Rattle.fluent_syntax_grammar.proofs.Cuts.{AsciiAt, AreBoundaries, has_ascii, ascii_byte, hex_digit_is_ascii}
 use Rattle.fluent_syntax_grammar.proofs.Sound.{IsSpan, Inside, Ended, IsFault, Sound, bind_is_sound, yields_is_sound}
 use Rattle.fluent_syntax_grammar.proofs.Sound.{here_is_sound, spanned_is_sound}
 use Rattle.fluent_syntax_grammar.proofs.SoundWords.{token_is_sound}
-use Rattle.fluent_syntax_grammar.proofs.Facts.{byte_holds}
+use Rattle.fluent_syntax_grammar.proofs.Facts.{holds-some}
 
 -- any place of the text
 abbrev pub InText : List ℕ → ℕ → Type 0
@@ -34,7 +34,7 @@ module _ (t : List ℕ) where
         | inl m ↦
             (let last =
             inside_text (k - 1)
-            (ascii_has t is_ascii_hexdigit (k - 1) ascii_hex (h.each (k - 1) (omega arith) (omega arith))) in
+            (has_ascii t is_ascii_hexdigit (k - 1) hex_digit_is_ascii (h.each (k - 1) (omega arith) (omega arith))) in
             omega arith)
         | inr e ↦ omega arith
       ]
@@ -97,7 +97,7 @@ module _ (t : List ℕ) where
         in_text = q.place;
         one = refl;
         plain = tt;
-        means = byte_holds (λ c. c == lf) (slice_get t i) b p.1 e;
+        means = holds-some (λ c. c == lf) (slice_get t i) b p.1 e;
       }))
       (λ e. holds_branch_on
       (λ e. holds_peek

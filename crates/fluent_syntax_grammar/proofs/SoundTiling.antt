@@ -17,22 +17,22 @@ use Rattle.fluent_syntax_grammar.specs.Tiling.{starts_entry, JunkEnd, whole_line
 use Rattle.fluent_syntax_grammar.specs.Tiling.{TileAt, reads, refuses, RuntimeTileAt, drops, keeps_tile}
 use Rattle.fluent_syntax_tree.specs.declared.edition.Edition.{Edition}
 use Rattle.fluent_syntax_tree.specs.declared.spans.Span.{Span}
-use Rattle.fluent_syntax_grammar.proofs.Cuts.{IsAsciiSet, AreBoundaries, ascii_has, block_place}
+use Rattle.fluent_syntax_grammar.proofs.Cuts.{IsAsciiSet, AreBoundaries, has_ascii, block_place}
 use Rattle.fluent_syntax_grammar.proofs.Sound.{IsSpan, Inside, Ended, bind_is_sound, rest_of_line_is_sound}
 use Rattle.fluent_syntax_grammar.proofs.Sound.{optional_eol_is_sound}
 use Rattle.fluent_syntax_grammar.proofs.SoundEntries.{IsEntryFault, earlier_fault, message_ends_inside, message_refused}
 use Rattle.fluent_syntax_grammar.proofs.SoundEntries.{letter_refused, term_read, term_refused}
 use Rattle.fluent_syntax_grammar.proofs.SoundComments.{comment_read, comment_refused}
-use Rattle.fluent_syntax_grammar.proofs.Facts.{byte_holds, lt_or_same, right_true, byte_of}
+use Rattle.fluent_syntax_grammar.proofs.Facts.{holds-some, lt_or_same, right_true, byte_passes}
 
-ascii_entry : IsAsciiSet is_entry_byte
-ascii_entry = record { small = λ b e. grind (arith, nat_tests) }
+entry_byte_is_ascii : IsAsciiSet is_entry_byte
+entry_byte_is_ascii = record { small = λ b e. grind (arith, nat_tests) }
 
 entry_letter : (b : ℕ) → (b == 35) ≡ false → (b == 45) ≡ false → is_entry_byte b ≡ true → is_letter b ≡ true
 entry_letter b e f g = grind (arith, nat_tests)
 
-no_byte_of : (test : ℕ → Bool) (o : Option ℕ) → o ≡ None → holds test o ≡ true → ⊥
-no_byte_of test o e f = false≢true (rw e at f)
+none_passes_no_test : (test : ℕ → Bool) (o : Option ℕ) → o ≡ None → holds test o ≡ true → ⊥
+none_passes_no_test test o e f = false≢true (rw e at f)
 
 weaker : {t : List ℕ} (i from to : ℕ) (k : Kind) → IsEntryFault t i (i + 1) k from to → IsEntryFault t i i k from to
 weaker {t = t} i from to k f = earlier_fault t i (i + 1) i (omega arith) k from to f
@@ -45,9 +45,9 @@ module _ (edition : Edition) (t : List ℕ) (P : ℕ → Type 0) (cuts : AreBoun
       entry_of edition t (family edition t) o i (Read a j) → Ended P (i + 1) EntrySpansInBounds a j
   entry_read_of i j a None e p x = message_ends_inside edition t P cuts i j a p x
   entry_read_of i j a (Some b) e p (first f x) =
-      comment_read t P cuts i j a p (byte_holds (λ c. c == 35) (slice_get t i) b e f) x
+      comment_read t P cuts i j a p (holds-some (λ c. c == 35) (slice_get t i) b e f) x
   entry_read_of i j a (Some b) e p (second f (first g x)) =
-      term_read edition t P cuts i j a (byte_holds (λ c. c == 45) (slice_get t i) b e g) x
+      term_read edition t P cuts i j a (holds-some (λ c. c == 45) (slice_get t i) b e g) x
   entry_read_of i j a (Some b) e p (second f (second g x)) = message_ends_inside edition t P cuts i j a p x
 
   -- an entry that is read passes over a byte at least, and its texts lie in the source
@@ -59,10 +59,10 @@ module _ (edition : Edition) (t : List ℕ) (P : ℕ → Type 0) (cuts : AreBoun
       entry_of edition t (family edition t) o i (Refused k from to) → IsEntryFault t i i k from to
   entry_refused_of i from to k None e p x = message_refused edition t P cuts i from to k p x
   entry_refused_of i from to k (Some b) e p (first f x) =
-      weaker i from to k (comment_refused t P cuts i from to k p (byte_holds (λ c. c == 35) (slice_get t i) b e f) x)
+      weaker i from to k (comment_refused t P cuts i from to k p (holds-some (λ c. c == 35) (slice_get t i) b e f) x)
   entry_refused_of i from to k (Some b) e p (second f (first g x)) =
       weaker i from to k
-      (term_refused edition t P cuts i from to k (byte_holds (λ c. c == 45) (slice_get t i) b e g) x)
+      (term_refused edition t P cuts i from to k (holds-some (λ c. c == 45) (slice_get t i) b e g) x)
   entry_refused_of i from to k (Some b) e p (second f (second g x)) = message_refused edition t P cuts i from to k p x
 
   pub entry_refused : (i from to : ℕ) (k : Kind) → P i → entry_at edition t i (Refused k from to) →
@@ -71,14 +71,14 @@ module _ (edition : Edition) (t : List ℕ) (P : ℕ → Type 0) (cuts : AreBoun
 
   entry_onward_of : (i from to : ℕ) (k : Kind) (o : Option ℕ) → slice_get t i ≡ o → P i → has t is_entry_byte i ≡ true →
       entry_of edition t (family edition t) o i (Refused k from to) → IsEntryFault t i (i + 1) k from to
-  entry_onward_of i from to k None e p h x = absurd (no_byte_of is_entry_byte (slice_get t i) e h)
+  entry_onward_of i from to k None e p h x = absurd (none_passes_no_test is_entry_byte (slice_get t i) e h)
   entry_onward_of i from to k (Some b) e p h (first f x) =
-      comment_refused t P cuts i from to k p (byte_holds (λ c. c == 35) (slice_get t i) b e f) x
+      comment_refused t P cuts i from to k p (holds-some (λ c. c == 35) (slice_get t i) b e f) x
   entry_onward_of i from to k (Some b) e p h (second f (first g x)) =
-      term_refused edition t P cuts i from to k (byte_holds (λ c. c == 45) (slice_get t i) b e g) x
+      term_refused edition t P cuts i from to k (holds-some (λ c. c == 45) (slice_get t i) b e g) x
   entry_onward_of i from to k (Some b) e p h (second f (second g x)) =
       letter_refused edition t P cuts i from to k p
-      (byte_holds is_letter (slice_get t i) b e (entry_letter b f g (byte_of is_entry_byte (slice_get t i) b e h)))
+      (holds-some is_letter (slice_get t i) b e (entry_letter b f g (byte_passes is_entry_byte (slice_get t i) b e h)))
       x
 
   -- where an entry may begin, a refusal's failing place is after its first byte
@@ -102,7 +102,7 @@ module _ (edition : Edition) (t : List ℕ) (P : ℕ → Type 0) (cuts : AreBoun
   junk_place : (place j : ℕ) → JunkEnd t place j → P j
   junk_place place j e = elim e.stop [
     | inl h ↦ cuts.before j
-        (ascii_has t is_entry_byte j ascii_entry (right_true (starts_line t j) (has t is_entry_byte j) h))
+        (has_ascii t is_entry_byte j entry_byte_is_ascii (right_true (starts_line t j) (has t is_entry_byte j) h))
     | inr n ↦ subst P (sym n) cuts.at_end
   ]
 

@@ -8,16 +8,16 @@ use Rattle.fluent_syntax_grammar.specs.Construct.{fails}
 use Rattle.fluent_syntax_grammar.specs.Tokens.{optional, token, digits, identifier, number}
 use Rattle.fluent_syntax_grammar.proofs.HoareTriple.{HoareTriple, holds_weaker, holds_bind, holds_yields, holds_fails}
 use Rattle.fluent_syntax_grammar.proofs.HoareTriple.{holds_skip, holds_peek, holds_branch_on}
-use Rattle.fluent_syntax_grammar.proofs.Cuts.{AreBoundaries, ascii_byte, ascii_digit, ascii_name}
+use Rattle.fluent_syntax_grammar.proofs.Cuts.{AreBoundaries, ascii_byte, digit_is_ascii, name_set_is_ascii}
 use Rattle.fluent_syntax_grammar.proofs.Sound.{IsSpan, Inside, IsFault, Sound, bind_is_sound, yields_is_sound}
 use Rattle.fluent_syntax_grammar.proofs.Sound.{fails_is_sound, skip_is_sound, peek_is_sound, branch_on_is_sound}
 use Rattle.fluent_syntax_grammar.proofs.Sound.{here_is_sound, spanned_is_sound, word_is_onward}
 
-is_small : (b : ℕ) → nat_lt b 128 ≡ true → b < 128
-is_small b e = grind (arith, nat_tests)
+byte_below_128_is_small : (b : ℕ) → nat_lt b 128 ≡ true → b < 128
+byte_below_128_is_small b e = grind (arith, nat_tests)
 
-true_false : true ≡ false → ⊥
-true_false e = cc
+true_differs_from_false : true ≡ false → ⊥
+true_differs_from_false e = cc
 
 module _ (t : List ℕ) (P : ℕ → Type 0) (cuts : AreBoundaries t P) where
   -- after an optional byte that was not there, there is none
@@ -32,9 +32,9 @@ module _ (t : List ℕ) (P : ℕ → Type 0) (cuts : AreBoundaries t P) where
       (holds_skip (λ i j p w. let q = p.0 in let late = q.late in let by = w.by in
       record {
         late = omega arith;
-        place = subst P (sym by) (cuts.after i (ascii_byte t b i (is_small b l) (p.1 ∙ e)));
+        place = subst P (sym by) (cuts.after i (ascii_byte t b i (byte_below_128_is_small b l) (p.1 ∙ e)));
       }))
-      (λ u. holds_yields (λ i p. record { inside = p; missing = λ no. absurd (true_false no) })))
+      (λ u. holds_yields (λ i p. record { inside = p; missing = λ no. absurd (true_differs_from_false no) })))
       (λ e. holds_yields (λ i p. record { inside = p.0; missing = λ no. p.1 ∙ e })))
 
   pub optional_is_sound : {s : ℕ} (b : ℕ) → nat_lt b 128 ≡ true → Sound t P s (optional t b) (λ found. Unit {0})
@@ -67,7 +67,7 @@ module _ (t : List ℕ) (P : ℕ → Type 0) (cuts : AreBoundaries t P) where
   pub digits_are_sound : {s : ℕ} → Sound t P s (digits t) (λ u. Unit {0})
   digits_are_sound =
       peek_is_sound
-      (λ found. branch_on_is_sound (λ e. skip_is_sound (word_is_onward t P cuts ascii_digit))
+      (λ found. branch_on_is_sound (λ e. skip_is_sound (word_is_onward t P cuts digit_is_ascii))
       (λ e. range_is_sound (codes "0-9")))
 
   pub identifier_is_sound : {s : ℕ} → Sound t P s (identifier t) (IsSpan P)
@@ -75,7 +75,7 @@ module _ (t : List ℕ) (P : ℕ → Type 0) (cuts : AreBoundaries t P) where
       here_is_sound (λ m q.
       bind_is_sound {Mid = λ letter. Unit {0}} (peek_is_sound (λ letter. yields_is_sound tt))
       (λ letter u. branch_on_is_sound
-      (λ e. bind_is_sound (skip_is_sound (word_is_onward t P cuts ascii_name)) (λ u v. spanned_is_sound q.place))
+      (λ e. bind_is_sound (skip_is_sound (word_is_onward t P cuts name_set_is_ascii)) (λ u v. spanned_is_sound q.place))
       (λ e. range_is_sound (codes "a-zA-Z"))))
 
   pub number_is_sound : {s : ℕ} → Sound t P s (number t) (IsSpan P)

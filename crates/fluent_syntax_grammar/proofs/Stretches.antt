@@ -10,23 +10,23 @@ use Rattle.fluent_syntax_grammar.specs.Places.{LongestRun, has, starts_line}
 use Rattle.fluent_syntax_grammar.specs.Construct.{Outcome, Read, Refused}
 use Rattle.fluent_syntax_grammar.specs.Strings.{HexDigits, hex_digits, all_there, too_few, after_character}
 use Rattle.fluent_syntax_grammar.specs.Tiling.{is_entry_byte, starts_entry, JunkEnd}
-use Rattle.fluent_syntax_grammar.proofs.Facts.{byte_found, equal, here_or_on, right_true}
+use Rattle.fluent_syntax_grammar.proofs.Facts.{byte_exists, equal, here_or_on, right_true}
 
 -- ---- the longest run
 
 pub run_ends_here : (test : ℕ → Bool) (i : ℕ) → test i ≡ false → LongestRun test i i
 run_ends_here test i e = record { forward = omega arith; each = λ k a b. absurd (omega arith); longest = e }
 
-run_each : (test : ℕ → Bool) (i j k : ℕ) → test i ≡ true → LongestRun test (i + 1) j → i ≤ k → k < j → test k ≡ true
-run_each test i j k e s a b =
+run_has_each : (test : ℕ → Bool) (i j k : ℕ) → test i ≡ true → LongestRun test (i + 1) j → i ≤ k → k < j → test k ≡ true
+run_has_each test i j k e s a b =
     elim (here_or_on i k a) [ inl same ↦ subst (λ k. test k ≡ true) same e | inr l ↦ s.each k l b ]
 
 pub run_goes_on : (test : ℕ → Bool) (i j : ℕ) → test i ≡ true → LongestRun test (i + 1) j → LongestRun test i j
 run_goes_on test i j e s = let f = s.forward in
-    record { forward = omega arith; each = λ k a b. run_each test i j k e s a b; longest = s.longest }
+    record { forward = omega arith; each = λ k a b. run_has_each test i j k e s a b; longest = s.longest }
 
-is_less : (a b : ℕ) → (a == b) ≡ false → a ≤ b → a < b
-is_less a b e l = grind (arith, nat_tests)
+unequal_le_is_less : (a b : ℕ) → (a == b) ≡ false → a ≤ b → a < b
+unequal_le_is_less a b e l = grind (arith, nat_tests)
 
 module _ (t : List ℕ) where
   -- ---- the digits of an escape
@@ -74,7 +74,7 @@ module _ (t : List ℕ) where
   hex_outcome w i k false e h =
       let m = h.most in (
         Refused (InvalidUnicodeEscapeSequence (slice_range t i (after_character t k))) k (k + 1),
-        too_few h (is_less k (i + w) e m) refl,
+        too_few h (unequal_le_is_less k (i + w) e m) refl,
       )
 
   -- so many digits are there, or the first that is not refuses
@@ -85,7 +85,7 @@ module _ (t : List ℕ) where
 
   pub junk_ends_at_entry : (k : ℕ) → starts_entry t k ≡ true → JunkEnd t k k
   junk_ends_at_entry k e =
-      let b = byte_found is_entry_byte (slice_get t k) (right_true (starts_line t k) (has t is_entry_byte k) e) in
+      let b = byte_exists is_entry_byte (slice_get t k) (right_true (starts_line t k) (has t is_entry_byte k) e) in
       let l = slice_get_within t k b.0 b.1 in
       record {
         forward = omega arith;

@@ -24,21 +24,21 @@ abbrev pub after_first : List ℕ → List ℕ
 after_first [] = []
 after_first (b ∷ bs) = bs
 
-drop_first : (t : List ℕ) (i : ℕ) → slice_get t i ≡ first (drop i t)
-drop_first [] zero = refl
-drop_first [] (suc i) = refl
-drop_first (b ∷ t) zero = refl
-drop_first (b ∷ t) (suc i) = drop_first t i
+byte_is_first_of_drop : (t : List ℕ) (i : ℕ) → slice_get t i ≡ first (drop i t)
+byte_is_first_of_drop [] zero = refl
+byte_is_first_of_drop [] (suc i) = refl
+byte_is_first_of_drop (b ∷ t) zero = refl
+byte_is_first_of_drop (b ∷ t) (suc i) = byte_is_first_of_drop t i
 
-drop_more : (t : List ℕ) (i : ℕ) → drop (suc i) t ≡ after_first (drop i t)
-drop_more [] zero = refl
-drop_more [] (suc i) = refl
-drop_more (b ∷ t) zero = refl
-drop_more (b ∷ t) (suc i) = drop_more t i
+drop_loses_first : (t : List ℕ) (i : ℕ) → drop (suc i) t ≡ after_first (drop i t)
+drop_loses_first [] zero = refl
+drop_loses_first [] (suc i) = refl
+drop_loses_first (b ∷ t) zero = refl
+drop_loses_first (b ∷ t) (suc i) = drop_loses_first t i
 
 -- the whole text is left at its start
-pub suffix_whole : (t : List ℕ) → SuffixAt t 0 t
-suffix_whole t = record { within = omega arith; rest = refl }
+pub whole_text_is_suffix : (t : List ℕ) → SuffixAt t 0 t
+whole_text_is_suffix t = record { within = omega arith; rest = refl }
 
 -- the same bytes, stated otherwise
 pub suffix_as : {t : List ℕ} {i : ℕ} {bs cs : List ℕ} → bs ≡ cs → SuffixAt t i bs → SuffixAt t i cs
@@ -46,20 +46,20 @@ suffix_as e h = record { within = h.within; rest = h.rest ∙ e }
 
 -- the byte at the place
 pub suffix_first : {t : List ℕ} {i : ℕ} {bs : List ℕ} → SuffixAt t i bs → slice_get t i ≡ first bs
-suffix_first {t = t} {i = i} h = drop_first t i ∙ ap first h.rest
+suffix_first {t = t} {i = i} h = byte_is_first_of_drop t i ∙ ap first h.rest
 
-pub suffix_end : {t : List ℕ} {i : ℕ} {bs : List ℕ} → SuffixAt t i bs → i + length bs ≡ length t
-suffix_end {t = t} {i = i} h = let w = h.within in let l = length-drop i t in let e = ap length h.rest in omega arith
+pub reaches_end : {t : List ℕ} {i : ℕ} {bs : List ℕ} → SuffixAt t i bs → i + length bs ≡ length t
+reaches_end {t = t} {i = i} h = let w = h.within in let l = length-drop i t in let e = ap length h.rest in omega arith
 
 -- what is left says which place it is
 pub suffix_same : {t : List ℕ} {i j : ℕ} {bs : List ℕ} → SuffixAt t i bs → SuffixAt t j bs → i ≡ j
-suffix_same h g = let a = suffix_end h in let b = suffix_end g in omega arith
+suffix_same h g = let a = reaches_end h in let b = reaches_end g in omega arith
 
 pub suffix_next : {t : List ℕ} {i b : ℕ} {bs : List ℕ} → SuffixAt t i (b ∷ bs) → SuffixAt t (i + 1) bs
 suffix_next {t = t} {i = i} {b = b} {bs = bs} h =
-    let n = suffix_end h in
+    let n = reaches_end h in
     let s : suc i ≡ i + 1 = omega arith in
-    record { within = omega arith; rest = subst (λ n. drop n t ≡ bs) s (drop_more t i ∙ ap after_first h.rest) }
+    record { within = omega arith; rest = subst (λ n. drop n t ≡ bs) s (drop_loses_first t i ∙ ap after_first h.rest) }
 
 pub suffix_past : {t : List ℕ} (xs : List ℕ) {ys : List ℕ} {i : ℕ} → SuffixAt t i (xs ++ ys) →
     SuffixAt t (i + length xs) ys
@@ -67,13 +67,13 @@ suffix_past {t = t} [] {ys = ys} {i = i} h = let e : i ≡ i + 0 = omega arith i
 suffix_past {t = t} (x ∷ xs) {ys = ys} {i = i} h = let e : (i + 1) + length xs ≡ i + suc (length xs) = omega arith in
     subst (λ n. SuffixAt t n ys) e (suffix_past xs {i = i + 1} (suffix_next h))
 
-take_seam : (n : ℕ) (xs ys : List ℕ) → n ≡ length xs → take n (xs ++ ys) ≡ xs
-take_seam n xs ys e = rw e (take-append_seam xs ys)
+take_of_append_is_first : (n : ℕ) (xs ys : List ℕ) → n ≡ length xs → take n (xs ++ ys) ≡ xs
+take_of_append_is_first n xs ys e = rw e (take-append_seam xs ys)
 
 -- the bytes from the place to the end of the first part
 pub suffix_range : {t : List ℕ} {i : ℕ} (xs ys : List ℕ) → SuffixAt t i (xs ++ ys) →
     slice_range t i (i + length xs) ≡ xs
-suffix_range {t = t} {i = i} xs ys h = rw (h.rest) (take_seam _ xs ys (omega arith))
+suffix_range {t = t} {i = i} xs ys h = rw (h.rest) (take_of_append_is_first _ xs ys (omega arith))
 
 -- ---- tests of the place
 
@@ -81,19 +81,19 @@ pub suffix_has : {t : List ℕ} {i : ℕ} {bs : List ℕ} (p : ℕ → Bool) →
 suffix_has p h = ap (holds p) (suffix_first h)
 
 -- no line end begins with a byte that is neither LF nor CR
-pub suffix_no_eol : {t : List ℕ} {i : ℕ} {bs : List ℕ} → SuffixAt t i bs → holds (λ b. b == lf) (first bs) ≡ false →
+pub suffix_has_no_eol : {t : List ℕ} {i : ℕ} {bs : List ℕ} → SuffixAt t i bs → holds (λ b. b == lf) (first bs) ≡ false →
     holds (λ b. b == cr) (first bs) ≡ false → has_eol t i ≡ false
-suffix_no_eol h e f = rw (suffix_first h, e, f) refl
+suffix_has_no_eol h e f = rw (suffix_first h, e, f) refl
 
-pub suffix_no_eol_after : {t : List ℕ} {i : ℕ} {bs : List ℕ} → SuffixAt t i bs →
+pub suffix_has_no_after_eol : {t : List ℕ} {i : ℕ} {bs : List ℕ} → SuffixAt t i bs →
     holds (λ b. b == lf) (first bs) ≡ false →
     holds (λ b. b == cr) (first bs) ≡ false → after_eol t i ≡ None
-suffix_no_eol_after h e f = rw (suffix_first h, e, f) refl
+suffix_has_no_after_eol h e f = rw (suffix_first h, e, f) refl
 
 -- no blank place
-suffix_no_blank : {t : List ℕ} {i : ℕ} {bs : List ℕ} → SuffixAt t i bs → holds is_space (first bs) ≡ false →
+suffix_is_no_blank : {t : List ℕ} {i : ℕ} {bs : List ℕ} → SuffixAt t i bs → holds is_space (first bs) ≡ false →
     holds (λ b. b == lf) (first bs) ≡ false → holds (λ b. b == cr) (first bs) ≡ false → is_blank_place t i ≡ false
-suffix_no_blank h d e f = rw (suffix_first h, d, e, f) refl
+suffix_is_no_blank h d e f = rw (suffix_first h, d, e, f) refl
 
 -- ---- words
 
@@ -109,13 +109,13 @@ suffix_byte_run {t = t} set (x ∷ xs) ys {i = i} a e h =
     (suffix_byte_run set xs ys {i = i + 1} (right_true (set x) (list_all set xs) a) e (suffix_next h)))
 
 -- Each of these bytes is in the set.
-pub suffix_each : {t : List ℕ} (set : ℕ → Bool) (xs ys : List ℕ) {i : ℕ} → list_all set xs ≡ true →
+pub each_in_set : {t : List ℕ} (set : ℕ → Bool) (xs ys : List ℕ) {i : ℕ} → list_all set xs ≡ true →
     SuffixAt t i (xs ++ ys) →
     (k : ℕ) → i ≤ k → k < i + length xs → has t set k ≡ true
-suffix_each set [] ys a h k l m = absurd (omega arith)
-suffix_each {t = t} set (x ∷ xs) ys {i = i} a h k l m = elim (here_or_on i k l) [
+each_in_set set [] ys a h k l m = absurd (omega arith)
+each_in_set {t = t} set (x ∷ xs) ys {i = i} a h k l m = elim (here_or_on i k l) [
   | inl e ↦ subst (λ k. has t set k ≡ true) e (suffix_has set h ∙ left_true (set x) (list_all set xs) a)
-  | inr n ↦ suffix_each set xs ys {i = i + 1} (right_true (set x) (list_all set xs) a) (suffix_next h) k n (omega arith)
+  | inr n ↦ each_in_set set xs ys {i = i + 1} (right_true (set x) (list_all set xs) a) (suffix_next h) k n (omega arith)
 ]
 
 -- ---- blanks
@@ -124,14 +124,14 @@ suffix_each {t = t} set (x ∷ xs) ys {i = i} a h k l m = elim (here_or_on i k l
 abbrev pub is_space_or_lf : ℕ → Bool
 is_space_or_lf b = b == space || b == lf
 
-blank_or : (x y z : Bool) → (x || y) ≡ true → (x || (y || z)) ≡ true
-blank_or true y z e = refl
-blank_or false true z e = refl
-blank_or false false z e = cc
+or_with_third_is_true : (x y z : Bool) → (x || y) ≡ true → (x || (y || z)) ≡ true
+or_with_third_is_true true y z e = refl
+or_with_third_is_true false true z e = refl
+or_with_third_is_true false false z e = cc
 
 suffix_blank_place : {t : List ℕ} {i b : ℕ} {bs : List ℕ} → is_space_or_lf b ≡ true → SuffixAt t i (b ∷ bs) →
     is_blank_place t i ≡ true
-suffix_blank_place {t = t} {i = i} {b = b} e h = rw (suffix_first h) (blank_or (b == space) (b == lf) _ e)
+suffix_blank_place {t = t} {i = i} {b = b} e h = rw (suffix_first h) (or_with_third_is_true (b == space) (b == lf) _ e)
 
 -- spaces and LFs, before a byte that begins no blank
 pub suffix_blank : {t : List ℕ} (xs ys : List ℕ) {i : ℕ} → list_all is_space_or_lf xs ≡ true →
@@ -139,7 +139,7 @@ pub suffix_blank : {t : List ℕ} (xs ys : List ℕ) {i : ℕ} → list_all is_s
     holds (λ b. b == cr) (first ys) ≡ false →
     SuffixAt t i (xs ++ ys) → LongestRun (is_blank_place t) i (i + length xs)
 suffix_blank {t = t} [] ys {i = i} a d e f h = let s : i ≡ i + 0 = omega arith in
-    subst (λ n. LongestRun (is_blank_place t) i n) s (run_ends_here (is_blank_place t) i (suffix_no_blank h d e f))
+    subst (λ n. LongestRun (is_blank_place t) i n) s (run_ends_here (is_blank_place t) i (suffix_is_no_blank h d e f))
 suffix_blank {t = t} (x ∷ xs) ys {i = i} a d e f h =
     let s : (i + 1) + length xs ≡ i + suc (length xs) = omega arith in
     subst (λ n. LongestRun (is_blank_place t) i n) s

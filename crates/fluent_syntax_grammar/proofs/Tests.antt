@@ -30,14 +30,14 @@ true_by_left x y e = rw e refl
 pub true_by_right : (x y : Bool) → y ≡ true → (x || y) ≡ true
 true_by_right x y e = rw e (or_true x)
 
-pub or_first : (x y z : Bool) → x ≡ true → (x || y || z) ≡ true
-or_first x y z e = true_by_left (x || y) z (true_by_left x y e)
+pub or_by_first : (x y z : Bool) → x ≡ true → (x || y || z) ≡ true
+or_by_first x y z e = true_by_left (x || y) z (true_by_left x y e)
 
-pub or_second : (x y z : Bool) → y ≡ true → (x || y || z) ≡ true
-or_second x y z e = true_by_left (x || y) z (true_by_right x y e)
+pub or_by_second : (x y z : Bool) → y ≡ true → (x || y || z) ≡ true
+or_by_second x y z e = true_by_left (x || y) z (true_by_right x y e)
 
-pub or_third : (x y z : Bool) → z ≡ true → (x || y || z) ≡ true
-or_third x y z e = true_by_right (x || y) z e
+pub or_by_third : (x y z : Bool) → z ≡ true → (x || y || z) ≡ true
+or_by_third x y z e = true_by_right (x || y) z e
 
 pub or_cases : (x y : Bool) → (x || y) ≡ true → (x ≡ true) ⊎ (y ≡ true)
 or_cases true y e = inl refl
@@ -45,8 +45,8 @@ or_cases false y e = inr e
 
 -- ---- neither, and not
 
-pub or_none : (x y : Bool) → x ≡ false → y ≡ false → (x || y) ≡ false
-or_none x y e f = rw (e, f) refl
+pub or_is_false : (x y : Bool) → x ≡ false → y ≡ false → (x || y) ≡ false
+or_is_false x y e f = rw (e, f) refl
 
 pub neither_left : (x y : Bool) → (x || y) ≡ false → x ≡ false
 neither_left true y e = cc
@@ -64,19 +64,19 @@ pub not_true : (x : Bool) → not x ≡ true → x ≡ false
 not_true true e = cc
 not_true false e = refl
 
-pub without : (x y : Bool) → (x && not y) ≡ true → y ≡ false
-without true y e = not_true y e
-without false y e = cc
+pub negated_right_is_false : (x y : Bool) → (x && not y) ≡ true → y ≡ false
+negated_right_is_false true y e = not_true y e
+negated_right_is_false false y e = cc
 
 -- ---- bytes
 
 pub letter_name : (b : ℕ) → is_letter b ≡ true → is_name_byte b ≡ true
 letter_name b e = grind (arith, nat_tests)
 
-differ_at : (p : ℕ → Bool) (b c : ℕ) (x : Bool) → (b == c) ≡ x → p b ≡ true → p c ≡ false → x ≡ false
-differ_at p b c false e f g = refl
-differ_at p b c true e f g = let same = equal b c e in cc
+bytes_differ_by_tests : (p : ℕ → Bool) (b c : ℕ) (x : Bool) → (b == c) ≡ x → p b ≡ true → p c ≡ false → x ≡ false
+bytes_differ_by_tests p b c false e f g = refl
+bytes_differ_by_tests p b c true e f g = let same = equal b c e in cc
 
 -- a byte that passes a test is not one that fails it
 pub differ : (p : ℕ → Bool) (b c : ℕ) → p b ≡ true → p c ≡ false → (b == c) ≡ false
-differ p b c f g = differ_at p b c (b == c) refl f g
+differ p b c f g = bytes_differ_by_tests p b c (b == c) refl f g

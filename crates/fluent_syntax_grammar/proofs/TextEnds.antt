@@ -18,16 +18,16 @@ pub last_of-cons : (last : Option ℕ) (b : ℕ) (bs : Text) → last_of last (b
 last_of-cons last b [] = refl
 last_of-cons last b (c ∷ bs) = last_of-cons (Some b) c bs
 
-pub without_lf : (bs : Text) (n : ℕ) → n + 1 ≡ length bs → get_or bs n 0 ≡ 10 → without_last_lf bs ≡ take n bs
-without_lf [] n is ends = absurd (omega arith)
-without_lf (b ∷ []) zero is ends = ap (λ x. if x == lf then [] else x ∷ []) ends
-without_lf (b ∷ []) (suc n) is ends = absurd (omega arith)
-without_lf (b ∷ c ∷ bs) zero is ends = absurd (omega arith)
-without_lf (b ∷ c ∷ bs) (suc n) is ends = ap (λ t. b ∷ t) (without_lf (c ∷ bs) n (omega arith) ends)
+pub last_lf_is_taken_off : (bs : Text) (n : ℕ) → n + 1 ≡ length bs → get_or bs n 0 ≡ 10 → without_last_lf bs ≡ take n bs
+last_lf_is_taken_off [] n is ends = absurd (omega arith)
+last_lf_is_taken_off (b ∷ []) zero is ends = ap (λ x. if x == lf then [] else x ∷ []) ends
+last_lf_is_taken_off (b ∷ []) (suc n) is ends = absurd (omega arith)
+last_lf_is_taken_off (b ∷ c ∷ bs) zero is ends = absurd (omega arith)
+last_lf_is_taken_off (b ∷ c ∷ bs) (suc n) is ends = ap (λ t. b ∷ t) (last_lf_is_taken_off (c ∷ bs) n (omega arith) ends)
 
-pub without_other : (bs : Text) (n : ℕ) → n + 1 ≡ length bs → (get_or bs n 0 == 10) ≡ false → without_last_lf bs ≡ bs
-without_other [] n is ends = absurd (omega arith)
-without_other (b ∷ []) zero is ends = ap (λ t. if t then [] else b ∷ []) ends
-without_other (b ∷ []) (suc n) is ends = absurd (omega arith)
-without_other (b ∷ c ∷ bs) zero is ends = absurd (omega arith)
-without_other (b ∷ c ∷ bs) (suc n) is ends = ap (λ t. b ∷ t) (without_other (c ∷ bs) n (omega arith) ends)
+pub other_last_stays : (bs : Text) (n : ℕ) → n + 1 ≡ length bs → (get_or bs n 0 == 10) ≡ false → without_last_lf bs ≡ bs
+other_last_stays [] n is ends = absurd (omega arith)
+other_last_stays (b ∷ []) zero is ends = ap (λ t. if t then [] else b ∷ []) ends
+other_last_stays (b ∷ []) (suc n) is ends = absurd (omega arith)
+other_last_stays (b ∷ c ∷ bs) zero is ends = absurd (omega arith)
+other_last_stays (b ∷ c ∷ bs) (suc n) is ends = ap (λ t. b ∷ t) (other_last_stays (c ∷ bs) n (omega arith) ends)

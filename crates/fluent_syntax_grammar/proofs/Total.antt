@@ -85,16 +85,16 @@ pub any_peek_decides : {A B : Type 0} {pre : ℕ → Type 0} {read : B → ℕ �
     {part : A → Construct B} → ((a : A) → Decides pre (part a) read) → Decides pre (peek look part) read
 any_peek_decides g = peek_decides (λ a. weaker_decides (λ i p. p.0) (λ b j x. x) (g a))
 
-branch_on_has : {A : Type 0} (pre : ℕ → Type 0) (read : A → ℕ → Type 0) (test : Bool) (c d : Construct A) →
+branch_on_has_outcome : {A : Type 0} (pre : ℕ → Type 0) (read : A → ℕ → Type 0) (test : Bool) (c d : Construct A) →
     (test ≡ true → Decides pre c read) → (test ≡ false → Decides pre d read) → (i : ℕ) → pre i →
     (o : Outcome A) × branch_on test c d i o
-branch_on_has pre read true c d g h i p = let x = (g refl).has i p in (x.0, first refl x.1)
-branch_on_has pre read false c d g h i p = let x = (h refl).has i p in (x.0, second refl x.1)
+branch_on_has_outcome pre read true c d g h i p = let x = (g refl).has i p in (x.0, first refl x.1)
+branch_on_has_outcome pre read false c d g h i p = let x = (h refl).has i p in (x.0, second refl x.1)
 
 pub branch_on_decides : {A : Type 0} {pre : ℕ → Type 0} {read : A → ℕ → Type 0} {test : Bool} {c d : Construct A} →
     (test ≡ true → Decides pre c read) → (test ≡ false → Decides pre d read) → Decides pre (branch_on test c d) read
 branch_on_decides {pre = pre} {read = read} {test = test} {c = c} {d = d} g h =
-    record { has = branch_on_has pre read test c d g h; on = holds_branch_on (λ e. (g e).on) (λ e. (h e).on) }
+    record { has = branch_on_has_outcome pre read test c d g h; on = holds_branch_on (λ e. (g e).on) (λ e. (h e).on) }
 
 -- either way
 pub any_branch_decides : {A : Type 0} {pre : ℕ → Type 0} {read : A → ℕ → Type 0} {test : Bool} {c d : Construct A} →

@@ -27,7 +27,7 @@ use Rattle.fluent_syntax_grammar.proofs.Total.{here_is_onward, strict_is_onward}
 use Rattle.fluent_syntax_grammar.proofs.TotalWords.{blank_block_is_onward, inline_blank_is_onward, on_sound}
 use Rattle.fluent_syntax_grammar.proofs.TotalWords.{token_is_consuming, identifier_is_consuming, optional_eol_is_onward}
 use Rattle.fluent_syntax_grammar.proofs.TotalWords.{spanned_is_onward, rest_of_line_is_onward}
-use Rattle.fluent_syntax_grammar.proofs.Facts.{equal, unequal}
+use Rattle.fluent_syntax_grammar.proofs.Facts.{equal, eq_false_is_unequal}
 use Rattle.std.proofs.Common.{◌-◌}
 use Rattle.std.specs.Prelude.{◌⊎◌}
 use Rattle.fluent_syntax_grammar.specs.Entries.{attribute_of, attributes_of, message_of, term_of}
@@ -41,10 +41,10 @@ use Rattle.fluent_syntax_grammar.proofs.IncludedEntries.{attributes_are_included
 use Rattle.fluent_syntax_grammar.proofs.Nesting.{within_family}
 use Rattle.fluent_syntax_grammar.proofs.TotalFamily.{pattern_within}
 
-with_is_onward : {t : List ℕ} {s : ℕ} (id : Span) (value : Option (PatternTree Span)) →
+attribute_with_is_onward : {t : List ℕ} {s : ℕ} (id : Span) (value : Option (PatternTree Span)) →
     TotalOnward t s (attribute_with id value)
-with_is_onward id None = fails_decides
-with_is_onward id (Some value) = yields_is_onward
+attribute_with_is_onward id None = fails_decides
+attribute_with_is_onward id (Some value) = yields_is_onward
 
 message_with_is_onward :
     {s : ℕ} (t : List ℕ) (start : ℕ) (id : Span) (value : Option (PatternTree Span))
@@ -68,7 +68,7 @@ module _ (edition : Edition) (t : List ℕ) (R : Family) (h : IsIncludedFamily R
       (λ u. bind_decides (strict_is_onward (identifier_is_consuming t))
       (λ id. bind_decides (inline_blank_is_onward t) (λ u.
       bind_decides (strict_is_onward (token_is_consuming t 61))
-      (λ u. bind_decides (patterns (s + 1) (omega arith)) (λ value. with_is_onward id value))))))
+      (λ u. bind_decides (patterns (s + 1) (omega arith)) (λ value. attribute_with_is_onward id value))))))
 
   -- a list of attributes, and where it ends
   record Attributes (i : ℕ) : Type 0 where
@@ -171,7 +171,7 @@ module _ (t : List ℕ) where
   lines_level : (level i : ℕ) (b : Bool) → (hashes t i == level) ≡ b → 1 ≤ level → i ≤ length t →
       ((j : ℕ) → i < j → j ≤ length t → Lines level j) → Lines level i
   lines_level level i false e one l more =
-      record { list = []; end = i; read = other_level (unequal (hashes t i) level e) }
+      record { list = []; end = i; read = other_level (eq_false_is_unequal (hashes t i) level e) }
   lines_level level i true e one l more = let x = line_has i level l (equal (hashes t i) level e) in
       lines_at level i one l (equal (hashes t i) level e) more x.0 x.1
 

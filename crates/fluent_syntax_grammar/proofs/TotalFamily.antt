@@ -21,8 +21,8 @@ use Rattle.fluent_syntax_grammar.specs.Variants.{only_star, variants_end, varian
 use Rattle.fluent_syntax_grammar.specs.Variants.{more_variants}
 use Rattle.fluent_syntax_tree.specs.declared.edition.Edition.{Edition}
 use Rattle.fluent_syntax_tree.specs.declared.spans.Span.{Span}
-use Rattle.fluent_syntax_grammar.proofs.Functional.{longest_run_functional}
-use Rattle.fluent_syntax_grammar.proofs.HoareTriple.{gave}
+use Rattle.fluent_syntax_grammar.proofs.Functional.{longest_run_is_functional}
+use Rattle.fluent_syntax_grammar.proofs.HoareTriple.{yields_value}
 use Rattle.fluent_syntax_grammar.proofs.Facts.{has_inside, right_true}
 use Rattle.fluent_syntax_grammar.proofs.SoundStrings.{InText}
 use Rattle.fluent_syntax_grammar.proofs.SoundLines.{family_is_sound}
@@ -63,7 +63,7 @@ module _ (edition : Edition) (t : List ℕ) (R : Family) (low : ℕ) (h : (s : �
       let inside = (word_of t is_space).in_text i f p.in_text v in
       let q = more_read t R low h s l f m b ps (record { late = omega arith; in_text = inside }) at_f y in
       let r = ending_after t R low h s l m n end q z in
-      let same = gave _ x n j g in
+      let same = yields_value _ x n j g in
       subst (λ j. From t (s + 1) j) same.1 r
 
   own_has : (s : ℕ) → low ≤ s + 1 → (i : ℕ) → From t s i → (o : Outcome (More Line (Unit {0}))) ×
@@ -88,7 +88,7 @@ module _ (edition : Edition) (t : List ℕ) (R : Family) (low : ℕ) (h : (s : �
       record { late = omega arith; in_text = (word_of t is_space).in_text i j p.in_text w }
   next_line_on s l i j x p (other_line w e f) = p
   next_line_on s l i j x p (own_line {k = k} {b = b} w e f (goes_on {j = m} {a = y} z g)) =
-      let same = gave (item y tt) x m j g in
+      let same = yields_value (item y tt) x m j g in
       subst (λ x. more_on t s x j) same.0
       (subst (λ j. From t (s + 1) j) same.1 (line_on s l i m k b y p w e z))
 

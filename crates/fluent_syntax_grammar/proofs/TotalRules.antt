@@ -21,9 +21,9 @@ use Rattle.fluent_syntax_grammar.specs.Lines.{is_run_place, ending_of, ending, t
 use Rattle.fluent_syntax_grammar.specs.Lines.{more_pieces}
 use Rattle.fluent_syntax_grammar.specs.Variants.{variant_key}
 use Rattle.fluent_syntax_tree.specs.declared.spans.Span.{Span}
-use Rattle.fluent_syntax_grammar.proofs.HoareTriple.{HoareTriple, gave, holds_weaker, holds_yields, holds_peek}
+use Rattle.fluent_syntax_grammar.proofs.HoareTriple.{HoareTriple, yields_value, holds_weaker, holds_yields, holds_peek}
 use Rattle.fluent_syntax_grammar.proofs.HoareTriple.{holds_branch_on}
-use Rattle.fluent_syntax_grammar.proofs.Cuts.{eol_forward, eol_text}
+use Rattle.fluent_syntax_grammar.proofs.Cuts.{eol_goes_on, line_end_is_in_text}
 use Rattle.fluent_syntax_grammar.proofs.SoundStrings.{InText}
 use Rattle.fluent_syntax_grammar.proofs.SoundLines.{ending_holds}
 use Rattle.fluent_syntax_grammar.proofs.Boundaries.{text_cuts}
@@ -112,9 +112,9 @@ module _ (t : List ℕ) where
   ending_past s i j x (Some k) p e f (goes_on {j = m} (passed w) y) =
       let late = p.late in
       let there = w.there in
-      let on = eol_forward t i k f in
-      let l = eol_text t i k f in
-      let g = gave _ x m j y in
+      let on = eol_goes_on t i k f in
+      let l = line_end_is_in_text t i k f in
+      let g = yields_value _ x m j y in
       let same = g.1 in
       record { late = omega arith; in_text = omega arith }
 
@@ -290,7 +290,7 @@ module _ (t : List ℕ) (R : Family) (low : ℕ) (h : (s : ℕ) → low ≤ s �
     -- before a line end there is none
     none_read : (i j : ℕ) (p : More Piece (Unit {0})) (b : ℕ) → has_eol t i ≡ true →
         next_piece_at t R (Some b) i (Read p j) → i ≡ j
-    none_read i j p b e (chosen (first f x)) = (gave no_item p i j x).1
+    none_read i j p b e (chosen (first f x)) = (yields_value no_item p i j x).1
     none_read i j p b e (chosen (second f x)) = differs e f
 
     -- after a piece of a line with a byte: it went on, or there is a line end

@@ -14,8 +14,8 @@ use Rattle.fluent_syntax_grammar.specs.Strings.{hex_digits, all_there, escaped, 
 use Rattle.fluent_syntax_grammar.specs.Strings.{unit_and_more, bad_unit, string_literal}
 use Rattle.fluent_syntax_grammar.specs.Lines.{is_run_place}
 use Rattle.fluent_syntax_grammar.proofs.HoareTriple.{HoareTriple, holds_weaker}
-use Rattle.fluent_syntax_grammar.proofs.Cuts.{ascii_blank, line_inside, run_inside, eol_forward, eol_text}
-use Rattle.fluent_syntax_grammar.proofs.Cuts.{block_forward, block_place}
+use Rattle.fluent_syntax_grammar.proofs.Cuts.{blank_is_ascii, line_inside, run_inside, eol_goes_on, line_end_is_in_text}
+use Rattle.fluent_syntax_grammar.proofs.Cuts.{block_goes_on, block_place}
 use Rattle.fluent_syntax_grammar.proofs.Sound.{Sound}
 use Rattle.fluent_syntax_grammar.proofs.SoundStrings.{InText, unit_holds, units_are_sound}
 use Rattle.fluent_syntax_grammar.proofs.SoundEntries.{identifier_advances}
@@ -28,8 +28,8 @@ use Rattle.fluent_syntax_grammar.proofs.Total.{any_branch_decides, yields_is_onw
 use Rattle.fluent_syntax_grammar.proofs.Total.{strict_is_onward}
 use Rattle.fluent_syntax_grammar.proofs.Facts.{lt_or_same, longest_run_in_text, has_inside}
 
-true_false : {X : Type 0} → false ≡ true → X
-true_false e = cc
+false_is_not_true : {X : Type 0} → false ≡ true → X
+false_is_not_true e = cc
 
 -- what is sound does not go back
 pub on_sound : {A : Type 0} {t : List ℕ} {s : ℕ} {c : Construct A} {Good : A → Type 0} → Sound t (InText t) s c Good →
@@ -38,8 +38,8 @@ on_sound x =
     holds_weaker (λ i p. record { late = p.late; place = p.in_text })
     (λ a j e. record { late = e.late; in_text = e.place }) (λ k from to f. tt) x.holds
 
-hex_forward : {t : List ℕ} (i w j m : ℕ) (u : Unit {0}) → i + 2 ≤ j → hex_digits t w j (Read u m) → i + 1 ≤ m
-hex_forward i w j m u p (all_there h e) = let f = h.forward in omega arith
+hex_digits_go_forward : {t : List ℕ} (i w j m : ℕ) (u : Unit {0}) → i + 2 ≤ j → hex_digits t w j (Read u m) → i + 1 ≤ m
+hex_digits_go_forward i w j m u p (all_there h e) = let f = h.forward in omega arith
 
 module _ (t : List ℕ) where
   longest_run_at : (test : ℕ → Bool) → ((k : ℕ) → test k ≡ true → k < length t) → (m i : ℕ) → length t ≤ i + m →
@@ -63,7 +63,7 @@ module _ (t : List ℕ) where
   }
 
   blank_inside : (k : ℕ) → is_blank_place t k ≡ true → k < length t
-  blank_inside k e = let a = ascii_blank t k e in slice_get_within t k a.byte a.in_place
+  blank_inside k e = let a = blank_is_ascii t k e in slice_get_within t k a.byte a.in_place
 
   pub word_of : (set : ℕ → Bool) → IsTotalRelation t (ByteRun t set)
   word_of set = longest_run_word (has t set) (has_inside set t)
@@ -78,8 +78,8 @@ module _ (t : List ℕ) where
   block_at m i k l a w None e more = (i, no_line w e)
   block_at m i k l a w (Some q) e more =
       let forward = w.forward in
-      let on = eol_forward t k q e in
-      let x = more q (omega arith) (eol_text t k q e) in
+      let on = eol_goes_on t k q e in
+      let x = more q (omega arith) (line_end_is_in_text t k q e) in
       (x.0, line w e x.1)
 
   block_exists : (m i : ℕ) → length t ≤ i + m → i ≤ length t → (j : ℕ) × BlankBlock t i j
@@ -91,7 +91,7 @@ module _ (t : List ℕ) where
   pub block_word : IsTotalRelation t (BlankBlock t)
   block_word = record {
     exists = λ i l. block_exists (length t) i (omega arith) l;
-    forward = λ i j b. block_forward t i j b;
+    forward = λ i j b. block_goes_on t i j b;
     in_text = λ i j l b. block_place t (InText t) (text_cuts t) i j l b;
   }
 
@@ -120,7 +120,7 @@ module _ (t : List ℕ) where
       (λ u. yields_decides
       (λ i p. let late = p.late in
       record { at = record { late = omega arith; in_text = p.in_text }; past = λ yes. p })))
-      (λ e. yields_decides (λ i p. record { at = p.0; past = λ yes. true_false yes })))
+      (λ e. yields_decides (λ i p. record { at = p.0; past = λ yes. false_is_not_true yes })))
 
   pub optional_is_onward : {s : ℕ} (b : ℕ) → TotalOnward t s (optional t b)
   optional_is_onward {s = s} b = weaker_decides (λ i p. p) (λ a j x. x.at) (optional_decides s b)
@@ -134,8 +134,8 @@ module _ (t : List ℕ) where
   pub eol_decides : (s k : ℕ) → Decides (λ i. From t s i × (after_eol t i ≡ Some k)) (skip (JumpsTo k)) (λ u. From t s)
   eol_decides s k =
       skip_decides (λ i p. (k, record { there = refl }))
-      (λ i j p w. let q = p.0 in let late = q.late in let there = w.there in let f = eol_forward t i k p.1 in
-      let l = eol_text t i k p.1 in record { late = omega arith; in_text = omega arith })
+      (λ i j p w. let q = p.0 in let late = q.late in let there = w.there in let f = eol_goes_on t i k p.1 in
+      let l = line_end_is_in_text t i k p.1 in record { late = omega arith; in_text = omega arith })
 
   past_eol_decides : (s : ℕ) (o : Option ℕ) →
       Decides (λ i. From t s i × (after_eol t i ≡ o)) (past_eol o) (λ u. From t s)
@@ -203,7 +203,7 @@ module _ (t : List ℕ) where
   hex_decides : (i w : ℕ) → Decides (λ j. i + 2 ≤ j) (hex_digits t w) (After i)
   hex_decides i w = record {
     has = λ j p. hex_digits_exist t w j;
-    on = record { on_read = λ j m u p x. hex_forward i w j m u p x; on_refused = λ j from to k p x. tt };
+    on = record { on_read = λ j m u p x. hex_digits_go_forward i w j m u p x; on_refused = λ j from to k p x. tt };
   }
 
   escape_decides : (i w : ℕ) → Decides (At i) (skip (Steps 2) >>= λ u. hex_digits t w) (After i)

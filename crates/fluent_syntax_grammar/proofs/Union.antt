@@ -29,8 +29,8 @@ pub record IsUnion {A : Type 0} (c : Construct A) (cs : ℕ → Construct A) : T
 
 -- ---- the formers
 
-pub union_same : {A : Type 0} {c : Construct A} → IsUnion c (λ n. c)
-union_same {c = c} = record { grows = λ m n l. itself_is_included; found = λ i o x. (0, x) }
+pub construct_is_union_of_itself : {A : Type 0} {c : Construct A} → IsUnion c (λ n. c)
+construct_is_union_of_itself {c = c} = record { grows = λ m n l. itself_is_included; found = λ i o x. (0, x) }
 
 bind_found : {A B : Type 0} (c : Construct A) (cs : ℕ → Construct A) (f : A → Construct B) (fs : ℕ → A → Construct B) →
     IsUnion c cs → ((a : A) → IsUnion (f a) (λ n. fs n a)) → (i : ℕ) (o : Outcome B) → (c >>= f) i o → (n : ℕ) ×
@@ -44,24 +44,24 @@ bind_found c cs f fs u v i o (goes_on {j = j} {a = a} x y) =
           (((v a).grows n.0 (m.0 + n.0) (omega arith)).part j o n.1),
     )
 
-pub union_bind :
+pub bind_is_union :
     {A B : Type 0} {c : Construct A} {cs : ℕ → Construct A} {f : A → Construct B} {fs : ℕ → A → Construct B} →
     IsUnion c cs → ((a : A) → IsUnion (f a) (λ n. fs n a)) → IsUnion (c >>= f) (λ n. cs n >>= fs n)
-union_bind {c = c} {cs = cs} {f = f} {fs = fs} u v = record {
+bind_is_union {c = c} {cs = cs} {f = f} {fs = fs} u v = record {
   grows = λ m n l. bind_is_included (u.grows m n l) (λ a. (v a).grows m n l);
   found = bind_found c cs f fs u v;
 }
 
-peek_found : {A B : Type 0} (look : ℕ → A) (f : A → Construct B) (fs : ℕ → A → Construct B) →
+peek_outcome_is_in_union : {A B : Type 0} (look : ℕ → A) (f : A → Construct B) (fs : ℕ → A → Construct B) →
     ((a : A) → IsUnion (f a) (λ n. fs n a)) → (i : ℕ) (o : Outcome B) → peek look f i o → (n : ℕ) ×
     peek look (fs n) i o
-peek_found look f fs v i o (chosen x) = let m = (v (look i)).found i o x in (m.0, chosen m.1)
+peek_outcome_is_in_union look f fs v i o (chosen x) = let m = (v (look i)).found i o x in (m.0, chosen m.1)
 
-pub union_peek : {A B : Type 0} {look : ℕ → A} {f : A → Construct B} {fs : ℕ → A → Construct B} →
+pub peek_is_union : {A B : Type 0} {look : ℕ → A} {f : A → Construct B} {fs : ℕ → A → Construct B} →
     ((a : A) → IsUnion (f a) (λ n. fs n a)) → IsUnion (peek look f) (λ n. peek look (fs n))
-union_peek {look = look} {f = f} {fs = fs} v = record {
+peek_is_union {look = look} {f = f} {fs = fs} v = record {
   grows = λ m n l. peek_is_included (λ a. (v a).grows m n l);
-  found = peek_found look f fs v;
+  found = peek_outcome_is_in_union look f fs v;
 }
 
 branch_on_found : {A : Type 0} (b : Bool) (c d : Construct A) (cs ds : ℕ → Construct A) → IsUnion c cs → IsUnion d ds →
@@ -69,9 +69,9 @@ branch_on_found : {A : Type 0} (b : Bool) (c d : Construct A) (cs ds : ℕ → C
 branch_on_found b c d cs ds u v i o (first e x) = let m = u.found i o x in (m.0, first e m.1)
 branch_on_found b c d cs ds u v i o (second e x) = let m = v.found i o x in (m.0, second e m.1)
 
-pub union_branch_on : {A : Type 0} {b : Bool} {c d : Construct A} {cs ds : ℕ → Construct A} → IsUnion c cs →
+pub branch_on_is_union : {A : Type 0} {b : Bool} {c d : Construct A} {cs ds : ℕ → Construct A} → IsUnion c cs →
     IsUnion d ds → IsUnion (branch_on b c d) (λ n. branch_on b (cs n) (ds n))
-union_branch_on {b = b} {c = c} {d = d} {cs = cs} {ds = ds} u v = record {
+branch_on_is_union {b = b} {c = c} {d = d} {cs = cs} {ds = ds} u v = record {
   grows = λ m n l. branch_on_is_included (u.grows m n l) (v.grows m n l);
   found = branch_on_found b c d cs ds u v;
 }
@@ -99,13 +99,13 @@ module _ {A S B : Type 0} (f : S → Construct (More A S)) (fs : ℕ → S → C
             ((many_grows r n.0 (m.0 + n.0) (omega arith)).part j _ n.1),
       )
 
-pub union_many :
+pub many_is_union :
     {A S B : Type 0} {f : S → Construct (More A S)} {fs : ℕ → S → Construct (More A S)} {add : A → B → B} {none : B}
     {s : S} → ((s : S) → IsUnion (f s) (λ n. fs n s)) → IsUnion (many f add none s) (λ n. many (fs n) add none s)
-union_many {f = f} {fs = fs} {add = add} {none = none} {s = s} v =
+many_is_union {f = f} {fs = fs} {add = add} {none = none} {s = s} v =
     record { grows = many_grows f fs add none v s; found = many_found f fs add none v s }
 
-pub ruleset unions = (union_same, union_bind, union_peek, union_branch_on)
+pub ruleset unions = (construct_is_union_of_itself, bind_is_union, peek_is_union, branch_on_is_union)
 
 -- ---- the rules
 
@@ -157,9 +157,9 @@ module _ (t : List ℕ) (R : Family) (Rs : ℕ → Family) (h : IsUnionFamily R 
 
   union_argument_rest : (names : List (List ℕ)) (e : InlineTree Span) (o : Option Span) (colon : Bool) →
       IsUnion (argument_rest t R names e o colon) (λ n. argument_rest t (Rs n) names e o colon)
-  union_argument_rest names e None colon = union_same
+  union_argument_rest names e None colon = construct_is_union_of_itself
   union_argument_rest names e (Some n) true = union_named_rest names n
-  union_argument_rest names e (Some n) false = union_same
+  union_argument_rest names e (Some n) false = construct_is_union_of_itself
 
   union_argument_at : (names : List (List ℕ)) (b : Option ℕ) →
       IsUnion (next_argument_at t R names b) (λ n. next_argument_at t (Rs n) names b)
@@ -171,7 +171,7 @@ module _ (t : List ℕ) (R : Family) (Rs : ℕ → Family) (h : IsUnionFamily R 
 
   pub union_arguments : (names : List (List ℕ)) →
       IsUnion (more_arguments t R names) (λ n. more_arguments t (Rs n) names)
-  union_arguments names = union_many union_next_argument
+  union_arguments names = many_is_union union_next_argument
 
   union_piece_at : (b : Option ℕ) → IsUnion (next_piece_at t R b) (λ n. next_piece_at t (Rs n) b)
   union_piece_at None = search unions depth 30
@@ -181,7 +181,7 @@ module _ (t : List ℕ) (R : Family) (Rs : ℕ → Family) (h : IsUnionFamily R 
   union_next_piece = search (unions, union_piece_at) depth 30
 
   pub union_pieces : IsUnion (more_pieces t R) (λ n. more_pieces t (Rs n))
-  union_pieces = union_many (λ u. union_next_piece)
+  union_pieces = many_is_union (λ u. union_next_piece)
 
   union_line : IsUnion (line t R) (λ n. line t (Rs n))
   union_line = search (unions, union_pieces) depth 30
@@ -200,7 +200,7 @@ module _ (t : List ℕ) (R : Family) (Rs : ℕ → Family) (h : IsUnionFamily R 
       record { grows = λ m n l. next_line_is_included t (Rs m) (Rs n) (h.grows m n l); found = line_found }
 
   pub union_lines : IsUnion (more_lines t R) (λ n. more_lines t (Rs n))
-  union_lines = union_many (λ u. union_next_line)
+  union_lines = many_is_union (λ u. union_next_line)
 
   union_layout_at : (o : Option ℕ) → IsUnion (layout_at t R o) (λ n. layout_at t (Rs n) o)
   union_layout_at None = search (unions, union_pieces, union_lines) depth 30
@@ -219,7 +219,7 @@ module _ (edition : Edition) (t : List ℕ) (R : Family) (Rs : ℕ → Family) (
 
   pub union_variants : (starred : Bool) →
       IsUnion (more_variants edition t R starred) (λ n. more_variants edition t (Rs n) starred)
-  union_variants starred = union_many union_next_variant
+  union_variants starred = many_is_union union_next_variant
 
   union_select : (e : InlineTree Span) (o : Option Kind) →
       IsUnion (select_with edition t R e o) (λ n. select_with edition t (Rs n) e o)

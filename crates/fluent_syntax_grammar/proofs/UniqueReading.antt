@@ -25,7 +25,7 @@ use Rattle.fluent_syntax_grammar.proofs.SoundStrings.{InText}
 use Rattle.fluent_syntax_grammar.proofs.SoundTiling.{IsTileWellFormed, tiled_good, runtime_good}
 use Rattle.fluent_syntax_grammar.proofs.Boundaries.{text_cuts}
 use Rattle.fluent_syntax_grammar.proofs.Aligned.{aligned}
-use Rattle.fluent_syntax_grammar.proofs.Runtime.{bare_body, body_bare, aligned_named, aligned_faults, aligned_bare}
+use Rattle.fluent_syntax_grammar.proofs.Runtime.{bare_body, body_bare, aligned_keep_names, aligned_faults, aligned_bare}
 use Rattle.fluent_syntax_grammar.proofs.BareEntries.{bare_runtime}
 
 module _ (edition : Edition) (t : List ℕ) where
@@ -95,7 +95,7 @@ module _ (edition : Edition) (t : List ℕ) where
   pub same_messages_and_terms : SameMessagesAndTerms edition t
   same_messages_and_terms = λ xs ys a b.
       ap messages_and_terms (body_bare ys (bare_runtime edition t 0 ys b))
-      ∙ (aligned_named xs ys (aligned edition t xs ys a b) ∙ sym (ap messages_and_terms (bare_body xs)))
+      ∙ (aligned_keep_names xs ys (aligned edition t xs ys a b) ∙ sym (ap messages_and_terms (bare_body xs)))
 
   pub no_new_errors : NoNewErrors edition t
   no_new_errors = λ xs ys a b e. aligned_faults xs ys (aligned edition t xs ys a b) e

@@ -13,10 +13,10 @@ use Rattle.fluent_syntax_grammar.specs.Tokens.{token, optional_eol, past_eol}
 use Rattle.fluent_syntax_grammar.specs.Tiling.{whole_line}
 use Rattle.fluent_syntax_grammar.specs.Comments.{hashes, comment_text, comment_rest, comment_line}
 use Rattle.fluent_syntax_tree.specs.declared.spans.Span.{Span}
-use Rattle.fluent_syntax_grammar.proofs.Cuts.{eol_cases, eol_forward, eol_text}
-use Rattle.fluent_syntax_grammar.proofs.LineEnds.{IsLineStart, eol_start, eol_none, after_none}
-use Rattle.fluent_syntax_grammar.proofs.Facts.{byte_found, excludes, lt_or_le, none_holds, some_none, some_same}
-use Rattle.fluent_syntax_grammar.proofs.Tests.{neither_left, or_none, and_left}
+use Rattle.fluent_syntax_grammar.proofs.Cuts.{eol_cases, eol_goes_on, line_end_is_in_text}
+use Rattle.fluent_syntax_grammar.proofs.LineEnds.{IsLineStart, eol_start, no_bytes_no_eol, after_none}
+use Rattle.fluent_syntax_grammar.proofs.Facts.{byte_exists, tests_exclude, lt_or_le, holds-none, some_none, some_same}
+use Rattle.fluent_syntax_grammar.proofs.Tests.{neither_left, or_is_false, and_left}
 
 -- a line from i on, with its line end, reaches to j
 pub record IsLine (t : List ℕ) (i j : ℕ) : Type 0 where
@@ -24,22 +24,22 @@ pub record IsLine (t : List ℕ) (i j : ℕ) : Type 0 where
   pub stretch : LongestRun (is_line_place t) i end
   pub eol : (after_eol t end ≡ Some j) ⊎ ((after_eol t end ≡ None) × (j ≡ end))
 
-no_byte_holds : (o : Option ℕ) (e : Bool) → (is_some o && not e) ≡ false → e ≡ false → o ≡ None
-no_byte_holds None e h g = refl
-no_byte_holds (Some b) true h g = cc
-no_byte_holds (Some b) false h g = cc
+stop_without_eol_has_no_byte : (o : Option ℕ) (e : Bool) → (is_some o && not e) ≡ false → e ≡ false → o ≡ None
+stop_without_eol_has_no_byte None e h g = refl
+stop_without_eol_has_no_byte (Some b) true h g = cc
+stop_without_eol_has_no_byte (Some b) false h g = cc
 
-byte_holds : (o : Option ℕ) (e : Bool) → (is_some o && not e) ≡ true → (e ≡ false) × ((b : ℕ) × (o ≡ Some b))
-byte_holds None e h = cc
-byte_holds (Some b) true h = cc
-byte_holds (Some b) false h = (refl, (b, refl))
+line_byte_exists : (o : Option ℕ) (e : Bool) → (is_some o && not e) ≡ true → (e ≡ false) × ((b : ℕ) × (o ≡ Some b))
+line_byte_exists None e h = cc
+line_byte_exists (Some b) true h = cc
+line_byte_exists (Some b) false h = (refl, (b, refl))
 
-cr_byte : (b : ℕ) → (b == cr) ≡ true → (b == lf) ≡ false
-cr_byte b e = grind (arith, nat_tests)
+cr_is_not_lf : (b : ℕ) → (b == cr) ≡ true → (b == lf) ≡ false
+cr_is_not_lf b e = grind (arith, nat_tests)
 
-cr_no_lf : (o : Option ℕ) → holds (λ c. c == cr) o ≡ true → holds (λ c. c == lf) o ≡ false
-cr_no_lf None e = refl
-cr_no_lf (Some b) e = cr_byte b e
+cr_byte_holds_no_lf : (o : Option ℕ) → holds (λ c. c == cr) o ≡ true → holds (λ c. c == lf) o ≡ false
+cr_byte_holds_no_lf None e = refl
+cr_byte_holds_no_lf (Some b) e = cr_is_not_lf b e
 
 not_zero : (m : ℕ) → (suc m == 0) ≡ false
 not_zero m = grind (arith, nat_tests)
@@ -67,10 +67,10 @@ module _ (t : List ℕ) where
       (chosen (past_to l.end j (after_eol t l.end) refl l.eol))
 
   place_inside : (k : ℕ) → is_line_place t k ≡ true → k < length t
-  place_inside k e = let b = byte_holds (slice_get t k) (has_eol t k) e in slice_get_within t k b.1.0 b.1.1
+  place_inside k e = let b = line_byte_exists (slice_get t k) (has_eol t k) e in slice_get_within t k b.1.0 b.1.1
 
   place_no_lf : (k : ℕ) → is_line_place t k ≡ true → has_byte t lf k ≡ false
-  place_no_lf k e = let b = byte_holds (slice_get t k) (has_eol t k) e in
+  place_no_lf k e = let b = line_byte_exists (slice_get t k) (has_eol t k) e in
       neither_left (has_byte t lf k) (has_byte t cr k && has_byte t lf (k + 1)) b.0
 
   longest_run_inside : (i k : ℕ) → i ≤ length t → LongestRun (is_line_place t) i k → k ≤ length t
@@ -88,7 +88,7 @@ module _ (t : List ℕ) where
   line_none i k l s e =
       let inside = longest_run_inside i k l s in
       let past =
-      no_byte_at k (no_byte_holds (slice_get t k) (has_eol t k) s.longest
+      no_byte_at k (stop_without_eol_has_no_byte (slice_get t k) (has_eol t k) s.longest
       (after_none t k e)) in
       omega arith
 
@@ -100,12 +100,12 @@ module _ (t : List ℕ) where
   pub line_in_text : (i j : ℕ) → i ≤ length t → IsLine t i j → j ≤ length t
   line_in_text i j l x =
       elim x.eol [
-        | inl e ↦ eol_text t x.end j e
+        | inl e ↦ line_end_is_in_text t x.end j e
         | inr e ↦ (let f = line_none i x.end l x.stretch e.0 in let g = e.1 in omega arith)
       ]
 
   eol_onward : (k j : ℕ) → (after_eol t k ≡ Some j) ⊎ ((after_eol t k ≡ None) × (j ≡ k)) → k ≤ j
-  eol_onward k j (inl e) = let f = eol_forward t k j e in omega arith
+  eol_onward k j (inl e) = let f = eol_goes_on t k j e in omega arith
   eol_onward k j (inr e) = let f = e.1 in omega arith
 
   -- what is passed over before the line end, the whole line passes over
@@ -118,7 +118,7 @@ module _ (t : List ℕ) where
   lf_ends k j m (inl e) a b = elim (eol_cases t k j e) [
     | inl x ↦ absurd (omega arith)
     | inr x ↦ (let same : k ≡ m = omega arith in
-        subst (λ m. has_byte t lf m ≡ false) same (cr_no_lf (slice_get t k) x.0))
+        subst (λ m. has_byte t lf m ≡ false) same (cr_byte_holds_no_lf (slice_get t k) x.0))
   ]
   lf_ends k j m (inr e) a b = let f = e.1 in absurd (omega arith)
 
@@ -132,7 +132,7 @@ module _ (t : List ℕ) where
         | inr l ↦ lf_ends x.end j m x.eol l (omega arith)
       ] in
       let same : m ≡ suc m - 1 = omega arith in
-      or_none (suc m == 0) (has_byte t lf (suc m - 1)) (not_zero m) (subst (λ k. has_byte t lf k ≡ false) same none)
+      or_is_false (suc m == 0) (has_byte t lf (suc m - 1)) (not_zero m) (subst (λ k. has_byte t lf k ≡ false) same none)
 
   -- ---- comment lines
 
@@ -173,9 +173,9 @@ module _ (t : List ℕ) where
 
   none_eol : (k : ℕ) → slice_get t k ≡ None → after_eol t k ≡ None
   none_eol k e =
-      eol_none (has_byte t lf k) (has_byte t cr k && has_byte t lf (k + 1)) _ _
-      (or_none (has_byte t lf k) _ (none_holds (λ b. b == lf) (slice_get t k) e)
-      (and_left (has_byte t cr k) _ (none_holds (λ b. b == cr) (slice_get t k) e)))
+      no_bytes_no_eol (has_byte t lf k) (has_byte t cr k && has_byte t lf (k + 1)) _ _
+      (or_is_false (has_byte t lf k) _ (holds-none (λ b. b == lf) (slice_get t k) e)
+      (and_left (has_byte t cr k) _ (holds-none (λ b. b == cr) (slice_get t k) e)))
 
   text_line : (i k j : ℕ) (span : Span) (b : ℕ) (eol : Bool) → has_eol t i ≡ eol → slice_get t i ≡ Some b →
       comment_text t eol i (Read span k) → Eol k j → IsLine t i j
@@ -205,26 +205,26 @@ module _ (t : List ℕ) where
   rest_line i j content (Some b) e (goes_on {j = k} {a = span} (chosen x) (goes_on y given)) =
       text_line i k j span b (has_eol t i) refl e x (eol_read k j y)
 
-hash_line : (b : ℕ) → (b == 35) ≡ true → (b == lf) ≡ false
-hash_line b e = grind (arith, nat_tests)
+hash_is_not_lf : (b : ℕ) → (b == 35) ≡ true → (b == lf) ≡ false
+hash_is_not_lf b e = grind (arith, nat_tests)
 
-hash_no_cr : (b : ℕ) → (b == 35) ≡ true → (b == cr) ≡ false
-hash_no_cr b e = grind (arith, nat_tests)
+hash_is_not_cr : (b : ℕ) → (b == 35) ≡ true → (b == cr) ≡ false
+hash_is_not_cr b e = grind (arith, nat_tests)
 
-no_line_end : (a b c : Bool) → a ≡ false → b ≡ false → (a || b && c) ≡ false
-no_line_end a b c e f = rw (e, f)
+no_lf_nor_cr_is_no_eol : (a b c : Bool) → a ≡ false → b ≡ false → (a || b && c) ≡ false
+no_lf_nor_cr_is_no_eol a b c e f = rw (e, f)
 
-three : (i k : ℕ) → i ≤ k → k < i + 3 → (i ≡ k) ⊎ ((i + 1 ≡ k) ⊎ (i + 2 ≡ k))
-three i k a b = grind arith
+place_within_three_cases : (i k : ℕ) → i ≤ k → k < i + 3 → (i ≡ k) ⊎ ((i + 1 ≡ k) ⊎ (i + 2 ≡ k))
+place_within_three_cases i k a b = grind arith
 
 module _ (t : List ℕ) where
   hash_place : (k : ℕ) → has_byte t 35 k ≡ true → is_line_place t k ≡ true
   hash_place k e =
-      let b = byte_found (λ c. c == 35) (slice_get t k) e in
+      let b = byte_exists (λ c. c == 35) (slice_get t k) e in
       line_place t (slice_get t k) (has_eol t k) b.0 b.1
-      (no_line_end (has_byte t lf k) (has_byte t cr k) (has_byte t lf (k + 1))
-      (excludes (λ c. c == 35) (λ c. c == lf) (slice_get t k) hash_line e)
-      (excludes (λ c. c == 35) (λ c. c == cr) (slice_get t k) hash_no_cr e))
+      (no_lf_nor_cr_is_no_eol (has_byte t lf k) (has_byte t cr k) (has_byte t lf (k + 1))
+      (tests_exclude (λ c. c == 35) (λ c. c == lf) (slice_get t k) hash_is_not_lf e)
+      (tests_exclude (λ c. c == 35) (λ c. c == cr) (slice_get t k) hash_is_not_cr e))
 
   hash_bytes_of : (i k : ℕ) (a b c : Bool) → has_byte t 35 i ≡ a → has_byte t 35 (i + 1) ≡ b →
       has_byte t 35 (i + 2) ≡ c → i ≤ k →
@@ -232,12 +232,12 @@ module _ (t : List ℕ) where
   hash_bytes_of i k false b c e f g l m = absurd (omega arith)
   hash_bytes_of i k true false c e f g l m = let same : i ≡ k = omega arith in
       subst (λ k. has_byte t 35 k ≡ true) same e
-  hash_bytes_of i k true true false e f g l m = elim (three i k l (omega arith)) [
+  hash_bytes_of i k true true false e f g l m = elim (place_within_three_cases i k l (omega arith)) [
     | inl x ↦ subst (λ k. has_byte t 35 k ≡ true) x e
     | inr (inl x) ↦ subst (λ k. has_byte t 35 k ≡ true) x f
     | inr (inr x) ↦ absurd (omega arith)
   ]
-  hash_bytes_of i k true true true e f g l m = elim (three i k l m) [
+  hash_bytes_of i k true true true e f g l m = elim (place_within_three_cases i k l m) [
     | inl x ↦ subst (λ k. has_byte t 35 k ≡ true) x e
     | inr (inl x) ↦ subst (λ k. has_byte t 35 k ≡ true) x f
     | inr (inr x) ↦ subst (λ k. has_byte t 35 k ≡ true) x g

@@ -42,43 +42,43 @@ variants_list : VariantTrees Text → List (VariantTree Text)
 variants_list no_variants = []
 variants_list (variants x xs) = x ∷ variants_list xs
 
-inlines-list : (xs : InlineTrees Text) → inlines_of (inlines_list xs) ≡ xs
+inlines_of_list_is_same : (xs : InlineTrees Text) → inlines_of (inlines_list xs) ≡ xs
 unfolding inlines_list
-inlines-list no_inlines = refl
-inlines-list (inlines x xs) = ap (inlines x) (inlines-list xs)
+inlines_of_list_is_same no_inlines = refl
+inlines_of_list_is_same (inlines x xs) = ap (inlines x) (inlines_of_list_is_same xs)
 
-nameds-list : (xs : NamedTrees Text) → nameds_of (nameds_list xs) ≡ xs
+nameds_of_list_is_same : (xs : NamedTrees Text) → nameds_of (nameds_list xs) ≡ xs
 unfolding nameds_list
-nameds-list no_named = refl
-nameds-list (nameds x xs) = ap (nameds x) (nameds-list xs)
+nameds_of_list_is_same no_named = refl
+nameds_of_list_is_same (nameds x xs) = ap (nameds x) (nameds_of_list_is_same xs)
 
-elements-list : (xs : PatternTree Text) → elements_of (elements_list xs) ≡ xs
+elements_of_list_is_same : (xs : PatternTree Text) → elements_of (elements_list xs) ≡ xs
 unfolding elements_list
-elements-list no_elements = refl
-elements-list (elements x xs) = ap (elements x) (elements-list xs)
+elements_of_list_is_same no_elements = refl
+elements_of_list_is_same (elements x xs) = ap (elements x) (elements_of_list_is_same xs)
 
-variants-list : (xs : VariantTrees Text) → variants_of (variants_list xs) ≡ xs
+variants_of_list_is_same : (xs : VariantTrees Text) → variants_of (variants_list xs) ≡ xs
 unfolding variants_list
-variants-list no_variants = refl
-variants-list (variants x xs) = ap (variants x) (variants-list xs)
+variants_of_list_is_same no_variants = refl
+variants_of_list_is_same (variants x xs) = ap (variants x) (variants_of_list_is_same xs)
 
-key-back : (k : KeyTree Text) → key_in (key_form k) ≡ Some k
-key-back (name_key x) = refl
-key-back (number_key x) = refl
+key_form_reads_back : (k : KeyTree Text) → key_in (key_form k) ≡ Some k
+key_form_reads_back (name_key x) = refl
+key_form_reads_back (number_key x) = refl
 
 attribute_name-back : (a : Option Text) → maybe name_in (unless_null (or_null name_form a)) ≡ Some a
 attribute_name-back None = refl
 attribute_name-back (Some x) = refl
 
 -- an inline expression is no select
-no_selector : (e : InlineTree Text) → get (codes "selector") (inline_form e) ≡ None
-no_selector (string_literal x) = refl
-no_selector (number_literal x) = refl
-no_selector (function_reference x a) = refl
-no_selector (message_reference x a) = refl
-no_selector (term_reference x a c) = refl
-no_selector (variable_reference x) = refl
-no_selector (inline_placeable e) = refl
+inline_form_has_no_selector : (e : InlineTree Text) → get (codes "selector") (inline_form e) ≡ None
+inline_form_has_no_selector (string_literal x) = refl
+inline_form_has_no_selector (number_literal x) = refl
+inline_form_has_no_selector (function_reference x a) = refl
+inline_form_has_no_selector (message_reference x a) = refl
+inline_form_has_no_selector (term_reference x a c) = refl
+inline_form_has_no_selector (variable_reference x) = refl
+inline_form_has_no_selector (inline_placeable e) = refl
 
 mutual
   unfolding elements_list inlines_list nameds_list variants_list
@@ -93,8 +93,8 @@ mutual
 
   expression-back : (e : ExpressionTree Text) → expression_in (expression_form e) ≡ Some e
   expression-back (select e vs) =
-      rw (expression-is (expression_form (select e vs)), inline-back e, variants-back vs, variants-list vs)
-  expression-back (inline e) = rw (expression-is (inline_form e), no_selector e, inline-back e)
+      rw (expression-is (expression_form (select e vs)), inline-back e, variants-back vs, variants_of_list_is_same vs)
+  expression-back (inline e) = rw (expression-is (inline_form e), inline_form_has_no_selector e, inline-back e)
 
   variants-back : (vs : VariantTrees Text) → items_by variant_in (variant_forms vs) ≡ Some (variants_list vs)
   variants-back no_variants = refl
@@ -104,10 +104,10 @@ mutual
   variant-back (variant k p d) =
       rw (
         variant-is (variant_form (variant k p d)),
-        key-back k,
+        key_form_reads_back k,
         pattern-is (pattern_form p),
         elements-back p,
-        elements-list p,
+        elements_of_list_is_same p,
       )
 
   inline-back : (e : InlineTree Text) → inline_in (inline_form e) ≡ Some e
@@ -131,8 +131,8 @@ mutual
         arguments-is (arguments_form (arguments ps ns)),
         inlines-back ps,
         nameds-back ns,
-        inlines-list ps,
-        nameds-list ns,
+        inlines_of_list_is_same ps,
+        nameds_of_list_is_same ns,
       )
 
   inlines-back : (ps : InlineTrees Text) → items_by inline_in (inline_forms ps) ≡ Some (inlines_list ps)
@@ -146,47 +146,47 @@ mutual
   named-back : (a : NamedTree Text) → named_in (named_form a) ≡ Some a
   named-back (named_argument x e) = rw (named-is (named_form (named_argument x e)), inline-back e)
 
-pattern-back : (p : PatternTree Text) → pattern_in (pattern_form p) ≡ Some p
-pattern-back p = rw (pattern-is (pattern_form p), elements-back p, elements-list p)
+pattern_form_reads_back : (p : PatternTree Text) → pattern_in (pattern_form p) ≡ Some p
+pattern_form_reads_back p = rw (pattern-is (pattern_form p), elements-back p, elements_of_list_is_same p)
 
 items-back : {A : Type 0} (read : Data → Option A) (form : A → Data) → ((x : A) → read (form x) ≡ Some x) →
     (xs : List A) → items_by read (items_of (map form xs)) ≡ Some xs
 items-back read form back [] = refl
 items-back read form back (x ∷ xs) = rw (back x, items-back read form back xs)
 
-lines-back : (xs : List Text) → lines_in (lines_form xs) ≡ Some xs
-lines-back xs = items-back as_str string (λ x. refl) xs
+lines_form_reads_back : (xs : List Text) → lines_in (lines_form xs) ≡ Some xs
+lines_form_reads_back xs = items-back as_str string (λ x. refl) xs
 
 attribute-back : (a : AttributeTree Text) → attribute_in (attribute_form a) ≡ Some a
-attribute-back a = rw (pattern-back a.value)
+attribute-back a = rw (pattern_form_reads_back a.value)
 
 value-back : (o : Option (PatternTree Text)) → maybe pattern_in (unless_null (or_null pattern_form o)) ≡ Some o
 value-back None = refl
-value-back (Some p) = rw (pattern-back p)
+value-back (Some p) = rw (pattern_form_reads_back p)
 
 attached-back : (o : Option (List Text)) → maybe comment_in (unless_null (or_null comment_form o)) ≡ Some o
 attached-back None = refl
-attached-back (Some xs) = rw (lines-back xs)
+attached-back (Some xs) = rw (lines_form_reads_back xs)
 
-message-back : (m : MessageTree Text) → message_in (message_form m) ≡ Some m
-message-back m =
+message_form_reads_back : (m : MessageTree Text) → message_in (message_form m) ≡ Some m
+message_form_reads_back m =
     rw (value-back m.value, items-back attribute_in attribute_form attribute-back m.attributes, attached-back m.comment)
 
-term-back : (m : TermTree Text) → term_in (term_form m) ≡ Some m
-term-back m =
+term_form_reads_back : (m : TermTree Text) → term_in (term_form m) ≡ Some m
+term_form_reads_back m =
     rw (
-      pattern-back m.value,
+      pattern_form_reads_back m.value,
       items-back attribute_in attribute_form attribute-back m.attributes,
       attached-back m.comment,
     )
 
-entry-back : (e : EntryTree Text) → entry_in (entry_form e) ≡ Some e
-entry-back (message m) = ap (option_map message) (message-back m)
-entry-back (term m) = ap (option_map term) (term-back m)
-entry-back (comment regular xs) = ap (option_map (comment regular)) (lines-back xs)
-entry-back (comment group xs) = ap (option_map (comment group)) (lines-back xs)
-entry-back (comment resource xs) = ap (option_map (comment resource)) (lines-back xs)
-entry-back (junk x) = refl
+entry_form_reads_back : (e : EntryTree Text) → entry_in (entry_form e) ≡ Some e
+entry_form_reads_back (message m) = ap (option_map message) (message_form_reads_back m)
+entry_form_reads_back (term m) = ap (option_map term) (term_form_reads_back m)
+entry_form_reads_back (comment regular xs) = ap (option_map (comment regular)) (lines_form_reads_back xs)
+entry_form_reads_back (comment group xs) = ap (option_map (comment group)) (lines_form_reads_back xs)
+entry_form_reads_back (comment resource xs) = ap (option_map (comment resource)) (lines_form_reads_back xs)
+entry_form_reads_back (junk x) = refl
 
-pub body-back : (r : BodyTree Text) → body_in (body_form r) ≡ Some r
-body-back r = items-back entry_in entry_form entry-back r
+pub body_form_reads_back : (r : BodyTree Text) → body_in (body_form r) ≡ Some r
+body_form_reads_back r = items-back entry_in entry_form entry_form_reads_back r

@@ -15,21 +15,21 @@ use Rattle.json.proofs.Printed.Strings.{escape_byte_plain}
 pub escaped_is_ascii : (b : ℕ) → is_plain b ≡ false → b < 128
 escaped_is_ascii b h = grind (arith, nat_tests)
 
-control : (b : ℕ) → is_plain b ≡ false → escape_letter b ≡ 0 → b < 32
-control b escaped none = grind (arith, nat_tests)
+letterless_escape_is_control : (b : ℕ) → is_plain b ≡ false → escape_letter b ≡ 0 → b < 32
+letterless_escape_is_control b escaped none = grind (arith, nat_tests)
 
 -- a control character that has no short escape
-pub control_byte : (b : ℕ) → is_plain b ≡ false → escape_letter b ≡ 0
+pub control_byte_is_escaped_in_hex : (b : ℕ) → is_plain b ≡ false → escape_letter b ≡ 0
     → escape_byte b ≡ 92 ∷ 117 ∷ 48 ∷ 48 ∷ digit_char (b / 16) ∷ digit_char (b % 16) ∷ []
 unfolding escape_byte
-control_byte b escaped none =
-    let small = control b escaped none in
+control_byte_is_escaped_in_hex b escaped none =
+    let small = letterless_escape_is_control b escaped none in
     let long = 92 ∷ 117 ∷ 48 ∷ 48 ∷ digit_char (b / 16) ∷ digit_char (b % 16) ∷ [] in
     ap (λ letter. cond (nat_lt 0 letter) (92 ∷ letter ∷ []) (cond (nat_lt b 32) long (b ∷ []))) none
     ∙ ap (λ t. cond t long (b ∷ [])) (lt-ltb b 32 small)
 
-plain_byte : (b : ℕ) → is_plain b ≡ true → escape_byte b ≡ b ∷ []
-plain_byte b h =
+plain_byte_is_not_escaped : (b : ℕ) → is_plain b ≡ true → escape_byte b ≡ b ∷ []
+plain_byte_is_not_escaped b h =
     let none = or_parts ((b == 34) || (b == 92)) _ (not-true _ h) in
     let tests = or_parts (b == 34) _ none.0 in
     escape_byte_plain b (eqb-false b 34 tests.0) (eqb-false b 92 tests.1) (ltb-false b 32 none.1)
@@ -42,7 +42,7 @@ module _ (bs : List ℕ) where
       let b = get_or bs end 0 in
       let rest = escape (drop (end + 1) bs) in
       before ∙ ap (λ t. take end bs ++ escape t) (drop_more bs end 0 within)
-      ∙ ap (λ t. take end bs ++ (t ++ rest)) (plain_byte b plain)
+      ∙ ap (λ t. take end bs ++ (t ++ rest)) (plain_byte_is_not_escaped b plain)
       ∙ sym (append_assoc (take end bs) (b ∷ []) rest)
       ∙ ap (λ t. t ++ rest) (sym (take_more bs end 0 within))
 

@@ -20,25 +20,25 @@ handed whole o p r Memory y is same none h = rw (is, same) tt
 joins : {A : Type 0} → Option (List A) → Option (List A) → Option (List A)
 joins p q = p >>= λ ys. option_map (λ zs. ys ++ zs) q
 
-nothing_before : {A : Type 0} (q : Option (List A)) → q ≡ joins (Some []) q
+joins-nothing : {A : Type 0} (q : Option (List A)) → q ≡ joins (Some []) q
 unfolding joins
-nothing_before None = refl
-nothing_before (Some zs) = refl
+joins-nothing None = refl
+joins-nothing (Some zs) = refl
 
-one_before : {A : Type 0} (o : Option A) (p q : Option (List A)) → one_more o (joins p q) ≡ joins (one_more o p) q
+joins-one_more : {A : Type 0} (o : Option A) (p q : Option (List A)) → one_more o (joins p q) ≡ joins (one_more o p) q
 unfolding joins
-one_before None p q = refl
-one_before (Some x) None q = refl
-one_before (Some x) (Some ys) None = refl
-one_before (Some x) (Some ys) (Some zs) = refl
+joins-one_more None p q = refl
+joins-one_more (Some x) None q = refl
+joins-one_more (Some x) (Some ys) None = refl
+joins-one_more (Some x) (Some ys) (Some zs) = refl
 
 module _ {A : Type 0} (read : Data → Option A) where
   joined : (cs bs : List Data) →
       items_by read (items_of (cs ++ bs)) ≡ joins (items_by read (items_of cs)) (items_by read (items_of bs))
-  joined [] bs = nothing_before (items_by read (items_of bs))
+  joined [] bs = joins-nothing (items_by read (items_of bs))
   joined (a ∷ cs) bs =
       ap (one_more (read a)) (joined cs bs)
-      ∙ one_before (read a) (items_by read (items_of cs)) (items_by read (items_of bs))
+      ∙ joins-one_more (read a) (items_by read (items_of cs)) (items_by read (items_of bs))
 
   -- what the values spell that were read so far
   abbrev pub so_far : List Value → ℕ → Option (List A)

@@ -22,5 +22,5 @@ module _ {T A : Type 0} (view : T → A) (o : Option A) where
   answers-none (Err Memory) h never = inr refl
 
 -- a value that has one reading has no other
-pub same_reading : {A : Type 0} (o : Option A) (x y : A) → o ≡ Some x → o ≡ Some y → x ≡ y
-same_reading o x y h k = same_Some x y (sym h ∙ k)
+pub reading_is_unique : {A : Type 0} (o : Option A) (x y : A) → o ≡ Some x → o ≡ Some y → x ≡ y
+reading_is_unique o x y h k = same_Some x y (sym h ∙ k)

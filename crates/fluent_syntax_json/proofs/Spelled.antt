@@ -12,87 +12,87 @@ use Rattle.fluent_syntax_json.specs.Reading.{items_by, list_by, type_in, element
 use Rattle.fluent_syntax_json.specs.Reading.{arguments_rule, named_rule, variant_rule, pattern_in, element_in}
 use Rattle.fluent_syntax_json.specs.Reading.{expression_in, inline_in, arguments_in, named_in, variant_in}
 
-either : {A : Type 0} (f : Spelled → Option A) (read : Data → Option A) (o : Ordering) (a b : Option Spelled)
+either_is_read : {A : Type 0} (f : Spelled → Option A) (read : Data → Option A) (o : Ordering) (a b : Option Spelled)
     (c d : Option Data) → a >>= f ≡ c >>= read → b >>= f ≡ d >>= read →
     match_ordering o a b a >>= f ≡ match_ordering o c d c >>= read
-either f read Less a b c d e h = e
-either f read Equal a b c d e h = h
-either f read Greater a b c d e h = e
+either_is_read f read Less a b c d e h = e
+either_is_read f read Equal a b c d e h = h
+either_is_read f read Greater a b c d e h = e
 
 -- a part that is read as a node expects it
 child : {A : Type 0} (f : Spelled → Option A) (read : Data → Option A) → ((d : Data) → f (spelled d) ≡ read d) →
     (k : Text) (ms : Members) → part_spelled ms k >>= f ≡ get_member k ms >>= read
 child f read e k no_members = refl
 child f read e k (member l d ms) =
-    either f read (slice_cmp nat_cmp k l) _ _ _ _ (child f read e k ms) (e d)
+    either_is_read f read (slice_cmp nat_cmp k l) _ _ _ _ (child f read e k ms) (e d)
 
-elements-items : (ds : Items) → (items_spelled ds).as_elements ≡ items_by element_in ds
+items_spelled_as_elements : (ds : Items) → (items_spelled ds).as_elements ≡ items_by element_in ds
 unfolding element_in
-elements-items no_items = refl
-elements-items (item d ds) = ap (one_more (element_in d)) (elements-items ds)
+items_spelled_as_elements no_items = refl
+items_spelled_as_elements (item d ds) = ap (one_more (element_in d)) (items_spelled_as_elements ds)
 
-elements-are : (d : Data) → (spelled d).as_elements ≡ list_by element_in d
-elements-are null = refl
-elements-are (boolean b) = refl
-elements-are (number n) = refl
-elements-are (string s) = refl
-elements-are (array ds) = elements-items ds
-elements-are (object ms) = refl
+spelled_as_elements : (d : Data) → (spelled d).as_elements ≡ list_by element_in d
+spelled_as_elements null = refl
+spelled_as_elements (boolean b) = refl
+spelled_as_elements (number n) = refl
+spelled_as_elements (string s) = refl
+spelled_as_elements (array ds) = items_spelled_as_elements ds
+spelled_as_elements (object ms) = refl
 
-inlines-items : (ds : Items) → (items_spelled ds).as_inlines ≡ items_by inline_in ds
+items_spelled_as_inlines : (ds : Items) → (items_spelled ds).as_inlines ≡ items_by inline_in ds
 unfolding inline_in
-inlines-items no_items = refl
-inlines-items (item d ds) = ap (one_more (inline_in d)) (inlines-items ds)
+items_spelled_as_inlines no_items = refl
+items_spelled_as_inlines (item d ds) = ap (one_more (inline_in d)) (items_spelled_as_inlines ds)
 
-inlines-are : (d : Data) → (spelled d).as_inlines ≡ list_by inline_in d
-inlines-are null = refl
-inlines-are (boolean b) = refl
-inlines-are (number n) = refl
-inlines-are (string s) = refl
-inlines-are (array ds) = inlines-items ds
-inlines-are (object ms) = refl
+spelled_as_inlines : (d : Data) → (spelled d).as_inlines ≡ list_by inline_in d
+spelled_as_inlines null = refl
+spelled_as_inlines (boolean b) = refl
+spelled_as_inlines (number n) = refl
+spelled_as_inlines (string s) = refl
+spelled_as_inlines (array ds) = items_spelled_as_inlines ds
+spelled_as_inlines (object ms) = refl
 
-nameds-items : (ds : Items) → (items_spelled ds).as_nameds ≡ items_by named_in ds
+items_spelled_as_nameds : (ds : Items) → (items_spelled ds).as_nameds ≡ items_by named_in ds
 unfolding named_in
-nameds-items no_items = refl
-nameds-items (item d ds) = ap (one_more (named_in d)) (nameds-items ds)
+items_spelled_as_nameds no_items = refl
+items_spelled_as_nameds (item d ds) = ap (one_more (named_in d)) (items_spelled_as_nameds ds)
 
-nameds-are : (d : Data) → (spelled d).as_nameds ≡ list_by named_in d
-nameds-are null = refl
-nameds-are (boolean b) = refl
-nameds-are (number n) = refl
-nameds-are (string s) = refl
-nameds-are (array ds) = nameds-items ds
-nameds-are (object ms) = refl
+spelled_as_nameds : (d : Data) → (spelled d).as_nameds ≡ list_by named_in d
+spelled_as_nameds null = refl
+spelled_as_nameds (boolean b) = refl
+spelled_as_nameds (number n) = refl
+spelled_as_nameds (string s) = refl
+spelled_as_nameds (array ds) = items_spelled_as_nameds ds
+spelled_as_nameds (object ms) = refl
 
-variants-items : (ds : Items) → (items_spelled ds).as_variants ≡ items_by variant_in ds
+items_spelled_as_variants : (ds : Items) → (items_spelled ds).as_variants ≡ items_by variant_in ds
 unfolding variant_in
-variants-items no_items = refl
-variants-items (item d ds) = ap (one_more (variant_in d)) (variants-items ds)
+items_spelled_as_variants no_items = refl
+items_spelled_as_variants (item d ds) = ap (one_more (variant_in d)) (items_spelled_as_variants ds)
 
-variants-are : (d : Data) → (spelled d).as_variants ≡ list_by variant_in d
-variants-are null = refl
-variants-are (boolean b) = refl
-variants-are (number n) = refl
-variants-are (string s) = refl
-variants-are (array ds) = variants-items ds
-variants-are (object ms) = refl
+spelled_as_variants : (d : Data) → (spelled d).as_variants ≡ list_by variant_in d
+spelled_as_variants null = refl
+spelled_as_variants (boolean b) = refl
+spelled_as_variants (number n) = refl
+spelled_as_variants (string s) = refl
+spelled_as_variants (array ds) = items_spelled_as_variants ds
+spelled_as_variants (object ms) = refl
 
-pattern-itself : (d : Data) → (spelled d).as_pattern ≡ pattern_in d
+pattern_is_spelled : (d : Data) → (spelled d).as_pattern ≡ pattern_in d
 unfolding pattern_in
-pattern-itself d = refl
+pattern_is_spelled d = refl
 
-expression-itself : (d : Data) → (spelled d).as_expression ≡ expression_in d
+expression_is_spelled : (d : Data) → (spelled d).as_expression ≡ expression_in d
 unfolding expression_in
-expression-itself d = refl
+expression_is_spelled d = refl
 
-inline-itself : (d : Data) → (spelled d).as_inline ≡ inline_in d
+inline_is_spelled : (d : Data) → (spelled d).as_inline ≡ inline_in d
 unfolding inline_in
-inline-itself d = refl
+inline_is_spelled d = refl
 
-arguments-itself : (d : Data) → (spelled d).as_arguments ≡ arguments_in d
+arguments_are_spelled : (d : Data) → (spelled d).as_arguments ≡ arguments_in d
 unfolding arguments_in
-arguments-itself d = refl
+arguments_are_spelled d = refl
 
 pub pattern-is : (d : Data) → pattern_in d ≡ option_map elements_of (at (list_by element_in) (codes "elements") d)
 unfolding pattern_in
@@ -102,7 +102,7 @@ pattern-is (number n) = refl
 pattern-is (string s) = refl
 pattern-is (array no_items) = refl
 pattern-is (array (item d ds)) = refl
-pattern-is (object ms) = rw (child (λ s. s.as_elements) (list_by element_in) elements-are (codes "elements") ms)
+pattern-is (object ms) = rw (child (λ s. s.as_elements) (list_by element_in) spelled_as_elements (codes "elements") ms)
 
 pub element-is : (d : Data) → element_in d ≡ type_in d >>= element_rule d (at expression_in (codes "expression") d)
 unfolding element_in
@@ -112,7 +112,7 @@ element-is (number n) = refl
 element-is (string s) = refl
 element-is (array no_items) = refl
 element-is (array (item d ds)) = refl
-element-is (object ms) = rw (child (λ s. s.as_expression) (expression_in) expression-itself (codes "expression") ms)
+element-is (object ms) = rw (child (λ s. s.as_expression) (expression_in) expression_is_spelled (codes "expression") ms)
 
 pub inline-is : (d : Data) →
     inline_in d
@@ -126,8 +126,8 @@ inline-is (array no_items) = refl
 inline-is (array (item d ds)) = refl
 inline-is (object ms) =
     rw (
-      child (λ s. s.as_arguments) (arguments_in) arguments-itself (codes "arguments") ms,
-      child (λ s. s.as_expression) (expression_in) expression-itself (codes "expression") ms,
+      child (λ s. s.as_arguments) (arguments_in) arguments_are_spelled (codes "arguments") ms,
+      child (λ s. s.as_expression) (expression_in) expression_is_spelled (codes "expression") ms,
     )
 
 pub arguments-is : (d : Data) →
@@ -142,8 +142,8 @@ arguments-is (array no_items) = refl
 arguments-is (array (item d ds)) = refl
 arguments-is (object ms) =
     rw (
-      child (λ s. s.as_inlines) (list_by inline_in) inlines-are (codes "positional") ms,
-      child (λ s. s.as_nameds) (list_by named_in) nameds-are (codes "named") ms,
+      child (λ s. s.as_inlines) (list_by inline_in) spelled_as_inlines (codes "positional") ms,
+      child (λ s. s.as_nameds) (list_by named_in) spelled_as_nameds (codes "named") ms,
     )
 
 pub named-is : (d : Data) → named_in d ≡ named_rule d (at inline_in (codes "value") d)
@@ -154,7 +154,7 @@ named-is (number n) = refl
 named-is (string s) = refl
 named-is (array no_items) = refl
 named-is (array (item d ds)) = refl
-named-is (object ms) = rw (child (λ s. s.as_inline) (inline_in) inline-itself (codes "value") ms)
+named-is (object ms) = rw (child (λ s. s.as_inline) (inline_in) inline_is_spelled (codes "value") ms)
 
 pub variant-is : (d : Data) → variant_in d ≡ variant_rule d (at pattern_in (codes "value") d)
 unfolding variant_in
@@ -164,7 +164,7 @@ variant-is (number n) = refl
 variant-is (string s) = refl
 variant-is (array no_items) = refl
 variant-is (array (item d ds)) = refl
-variant-is (object ms) = rw (child (λ s. s.as_pattern) (pattern_in) pattern-itself (codes "value") ms)
+variant-is (object ms) = rw (child (λ s. s.as_pattern) (pattern_in) pattern_is_spelled (codes "value") ms)
 
 pub expression-is : (d : Data) →
     expression_in d
@@ -179,6 +179,6 @@ expression-is (array no_items) = refl
 expression-is (array (item d ds)) = refl
 expression-is (object ms) =
     rw (
-      child (λ s. s.as_inline) (inline_in) inline-itself (codes "selector") ms,
-      child (λ s. s.as_variants) (list_by variant_in) variants-are (codes "variants") ms,
+      child (λ s. s.as_inline) (inline_in) inline_is_spelled (codes "selector") ms,
+      child (λ s. s.as_variants) (list_by variant_in) spelled_as_variants (codes "variants") ms,
     )

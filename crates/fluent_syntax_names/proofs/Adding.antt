@@ -6,9 +6,9 @@ use Rattle.std.proofs.lemmas.List.{append_assoc, drop_more, drop_all}
 use Rattle.fluent_syntax_names.specs.Growing.{Adds, Leaves}
 
 -- the node that a loop takes next, and those after it
-pub drop_next : {A : Type 0} (nodes : List A) (i : ℕ) (x d : A) → i < length nodes → x ≡ get_or nodes i d
+pub drop_one_node : {A : Type 0} (nodes : List A) (i : ℕ) (x d : A) → i < length nodes → x ≡ get_or nodes i d
     → drop i nodes ≡ x ∷ drop (i + 1) nodes
-drop_next nodes i x d within is = drop_more nodes i d within ∙ ap (λ y. y ∷ drop (i + 1) nodes) (sym is)
+drop_one_node nodes i x d within is = drop_more nodes i d within ∙ ap (λ y. y ∷ drop (i + 1) nodes) (sym is)
 
 module _ {X : Type 0} where
   pub adds_one : (old new : List X) (x : X) → new ≡ old ++ x ∷ [] → Adds old new (λ tail. x ∷ tail)
@@ -45,7 +45,7 @@ module _ {X : Type 0} where
         → Leaves old next (all (drop (i + 1) nodes)) (all nodes)
     leaves_on each next x d within is =
         leaves_rest old now next (all (drop i nodes)) (one x) (all (drop (i + 1) nodes)) (all nodes)
-        (λ tail. ap (λ ns. all ns tail) (drop_next nodes i x d within is) ∙ each x (drop (i + 1) nodes) tail)
+        (λ tail. ap (λ ns. all ns tail) (drop_one_node nodes i x d within is) ∙ each x (drop (i + 1) nodes) tail)
 
     pub leaves_next : ((x : A) (xs : List A) (tail : List X) → all (x ∷ xs) tail ≡ one x (all xs tail))
         → (next : List X) (x : A) → i < length nodes → x ≡ get_or nodes i x

@@ -13,9 +13,9 @@ reaches_through g u v w (here u') second = second
 reaches_through g u v w (onward u' x v' leads first) second = onward u x w leads (reaches_through g x v w first second)
 
 -- an edge lies on a cycle exactly where its nodes have one number
-pub on_cycle : (g : Graph) (list : List ℕ) → SameComponents g list → (u v : ℕ) → u < length g → v < length g
+pub edge_is_on_cycle : (g : Graph) (list : List ℕ) → SameComponents g list → (u v : ℕ) → u < length g → v < length g
     → HasEdge g u v → (get_or list u 0 ≡ get_or list v 0) ↔ Reaches g v u
-on_cycle g list same u v u_in v_in leads = (
+edge_is_on_cycle g list same u v u_in v_in leads = (
   λ e. ((same u v u_in v_in).0 e).1,
   λ back. (same u v u_in v_in).1 (onward u v v leads (here v), back),
 )

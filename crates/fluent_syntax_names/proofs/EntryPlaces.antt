@@ -8,11 +8,11 @@ use Rattle.fluent_syntax_names.specs.Mentions.{Mentions}
 use Rattle.fluent_syntax_names.specs.QualifiedNames.{Text}
 use Rattle.fluent_syntax_names.specs.Tables.{Lookup}
 use Rattle.fluent_syntax_names.specs.declared.mention.Mention.{Mention}
-use Rattle.fluent_syntax_names.proofs.Adding.{drop_next}
+use Rattle.fluent_syntax_names.proofs.Adding.{drop_one_node}
 
-first_none : (place : Option Span) → first_of place None ≡ place
-first_none None = refl
-first_none (Some x) = refl
+first_of_no_place_is_place : (place : Option Span) → first_of place None ≡ place
+first_of_no_place_is_place None = refl
+first_of_no_place_is_place (Some x) = refl
 
 first_of_assoc : (a b c : Option Span) → first_of (first_of a b) c ≡ first_of a (first_of b c)
 first_of_assoc None b c = refl
@@ -30,11 +30,11 @@ module _ (named : Mention Span → Text → Option Span) (ms : Mentions Span) (a
       let beyond = first_place_in named (drop (i + 1) ms) entry in
       ap (λ o. first_of o beyond) (noted entry)
       ∙ first_of_assoc (now entry) (named m entry) beyond
-      ∙ ap (λ l. first_of (now entry) (first_place_in named l entry)) (sym (drop_next ms i m d within is))
+      ∙ ap (λ l. first_of (now entry) (first_place_in named l entry)) (sym (drop_one_node ms i m d within is))
       ∙ left entry
 
   pub places_none : (i : ℕ) → length ms ≤ i → LeavesPlaces i → (entry : Text) → now entry ≡ all entry
   places_none i end left = λ entry.
-      sym (first_none (now entry))
+      sym (first_of_no_place_is_place (now entry))
       ∙ ap (λ l. first_of (now entry) (first_place_in named l entry)) (sym (drop_all i ms end))
       ∙ left entry

@@ -7,7 +7,7 @@ use Rattle.std.specs.List.{list_any}
 use Rattle.std.specs.Str.{bytes_eq}
 use Rattle.std.proofs.lemmas.List.{drop_all}
 use Rattle.fluent_syntax_tree.specs.declared.spans.Span.{Span}
-use Rattle.fluent_syntax_names.proofs.Adding.{drop_next}
+use Rattle.fluent_syntax_names.proofs.Adding.{drop_one_node}
 use Rattle.fluent_syntax_names.specs.Mentions.{Mentions}
 use Rattle.fluent_syntax_names.specs.declared.mention.Mention.{Mention}
 use Rattle.fluent_syntax_names.specs.declared.name_index.NameIndex.{NameIndex}
@@ -20,28 +20,28 @@ use Rattle.fluent_syntax_names.specs.Tables.{Lookup, has_name, NotesNames, Leave
 
 -- ---- One name
 
-is_found : (before : Option Span) (same : Bool) (place : Span) (others : Bool)
+first_of-is_some : (before : Option Span) (same : Bool) (place : Span) (others : Bool)
     → (is_some (first_of before (if same then Some place else None)) || others)
     ≡ (is_some before || (same || others))
-is_found None true place others = refl
-is_found None false place others = refl
-is_found (Some x) same place others = refl
+first_of-is_some None true place others = refl
+first_of-is_some None false place others = refl
+first_of-is_some (Some x) same place others = refl
 
-pub notes_one : (old new : Lookup) (bytes noted : Text) (place : Span) → bytes ≡ noted → Notes old new bytes place
+pub NotesNames-one : (old new : Lookup) (bytes noted : Text) (place : Span) → bytes ≡ noted → Notes old new bytes place
     → NotesNames old new (put (Some noted))
-notes_one old new bytes noted place e notes =
+NotesNames-one old new bytes noted place e notes =
     let P : Text → Type 0 = λ n. NotesNames old new (put (Some n)) in
     let one : P bytes =
     λ rest name.
     ap (λ o. is_some o || list_any (bytes_eq name) rest) (notes name)
-    ∙ is_found (old name) (bytes_eq name bytes) place (list_any (bytes_eq name) rest) in
+    ∙ first_of-is_some (old name) (bytes_eq name bytes) place (list_any (bytes_eq name) rest) in
     subst P e one
 
 -- some names, and further ones where they were noted
-pub notes_last : {A E : Type 0} (r : Result A E) (a b c : Lookup) (f g : List Text → List Text) → NotesNames a b f
+pub NotesNames-more : {A E : Type 0} (r : Result A E) (a b c : Lookup) (f g : List Text → List Text) → NotesNames a b f
     → OnOk r (NotesNames b c g) → OnOk r (NotesNames a c (λ tail. f (g tail)))
-notes_last (Ok x) a b c f g first second = λ rest name. second rest name ∙ first (g rest) name
-notes_last (Err x) a b c f g first second = second
+NotesNames-more (Ok x) a b c f g first second = λ rest name. second rest name ∙ first (g rest) name
+NotesNames-more (Err x) a b c f g first second = second
 
 -- ---- The mentions of a file
 
@@ -51,7 +51,7 @@ module _ (old now next : Lookup) (all : List Text → List Text)
       → LeavesNames old now (gathered adds owner (drop i ms)) all → NotesNames now next (adds owner m)
       → LeavesNames old next (gathered adds (owner_after owner m) (drop (i + 1) ms)) all
   names_next m d within is left notes = λ rest name.
-      let cut = drop_next ms i m d within is in
+      let cut = drop_one_node ms i m d within is in
       notes (gathered adds (owner_after owner m) (drop (i + 1) ms) rest) name
       ∙ ap (λ l. has_name now name || list_any (bytes_eq name) (gathered adds owner l rest)) (sym cut)
       ∙ left rest name
@@ -69,9 +69,9 @@ or_false true = refl
 or_false false = refl
 
 -- what is noted, where nothing was before
-pub noted_alone : (old new : Lookup) → ((name : Text) → old name ≡ None) → (all : List Text → List Text)
+pub noted_names_are_all : (old new : Lookup) → ((name : Text) → old name ≡ None) → (all : List Text → List Text)
     → NotesNames old new all → (name : Text) → has_name new name ≡ list_any (bytes_eq name) (all [])
-noted_alone old new none all notes = λ name.
+noted_names_are_all old new none all notes = λ name.
     or_false (has_name new name) ∙ notes [] name ∙ ap (λ o. is_some o || list_any (bytes_eq name) (all [])) (none name)
 
 module _ (files : List NameIndex) (now next : Lookup) (i : ℕ) where
@@ -85,7 +85,7 @@ module _ (files : List NameIndex) (now next : Lookup) (i : ℕ) where
   pub files_next : (file : NameIndex) → i < length files → file ≡ get_or files i file → left_of_files now i
       → NotesNames now next (defined_in file.text.now nameless file.mentions.items) → left_of_files next (i + 1)
   files_next file within is left notes = λ name.
-      let cut = drop_next files i file file within is in
+      let cut = drop_one_node files i file file within is in
       notes (defined_by (drop (i + 1) files)) name
       ∙ ap (λ l. has_name now name || list_any (bytes_eq name) (defined_by l)) (sym cut)
       ∙ left name

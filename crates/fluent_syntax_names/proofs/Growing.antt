@@ -10,7 +10,7 @@ use Rattle.fluent_syntax_names.specs.declared.mention.Mention.TheVariants as say
 use Rattle.fluent_syntax_names.specs.declared.name_index.NameIndex.{NameIndex}
 use Rattle.fluent_syntax_names.specs.declared.qualified_names.EntryName.{EntryName}
 use Rattle.fluent_syntax_names.specs.declared.qualified_names.PatternName.{PatternName}
-use Rattle.fluent_syntax_names.proofs.Ways.{or_left, or_right, is_own_link}
+use Rattle.fluent_syntax_names.proofs.Ways.{or_from_left, or_from_right, is_own_link}
 use Rattle.fluent_syntax_names.specs.declared.finding.Finding.{Finding}
 use Rattle.fluent_syntax_names.specs.declared.finding.Kind.{Kind}
 use Rattle.fluent_syntax_names.specs.declared.finding.Kind.TheVariants as kind
@@ -24,7 +24,7 @@ use Rattle.fluent_syntax_names.specs.Cycles.{referenced_pattern}
 use Rattle.fluent_syntax_names.specs.Cycles.{no_pattern}
 use Rattle.fluent_syntax_names.specs.Tables.{Lookup, Holds}
 use Rattle.fluent_syntax_names.specs.Growing.{Adds, Leaves}
-use Rattle.fluent_syntax_names.proofs.Adding.{adds_both, drop_next, leaves_rest, leaves_nothing}
+use Rattle.fluent_syntax_names.proofs.Adding.{adds_both, drop_one_node, leaves_rest, leaves_nothing}
 
 -- ---- What is found depends on what the tables hold alone
 
@@ -84,8 +84,8 @@ module _ (A B : Set) where
   same_on [] same = tt
   same_on (link ∷ all) same = (
     same link.from link.to
-        (or_left (is_link link.from link.to link) (links_to all link.from link.to) (is_own_link link)),
-    same_on all (λ from to e. same from to (or_right (is_link from to link) (links_to all from to) e)),
+        (or_from_left (is_link link.from link.to link) (links_to all link.from link.to) (is_own_link link)),
+    same_on all (λ from to e. same from to (or_from_right (is_link from to link) (links_to all from to) e)),
   )
 
   pub cycle_same : (file : ℕ) (text : Text) (pattern : PatternName) (target : Option PatternName)
@@ -138,7 +138,7 @@ module _ (A : Set) (file : ℕ) (text : Text) (old now : List Finding) (all : Li
       leaves_rest old now next (findings_in A file text known pattern (drop i ms))
       (λ tail. put finding (put comes tail))
       others all
-      (λ tail. ap (λ l. findings_in A file text known pattern l tail) (drop_next ms i m d within is)
+      (λ tail. ap (λ l. findings_in A file text known pattern l tail) (drop_one_node ms i m d within is)
       ∙ ap (λ o. put o (put (cycle A.is_cyclic file text pattern m) (others tail))) (sym made)
       ∙ ap (λ o. put finding (put o (others tail))) (sym made_too))
       left (adds_both now between next (put finding) (put comes) adds adds_too)
@@ -160,7 +160,7 @@ module _ (A : Set) (files : List NameIndex) (now next : List Finding) (i : ℕ) 
       leaves_rest [] now next (findings_from A i (drop i files))
       (findings_in A i file.text.now nothing no_pattern file.mentions.items)
       (findings_from A (i + 1) (drop (i + 1) files))
-      (findings_from A 0 files) (λ tail. ap (λ l. findings_from A i l tail) (drop_next files i file file within is))
+      (findings_from A 0 files) (λ tail. ap (λ l. findings_from A i l tail) (drop_one_node files i file file within is))
 
   pub file_none : length files ≤ i → Leaves [] now (findings_from A i (drop i files)) (findings_from A 0 files)
       → Adds [] now (findings_from A 0 files)

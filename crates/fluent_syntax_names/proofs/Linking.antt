@@ -8,7 +8,7 @@ use Rattle.std.proofs.lemmas.List.{append-nil, get_or_append_left, get_or_past, 
 use Rattle.std.proofs.lemmas.List.{get_or-set_same, get_or-set_other, length-set, drop_all}
 use Rattle.std.proofs.lemmas.List.Folds.{list_any-append}
 use Rattle.fluent_syntax_tree.specs.declared.spans.Span.{Span}
-use Rattle.fluent_syntax_names.proofs.Adding.{drop_next, leaves_rest, leaves_nothing}
+use Rattle.fluent_syntax_names.proofs.Adding.{drop_one_node, leaves_rest, leaves_nothing}
 use Rattle.fluent_syntax_names.specs.Growing.{Leaves}
 use Rattle.fluent_syntax_names.specs.Graph.{Graph, HasEdge, edges}
 use Rattle.fluent_syntax_names.specs.Cycles.{Link, is_link, links_to, links_in, link_to, links, pattern_after}
@@ -26,7 +26,7 @@ use Rattle.fluent_syntax_names.specs.declared.first_places.FirstPlaces.{FirstPla
 use Rattle.fluent_syntax_names.specs.declared.name_index.NameIndex.{NameIndex}
 use Rattle.fluent_syntax_names.specs.declared.qualified_names.PatternName.{PatternName}
 use Rattle.fluent_syntax_names.proofs.Numbered.{apart_more, name_stays, none_apart, none_within, within_more}
-use Rattle.fluent_syntax_names.proofs.Ways.{or_left, or_right, link_names, is_own_link}
+use Rattle.fluent_syntax_names.proofs.Ways.{or_from_left, or_from_right, link_test_gives_names, is_own_link}
 
 -- ---- A new name
 
@@ -84,9 +84,9 @@ module _ (all : List Link) (old new : NamedLists ℕ) (name : Text) (node : ℕ)
         (d.0, d.1, stays d.0 u d.2, stays d.1 v d.3, d.4);
   }
 
-pub named_more : (all : List Link) (old new : NamedLists ℕ) (name : Text) (node : ℕ) → AddsName old new name node
+pub HasEdges-add_name : (all : List Link) (old new : NamedLists ℕ) (name : Text) (node : ℕ) → AddsName old new name node
     → HasEdges all (numbers_of old) (lists_of old) → HasEdges all (numbers_of new) (lists_of new)
-named_more all old new name node adds has_edges = elim adds.adds [
+HasEdges-add_name all old new name node adds has_edges = elim adds.adds [
   | inl same ↦ subst (λ (n : NamedLists ℕ). HasEdges all (numbers_of n) (lists_of n)) (sym same) has_edges
   | inr is ↦
       subst (λ (h : Graph). HasEdges all (numbers_of new) h) (sym is.longer)
@@ -174,7 +174,7 @@ module _ (all : List Link) (node : Numbering) (g : Graph) (has_edges : HasEdges 
       | inl w ↦ let d = has_edges.has_edges x y w in (d.0, d.1, d.2, d.3, leads_still_on d.0 d.1 d.4)
       | inr w ↦ elim (or_cases (is_link x y link) false w) [
         | inl is ↦
-            let names = link_names x y link is in
+            let names = link_test_gives_names x y link is in
             (u, v, ap node names.0 ∙ from, ap node names.1 ∙ to, leads_new)
         | inr never ↦ absurd (cc)
       ]
@@ -186,7 +186,7 @@ module _ (all : List Link) (node : Numbering) (g : Graph) (has_edges : HasEdges 
             d.1,
             d.2,
             d.3,
-            leads_split d.0 d.1 ∙ or_left (links_to all d.0 d.1) (links_to (link ∷ []) d.0 d.1) d.4,
+            leads_split d.0 d.1 ∙ or_from_left (links_to all d.0 d.1) (links_to (link ∷ []) d.0 d.1) d.4,
           )
       | inr w ↦ (
         link.from,
@@ -194,23 +194,23 @@ module _ (all : List Link) (node : Numbering) (g : Graph) (has_edges : HasEdges 
         from ∙ ap Some (sym w.0),
         to ∙ ap Some (sym w.1),
         leads_split link.from link.to
-            ∙ or_right (links_to all link.from link.to) (links_to (link ∷ []) link.from link.to)
-            (or_left (is_link link.from link.to link) false (is_own_link link)),
+            ∙ or_from_right (links_to all link.from link.to) (links_to (link ∷ []) link.from link.to)
+            (or_from_left (is_link link.from link.to link) false (is_own_link link)),
       )
     ];
   }
 
-pub linked_more : (all : List Link) (old new : NamedLists ℕ) → HasEdges all (numbers_of old) (lists_of old)
+pub HasEdges-more_link : (all : List Link) (old new : NamedLists ℕ) → HasEdges all (numbers_of old) (lists_of old)
     → (link : Link) (u v : ℕ) → numbers_of old link.from ≡ Some u → numbers_of old link.to ≡ Some v
     → AddsItem old new u v → HasEdges (all ++ link ∷ []) (numbers_of new) (lists_of new)
-linked_more all old new has_edges link u v from to adds =
+HasEdges-more_link all old new has_edges link u v from to adds =
     let linked = new_link all (numbers_of old) (lists_of old) has_edges link u v from to in
     subst (λ (n : FirstPlaces ℕ). HasEdges (all ++ link ∷ []) (place_of n.table) (lists_of new)) (sym adds.same)
     (subst (λ (g : Graph). HasEdges (all ++ link ∷ []) (numbers_of old) g) (sym adds.longer) linked)
 
 -- before anything is drawn
-pub no_links : (node : Numbering) → ((x : Text) → node x ≡ None) → HasEdges [] node []
-no_links node none = record {
+pub HasEdges-none : (node : Numbering) → ((x : Text) → node x ≡ None) → HasEdges [] node []
+HasEdges-none node none = record {
   within = none_within node none;
   apart = none_apart node none;
   has_edges = λ x y e. absurd (cc);
@@ -237,7 +237,7 @@ module _ (text : Text) (all : List Link → List Link) (old now : ReferenceGraph
         leaves_rest before first.0 second.0 (links_in text pattern (drop i ms))
             (link_to text pattern (referenced_pattern m)) (links_in text (pattern_after pattern m)
             (drop (i + 1) ms)) all
-            (λ tail. ap (λ l. links_in text pattern l tail) (drop_next ms i m d within is)) first.2 second.2,
+            (λ tail. ap (λ l. links_in text pattern l tail) (drop_one_node ms i m d within is)) first.2 second.2,
       )
 
   pub links_none : (pattern : PatternName) → length ms ≤ i → LeavesLinks now pattern i → AddsLinks old now all
@@ -260,7 +260,7 @@ module _ (files : List NameIndex) (now : ReferenceGraph) (i : ℕ) where
       → LeavesLinkFiles now i → AddsLinks now next (links_in file.text.now no_pattern file.mentions.items)
       → LeavesLinkFiles next (i + 1)
   link_files_next next file within is left adds_links =
-      let cut = drop_next files i file file within is in
+      let cut = drop_one_node files i file file within is in
       let second = adds_links left.0 left.1 in (
         second.0,
         second.1,

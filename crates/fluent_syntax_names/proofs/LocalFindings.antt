@@ -24,9 +24,9 @@ use Rattle.fluent_syntax_names.proofs.Growing.{SameOn, cycle_same}
 abbrev pub own : List Finding → List Finding
 own list = filter (λ f. is_local f.kind) list
 
-put_own : (o : Option Finding) (l l' : List Finding) → own l ≡ own l' → own (put o l) ≡ own (put o l')
-put_own None l l' same = same
-put_own (Some f) l l' same = ap (λ left. cond (is_local f.kind) (f ∷ left) left) same
+put_keeps_own : (o : Option Finding) (l l' : List Finding) → own l ≡ own l' → own (put o l) ≡ own (put o l')
+put_keeps_own None l l' same = same
+put_keeps_own (Some f) l l' same = ap (λ left. cond (is_local f.kind) (f ∷ left) left) same
 
 -- ---- What is missing is left out
 
@@ -57,11 +57,11 @@ module _ (file : ℕ) (text : Text) where
   finding_local : (D E : Text → Bool) (known : Known) (m : Mention Span) (l l' : List Finding) → own l ≡ own l'
       → own (put (finding_of D file text known m) l) ≡ own (put (finding_of E file text known m) l')
   finding_local D E known (says.Message x v) l l' same =
-      put_own (twice kind.DefinedTwice file x (known.names (qualified_name text (message_name x)))) l l' same
+      put_keeps_own (twice kind.DefinedTwice file x (known.names (qualified_name text (message_name x)))) l l' same
   finding_local D E known (says.Term x) l l' same =
-      put_own (twice kind.DefinedTwice file x (known.names (qualified_name text (term_name x)))) l l' same
+      put_keeps_own (twice kind.DefinedTwice file x (known.names (qualified_name text (term_name x)))) l l' same
   finding_local D E known (says.Attribute x) l l' same =
-      put_own (finding_of D file text known (says.Attribute x)) l l' same
+      put_keeps_own (finding_of D file text known (says.Attribute x)) l l' same
   finding_local D E known (says.Junk x) l l' same = same
   finding_local D E known (says.MessageReference x a) l l' same =
       undefined_out D kind.UndefinedMessage (message_name x) a l refl
@@ -72,7 +72,7 @@ module _ (file : ℕ) (text : Text) where
   finding_local D E known (says.Variable x) l l' same = same
   finding_local D E known (says.Function x) l l' same = same
   finding_local D E known (says.VariantKey x first) l l' same =
-      put_own (finding_of D file text known (says.VariantKey x first)) l l' same
+      put_keeps_own (finding_of D file text known (says.VariantKey x first)) l l' same
 
 -- ---- So what the sets define may differ
 
@@ -88,7 +88,7 @@ module _ (A B : Set) where
       let beyond = findings_in_local file text (after text known m) (pattern_after pattern m) ms others here.1 tail in
       let comes = cycle A.is_cyclic file text pattern m in
       finding_local file text A.defines B.defines known m (put comes (left A)) (put comes (left B))
-      (put_own comes (left A) (left B) beyond)
+      (put_keeps_own comes (left A) (left B) beyond)
       ∙ ap (λ o. own (put (finding_of B.defines file text known m) (put o (left B)))) here.0
 
   pub findings_local : (file : NameIndex) → SameOn A B (links (file ∷ []))

@@ -13,7 +13,7 @@ use Rattle.std.proofs.lemmas.List.{drop_all}
 use Rattle.std.proofs.lemmas.List.Elements.{filter-append}
 use Rattle.std.proofs.lemmas.Slice.Eq.{bytes_eq-Decides}
 use Rattle.fluent_syntax_tree.specs.declared.spans.Span.{Span}
-use Rattle.fluent_syntax_names.proofs.Adding.{drop_next}
+use Rattle.fluent_syntax_names.proofs.Adding.{drop_one_node}
 use Rattle.fluent_syntax_names.specs.Cycles.{Link}
 use Rattle.fluent_syntax_names.specs.Findings.{owner_after}
 use Rattle.fluent_syntax_names.specs.MessageReferences.{followed_limit, refers, references_in, messages_of}
@@ -32,8 +32,8 @@ use Rattle.fluent_syntax_names.proofs.Listed.{length-items, list_read}
 use Rattle.fluent_syntax_names.proofs.Numbered.{apart_more, none_apart, none_within, within_more}
 
 -- before any name
-pub no_references : (number : Numbering) → ((x : Text) → number x ≡ None) → HasReferences [] number []
-no_references number none = record {
+pub HasReferences-none : (number : Numbering) → ((x : Text) → number x ≡ None) → HasReferences [] number []
+HasReferences-none number none = record {
   within = none_within number none;
   apart = none_apart number none;
   has_messages = λ x. ap (row_at []) (none x);
@@ -76,9 +76,9 @@ module _ (all : List Link) (old new : Lists) (name : Text) (last : ℕ) (is : Is
         ∙ adds_references.has_messages x;
   }
 
-pub row_more : (all : List Link) (old new : Lists) (name : Text) (number : ℕ) → AddsName old new name number
+pub HasReferences-name : (all : List Link) (old new : Lists) (name : Text) (number : ℕ) → AddsName old new name number
     → HasReferences all (numbers_of old) (rows_of old) → HasReferences all (numbers_of new) (rows_of new)
-row_more all old new name number adds adds_references = elim adds.adds [
+HasReferences-name all old new name number adds adds_references = elim adds.adds [
   | inl same ↦ subst (λ (n : Lists). HasReferences all (numbers_of n) (rows_of n)) (sym same) adds_references
   | inr is ↦
       subst (λ (r : Rows). HasReferences all (numbers_of new) r)
@@ -153,20 +153,20 @@ module _ (before : List Link) (number : Numbering) (rows : Rows) (adds_reference
     has_messages = λ x. by_number x (number x) refl (bytes_eq x link.from) refl;
   }
 
-pub row_within : (all : List Link) (names : Lists) → HasReferences all (numbers_of names) (rows_of names)
+pub number_is_within_rows : (all : List Link) (names : Lists) → HasReferences all (numbers_of names) (rows_of names)
     → (x : Text) (u : ℕ) → numbers_of names x ≡ Some u → u < length (lists_of names)
-row_within all names adds_references x u e =
+number_is_within_rows all names adds_references x u e =
     omega (arith, adds_references.within x u e, length-map (lists_of names) texts_of)
 
-pub reference_more : (before : List Link) (old new : Lists) → HasReferences before (numbers_of old) (rows_of old)
+pub HasReferences-link : (before : List Link) (old new : Lists) → HasReferences before (numbers_of old) (rows_of old)
     → (link : Link) (u : ℕ) → numbers_of old link.from ≡ Some u → (to : Vec ℕ Global) → to.items ≡ link.to
     → AddsItem old new u to → HasReferences (before ++ link ∷ []) (numbers_of new) (rows_of new)
-reference_more before old new adds_references link u from to is adds =
+HasReferences-link before old new adds_references link u from to is adds =
     let lists = lists_of old in
     let list = get_or lists u [] in
     let rows = rows_of old in
     let row : texts_of list ≡ get_or rows u [] =
-    sym (get_or-map texts_of lists u [] [] (row_within before old adds_references link.from u from)) in
+    sym (get_or-map texts_of lists u [] [] (number_is_within_rows before old adds_references link.from u from)) in
     let longer : rows_of new ≡ set rows u (get_or rows u [] ++ link.to ∷ []) =
     ap (map texts_of) adds.longer
     ∙ map-set texts_of lists u (list ++ to ∷ [])
@@ -178,9 +178,9 @@ reference_more before old new adds_references link u from to is adds =
     (new_reference before (numbers_of old) rows adds_references link u from))
 
 -- a row, as it is read
-pub row_read : (names : Lists) (u : ℕ) (row : Vec (Vec ℕ Global) Global) → u < length names.lists.items
+pub row_is_its_texts : (names : Lists) (u : ℕ) (row : Vec (Vec ℕ Global) Global) → u < length names.lists.items
     → row ≡ get_or names.lists.items u row → get_or (rows_of names) u [] ≡ texts_of row.items
-row_read names u row within is =
+row_is_its_texts names u row within is =
     let lists = names.lists.items in
     get_or-map texts_of (lists_of names) u [] [] (omega (arith, within, length-items lists))
     ∙ ap texts_of (list_read lists u row within is)
@@ -194,9 +194,9 @@ pub length-texts_of : (names : List (Vec ℕ Global)) → length (texts_of names
 length-texts_of names = length-map names (λ (v : Vec ℕ Global). v.items)
 
 -- with those of a row there are so many
-pub both_lengths : (names : List (Bor Text)) (more : List (Vec ℕ Global)) (row : List Text) → texts_of more ≡ row
+pub lengths_add_up : (names : List (Bor Text)) (more : List (Vec ℕ Global)) (row : List Text) → texts_of more ≡ row
     → length names + length more ≡ length (texts_at names) + length row
-both_lengths names more row is = omega (arith, length-texts_at names, length-texts_of more, ap length is)
+lengths_add_up names more row is = omega (arith, length-texts_at names, length-texts_of more, ap length is)
 
 -- the message at an index is one of few
 pub record IsRead (names : List (Bor Text)) (i : ℕ) (x : Text) : Type 0 where
@@ -204,9 +204,9 @@ pub record IsRead (names : List (Bor Text)) (i : ℕ) (x : Text) : Type 0 where
   pub within : i < length (texts_at names)
   pub is : x ≡ get_or (texts_at names) i []
 
-pub message_read : (names : List (Bor Text)) (i : ℕ) (name : Bor Text) → length names ≤ followed_limit
+pub name_is_read : (names : List (Bor Text)) (i : ℕ) (name : Bor Text) → length names ≤ followed_limit
     → i < length names → name ≡ get_or names i name → IsRead names i name.now
-message_read names i name few within is = record {
+name_is_read names i name few within is = record {
   few = omega (arith, few, length-texts_at names);
   within = omega (arith, within, length-texts_at names);
   is = ap (λ (b : Bor Text). b.now) is ∙ sym (get_or-map (λ (b : Bor Text). b.now) names i name [] within);
@@ -224,7 +224,7 @@ module _ (text : Text) (now : MessageReferences) (ms : Mentions Span) (i : ℕ) 
       → LeavesReferences now owner i → AddsReferences now next (refers text owner m)
       → LeavesReferences next (owner_after owner m) (i + 1)
   references_next next owner m d within is left adds_references =
-      let cut = drop_next ms i m d within is in
+      let cut = drop_one_node ms i m d within is in
       let second = adds_references left.0 left.1 in (
         second.0,
         second.1,

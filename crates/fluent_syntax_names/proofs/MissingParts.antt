@@ -16,7 +16,7 @@ use Rattle.fluent_syntax_names.specs.declared.qualified_names.EntryName.{EntryNa
 use Rattle.fluent_syntax_names.specs.Findings.{put, owner_after}
 use Rattle.fluent_syntax_names.specs.QualifiedNames.{Text, message_name, term_name}
 use Rattle.fluent_syntax_names.specs.Growing.{Adds, Leaves}
-use Rattle.fluent_syntax_names.proofs.Adding.{drop_next, leaves_rest, leaves_nothing}
+use Rattle.fluent_syntax_names.proofs.Adding.{drop_one_node, leaves_rest, leaves_nothing}
 use Rattle.fluent_syntax_names.specs.MissingParts.{Other, missing_part_at, missing_entry, missing_value}
 use Rattle.fluent_syntax_names.specs.MissingParts.{missing_attribute, missing_part}
 use Rattle.fluent_syntax_names.specs.MissingParts.{missing_reference, missing_variable, missing_part_of}
@@ -138,7 +138,7 @@ module _ (D : Other) (text : Text) (old now : List MissingPart) (all : List Miss
   missing_part_next next m d missing within is made =
       let others = missing_parts_in D text (owner_after owner m) (drop (i + 1) ms) in
       leaves_rest old now next (missing_parts_in D text owner (drop i ms)) (put missing) others all
-      (λ tail. ap (λ l. missing_parts_in D text owner l tail) (drop_next ms i m d within is)
+      (λ tail. ap (λ l. missing_parts_in D text owner l tail) (drop_one_node ms i m d within is)
       ∙ ap (λ o. put o (others tail)) (sym made))
 
   pub missing_part_none : length ms ≤ i → Leaves old now (missing_parts_in D text owner (drop i ms)) all
@@ -154,9 +154,9 @@ abbrev no_text : Bor Text
 no_text = record { ref_ptr = (0, 0); now = [] }
 
 -- what holds of one from an index on holds of the next message or of one after it
-pub some_next : (test : Text → Bool) (messages : List (Bor Text)) (i : ℕ) → i < length messages → (b : Bool)
+pub next_or_later_passes : (test : Text → Bool) (messages : List (Bor Text)) (i : ℕ) → i < length messages → (b : Bool)
     → test (get_or messages i no_text).now ≡ b
     → (b || list_any test (texts_at (drop (i + 1) messages))) ≡ list_any test (texts_at (drop i messages))
-some_next test messages i within b is =
+next_or_later_passes test messages i within b is =
     let some = λ (l : List (Bor Text)). list_any test (texts_at l) in
     sym (ap (λ c. c || some (drop (i + 1) messages)) is) ∙ sym (at_drop_more some messages i no_text within)

@@ -13,8 +13,8 @@ use Rattle.fluent_syntax_names.specs.NamedLists.{Numbering}
 use Rattle.fluent_syntax_names.specs.QualifiedNames.{Text}
 use Rattle.fluent_syntax_names.proofs.Ways.{reaches_decides}
 
-some_same : (u v : ℕ) → Some u ≡ Some v → u ≡ v
-some_same u v e = cc
+some_node_is_injective : (u v : ℕ) → Some u ≡ Some v → u ≡ v
+some_node_is_injective u v e = cc
 
 module _ (all : List Link) (node : Numbering) (g : Graph) (has_edges : HasEdges all node g) where
   pub is_graph : IsGraph g
@@ -26,12 +26,12 @@ module _ (all : List Link) (node : Numbering) (g : Graph) (has_edges : HasEdges 
       → (v : ℕ) × (node y ≡ Some v) × GraphReaches g u v
   node_reached x y (next x' y' e) u is =
       let d = has_edges.has_edges x y e in
-      let same : d.0 ≡ u = some_same d.0 u (sym d.2 ∙ is) in
+      let same : d.0 ≡ u = some_node_is_injective d.0 u (sym d.2 ∙ is) in
       let leads_on = subst (λ (w : ℕ). HasEdge g w d.1) same d.4 in
       (d.1, d.3, graph_onward u d.1 d.1 leads_on (here d.1))
   node_reached x y (onward x' w y' e rest) u is =
       let d = has_edges.has_edges x w e in
-      let same : d.0 ≡ u = some_same d.0 u (sym d.2 ∙ is) in
+      let same : d.0 ≡ u = some_node_is_injective d.0 u (sym d.2 ∙ is) in
       let leads_on = subst (λ (z : ℕ). HasEdge g z d.1) same d.4 in
       let later = node_reached w y rest d.1 d.3 in
       (later.0, later.1, graph_onward u d.1 later.0 leads_on later.2)
@@ -83,7 +83,7 @@ module _ (all : List Link) (node : Numbering) (g : Graph) (has_edges : HasEdges 
         let to_nodes : Reaches all y x → nat_eq p q ≡ true =
         λ reached.
         let r = node_reached y x reached v d.3 in
-        let same : r.0 ≡ u = some_same r.0 u (sym r.1 ∙ d.2) in
+        let same : r.0 ≡ u = some_node_is_injective r.0 u (sym r.1 ∙ d.2) in
         eq-eqb p q (cycle.1 (subst (λ (z : ℕ). GraphReaches g v z) same r.2)) in
         by_parts
         ∙ same_from_decides (nat_eq p q) (reaches all y x) (to_names, to_nodes) (reaches_decides all y x)

@@ -9,8 +9,8 @@ use Rattle.fluent_syntax_names.specs.FirstPlaces.{Notes, first_of, place_where}
 use Rattle.fluent_syntax_names.specs.QualifiedNames.{Text}
 use Rattle.fluent_syntax_names.proofs.Ways.{same_name}
 
-some_is : (u v : ℕ) → Some u ≡ Some v → u ≡ v
-some_is u v e = cc
+some_number_is_injective : (u v : ℕ) → Some u ≡ Some v → u ≡ v
+some_number_is_injective u v e = cc
 
 -- before any name
 module _ (number : Numbering) (none : (x : Text) → number x ≡ None) where
@@ -34,7 +34,7 @@ module _ (old new : Numbering) (name : Text) (number : ℕ) (absent : old name �
   -- a number that is known now was known, or is that of the name
   by_test : (x : Text) (u : ℕ) (b : Bool) → bytes_eq x name ≡ b → (if b then Some number else None) ≡ Some u
       → (x ≡ name) × (u ≡ number)
-  by_test x u true is e = ((bytes_eq-Decides x name).0 is, some_is u number (sym e))
+  by_test x u true is e = ((bytes_eq-Decides x name).0 is, some_number_is_injective u number (sym e))
   by_test x u false is e = absurd (cc)
 
   by_old : (x : Text) (u : ℕ) (o : Option ℕ) → old x ≡ o → first_of o (place_where x name number) ≡ Some u

@@ -11,7 +11,7 @@ use Rattle.fluent_syntax_names.specs.Cycles.{Link, links_to, Reaches, next, onwa
 use Rattle.fluent_syntax_names.specs.MessageReferences.{reachable_within, reachable_messages, followed_limit}
 use Rattle.fluent_syntax_names.specs.MessageReferences.{messages_of}
 use Rattle.fluent_syntax_names.specs.QualifiedNames.{Text}
-use Rattle.fluent_syntax_names.proofs.Ways.{or_left, or_right, same_name}
+use Rattle.fluent_syntax_names.proofs.Ways.{or_from_left, or_from_right, same_name}
 
 abbrev IsAmong : List Text → Text → Type 0
 IsAmong names name = list_any (bytes_eq name) names ≡ true
@@ -25,17 +25,17 @@ among_cases x name xs among = elim (or_cases (bytes_eq name x) (list_any (bytes_
   | inr is ↦ inr is
 ]
 
-among_first : (x : Text) (xs : List Text) → IsAmong (x ∷ xs) x
-among_first x xs = or_left (bytes_eq x x) (list_any (bytes_eq x) xs) (same_name x)
+first_is_among : (x : Text) (xs : List Text) → IsAmong (x ∷ xs) x
+first_is_among x xs = or_from_left (bytes_eq x x) (list_any (bytes_eq x) xs) (same_name x)
 
-among_more : (x name : Text) (xs : List Text) → IsAmong xs name → IsAmong (x ∷ xs) name
-among_more x name xs among = or_right (bytes_eq name x) (list_any (bytes_eq name) xs) among
+IsAmong-more : (x name : Text) (xs : List Text) → IsAmong xs name → IsAmong (x ∷ xs) name
+IsAmong-more x name xs among = or_from_right (bytes_eq name x) (list_any (bytes_eq name) xs) among
 
 -- of a list with one put before it
-put_before : (x : Text) (o : Option (List Text)) (xs : List Text) → option_map (λ ys. x ∷ ys) o ≡ Some xs
+put_before_some : (x : Text) (o : Option (List Text)) (xs : List Text) → option_map (λ ys. x ∷ ys) o ≡ Some xs
     → (ys : List Text) × (o ≡ Some ys) × (x ∷ ys ≡ xs)
-put_before x None xs e = absurd (cc)
-put_before x (Some ys) xs e = (ys, refl, cc)
+put_before_some x None xs e = absurd (cc)
+put_before_some x (Some ys) xs e = (ys, refl, cc)
 
 module _ (all : List Link) where
   -- the messages that an entry refers to are those that its links lead to
@@ -66,13 +66,13 @@ module _ (all : List Link) where
   all_reached from (suc room) [] reachable e reached y among =
       let none : [] ≡ reachable = cc in absurd (none_among y (subst (λ (l : List Text). IsAmong l y) (sym none) among))
   all_reached from (suc room) (x ∷ xs) reachable e reached y among =
-      let beyond = put_before x (reachable_within (messages_of all) room (xs ++ messages_of all x)) reachable e in
-      let here : Reaches all from x = reached x (among_first x xs) in
+      let beyond = put_before_some x (reachable_within (messages_of all) room (xs ++ messages_of all x)) reachable e in
+      let here : Reaches all from x = reached x (first_is_among x xs) in
       let reached_too : (z : Text) → IsAmong (xs ++ messages_of all x) z → Reaches all from z =
       λ z is.
       elim (or_cases (list_any (bytes_eq z) xs) (list_any (bytes_eq z) (messages_of all x))
       (sym (list_any-append (bytes_eq z) xs (messages_of all x)) ∙ is)) [
-        | inl w ↦ reached z (among_more x z xs w)
+        | inl w ↦ reached z (IsAmong-more x z xs w)
         | inr w ↦ reaches_on from x z here (sym (referred_are all x z) ∙ w)
       ] in
       elim (among_cases x y beyond.0 (subst (λ (l : List Text). IsAmong l y) (sym beyond.2) among)) [
@@ -95,18 +95,18 @@ module _ (all : List Link) where
       → IsAmong ys z =
       λ z is. closed.0 z (list_any-append (bytes_eq z) xs (messages_of all x) ∙ is) in (
         λ z among. elim (among_cases x z xs among) [
-          | inl is ↦ subst (IsAmong (x ∷ ys)) (sym is) (among_first x ys)
+          | inl is ↦ subst (IsAmong (x ∷ ys)) (sym is) (first_is_among x ys)
           | inr w ↦
-              let first = or_left (list_any (bytes_eq z) xs) (list_any (bytes_eq z) (messages_of all x)) w in
-              among_more x z ys (has z first)
+              let first = or_from_left (list_any (bytes_eq z) xs) (list_any (bytes_eq z) (messages_of all x)) w in
+              IsAmong-more x z ys (has z first)
         ],
         λ z y among e. elim (among_cases x z ys among) [
           | inl is ↦
               let first : links_to all x y ≡ true = ap (λ (w : Text). links_to all w y) (sym is) ∙ e in
-              among_more x y ys
-              (has y (or_right (list_any (bytes_eq y) xs) (list_any (bytes_eq y) (messages_of all x))
+              IsAmong-more x y ys
+              (has y (or_from_right (list_any (bytes_eq y) xs) (list_any (bytes_eq y) (messages_of all x))
               (referred_are all x y ∙ first)))
-          | inr w ↦ among_more x y ys (closed.1 z y w e)
+          | inr w ↦ IsAmong-more x y ys (closed.1 z y w e)
         ],
       )
 
@@ -116,7 +116,7 @@ module _ (all : List Link) where
   all_closed zero (x ∷ xs) reachable e = absurd (cc)
   all_closed (suc room) [] reachable e = let none : [] ≡ reachable = cc in subst (IsClosed []) none nothing_closed
   all_closed (suc room) (x ∷ xs) reachable e =
-      let beyond = put_before x (reachable_within (messages_of all) room (xs ++ messages_of all x)) reachable e in
+      let beyond = put_before_some x (reachable_within (messages_of all) room (xs ++ messages_of all x)) reachable e in
       subst (IsClosed (x ∷ xs)) beyond.2
       (closed_more x xs beyond.0 (all_closed room (xs ++ messages_of all x) beyond.0 beyond.1))
 

@@ -4,15 +4,15 @@ use Rattle.std.proofs.Common.{Option, Some, None, refl, sym, ap, ◌∙◌, arit
 use Rattle.std.specs.Prelude.{option_map}
 use Rattle.std.proofs.lemmas.List.{append_assoc, append-nil, drop_all, take_more, take_all}
 use Rattle.std.proofs.lemmas.List.{take-append-le, drop-append-le, length-append, length-drop}
-use Rattle.fluent_syntax_names.proofs.Adding.{drop_next}
+use Rattle.fluent_syntax_names.proofs.Adding.{drop_one_node}
 use Rattle.fluent_syntax_names.specs.MessageReferences.{reachable_within, reachable_by, followed_limit}
 use Rattle.fluent_syntax_names.specs.QualifiedNames.{Text}
 
 -- after one more name
-one_more : (front : List Text) (x : Text) (o : Option (List Text))
+front_then_one_is_longer_front : (front : List Text) (x : Text) (o : Option (List Text))
     → option_map (λ ys. front ++ ys) (option_map (λ ys. x ∷ ys) o) ≡ option_map (λ ys. (front ++ x ∷ []) ++ ys) o
-one_more front x None = refl
-one_more front x (Some ys) = ap Some (sym (append_assoc front (x ∷ []) ys))
+front_then_one_is_longer_front front x None = refl
+front_then_one_is_longer_front front x (Some ys) = ap Some (sym (append_assoc front (x ∷ []) ys))
 
 module _ (targets : Text → List Text) where
   reachable_within-nil : (room : ℕ) → reachable_within targets room [] ≡ Some []
@@ -41,13 +41,13 @@ module _ (targets : Text → List Text) where
         → whole ≡ option_map (λ ys. (take i names ++ x ∷ []) ++ ys)
         (reachable_within targets (room - (i + 1)) (drop (i + 1) names ++ targets x))
     onward x within is =
-        let cut = drop_next names i x [] within is in
+        let cut = drop_one_node names i x [] within is in
         let left : room - i ≡ suc (room - (i + 1)) = omega arith in
         let rest = reachable_within targets (room - (i + 1)) (drop (i + 1) names ++ targets x) in
         before
         ∙ ap (λ l. option_map (λ ys. take i names ++ ys) (reachable_within targets (room - i) l)) cut
         ∙ ap (λ r. option_map (λ ys. take i names ++ ys) (reachable_within targets r (x ∷ drop (i + 1) names))) left
-        ∙ one_more (take i names) x rest
+        ∙ front_then_one_is_longer_front (take i names) x rest
 
     pub followed_next : (x : Text) → i < length names → x ≡ get_or names i []
         → FollowedTo room whole (names ++ targets x) (i + 1)
@@ -82,16 +82,16 @@ module _ (targets : Text → List Text) where
 
 -- ---- What is followed depends on what is referred to alone
 
-pub followed_same : (f g : Text → List Text) → ((x : Text) → f x ≡ g x) → (room : ℕ) (names : List Text)
+pub reachable_within_equal_lists : (f g : Text → List Text) → ((x : Text) → f x ≡ g x) → (room : ℕ) (names : List Text)
     → reachable_within f room names ≡ reachable_within g room names
-followed_same f g same zero [] = refl
-followed_same f g same zero (x ∷ xs) = refl
-followed_same f g same (suc room) [] = refl
-followed_same f g same (suc room) (x ∷ xs) =
+reachable_within_equal_lists f g same zero [] = refl
+reachable_within_equal_lists f g same zero (x ∷ xs) = refl
+reachable_within_equal_lists f g same (suc room) [] = refl
+reachable_within_equal_lists f g same (suc room) (x ∷ xs) =
     ap (λ l. option_map (λ ys. x ∷ ys) (reachable_within f room (xs ++ l))) (same x)
-    ∙ ap (option_map (λ ys. x ∷ ys)) (followed_same f g same room (xs ++ g x))
+    ∙ ap (option_map (λ ys. x ∷ ys)) (reachable_within_equal_lists f g same room (xs ++ g x))
 
-pub reachable_same : (f g : Text → List Text) → ((x : Text) → f x ≡ g x) → (name : Text)
+pub reachable_by_equal_lists : (f g : Text → List Text) → ((x : Text) → f x ≡ g x) → (name : Text)
     → reachable_by f name ≡ reachable_by g name
-reachable_same f g same name =
-    followed_same f g same followed_limit (f name) ∙ ap (reachable_within g followed_limit) (same name)
+reachable_by_equal_lists f g same name =
+    reachable_within_equal_lists f g same followed_limit (f name) ∙ ap (reachable_within g followed_limit) (same name)

@@ -11,15 +11,15 @@ use Rattle.fluent_syntax_names.specs.QualifiedNames.{Text}
 
 -- ---- Tests
 
-pub or_left : (a b : Bool) → a ≡ true → (a || b) ≡ true
-or_left a b e = ap (λ x. x || b) e
+pub or_from_left : (a b : Bool) → a ≡ true → (a || b) ≡ true
+or_from_left a b e = ap (λ x. x || b) e
 
-pub or_right : (a b : Bool) → b ≡ true → (a || b) ≡ true
-or_right true b e = refl
-or_right false b e = e
+pub or_from_right : (a b : Bool) → b ≡ true → (a || b) ≡ true
+or_from_right true b e = refl
+or_from_right false b e = e
 
-pub both : (a b : Bool) → a ≡ true → b ≡ true → (a && b) ≡ true
-both a b e f = ap (λ x. x && b) e ∙ f
+pub and_is_true : (a b : Bool) → a ≡ true → b ≡ true → (a && b) ≡ true
+and_is_true a b e f = ap (λ x. x && b) e ∙ f
 
 pub and_parts : (a b : Bool) → (a && b) ≡ true → (a ≡ true) × (b ≡ true)
 and_parts true b e = (refl, e)
@@ -29,24 +29,24 @@ pub same_name : (x : Text) → bytes_eq x x ≡ true
 same_name x = (bytes_eq-Decides x x).1 refl
 
 -- the names of a link, by its test
-pub link_names : (x y : Text) (link : Link) → is_link x y link ≡ true → (x ≡ link.from) × (y ≡ link.to)
-link_names x y link e =
+pub link_test_gives_names : (x y : Text) (link : Link) → is_link x y link ≡ true → (x ≡ link.from) × (y ≡ link.to)
+link_test_gives_names x y link e =
     let parts = and_parts (bytes_eq x link.from) (bytes_eq y link.to) e in
     ((bytes_eq-Decides x link.from).0 parts.0, (bytes_eq-Decides y link.to).0 parts.1)
 
 pub is_own_link : (link : Link) → is_link link.from link.to link ≡ true
 is_own_link link =
-    both (bytes_eq link.from link.from) (bytes_eq link.to link.to) (same_name link.from) (same_name link.to)
+    and_is_true (bytes_eq link.from link.from) (bytes_eq link.to link.to) (same_name link.from) (same_name link.to)
 
 -- what is led to is a target
 leads_to_target : (all : List Link) (x y : Text) → links_to all x y ≡ true → list_any (bytes_eq y) (targets all) ≡ true
 leads_to_target [] x y e = e
 leads_to_target (link ∷ all) x y e = elim (or_cases (is_link x y link) (links_to all x y) e) [
   | inl w ↦
-      or_left (bytes_eq y link.to) (list_any (bytes_eq y) (targets all))
-      ((bytes_eq-Decides y link.to).1 (link_names x y link w).1)
+      or_from_left (bytes_eq y link.to) (list_any (bytes_eq y) (targets all))
+      ((bytes_eq-Decides y link.to).1 (link_test_gives_names x y link w).1)
   | inr w ↦
-      or_right (bytes_eq y link.to) (list_any (bytes_eq y) (targets all)) (leads_to_target all x y w)
+      or_from_right (bytes_eq y link.to) (list_any (bytes_eq y) (targets all)) (leads_to_target all x y w)
 ]
 
 module _ (all : List Link) where
@@ -58,7 +58,7 @@ module _ (all : List Link) where
   via_more : (way : Text) (ways : List Text) (x y : Text) → Via ways x y → Via (way ∷ ways) x y
   via_more way ways x y (hop x' y' e) = hop x y e
   via_more way ways x y (through x' w y' e among rest) =
-      through x w y e (or_right (bytes_eq w way) (list_any (bytes_eq w) ways) among) (via_more way ways w y rest)
+      through x w y e (or_from_right (bytes_eq w way) (list_any (bytes_eq w) ways) among) (via_more way ways w y rest)
 
   via_both : (ways : List Text) (x w y : Text) → Via ways x w → list_any (bytes_eq w) ways ≡ true → Via ways w y
       → Via ways x y
@@ -74,7 +74,7 @@ module _ (all : List Link) where
         | inr w ↦
             let parts = and_parts (reaches_by all ways x way) (reaches_by all ways way y) w in
             via_both (way ∷ ways) x way y (via_more way ways x way (via_by ways x way parts.0))
-            (or_left (bytes_eq way way) (list_any (bytes_eq way) ways) (same_name way))
+            (or_from_left (bytes_eq way way) (list_any (bytes_eq way) ways) (same_name way))
             (via_more way ways way y (via_by ways way y parts.1))
       ]
 
@@ -82,7 +82,7 @@ module _ (all : List Link) where
   by_more : (way : Text) (ways : List Text) → ((x y : Text) → Via ways x y → reaches_by all ways x y ≡ true)
       → (x y : Text) → Via (way ∷ ways) x y → reaches_by all (way ∷ ways) x y ≡ true
   by_more way ways complete x y (hop x' y' e) =
-      or_left (reaches_by all ways x y) (reaches_by all ways x way && reaches_by all ways way y)
+      or_from_left (reaches_by all ways x y) (reaches_by all ways x way && reaches_by all ways way y)
       (complete x y (hop x y e))
   by_more way ways complete x y (through x' w y' e among rest) =
       let left : Text → Bool = λ v. reaches_by all ways v y in
@@ -95,22 +95,22 @@ module _ (all : List Link) where
             complete x way (hop x way (ap (λ (v : Text). links_to all x v) (sym same) ∙ e)) in
             elim (or_cases (left w) (right w) later) [
               | inl v ↦
-                  or_right (left x) (right x)
-                  (both (reaches_by all ways x way) (reaches_by all ways way y) to_way (ap left (sym same) ∙ v))
+                  or_from_right (left x) (right x)
+                  (and_is_true (reaches_by all ways x way) (reaches_by all ways way y) to_way (ap left (sym same) ∙ v))
               | inr v ↦
                   let parts = and_parts (reaches_by all ways w way) (reaches_by all ways way y) v in
-                  or_right (left x) (right x)
-                  (both (reaches_by all ways x way) (reaches_by all ways way y) to_way parts.1)
+                  or_from_right (left x) (right x)
+                  (and_is_true (reaches_by all ways x way) (reaches_by all ways way y) to_way parts.1)
             ]
         | inr is ↦
             let before : (t : Text) → reaches_by all ways w t ≡ true → reaches_by all ways x t ≡ true =
             λ t h. complete x t (through x w t e is (via_by ways w t h)) in
             elim (or_cases (left w) (right w) later) [
-              | inl v ↦ or_left (left x) (right x) (before y v)
+              | inl v ↦ or_from_left (left x) (right x) (before y v)
               | inr v ↦
                   let parts = and_parts (reaches_by all ways w way) (reaches_by all ways way y) v in
-                  or_right (left x) (right x)
-                  (both (reaches_by all ways x way) (reaches_by all ways way y) (before way parts.0) parts.1)
+                  or_from_right (left x) (right x)
+                  (and_is_true (reaches_by all ways x way) (reaches_by all ways way y) (before way parts.0) parts.1)
             ]
       ]
 

@@ -82,11 +82,11 @@ use mir.Syntax.{Dict}
 abbrev Such : {A : Type 0} → (A → Type 0) → Type 0
 Such {A} P = (a : A) × P a
 
-never : {Q : Type 0} (r : Bool) → r ≡ false → (Q → ⊥) → Decides r Q
-never r e refused = (λ h. absurd (true≢false (sym h ∙ e)), λ q. absurd (refused q))
+false_decides_refuted : {Q : Type 0} (r : Bool) → r ≡ false → (Q → ⊥) → Decides r Q
+false_decides_refuted r e refused = (λ h. absurd (true≢false (sym h ∙ e)), λ q. absurd (refused q))
 
-always : {Q : Type 0} (r : Bool) → r ≡ true → Q → Decides r Q
-always r e q = (λ _. q, λ _. e)
+true_decides_proved : {Q : Type 0} (r : Bool) → r ≡ true → Q → Decides r Q
+true_decides_proved r e q = (λ _. q, λ _. e)
 
 decides_and : {P Q : Type 0} (r s : Bool) → Decides r P → Decides s Q → Decides (r && s) (P × Q)
 decides_and true s d e = (λ h. (d.0 refl, e.0 h), λ pq. e.1 pq.1)
@@ -113,8 +113,8 @@ is_number-same : (n : ℕ) → is_number n n ≡ true
 is_number-same zero = refl
 is_number-same (suc n) = is_number-same n
 
-apart : (m n : ℕ) → is_number m n ≡ false → m ≡ n → ⊥
-apart m n e q = true≢false (sym (is_number-same n) ∙ subst (λ k. is_number k n ≡ false) q e)
+is_number-differs : (m n : ℕ) → is_number m n ≡ false → m ≡ n → ⊥
+is_number-differs m n e q = true≢false (sym (is_number-same n) ∙ subst (λ k. is_number k n ≡ false) q e)
 
 abbrev inline_number : {X : Type 0} → InlineTree X → ℕ
 inline_number (string_literal x) = 0
@@ -129,16 +129,16 @@ inline_number (inline_placeable e) = 6
 
 option_decide : {A X : Type 0} (eq : A → A → Bool) (view : A → X) → ((a b : A) → Decides (eq a b) (view a ≡ view b)) →
     (o p : Option A) → Decides (option_eq eq o p) (option_map view o ≡ option_map view p)
-option_decide eq view d None None = always _ refl refl
-option_decide eq view d None (Some b) = never _ refl (λ q. cc)
-option_decide eq view d (Some a) None = never _ refl (λ q. cc)
+option_decide eq view d None None = true_decides_proved _ refl refl
+option_decide eq view d None (Some b) = false_decides_refuted _ refl (λ q. cc)
+option_decide eq view d (Some a) None = false_decides_refuted _ refl (λ q. cc)
 option_decide eq view d (Some a) (Some b) = decides_as _ _ refl (d a b) (λ h. ap Some h) (λ q. cc)
 
 list_decide : {A X : Type 0} (eq : A → A → Bool) (view : A → X) → ((a b : A) → Decides (eq a b) (view a ≡ view b)) →
     (xs ys : List A) → Decides (pointwise eq xs ys) (map view xs ≡ map view ys)
-list_decide eq view d [] [] = always _ refl refl
-list_decide eq view d [] (y ∷ ys) = never _ refl (λ q. cc)
-list_decide eq view d (x ∷ xs) [] = never _ refl (λ q. cc)
+list_decide eq view d [] [] = true_decides_proved _ refl refl
+list_decide eq view d [] (y ∷ ys) = false_decides_refuted _ refl (λ q. cc)
+list_decide eq view d (x ∷ xs) [] = false_decides_refuted _ refl (λ q. cc)
 list_decide eq view d (x ∷ xs) (y ∷ ys) =
     decides_as _ _ refl (decides_and _ _ (d x y) (list_decide eq view d xs ys)) (λ h. rw (h.0, h.1)) (λ q. (cc, cc))
 
@@ -152,8 +152,8 @@ module _ {X : Type 0} (S : RattleType) (E : Ghosts S.Denot) (dict : Dict) (lawfu
       Decides ((key_eq.ghosts S E dict).eq i j) (key_view text i ≡ key_view text j)
   decides_by_view-VariantKey (key.Identifier x) (key.Identifier y) =
       decides_as _ _ refl (by_text x y) (λ h. rw h) (λ q. cc)
-  decides_by_view-VariantKey (key.Identifier x) (key.NumberLiteral y) = never _ refl (λ q. cc)
-  decides_by_view-VariantKey (key.NumberLiteral x) (key.Identifier y) = never _ refl (λ q. cc)
+  decides_by_view-VariantKey (key.Identifier x) (key.NumberLiteral y) = false_decides_refuted _ refl (λ q. cc)
+  decides_by_view-VariantKey (key.NumberLiteral x) (key.Identifier y) = false_decides_refuted _ refl (λ q. cc)
   decides_by_view-VariantKey (key.NumberLiteral x) (key.NumberLiteral y) =
       decides_as _ _ refl (by_text x y) (λ h. rw h) (λ q. cc)
 
@@ -287,36 +287,36 @@ module _ {X : Type 0} (S : RattleType) (E : Ghosts S.Denot) (dict : Dict) (lawfu
   inlines_decide : (ps : List (Such ClaimI)) (bs : List (InlineExpression S.Denot)) →
       Decides (pointwise (inline_eq.ghosts S E dict).eq (map (λ p. p.0) ps) bs)
       (inlines_of (map (inline_view text) (map (λ p. p.0) ps)) ≡ inlines_of (map (inline_view text) bs))
-  inlines_decide [] [] = always _ refl refl
-  inlines_decide [] (b ∷ bs) = never _ refl (λ q. cc)
-  inlines_decide (p ∷ ps) [] = never _ refl (λ q. cc)
+  inlines_decide [] [] = true_decides_proved _ refl refl
+  inlines_decide [] (b ∷ bs) = false_decides_refuted _ refl (λ q. cc)
+  inlines_decide (p ∷ ps) [] = false_decides_refuted _ refl (λ q. cc)
   inlines_decide (p ∷ ps) (b ∷ bs) =
       decides_as _ _ refl (decides_and _ _ (p.1 b) (inlines_decide ps bs)) (λ h. rw (h.0, h.1)) (λ q. (cc, cc))
 
   nameds_decide : (ps : List (Such ClaimN)) (bs : List (NamedArgument S.Denot)) →
       Decides (pointwise (named_eq.ghosts S E dict).eq (map (λ p. p.0) ps) bs)
       (nameds_of (map (named_view text) (map (λ p. p.0) ps)) ≡ nameds_of (map (named_view text) bs))
-  nameds_decide [] [] = always _ refl refl
-  nameds_decide [] (b ∷ bs) = never _ refl (λ q. cc)
-  nameds_decide (p ∷ ps) [] = never _ refl (λ q. cc)
+  nameds_decide [] [] = true_decides_proved _ refl refl
+  nameds_decide [] (b ∷ bs) = false_decides_refuted _ refl (λ q. cc)
+  nameds_decide (p ∷ ps) [] = false_decides_refuted _ refl (λ q. cc)
   nameds_decide (p ∷ ps) (b ∷ bs) =
       decides_as _ _ refl (decides_and _ _ (p.1 b) (nameds_decide ps bs)) (λ h. rw (h.0, h.1)) (λ q. (cc, cc))
 
   elements_decide : (ps : List (Such ClaimE)) (bs : List (PatternElement S.Denot)) →
       Decides (pointwise (element_eq.ghosts S E dict).eq (map (λ p. p.0) ps) bs)
       (elements_of (map (element_view text) (map (λ p. p.0) ps)) ≡ elements_of (map (element_view text) bs))
-  elements_decide [] [] = always _ refl refl
-  elements_decide [] (b ∷ bs) = never _ refl (λ q. cc)
-  elements_decide (p ∷ ps) [] = never _ refl (λ q. cc)
+  elements_decide [] [] = true_decides_proved _ refl refl
+  elements_decide [] (b ∷ bs) = false_decides_refuted _ refl (λ q. cc)
+  elements_decide (p ∷ ps) [] = false_decides_refuted _ refl (λ q. cc)
   elements_decide (p ∷ ps) (b ∷ bs) =
       decides_as _ _ refl (decides_and _ _ (p.1 b) (elements_decide ps bs)) (λ h. rw (h.0, h.1)) (λ q. (cc, cc))
 
   variants_decide : (ps : List (Such ClaimV)) (bs : List (Variant S.Denot)) →
       Decides (pointwise (variant_eq.ghosts S E dict).eq (map (λ p. p.0) ps) bs)
       (variants_of (map (variant_view text) (map (λ p. p.0) ps)) ≡ variants_of (map (variant_view text) bs))
-  variants_decide [] [] = always _ refl refl
-  variants_decide [] (b ∷ bs) = never _ refl (λ q. cc)
-  variants_decide (p ∷ ps) [] = never _ refl (λ q. cc)
+  variants_decide [] [] = true_decides_proved _ refl refl
+  variants_decide [] (b ∷ bs) = false_decides_refuted _ refl (λ q. cc)
+  variants_decide (p ∷ ps) [] = false_decides_refuted _ refl (λ q. cc)
   variants_decide (p ∷ ps) (b ∷ bs) =
       decides_as _ _ refl (decides_and _ _ (p.1 b) (variants_decide ps bs)) (λ h. rw (h.0, h.1)) (λ q. (cc, cc))
 
@@ -337,11 +337,11 @@ module _ {X : Type 0} (S : RattleType) (E : Ghosts S.Denot) (dict : Dict) (lawfu
       (λ q. let e : text_element (text x) ≡ text_element (text y) =
       sym (view-TextElement text x) ∙ q ∙ view-TextElement text y in cc e)
   decide-Element (layer.TextElement x) (layer.PatternElement::Placeable e) =
-      never _ (element_laws.is S E dict lawful _ _)
+      false_decides_refuted _ (element_laws.is S E dict lawful _ _)
       (λ q. let f : text_element (text x) ≡ placeable (expression_view text e) =
       sym (view-TextElement text x) ∙ q ∙ view-Placeable text e in cc f)
   decide-Element (layer.PatternElement::Placeable e) (layer.TextElement y) =
-      never _ (element_laws.is S E dict lawful _ _)
+      false_decides_refuted _ (element_laws.is S E dict lawful _ _)
       (λ q. let f : placeable (expression_view text e.0) ≡ text_element (text y) =
       sym (view-Placeable text e.0) ∙ q ∙ view-TextElement text y in cc f)
   decide-Element (layer.PatternElement::Placeable e) (layer.PatternElement::Placeable d) =
@@ -375,7 +375,7 @@ module _ {X : Type 0} (S : RattleType) (E : Ghosts S.Denot) (dict : Dict) (lawfu
       (λ q. let f : inline (inline_view text e.0) ≡ inline (inline_view text d) =
       sym (view-Inline text e.0) ∙ q ∙ view-Inline text d in cc f)
   decide-Expression y z =
-      never _ (expression_laws.is S E dict lawful _ _)
+      false_decides_refuted _ (expression_laws.is S E dict lawful _ _)
       (λ q. cc (sym
       (view-roll-Expression text
       (map-Expression S.Denot _ _ _ _ _ _ _ _ _ _ _ _ _ _ (λ e. e.0) (λ e. e.0) (λ e. e.0) (λ e. e.0) (λ e. e.0)
@@ -385,9 +385,9 @@ module _ {X : Type 0} (S : RattleType) (E : Ghosts S.Denot) (dict : Dict) (lawfu
       Decides (option_eq (arguments_eq.ghosts S E dict).eq (option_map (λ p. p.0) o) b)
       (arguments_of (option_map (arguments_view text) (option_map (λ p. p.0) o))
       ≡ arguments_of (option_map (arguments_view text) b))
-  arguments_decide None None = always _ refl refl
-  arguments_decide None (Some b) = never _ refl (λ q. cc)
-  arguments_decide (Some p) None = never _ refl (λ q. cc)
+  arguments_decide None None = true_decides_proved _ refl refl
+  arguments_decide None (Some b) = false_decides_refuted _ refl (λ q. cc)
+  arguments_decide (Some p) None = false_decides_refuted _ refl (λ q. cc)
   arguments_decide (Some p) (Some b) = decides_as _ _ refl (p.1 b) (λ h. ap some_arguments h) (λ q. cc)
 
   decide-Inline :
@@ -474,8 +474,8 @@ module _ {X : Type 0} (S : RattleType) (E : Ghosts S.Denot) (dict : Dict) (lawfu
       inline_placeable (expression_view text e.value.0) ≡ inline_placeable (expression_view text d.value) =
       sym (view-InlinePlaceable text _) ∙ q ∙ view-InlinePlaceable text d in cc f)
   decide-Inline y z =
-      never _ (inline_laws.is S E dict lawful _ _)
-      (λ q. apart _ _ refl (ap inline_number (sym
+      false_decides_refuted _ (inline_laws.is S E dict lawful _ _)
+      (λ q. is_number-differs _ _ refl (ap inline_number (sym
       (view-roll-InlineExpression text
       (map-InlineExpression S.Denot _ _ _ _ _ _ _ _ _ _ _ _ _ _ (λ e. e.0) (λ e. e.0) (λ e. e.0) (λ e. e.0)
       (λ e. e.0) (λ e. e.0) (λ e. e.0) y)) ∙ q ∙ view-roll-InlineExpression text z)))
@@ -631,7 +631,7 @@ module _ {X : Type 0} (S : RattleType) (E : Ghosts S.Denot) (dict : Dict) (lawfu
   decides_by_view-Entry (entries.ResourceComment a) (entries.ResourceComment b) =
       decides_as _ _ refl (decides_by_view-Comment a b) (λ h. ap (comment resource) h) (λ q. cc)
   decides_by_view-Entry (entries.Junk x) (entries.Junk y) = decides_as _ _ refl (by_text x y) (λ h. ap junk h) (λ q. cc)
-  decides_by_view-Entry a b = never _ refl (λ q. cc)
+  decides_by_view-Entry a b = false_decides_refuted _ refl (λ q. cc)
 
   pub decides_by_view-Resource : (a b : Resource S.Denot) →
       Decides ((resource_eq.ghosts S E dict).eq a b) (resource_view text a ≡ resource_view text b)

@@ -45,30 +45,30 @@ pub every_item : {A X : Type 0} (P : X → Type 0) (v : A → X) (xs items : Lis
 every_item P v xs items i d h e l is =
     subst (λ x. P (v x)) (sym is) (every_at P v items i d (subst (λ ys. list_every P (map v ys)) (sym e) h) l)
 
-pub every-append : {X : Type 0} (P : X → Type 0) (xs ys : List X) → list_every P xs → list_every P ys →
+pub list_every-append : {X : Type 0} (P : X → Type 0) (xs ys : List X) → list_every P xs → list_every P ys →
     list_every P (xs ++ ys)
-every-append P [] ys h k = k
-every-append P (x ∷ xs) ys h k = (h.0, every-append P xs ys h.1 k)
+list_every-append P [] ys h k = k
+list_every-append P (x ∷ xs) ys h k = (h.0, list_every-append P xs ys h.1 k)
 
-pub inlines_list : {X : Type 0} (P : X → Type 0) (xs : List (InlineTree X)) → inlines_every P (inlines_of xs) →
+pub list_every_inline : {X : Type 0} (P : X → Type 0) (xs : List (InlineTree X)) → inlines_every P (inlines_of xs) →
     list_every (inline_every P) xs
-inlines_list P [] h = tt
-inlines_list P (x ∷ xs) h = (h.0, inlines_list P xs h.1)
+list_every_inline P [] h = tt
+list_every_inline P (x ∷ xs) h = (h.0, list_every_inline P xs h.1)
 
-pub nameds_list : {X : Type 0} (P : X → Type 0) (xs : List (NamedTree X)) → nameds_every P (nameds_of xs) →
+pub list_every_named : {X : Type 0} (P : X → Type 0) (xs : List (NamedTree X)) → nameds_every P (nameds_of xs) →
     list_every (named_every P) xs
-nameds_list P [] h = tt
-nameds_list P (x ∷ xs) h = (h.0, nameds_list P xs h.1)
+list_every_named P [] h = tt
+list_every_named P (x ∷ xs) h = (h.0, list_every_named P xs h.1)
 
-pub elements_list : {X : Type 0} (P : X → Type 0) (xs : List (ElementTree X)) → pattern_every P (elements_of xs) →
+pub list_every_element : {X : Type 0} (P : X → Type 0) (xs : List (ElementTree X)) → pattern_every P (elements_of xs) →
     list_every (element_every P) xs
-elements_list P [] h = tt
-elements_list P (x ∷ xs) h = (h.0, elements_list P xs h.1)
+list_every_element P [] h = tt
+list_every_element P (x ∷ xs) h = (h.0, list_every_element P xs h.1)
 
-pub variants_list : {X : Type 0} (P : X → Type 0) (xs : List (VariantTree X)) → variants_every P (variants_of xs) →
+pub list_every_variant : {X : Type 0} (P : X → Type 0) (xs : List (VariantTree X)) → variants_every P (variants_of xs) →
     list_every (variant_every P) xs
-variants_list P [] h = tt
-variants_list P (x ∷ xs) h = (h.0, variants_list P xs h.1)
+list_every_variant P [] h = tt
+list_every_variant P (x ∷ xs) h = (h.0, list_every_variant P xs h.1)
 
 -- ---- the parts of a value
 
@@ -78,7 +78,7 @@ module _ {S X : Type 0} (text : S → X) (P : X → Type 0) where
       list_every (variant_every P) (map (variant_view text) vs.items)
   every-Select d e vs e' all =
       let h = subst (expression_every P) (ap (expression_view text) e' ∙ view-Select text e vs) all in
-      (h.0, variants_list P _ h.1)
+      (h.0, list_every_variant P _ h.1)
 
   pub every-Inline : (d : Expression S) (e : InlineExpression S) → d ≡ Inline e →
       expression_every P (expression_view text d) → inline_every P (inline_view text e)
@@ -119,13 +119,13 @@ module _ {S X : Type 0} (text : S → X) (P : X → Type 0) where
 
   pub every-Pattern : (p : Pattern S) → pattern_every P (pattern_view text p) →
       list_every (element_every P) (map (element_view text) p.elements.items)
-  every-Pattern p h = elements_list P _ (subst (pattern_every P) (view-Pattern text p) h)
+  every-Pattern p h = list_every_element P _ (subst (pattern_every P) (view-Pattern text p) h)
 
   pub every-CallArguments : (a : CallArguments S) → arguments_every P (arguments_view text a) →
       list_every (inline_every P) (map (inline_view text) (out-CallArguments S a).positional.items) ×
       list_every (named_every P) (map (named_view text) (out-CallArguments S a).named.items)
   every-CallArguments a all = let h = subst (arguments_every P) (view-CallArguments text a) all in
-      (inlines_list P _ h.0, nameds_list P _ h.1)
+      (list_every_inline P _ h.0, list_every_named P _ h.1)
 
 -- ---- what always holds
 
@@ -141,13 +141,13 @@ key_always (name_key x) = tt
 key_always (number_key x) = tt
 
 -- of each element, where it holds of every value
-pub list_each : {X : Type 0} (P : X → Type 0) (xs : List X) → ((x : X) → P x) → list_every P xs
-list_each P [] h = tt
-list_each P (x ∷ xs) h = (h x, list_each P xs h)
+pub list_every-universal : {X : Type 0} (P : X → Type 0) (xs : List X) → ((x : X) → P x) → list_every P xs
+list_every-universal P [] h = tt
+list_every-universal P (x ∷ xs) h = (h x, list_every-universal P xs h)
 
-pub option_each : {X : Type 0} (P : X → Type 0) (o : Option X) → ((x : X) → P x) → option_every P o
-option_each P None h = tt
-option_each P (Some x) h = h x
+pub option_every-universal : {X : Type 0} (P : X → Type 0) (o : Option X) → ((x : X) → P x) → option_every P o
+option_every-universal P None h = tt
+option_every-universal P (Some x) h = h x
 
 mutual
   pub expression_always : {X : Type 0} (e : ExpressionTree X) → expression_every Always e
@@ -197,7 +197,7 @@ mutual
   variants_always (variants x xs) = (variant_always x, variants_always xs)
 
 pub lines_always : {X : Type 0} (xs : List X) → list_every Always xs
-lines_always xs = list_each Always xs (λ _. tt)
+lines_always xs = list_every-universal Always xs (λ _. tt)
 
 pub attribute_always : {X : Type 0} (a : AttributeTree X) → attribute_every Always a
 attribute_always a = (tt, pattern_always a.value)
@@ -205,17 +205,17 @@ attribute_always a = (tt, pattern_always a.value)
 pub message_always : {X : Type 0} (m : MessageTree X) → message_every Always m
 message_always m = (
   tt,
-  option_each (pattern_every Always) m.value pattern_always,
-  list_each (attribute_every Always) m.attributes attribute_always,
-  option_each (list_every Always) m.comment lines_always,
+  option_every-universal (pattern_every Always) m.value pattern_always,
+  list_every-universal (attribute_every Always) m.attributes attribute_always,
+  option_every-universal (list_every Always) m.comment lines_always,
 )
 
 pub term_always : {X : Type 0} (m : TermTree X) → term_every Always m
 term_always m = (
   tt,
   pattern_always m.value,
-  list_each (attribute_every Always) m.attributes attribute_always,
-  option_each (list_every Always) m.comment lines_always,
+  list_every-universal (attribute_every Always) m.attributes attribute_always,
+  option_every-universal (list_every Always) m.comment lines_always,
 )
 
 pub entry_always : {X : Type 0} (e : EntryTree X) → entry_every Always e
@@ -225,7 +225,7 @@ entry_always (comment level lines) = lines_always lines
 entry_always (junk x) = tt
 
 pub body_always : {X : Type 0} (b : BodyTree X) → body_every Always b
-body_always b = list_each (entry_every Always) b entry_always
+body_always b = list_every-universal (entry_every Always) b entry_always
 
 pub ruleset always = (
   option_always,

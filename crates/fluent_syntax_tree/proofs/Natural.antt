@@ -43,15 +43,15 @@ use denote.Hole.Carrier as carrier
 abbrev Such : {A : Type 0} → (A → Type 0) → Type 0
 Such {A} P = (a : A) × P a
 
-pub map_twice : {A B C : Type 0} (f : A → C) (g : A → B) (h : B → C) (xs : List A) → ((x : A) → f x ≡ h (g x)) →
+pub map_fuses : {A B C : Type 0} (f : A → C) (g : A → B) (h : B → C) (xs : List A) → ((x : A) → f x ≡ h (g x)) →
     map f xs ≡ map h (map g xs)
-map_twice f g h [] e = refl
-map_twice f g h (x ∷ xs) e = rw (e x, map_twice f g h xs e)
+map_fuses f g h [] e = refl
+map_fuses f g h (x ∷ xs) e = rw (e x, map_fuses f g h xs e)
 
-pub option_twice : {A B C : Type 0} (f : A → C) (g : A → B) (h : B → C) (o : Option A) → ((x : A) → f x ≡ h (g x)) →
+pub option_map_fuses : {A B C : Type 0} (f : A → C) (g : A → B) (h : B → C) (o : Option A) → ((x : A) → f x ≡ h (g x)) →
     option_map f o ≡ option_map h (option_map g o)
-option_twice f g h None e = refl
-option_twice f g h (Some x) e = ap Some (e x)
+option_map_fuses f g h None e = refl
+option_map_fuses f g h (Some x) e = ap Some (e x)
 
 module _ {S X Y : Type 0} (g : S → X) (f : X → Y) where
   -- the text of a text
@@ -210,20 +210,20 @@ module _ {S X Y : Type 0} (g : S → X) (f : X → Y) where
   natural-Attribute a = let e = natural-Pattern a.value in cc
 
   lines_claimed : (c : Comment S) → comment_view fg c ≡ map f (comment_view g c)
-  lines_claimed c = map_twice fg g f c.content.items (λ x. refl)
+  lines_claimed c = map_fuses fg g f c.content.items (λ x. refl)
 
   pub natural-Message : (m : Message S) → message_view fg m ≡ message_map f (message_view g m)
   natural-Message m =
-      let v = option_twice (pattern_view fg) (pattern_view g) (pattern_map f) m.value natural-Pattern in
-      let a = map_twice (attribute_view fg) (attribute_view g) (attribute_map f) m.attributes.items natural-Attribute in
-      let c = option_twice (comment_view fg) (comment_view g) (map f) m.comment lines_claimed in
+      let v = option_map_fuses (pattern_view fg) (pattern_view g) (pattern_map f) m.value natural-Pattern in
+      let a = map_fuses (attribute_view fg) (attribute_view g) (attribute_map f) m.attributes.items natural-Attribute in
+      let c = option_map_fuses (comment_view fg) (comment_view g) (map f) m.comment lines_claimed in
       cc
 
   pub natural-Term : (m : Term S) → term_view fg m ≡ term_map f (term_view g m)
   natural-Term m =
       let v = natural-Pattern m.value in
-      let a = map_twice (attribute_view fg) (attribute_view g) (attribute_map f) m.attributes.items natural-Attribute in
-      let c = option_twice (comment_view fg) (comment_view g) (map f) m.comment lines_claimed in
+      let a = map_fuses (attribute_view fg) (attribute_view g) (attribute_map f) m.attributes.items natural-Attribute in
+      let c = option_map_fuses (comment_view fg) (comment_view g) (map f) m.comment lines_claimed in
       cc
 
   pub natural-Entry : (e : Entry S) → entry_view fg e ≡ entry_map f (entry_view g e)
@@ -235,4 +235,4 @@ module _ {S X Y : Type 0} (g : S → X) (f : X → Y) where
   natural-Entry (entries.Junk x) = refl
 
   pub natural-Resource : (r : Resource S) → resource_view fg r ≡ body_map f (resource_view g r)
-  natural-Resource r = map_twice (entry_view fg) (entry_view g) (entry_map f) r.body.items natural-Entry
+  natural-Resource r = map_fuses (entry_view fg) (entry_view g) (entry_map f) r.body.items natural-Entry

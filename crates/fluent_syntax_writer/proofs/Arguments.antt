@@ -8,13 +8,13 @@ abbrev pub arguments_left : ℕ → Bool → List (List Mark) → List Mark
 arguments_left level true args = more_joined level args
 arguments_left level false args = joined level args
 
-pub argument_at : (level : ℕ) (follows : Bool) (a : List Mark) (args : List (List Mark)) (end : List Mark)
+pub arguments_left-cons : (level : ℕ) (follows : Bool) (a : List Mark) (args : List (List Mark)) (end : List Mark)
     → arguments_left level follows (a ∷ args) ++ end
     ≡ separator_marks level follows ++ (a ++ (arguments_left level true args ++ end))
-argument_at level true a args end =
+arguments_left-cons level true a args end =
     ap (λ ms. literal level (codes ", ") ∷ ms) (append_assoc a (more_joined level args) end)
-argument_at level false a args end = append_assoc a (more_joined level args) end
+arguments_left-cons level false a args end = append_assoc a (more_joined level args) end
 
-pub none_left : (level : ℕ) (follows : Bool) → arguments_left level follows [] ≡ []
-none_left level true = refl
-none_left level false = refl
+pub arguments_left-none : (level : ℕ) (follows : Bool) → arguments_left level follows [] ≡ []
+arguments_left-none level true = refl
+arguments_left-none level false = refl

@@ -10,11 +10,11 @@ last_of-piece : (last : Option ℕ) (front xs : Text) (b : ℕ) → last_of last
 last_of-piece last front xs b =
     last_of-append last front (xs ++ b ∷ []) ∙ last_of-append (last_of last front) xs (b ∷ [])
 
-split_text : (last : Option ℕ) (front xs ys : Text) (b : ℕ) (level : ℕ) (ns : List Mark)
+split_literal_writes_the_same : (last : Option ℕ) (front xs ys : Text) (b : ℕ) (level : ℕ) (ns : List Mark)
     → last_of last (front ++ xs) ≡ Some b → (b == 10) ≡ false
     → (front ++ xs) ++ text_after (last_of last (front ++ xs)) (literal level ys ∷ ns)
     ≡ (front ++ (xs ++ ys)) ++ text_after (last_of last (front ++ (xs ++ ys))) ns
-split_text last front xs ys b level ns is other =
+split_literal_writes_the_same last front xs ys b level ns is other =
     let whole : (front ++ xs) ++ ys ≡ front ++ (xs ++ ys) = append_assoc front xs ys in
     let again : last_of (last_of last (front ++ xs)) ys ≡ last_of last ((front ++ xs) ++ ys) =
     sym (last_of-append last (front ++ xs) ys) in
@@ -35,5 +35,5 @@ module _ {T W : Type 0} {text : W → List ℕ} {room : W → ℕ} where
   Writes-split {a} {c} {level} xs b ys {ns} other h =
       let front = if is_last 10 a.last then indent level else [] in
       let last_is = last_of-piece a.last front xs b in
-      let split = split_text a.last front (xs ++ b ∷ []) ys b level ns last_is other in
+      let split = split_literal_writes_the_same a.last front (xs ++ b ∷ []) ys b level ns last_is other in
       record { text_appended = Appends-bytes split h.text_appended }

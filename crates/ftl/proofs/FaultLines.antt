@@ -9,7 +9,7 @@ use Rattle.ftl.specs.Answer.{error_fault}
 
 -- ---- errors that report faults
 
-fault_by : {R : Type 0} (kind : Kind) (pos : R) (junk : Option R) (start end : R → ℕ) (f : Fault) →
+fault_of_junk_is_made : {R : Type 0} (kind : Kind) (pos : R) (junk : Option R) (start end : R → ℕ) (f : Fault) →
     option_map (λ s.
     record {
       kind = kind;
@@ -21,11 +21,11 @@ fault_by : {R : Type 0} (kind : Kind) (pos : R) (junk : Option R) (start end : R
       pos = record { start = start pos; end = end pos };
       slice = record { start = start (unwrap_or junk pos); end = end (unwrap_or junk pos) };
     } ≡ f
-fault_by kind pos None start end f e = absurd cc
-fault_by kind pos (Some s) start end f e = cc
+fault_of_junk_is_made kind pos None start end f e = absurd cc
+fault_of_junk_is_made kind pos (Some s) start end f e = cc
 
 error_fault_is : (e : ParserError) (f : Fault) → fault_of e ≡ Some f → error_fault e ≡ f
-error_fault_is e f h = fault_by (kind_of e.kind) e.pos e.slice (λ r. r.start) (λ r. r.end) f h
+error_fault_is e f h = fault_of_junk_is_made (kind_of e.kind) e.pos e.slice (λ r. r.start) (λ r. r.end) f h
 
 -- errors report just the faults that they are of
 pub faults_of_errors : (errors : List ParserError) (fs : List Fault) → map fault_of errors ≡ map Some fs →

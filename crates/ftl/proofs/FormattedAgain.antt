@@ -16,16 +16,16 @@ use Rattle.ftl.specs.declared.command.Command.TheVariants.{Format}
 use Rattle.ftl.specs.declared.outcome.Outcome.{Outcome}
 use Rattle.ftl.specs.declared.outcome.Outcome.TheVariants.{Clean}
 
-joined_names : (tree : BodyTree Text) → names (joined_body tree) ≡ names tree
-joined_names [] = refl
-joined_names (message m ∷ es) = ap (λ l. m.id ∷ l) (joined_names es)
-joined_names (term m ∷ es) = ap (λ l. (hyphen ∷ m.id) ∷ l) (joined_names es)
-joined_names (comment level content ∷ es) = joined_names es
-joined_names (junk content ∷ es) = joined_names es
+joining_keeps_names : (tree : BodyTree Text) → names (joined_body tree) ≡ names tree
+joining_keeps_names [] = refl
+joining_keeps_names (message m ∷ es) = ap (λ l. m.id ∷ l) (joining_keeps_names es)
+joining_keeps_names (term m ∷ es) = ap (λ l. (hyphen ∷ m.id) ∷ l) (joining_keeps_names es)
+joining_keeps_names (comment level content ∷ es) = joining_keeps_names es
+joining_keeps_names (junk content ∷ es) = joining_keeps_names es
 
-clean_outcome : (fs : List Fault) → outcome_with fs ≡ Clean → fs ≡ []
-clean_outcome [] h = refl
-clean_outcome (f ∷ fs) h = absurd cc
+clean_outcome_has_no_faults : (fs : List Fault) → outcome_with fs ≡ Clean → fs ≡ []
+clean_outcome_has_no_faults [] h = refl
+clean_outcome_has_no_faults (f ∷ fs) h = absurd cc
 
 -- of a text that reads as the tree
 module _ (t : Text) (tree : BodyTree Text) (reads : ReadsAs One t tree) (text : Text) (outcome : Outcome)
@@ -56,10 +56,10 @@ formatting_is_idempotent t formatted again outcome next first second canonical =
     record {
       is_clean = answered_clean formatted whole reads again next second;
       reads_as = reads_as;
-      same_names = ap names reads_as ∙ joined_names tree;
+      same_names = ap names reads_as ∙ joining_keeps_names tree;
       is_written = is_written;
       is_same = λ clean.
-          is_written ∙ (law.2 (clean_outcome (faults first.tiles) (sym first.outcome_is ∙ clean))
+          is_written ∙ (law.2 (clean_outcome_has_no_faults (faults first.tiles) (sym first.outcome_is ∙ clean))
           ∙ sym first.text_is);
       is_settled = λ third last answer. (
         answered_clean again whole reads_again third last answer,

@@ -10,7 +10,7 @@ use Rattle.fluent_syntax_grammar.specs.Tiling.{Tile, Tiling}
 use Rattle.fluent_syntax_grammar.specs.Written.{Text, written}
 use Rattle.fluent_syntax_grammar.proofs.OneTiling.{same_tilings}
 use Rattle.fluent_syntax_grammar.proofs.marks.Again.{written_again}
-use Rattle.fluent_syntax_grammar.proofs.marks.Entries.{written_back}
+use Rattle.fluent_syntax_grammar.proofs.marks.Entries.{written_is_read_back}
 use Rattle.ftl.specs.Answer.{normal_text}
 use Rattle.ftl.specs.BlankLines.{HasGaps, HasPlaces, IsKept, IsKeptAgain, Keeps, KeepsAgain, gaps}
 use Rattle.ftl.specs.BlankLines.{ReadsAlike, place_in, places_of, with_line_ends}
@@ -110,13 +110,16 @@ module _ (edition : Edition) where
     -- what is kept could only be that
     pub keeps_none : (HasPlaces edition made there places → ReadsAlike edition made normal → ⊥) →
         IsKept edition t normal normal
-    keeps_none not = inr (refl, λ other a.
-        let same = same_places t normal other there places a gaps_are places_are in
-        let same_text = a.is_made ∙ (ap (with_line_ends 0 normal) same.1 ∙ sym is_made) in
-        let settled = subst (λ g. HasPlaces edition other g a.places) same.0 a.settled in
-        not (subst (λ u. HasPlaces edition u there places) same_text
-        (subst (HasPlaces edition other there) same.1 settled))
-        (subst (λ u. ReadsAlike edition u normal) same_text a.reads))
+    keeps_none not = inr (
+      refl,
+      λ other a.
+          let same = same_places t normal other there places a gaps_are places_are in
+          let same_text = a.is_made ∙ (ap (with_line_ends 0 normal) same.1 ∙ sym is_made) in
+          let settled = subst (λ g. HasPlaces edition other g a.places) same.0 a.settled in
+          not (subst (λ u. HasPlaces edition u there places) same_text
+          (subst (HasPlaces edition other there) same.1 settled))
+          (subst (λ u. ReadsAlike edition u normal) same_text a.reads),
+    )
 
     -- other places in what was made
     pub not_settled : (now : List ℕ) → HasPlaces edition made there now → now ≢ places → IsKept edition t normal normal
@@ -160,7 +163,7 @@ normal_reads : (edition : Edition) (t : Text) (tiles : List Tile) → Tiling edi
     × (normal_text t tiles ≡ written false (reread_tree edition (tree_of t tiles)))
 normal_reads One t tiles tiling clean lossless =
     let law = written_again t tiles tiling lossless in (law.0, sym (law.2 clean))
-normal_reads Two t tiles tiling clean lossless = (written_back Two (tree_of t tiles) false lossless, refl)
+normal_reads Two t tiles tiling clean lossless = (written_is_read_back Two (tree_of t tiles) false lossless, refl)
 
 pub keeping_is_idempotent : (t : Text) → KeepsAgain t
 keeping_is_idempotent t edition tiles tiling clean lossless kept is others others_tiling =

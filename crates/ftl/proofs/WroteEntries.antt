@@ -11,26 +11,26 @@ use Rattle.ftl.specs.OneByOne.{WroteEntries, wrote_none, one_more}
 use Rattle.ftl.specs.declared.writers.NormalWriter.{NormalWriter}
 
 -- whether a tree and one more entry obey the rules
-obeys_with : (rules : Rules) (tree : BodyTree Text) (e : EntryTree Text) →
+body_obeys-append : (rules : Rules) (tree : BodyTree Text) (e : EntryTree Text) →
     body_obeys rules (tree ++ e ∷ []) ≡ (body_obeys rules tree && entry_obeys rules e)
-obeys_with rules [] e = and_true (entry_obeys rules e)
-obeys_with rules (x ∷ tree) e =
-    ap (λ b. entry_obeys rules x && b) (obeys_with rules tree e)
+body_obeys-append rules [] e = and_true (entry_obeys rules e)
+body_obeys-append rules (x ∷ tree) e =
+    ap (λ b. entry_obeys rules x && b) (body_obeys-append rules tree e)
     ∙ sym (and_assoc (entry_obeys rules x) (body_obeys rules tree) (entry_obeys rules e))
 
 -- and whether this is known, if it is asked
-pub asked_with : (asks : Bool) (rules : Rules) (tree : BodyTree Text) (e : EntryTree Text) (all : Bool) →
+pub asked_rules_hold_after : (asks : Bool) (rules : Rules) (tree : BodyTree Text) (e : EntryTree Text) (all : Bool) →
     all ≡ (asks && body_obeys rules tree) → (all && entry_obeys rules e)
     ≡ (asks && body_obeys rules (tree ++ e ∷ []))
-asked_with asks rules tree e all is =
+asked_rules_hold_after asks rules tree e all is =
     ap (λ b. b && entry_obeys rules e) is ∙ and_assoc asks (body_obeys rules tree) (entry_obeys rules e)
-    ∙ ap (λ b. asks && b) (sym (obeys_with rules tree e))
+    ∙ ap (λ b. asks && b) (sym (body_obeys-append rules tree e))
 
-pub wrote_normal : {edition : Edition} {asks : Bool} {start now : NormalWriter} {tree : BodyTree Text}
+pub written_entries_are_normal : {edition : Edition} {asks : Bool} {start now : NormalWriter} {tree : BodyTree Text}
     → WroteEntries AddsNormal start tree now
     → HasNormal edition asks [] start → HasNormal edition asks tree now
-wrote_normal wrote_none none = none
-wrote_normal (one_more wrote next) none = next.added (wrote_normal wrote none)
+written_entries_are_normal wrote_none none = none
+written_entries_are_normal (one_more wrote next) none = next.added (written_entries_are_normal wrote none)
 
 pub wrote_json : {start now : BodyWriter (String Global)} {tree : BodyTree Text} → WroteEntries AddsJson start tree now
     → HasJson [] start → HasJson tree now

@@ -6,17 +6,17 @@ use Rattle.ftl_files.specs.Files.{Changes, GoesOn}
 use Rattle.ftl_files.specs.Memory.{bytes_at, bytes_of, files_of}
 use Rattle.ftl_files.specs.declared.memory.Change.{Change}
 
-by_test : (test : Bool) (path at : List ℕ) (came was : Option (List ℕ)) → Decides test (path ≡ at) →
+tested_path_came_or_was : (test : Bool) (path at : List ℕ) (came was : Option (List ℕ)) → Decides test (path ≡ at) →
     ((path ≡ at) × ((if test then came else was) ≡ came)) ⊎ ((if test then came else was) ≡ was)
-by_test true path at came was is = inl (is.0 refl, refl)
-by_test false path at came was is = inr refl
+tested_path_came_or_was true path at came was is = inl (is.0 refl, refl)
+tested_path_came_or_was false path at came was is = inr refl
 
 module _ (change : Change) (before : List Change) where
   -- what is at a path is what the change has left there, or what was there
   pub newest : (path : List ℕ) → ((path ≡ string_bytes change.path)
       × (bytes_at (change ∷ before) path ≡ bytes_of change.bytes))
       ⊎ (bytes_at (change ∷ before) path ≡ bytes_at before path)
-  newest path = by_test (bytes_eq path (string_bytes change.path)) path (string_bytes change.path)
+  newest path = tested_path_came_or_was (bytes_eq path (string_bytes change.path)) path (string_bytes change.path)
       (bytes_of change.bytes)
       (bytes_at before path) (bytes_eq-Decides path (string_bytes change.path))
 
@@ -46,8 +46,8 @@ module _ (change : Change) (before : List Change) where
     }
 
 -- the same, of what a call has left
-pub to_changed : (before after : List Change) (change : Change) (changes : Changes) → after ≡ change ∷ before →
+pub goes_on_to_change : (before after : List Change) (change : Change) (changes : Changes) → after ≡ change ∷ before →
     ((path : List ℕ) (left : Option (List ℕ)) → path ≡ string_bytes change.path → left ≡ bytes_of change.bytes →
     changes path left) → GoesOn (files_of before) (files_of after) changes
-to_changed before after change changes is comes =
+goes_on_to_change before after change changes is comes =
     subst (λ l. GoesOn (files_of before) (files_of l) changes) (sym is) (changed change before changes comes)

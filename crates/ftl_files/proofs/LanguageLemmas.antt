@@ -7,9 +7,9 @@ use Rattle.std.specs.Prelude.{◌≢◌, IfSome, MatchOption}
 use Rattle.ftl_files.specs.Languages.{IsDirect, IsLanguage}
 
 -- the path, by the folder of the language and by what is below it
-pub whole_path : (languages name rest relative path : List ℕ) → path ≡ languages ++ codes "/" ++ relative →
+pub path_is_joined : (languages name rest relative path : List ℕ) → path ≡ languages ++ codes "/" ++ relative →
     relative ≡ name ++ 47 ∷ rest → path ≡ (languages ++ codes "/" ++ name ++ codes "/") ++ rest
-whole_path languages name rest relative path place parts = place ∙ rw parts (simp append_assoc)
+path_is_joined languages name rest relative path place parts = place ∙ rw parts (simp append_assoc)
 
 -- what is before the first `/` of a path, and what follows it
 pub cut_at_slash : (relative : List ℕ) (name rest : Bor (List ℕ)) → IsSplitOnceResult 47 relative (Some (name, rest)) →
@@ -17,9 +17,9 @@ pub cut_at_slash : (relative : List ℕ) (name rest : Bor (List ℕ)) → IsSpli
 cut_at_slash relative name rest splits = split_parts 47 relative (Some (name, rest)) splits (omega arith)
 
 -- what a path begins with before its ending
-before_ending : (rest path front : List ℕ) (k : ℕ) → path ≡ take (length path - k) path ++ rest →
+path_is_front_and_ending : (rest path front : List ℕ) (k : ℕ) → path ≡ take (length path - k) path ++ rest →
     front ≡ take (length path - k) path → path ≡ front ++ rest
-before_ending rest path front k ends is = ends ∙ rw is refl
+path_is_front_and_ending rest path front k ends is = ends ∙ rw is refl
 
 -- a language is found
 abbrev IsFound : (languages path : List ℕ) → Option (Bor (List ℕ)) → Type 0
@@ -32,12 +32,12 @@ pub is_language : (languages name rest relative path front : List ℕ) (k : ℕ)
     MatchOption r ((x : List ℕ) → front ≢ x ++ (47 ∷ [])) (λ x. front ≡ x.now ++ (47 ∷ [])) →
     IsFound languages path r
 is_language languages name rest relative path front k None place parts direct ends is strips =
-    let whole = whole_path languages name rest relative path place parts in
-    let begins = before_ending rest path front k ends is in
+    let whole = path_is_joined languages name rest relative path place parts in
+    let begins = path_is_front_and_ending rest path front k ends is in
     strips (languages ++ codes "/" ++ name) (append_cancel_right _ _ rest (sym begins ∙ whole))
 is_language languages name rest relative path front k (Some x) place parts direct ends is strips =
-    let whole = whole_path languages name rest relative path place parts in
-    let begins = before_ending rest path front k ends is in
+    let whole = path_is_joined languages name rest relative path place parts in
+    let begins = path_is_front_and_ending rest path front k ends is in
     let slash = append_cancel_right front (languages ++ codes "/" ++ name ++ codes "/") rest (sym begins ∙ whole) in
     let folder = append_cancel_right x.now (languages ++ codes "/" ++ name) (codes "/") (sym strips ∙ slash) in
     record {
@@ -53,9 +53,9 @@ pub found_is : (languages path : List ℕ) (r : Option (Bor (List ℕ))) → IsF
 found_is languages path None never = absurd never
 found_is languages path (Some x) is = is
 
-pub found_some : (languages path : List ℕ) (r : Option (Bor (List ℕ))) → IsFound languages path r → r ≢ None
-found_some languages path None never none = never
-found_some languages path (Some x) is none = absurd cc
+pub found_exists : (languages path : List ℕ) (r : Option (Bor (List ℕ))) → IsFound languages path r → r ≢ None
+found_exists languages path None never none = never
+found_exists languages path (Some x) is none = absurd cc
 
 -- the relative path of what leads through the folder of a language
 pub language_relative : (languages path language relative : List ℕ) (l : IsLanguage languages path language) →

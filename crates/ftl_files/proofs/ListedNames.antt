@@ -4,13 +4,13 @@ use Rattle.toml.specs.Data.{Data, array}
 use Rattle.toml.specs.View.{items_of}
 use Rattle.ftl_files.specs.Settings.{IsListed}
 
-same_items : (xs ys : List Data) → items_of xs ≡ items_of ys → xs ≡ ys
-same_items [] [] same = refl
-same_items [] (y ∷ ys) same = cc
-same_items (x ∷ xs) [] same = cc
-same_items (x ∷ xs) (y ∷ ys) same =
+items_of_injective : (xs ys : List Data) → items_of xs ≡ items_of ys → xs ≡ ys
+items_of_injective [] [] same = refl
+items_of_injective [] (y ∷ ys) same = cc
+items_of_injective (x ∷ xs) [] same = cc
+items_of_injective (x ∷ xs) (y ∷ ys) same =
     let others : items_of xs ≡ items_of ys = cc in
-    let beyond = same_items xs ys others in
+    let beyond = items_of_injective xs ys others in
     cc
 
 module _ {A : Type 0} (named : A → Data) where
@@ -33,7 +33,7 @@ module _ {A : Type 0} (named : A → Data) where
   not_listed values before value after things at other (inl none) = cc
   not_listed values before value after things at other (inr same) =
       let items : items_of values ≡ items_of (map named things) = cc in
-      no_other (map named before) value after things (sym at ∙ same_items values (map named things) items) other
+      no_other (map named before) value after things (sym at ∙ items_of_injective values (map named things) items) other
 
   pub is_listed : (values : List Data) (things : List A) → values ≡ map named things →
       IsListed named (Some (array (items_of values))) things

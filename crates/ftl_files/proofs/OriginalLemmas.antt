@@ -32,24 +32,24 @@ reference_is_original above own relative path (Ok (Some original)) place direct 
 }
 
 -- the relative path of what has an original
-original_relative : (above own path original relative : List ℕ) (o : IsOriginal above own path original) →
+original_is_language_and_rest : (above own path original relative : List ℕ) (o : IsOriginal above own path original) →
     path ≡ above ++ codes "/" ++ relative → relative ≡ o.language ++ o.rest
-original_relative above own path original relative o from =
+original_is_language_and_rest above own path original relative o from =
     append_cancel_left (above ++ codes "/") relative (o.language ++ o.rest) (sym from ∙ o.path_is ∙ simp append_assoc)
 
 -- what is directly in a folder has no original where it is the reference
 pub no_original_of_reference : (above own path original relative : List ℕ) → IsOriginal above own path original →
     path ≡ above ++ codes "/" ++ relative → IsSplitOnceResult 47 relative None → relative ≢ own
 no_original_of_reference above own path original relative o from splits same =
-    let parts = original_relative above own path original relative o from in
+    let parts = original_is_language_and_rest above own path original relative o from in
     ⊎_elim (λ none. o.other
     (sym (append-nil o.language) ∙ ap (λ l. o.language ++ l) (sym none) ∙ sym parts ∙ same))
     (λ below. split_after 47 relative o.language below.0 None splits (omega arith)
     (parts ∙ ap (λ rest. o.language ++ rest) below.1) o.direct)
     o.whole
 
-no_slash : (name rest language : List ℕ) → IsDirect language → language ≢ name ++ 47 ∷ rest
-no_slash name rest language direct is =
+direct_name_has_no_slash : (name rest language : List ℕ) → IsDirect language → language ≢ name ++ 47 ∷ rest
+direct_name_has_no_slash name rest language direct is =
     direct (length name) (omega (arith, ap length is, length-append name (47 ∷ rest)))
     (ap (λ l. get_or l (length name) 0) is ∙ get_or-append_seam name 47 rest 0)
 
@@ -58,8 +58,8 @@ pub no_original_in_reference : (above own path original relative : List ℕ) (na
     IsOriginal above own path original → path ≡ above ++ codes "/" ++ relative → relative ≡ name.now ++ 47 ∷ rest.now →
     IsSplitOnceResult 47 relative (Some (name, rest)) → name.now ≢ own
 no_original_in_reference above own path original relative name rest o from cut splits same =
-    let parts = original_relative above own path original relative o from in
-    ⊎_elim (λ none. no_slash name.now rest.now o.language o.direct
+    let parts = original_is_language_and_rest above own path original relative o from in
+    ⊎_elim (λ none. direct_name_has_no_slash name.now rest.now o.language o.direct
     (sym (append-nil o.language) ∙ ap (λ l. o.language ++ l) (sym none) ∙ sym parts ∙ cut))
     (λ below. let first = split_after 47 relative o.language below.0 (Some (name, rest)) splits (omega arith)
     (parts ∙ ap (λ l. o.language ++ l) below.1) o.direct in

@@ -8,16 +8,16 @@ use Rattle.ftl_files.specs.Store.{AllUnchanged, Becomes}
 use Rattle.ftl_files.proofs.Steps.{IsPartOf, then}
 
 -- what a call that changes nothing has left
-pub none_changed : (old new : Files) → GoesOn old new nowhere → AllUnchanged old.bytes_at new.bytes_at
-none_changed old new one path = ⊎_elim (λ same. same) (λ none. absurd none) (one.bytes path)
+pub nowhere_leaves_all_unchanged : (old new : Files) → GoesOn old new nowhere → AllUnchanged old.bytes_at new.bytes_at
+nowhere_leaves_all_unchanged old new one path = ⊎_elim (λ same. same) (λ none. absurd none) (one.bytes path)
 
 known : (o : Option (List ℕ)) (P : Type 0) → IfSome o (λ _. P) → (o ≡ None) ⊎ P
 known None P is = inl refl
 known (Some bytes) P is = inr is
 
-each_known : (o : Option (List ℕ)) (P Q : Type 0) → IfSome o (λ _. P) → (P → Q) → IfSome o (λ _. Q)
-each_known None P Q is so = tt
-each_known (Some bytes) P Q is so = so is
+IfSome-weaker : (o : Option (List ℕ)) (P Q : Type 0) → IfSome o (λ _. P) → (P → Q) → IfSome o (λ _. Q)
+IfSome-weaker None P Q is so = tt
+IfSome-weaker (Some bytes) P Q is so = so is
 
 module _ (old synced : Files) (temporary path text : List ℕ) where
   -- what a rename brings is the text, after the bytes that were known
@@ -37,7 +37,7 @@ pub filling : (old written synced new : Files) (temporary path text : List ℕ) 
     IsSynced synced temporary → GoesOn old new (filled old temporary path text)
 filling old written synced new temporary path text write sync rename has_text is_synced =
     let part = renamed_part old synced temporary path text
-    (λ bytes known. none_changed written synced sync temporary ∙ has_text bytes known) is_synced in
+    (λ bytes known. nowhere_leaves_all_unchanged written synced sync temporary ∙ has_text bytes known) is_synced in
     let two = then old written synced (at_path temporary) nowhere (filled old temporary path text) write sync
     (λ p left is. inl is) (λ p left none. absurd none) in
     then old synced new (filled old temporary path text)
@@ -45,18 +45,18 @@ filling old written synced new temporary path text write sync rename has_text is
     (λ p left is. is) part
 
 -- the file that is filled was not there before, and was empty if the old one's bytes were known
-pub filled_part : (old made : Files) (temporary path text : List ℕ) → old.bytes_at temporary ≡ None →
+pub filled_is_in_replaced : (old made : Files) (temporary path text : List ℕ) → old.bytes_at temporary ≡ None →
     IfSome (old.bytes_at path) (λ _. made.bytes_at temporary ≡ Some []) →
     IsPartOf (filled made temporary path text) (replaced old path text)
-filled_part old made temporary path text free empty at left (inl same) = inl (ap old.bytes_at same ∙ free)
-filled_part old made temporary path text free empty at left (inr (same, comes)) = ⊎_elim
+filled_is_in_replaced old made temporary path text free empty at left (inl same) = inl (ap old.bytes_at same ∙ free)
+filled_is_in_replaced old made temporary path text free empty at left (inr (same, comes)) = ⊎_elim
     (λ none. inl (ap old.bytes_at same ∙ none)) (λ is_empty. inr (same, comes [] is_empty))
     (known (old.bytes_at path) (made.bytes_at temporary ≡ Some []) empty)
 
 -- a file that was not there before is removed
-pub removed_part : (old : Files) (temporary path text : List ℕ) → old.bytes_at temporary ≡ None →
+pub removal_is_part_of_replaced : (old : Files) (temporary path text : List ℕ) → old.bytes_at temporary ≡ None →
     IsPartOf (at_path temporary) (replaced old path text)
-removed_part old temporary path text free at left same = inl (ap old.bytes_at same ∙ free)
+removal_is_part_of_replaced old temporary path text free at left same = inl (ap old.bytes_at same ∙ free)
 
 pub becomes : (old new : Option (List ℕ)) (text : List ℕ) → IfSome old (λ _. new ≡ Some text) → Becomes old new text
 becomes None new text is = tt
@@ -70,22 +70,22 @@ pub replacing : (old made mid new : Files) (temporary path text : List ℕ) (las
 replacing old made mid new temporary path text last first second third is_part free empty =
     let all = replaced old path text in
     let two = then old made mid (at_free_paths old) (filled made temporary path text) all first second
-    (λ p left none. inl none) (filled_part old made temporary path text free empty) in
+    (λ p left none. inl none) (filled_is_in_replaced old made temporary path text free empty) in
     then old mid new all last all two third (λ p left is. is) is_part
 
 -- the text is on the disk, and so is its name
-pub durable : (old made mid new : Files) (temporary path text : List ℕ) →
+pub makes_durable : (old made mid new : Files) (temporary path text : List ℕ) →
     IfSome (old.bytes_at path) (λ _. made.bytes_at temporary ≡ Some []) →
     IfSome (made.bytes_at temporary) (λ _. IsSynced mid path) → GoesOn mid new nowhere → IsNamed new path →
     IfSome (old.bytes_at path) (λ _. IsDurable new path)
-durable old made mid new temporary path text empty synced last named =
-    each_known (old.bytes_at path) (made.bytes_at temporary ≡ Some []) (IsDurable new path) empty
+makes_durable old made mid new temporary path text empty synced last named =
+    IfSome-weaker (old.bytes_at path) (made.bytes_at temporary ≡ Some []) (IsDurable new path) empty
     (λ is_empty bytes is left leaves.
     let kept = named bytes is left leaves in
     let held = ⊎_elim (λ was. was) (λ none. absurd none) (last.hold path kept.0 kept.2) in
     let is_synced = MatchOption-at_some _ _ [] is_empty synced in
-    kept.1 ∙ ap Some (is_synced bytes (sym (none_changed mid new last path) ∙ is) kept.0 held))
+    kept.1 ∙ ap Some (is_synced bytes (sym (nowhere_leaves_all_unchanged mid new last path) ∙ is) kept.0 held))
 
-pub on_ok : {T E : Type 0} (r : Result T E) (P Q : Type 0) → OnOk r P → (P → Q) → OnOk r Q
-on_ok (Ok x) P Q is so = so is
-on_ok (Err e) P Q is so = tt
+pub OnOk-weaker : {T E : Type 0} (r : Result T E) (P Q : Type 0) → OnOk r P → (P → Q) → OnOk r Q
+OnOk-weaker (Ok x) P Q is so = so is
+OnOk-weaker (Err e) P Q is so = tt

@@ -18,13 +18,13 @@ abbrev in_line : (line character : ℕ) → Position
 in_line line character = record { line = line; character = character }
 
 -- the place where a line begins
-pub starts_at : (t : List ℕ) (number at : ℕ) → BeginsLine t number at → in_line number 0 ≡ position_at t at
-starts_at t number at begins =
+pub line_start_is_place : (t : List ℕ) (number at : ℕ) → BeginsLine t number at → in_line number 0 ≡ position_at t at
+line_start_is_place t number at begins =
     ap (λ n. in_line n 0) (sym begins.line) ∙ ap (λ n. in_line (line_at t at) n) (sym begins.character)
 
 -- it is not passed before its line's first byte
-pub ahead_of_line : (t : List ℕ) (position : Position) (at : ℕ) → BeginsLine t position.line at → IsAhead t position at
-ahead_of_line t position at begins =
+pub line_is_ahead : (t : List ℕ) (position : Position) (at : ℕ) → BeginsLine t position.line at → IsAhead t position at
+line_is_ahead t position at begins =
     record { line = omega (arith, begins.line); column = λ e. omega (arith, begins.character) }
 
 -- a line ends with a byte at which its text ends
@@ -34,22 +34,22 @@ break_of false true before_lf e = refl
 break_of false false before_lf e = e
 
 -- the first half of what is so, and the second
-both : (a b : Bool) → (a && b) ≡ true → (a ≡ true) × (b ≡ true)
-both true true e = (refl, refl)
-both true false e = absurd cc
-both false b e = absurd cc
+both_of_and_are_true : (a b : Bool) → (a && b) ≡ true → (a ≡ true) × (b ≡ true)
+both_of_and_are_true true true e = (refl, refl)
+both_of_and_are_true true false e = absurd cc
+both_of_and_are_true false b e = absurd cc
 
 -- where bytes that go on with a character count nothing, a place is not reached at one of them
-lead_of : (b character column : ℕ) → character ≤ column → stops_at b character column ≡ true → 128 ≤ b → 192 ≤ b
-lead_of b character column l e h = grind (arith, l, e, h)
+stops_at_lead : (b character column : ℕ) → character ≤ column → stops_at b character column ≡ true → 128 ≤ b → 192 ≤ b
+stops_at_lead b character column l e h = grind (arith, l, e, h)
 
 -- a line's text doesn't end where a place is not reached
-stop_false : (b character column : ℕ) → stops_at b character column ≡ false → is_break b ≡ true → ⊥
-stop_false b character column e f = grind (arith, e, f)
+break_stops : (b character column : ℕ) → stops_at b character column ≡ false → is_break b ≡ true → ⊥
+break_stops b character column e f = grind (arith, e, f)
 
 -- where a place is not reached before a byte, what begins with it doesn't reach beyond the column
-fits : (b character column : ℕ) → stops_at b character column ≡ false → character + utf16_units b ≤ column
-fits b character column e = grind (arith, e)
+fits_column : (b character column : ℕ) → stops_at b character column ≡ false → character + utf16_units b ≤ column
+fits_column b character column e = grind (arith, e)
 
 module _ (t : List ℕ) (position : Position) (at : ℕ) where
   ends_at_break : ends_line t at ≡ true → is_break (slice_index t at) ≡ true
@@ -60,13 +60,13 @@ module _ (t : List ℕ) (position : Position) (at : ℕ) where
     pub there : at < length t → is_reached (slice_index t at) (position_at t at) position ≡ true
         → IsByteOf t position at
     there l e =
-        let h = both (line_at t at == position.line) (stops_at (slice_index t at)
+        let h = both_of_and_are_true (line_at t at == position.line) (stops_at (slice_index t at)
         (character_at t at) position.character) e in
         let line : line_at t at ≡ position.line = grind (arith, h.0) in
         record {
           boundary = (
             omega arith,
-            λ m. lead_of (slice_index t at) (character_at t at) position.character
+            λ m. stops_at_lead (slice_index t at) (character_at t at) position.character
                 (ahead.column line) h.1,
           );
           there = inl (record { line = line; column = ahead.column line; reached = inr h.1 });
@@ -84,10 +84,10 @@ module _ (t : List ℕ) (position : Position) (at : ℕ) where
       beyond true e =
           let low : line_at t at ≤ position.line = ahead.line in
           let other : line_at t at ≡ position.line → ⊥ = λ same.
-          stop_false (slice_index t at) (character_at t at) position.character (not_stopped same) (ends_at_break e) in
+          break_stops (slice_index t at) (character_at t at) position.character (not_stopped same) (ends_at_break e) in
           (grind (arith, low, other), λ same. omega arith)
       beyond false e =
-          (ahead.line, λ same. fits (slice_index t at) (character_at t at) position.character (not_stopped same))
+          (ahead.line, λ same. fits_column (slice_index t at) (character_at t at) position.character (not_stopped same))
 
       pub still_ahead : IsAhead t position (at + 1)
       still_ahead =
@@ -96,8 +96,8 @@ module _ (t : List ℕ) (position : Position) (at : ℕ) where
           subst (IsAhead t position) next (record { line = h.0; column = h.1 })
 
 -- a place that is not passed with the text is at its end
-pub at_the_end : (t : List ℕ) (position : Position) → IsAhead t position (length t) → IsByteOf t position (length t)
-at_the_end t position ahead = record {
+pub is_at_text_end : (t : List ℕ) (position : Position) → IsAhead t position (length t) → IsByteOf t position (length t)
+is_at_text_end t position ahead = record {
   boundary = IsCharBoundary-end t;
   there = by_line (nat_le position.line (line_at t (length t))) refl;
 }

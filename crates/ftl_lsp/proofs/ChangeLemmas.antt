@@ -6,10 +6,10 @@ use Rattle.ftl_lsp.specs.Edits.{Edit, edit_of}
 use Rattle.ftl_lsp.specs.declared.documents.changes.Change.{Change}
 
 -- one change more was made
-pub made_more : (old : List ℕ) (changes : List Change) (i : ℕ) (d : Change) (made new : List ℕ) →
+pub MakesEdits-more : (old : List ℕ) (changes : List Change) (i : ℕ) (d : Change) (made new : List ℕ) →
     i < length changes → MakesEdits old (map edit_of (take i changes)) made →
     MakesEdit made (edit_of (get_or changes i d)) new → MakesEdits old (map edit_of (take (i + 1) changes)) new
-made_more old changes i d made new within before last =
+MakesEdits-more old changes i d made new within before last =
     let edit = edit_of (get_or changes i d) in
     let longer : map edit_of (take i changes) ++ edit ∷ [] ≡ map edit_of (take (i + 1) changes) =
     sym (ap (map edit_of) (take_more changes i d within)

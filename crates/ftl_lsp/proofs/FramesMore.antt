@@ -85,9 +85,9 @@ body_and_rest t at n =
     ∙ ap (λ l. take n (drop at t) ++ l) (drop-drop n at t)
     ∙ ap (λ m. take m (drop at t) ++ drop (at + n) t) size
 
-whole_frame : (t : List ℕ) (at n : ℕ) → HeaderOf t at →
+text_is_header_body_and_rest : (t : List ℕ) (at n : ℕ) → HeaderOf t at →
     t ≡ take at t ++ codes "\r\n\r\n" ++ slice_range t (at + 4) (at + 4 + n) ++ drop (at + 4 + n) t
-whole_frame t at n h =
+text_is_header_body_and_rest t at n h =
     let front = take at t in
     let empty = codes "\r\n\r\n" in
     let body = slice_range t (at + 4) (at + 4 + n) in
@@ -97,16 +97,16 @@ whole_frame t at n h =
     ∙ sym (append_assoc front empty (body ++ rest)) ∙ sym (append_assoc (front ++ empty) body rest)
 
 -- where a frame lies, there are its header, its body and what comes after it
-pub frame_there : (t : List ℕ) (start end : ℕ) → IsFraming t (Frame start end) →
+pub framed_bytes_are_frame : (t : List ℕ) (start end : ℕ) → IsFraming t (Frame start end) →
     IsFrame t (slice_range t start end) (drop end t)
-frame_there t start end (frame at n h has small within) =
+framed_bytes_are_frame t start end (frame at n h has small within) =
     let size : length (slice_range t (at + 4) (at + 4 + n)) ≡ n =
     length-take-le (at + 4 + n - (at + 4)) (drop (at + 4) t) (omega (arith, length-drop (at + 4) t)) ∙ omega arith in
     let inside : at ≤ length t = omega arith in
     let front : length (take at t) ≡ at = length-take-le at t inside in
     record {
       header = take at t;
-      whole = whole_frame t at n h;
+      whole = text_is_header_body_and_rest t at n h;
       first = subst (IsHeaderEnd t) (sym front) h.ends;
       short = subst (λ k. k + 4 ≤ 4096) (sym front) h.short;
       says = subst (λ k. HasLength (take at t) (Some k)) (sym size) has;

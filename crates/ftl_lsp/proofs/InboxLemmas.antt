@@ -9,11 +9,11 @@ use Rattle.ftl_lsp.specs.Frames.{IsFrame, IsFraming}
 use Rattle.ftl_lsp.specs.Inbox.{TakesFrame}
 use Rattle.ftl_lsp.specs.declared.sessions.frames.FrameFault.{FrameFault}
 use Rattle.ftl_lsp.specs.declared.sessions.frames.Framing.TheVariants.{Frame, Refused}
-use Rattle.ftl_lsp.proofs.FramesMore.{framing_more, frame_there, header_more}
+use Rattle.ftl_lsp.proofs.FramesMore.{framing_more, framed_bytes_are_frame, header_more}
 
 -- a frame with more bytes after it
-frame_more : (t body rest more : List ℕ) → IsFrame t body rest → IsFrame (t ++ more) body (rest ++ more)
-frame_more t body rest more f =
+IsFrame-append : (t body rest more : List ℕ) → IsFrame t body rest → IsFrame (t ++ more) body (rest ++ more)
+IsFrame-append t body rest more f =
     let sizes = simp length-append at (ap length f.whole) in
     let header : HeaderOf t (length f.header) =
     record { ends = f.first; short = f.short; within = omega (arith, sizes) } in
@@ -35,11 +35,11 @@ takes_frame None left s t pending body start end same is framing parts rest = tt
 takes_frame (Some bytes) None s t pending body start end same is framing parts rest = absurd same
 takes_frame (Some bytes) (Some more) s t pending body start end same is framing parts rest =
     let there : IsFrame t (slice_range t start end) (drop end t) =
-    frame_there t start end (subst (λ u. IsFraming u (Frame start end)) is framing) in
+    framed_bytes_are_frame t start end (subst (λ u. IsFraming u (Frame start end)) is framing) in
     let named : IsFrame t body pending =
     subst (λ x. IsFrame t x pending) (sym parts)
     (subst (λ x. IsFrame t (slice_range t start end) x) (sym rest) there) in
-    subst (λ x. IsFrame x body (pending ++ more)) same (frame_more t body pending more named)
+    subst (λ x. IsFrame x body (pending ++ more)) same (IsFrame-append t body pending more named)
 
 -- pending bytes that are no frame are none with what is left after them
 pub refuses : (old left : Option (List ℕ)) (s t : List ℕ) (fault : FrameFault) → Keeps old (prepend_known t left) →

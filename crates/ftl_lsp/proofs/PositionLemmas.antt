@@ -37,10 +37,10 @@ character_at-le t (suc n) =
     (units-le (slice_index t n))
 
 -- one byte more
-range_more : (t : List ℕ) (start n : ℕ) → start ≤ n → n < length t →
+range_units-more : (t : List ℕ) (start n : ℕ) → start ≤ n → n < length t →
     sum_by utf16_units (slice_range t start (suc n)) ≡
     sum_by utf16_units (slice_range t start n) + utf16_units (slice_index t n)
-range_more t start n h l =
+range_units-more t start n h l =
     let inside : n - start < length (drop start t) = omega (arith, length-drop start t) in
     let one : suc n - start ≡ (n - start) + 1 = omega arith in
     let there : start + (n - start) ≡ n = omega arith in
@@ -74,11 +74,11 @@ one_more t n false l e p = record {
       let here : k < n + 1 = omega arith in
       below_more (λ m. p.start ≤ m → ends_line t m ≡ false) n (λ m h i. p.same_line m i h) (λ i. e) k here f;
   line = p.line;
-  character = ap (λ m. m + utf16_units (slice_index t n)) p.character ∙ sym (range_more t p.start n p.before l);
+  character = ap (λ m. m + utf16_units (slice_index t n)) p.character ∙ sym (range_units-more t p.start n p.before l);
 }
 
-pub is_position : (t : List ℕ) (n : ℕ) → n ≤ length t → IsPosition t n (position_at t n)
-is_position t zero l = record {
+pub position_at_is_position : (t : List ℕ) (n : ℕ) → n ≤ length t → IsPosition t n (position_at t n)
+position_at_is_position t zero l = record {
   start = 0;
   before = omega arith;
   begins = λ h. absurd (omega arith);
@@ -86,7 +86,7 @@ is_position t zero l = record {
   line = refl;
   character = refl;
 }
-is_position t (suc n) l =
+position_at_is_position t (suc n) l =
     let within : n ≤ length t = omega arith in
     let inside : n < length t = omega arith in
-    one_more t n (ends_line t n) inside refl (is_position t n within)
+    one_more t n (ends_line t n) inside refl (position_at_is_position t n within)

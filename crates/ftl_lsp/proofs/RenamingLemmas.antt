@@ -15,37 +15,37 @@ use Rattle.ftl_lsp.specs.OpenDocuments.{OpenText}
 use Rattle.ftl_lsp.specs.Renaming.{HasText, RenamesAt, renames_at}
 
 -- what holds of a list's values holds with one more
-pub one_more : (P : Data → Type 0) (old new : List Value) (value : Value) → new ≡ old ++ value ∷ [] →
+pub All-append_value : (P : Data → Type 0) (old new : List Value) (value : Value) → new ≡ old ++ value ∷ [] →
     All P (map view old) → P (view value) → All P (map view new)
-one_more P old new value is all one =
+All-append_value P old new value is all one =
     subst (λ (values : List Value). All P (map view values)) (sym is)
     (subst (All P) (sym (map-append view old (value ∷ []))) (All-push P (map view old) (view value) all one))
 
 -- a name has bytes, so they are those of its span
-pub cut_name : (t : List ℕ) (span : Span) (name : List ℕ) → is_name name ≡ true → IsCut t span name →
+pub cut_is_range_of_name : (t : List ℕ) (span : Span) (name : List ℕ) → is_name name ≡ true → IsCut t span name →
     slice_range t span.start span.end ≡ name
-cut_name t span name named (inl is) = sym is
-cut_name t span name named (inr none) = absurd (true≢false (sym named ∙ ap is_name none))
+cut_is_range_of_name t span name named (inl is) = sym is
+cut_is_range_of_name t span name named (inr none) = absurd (true≢false (sym named ∙ ap is_name none))
 
 -- an edit of that span renames it
-pub renamed_at : (t old identifier positions : List ℕ) (span : Span) (value : Data) →
+pub edit_renames : (t old identifier positions : List ℕ) (span : Span) (value : Data) →
     value ≡ edit_form positions identifier span → positions ≡ t → is_name old ≡ true → IsCut t span old →
     RenamesAt t old identifier value
-renamed_at t old identifier positions span value form same named cut =
+edit_renames t old identifier positions span value form same named cut =
     subst (RenamesAt t old identifier) (sym (form ∙ ap (λ (u : List ℕ). edit_form u identifier span) same))
-    (renames_at span (cut_name t span old named cut))
+    (renames_at span (cut_is_range_of_name t span old named cut))
 
 -- what is not there
-pub not_found : {X Y : Type 0} (f : X → Y) (o : Option X) → false ≡ is_some o → option_map f o ≡ None
-not_found f None e = refl
-not_found f (Some x) e = absurd (true≢false (sym e))
+pub absent_is_none : {X Y : Type 0} (f : X → Y) (o : Option X) → false ≡ is_some o → option_map f o ≡ None
+absent_is_none f None e = refl
+absent_is_none f (Some x) e = absurd (true≢false (sym e))
 
 -- a document under the name of one that is open has its text
-pub open_text_of : (texts : List ℕ → Option OpenText) (uri t : List ℕ) (version : Option ℤ) (found : OpenText) →
+pub has_open_text : (texts : List ℕ → Option OpenText) (uri t : List ℕ) (version : Option ℤ) (found : OpenText) →
     texts uri ≡ Some found → HasText texts uri t version → t ≡ found.text
-open_text_of texts uri t version found open' (inl is) = ap (text_or t) (sym is ∙ open')
+has_open_text texts uri t version found open' (inl is) = ap (text_or t) (sym is ∙ open')
   where
     text_or : List ℕ → Option OpenText → List ℕ
     text_or other None = other
     text_or other (Some there) = there.text
-open_text_of texts uri t version found open' (inr h) = absurd (true≢false (sym (ap is_some open') ∙ ap is_some h.0))
+has_open_text texts uri t version found open' (inr h) = absurd (true≢false (sym (ap is_some open') ∙ ap is_some h.0))

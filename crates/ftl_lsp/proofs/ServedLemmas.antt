@@ -22,9 +22,9 @@ nothing_pending None = refl
 nothing_pending (Some bytes) = refl
 
 -- all of the input is left before the first message
-pub begins_with_all : (input output : Option (List ℕ)) (session : Session) (pending : List ℕ) → IsFresh session →
+pub begins_with_all_input : (input output : Option (List ℕ)) (session : Session) (pending : List ℕ) → IsFresh session →
     pending ≡ [] → Serves input output session (prepend_known pending input) output
-begins_with_all input output session pending is none =
+begins_with_all_input input output session pending is none =
     subst (λ (left : Option (List ℕ)). Serves input output session left output)
     (sym (ap (λ (p : List ℕ). prepend_known p input) none ∙ nothing_pending input)) (begins session is)
 
@@ -40,21 +40,21 @@ keeps_room n new old room is =
     )
 
 -- no memory for the first message
-pub ends_before_all : (input output : Option (List ℕ)) → Ends input output Memory output
-ends_before_all input output =
+pub ends_before_first_message : (input output : Option (List ℕ)) → Ends input output Memory output
+ends_before_first_message input output =
     stops (record { phase = Fresh; texts = λ _. None }) input output output Memory
     (begins (record { phase = Fresh; texts = λ _. None }) (record { phase = refl; none = λ _. refl })) refl
     (has_no_frame Memory output tt refl)
 
 -- what was to be sent for a body, and was not
-pub unsent : {Y : Type 0} (r : Result Y Ending) (before next : Session) (body : List ℕ) (sent : Option Data)
+pub reply_is_unsent : {Y : Type 0} (r : Result Y Ending) (before next : Session) (body : List ℕ) (sent : Option Data)
     (value : Data) (written now : Option (List ℕ)) → TakesMessage before body sent next → sent ≡ Some value →
     IfErr r (λ ending. (ending ≡ Memory) ⊎ (ending ≡ Output)) → (r ≡ Err Memory → now ≡ written) →
     IfErr r (λ ending. IsUnsent before body written ending now)
-unsent (Ok x) before next body sent value written now answers some fault same = fault
-unsent (Err e) before next body sent value written now answers some (inl is) same =
+reply_is_unsent (Ok x) before next body sent value written now answers some fault same = fault
+reply_is_unsent (Err e) before next body sent value written now answers some (inl is) same =
     subst (λ (ending : Ending). IsUnsent before body written ending now) (sym is) (has_no_memory now (same (ap Err is)))
-unsent (Err e) before next body sent value written now answers some (inr is) same =
+reply_is_unsent (Err e) before next body sent value written now answers some (inr is) same =
     subst (λ (ending : Ending). IsUnsent before body written ending now) (sym is)
     (is_not_written now value next (subst (λ (o : Option Data). TakesMessage before body o next) some answers))
 
@@ -62,40 +62,40 @@ abbrev is_exit : Option Ending → Bool
 is_exit (Some Input) = false
 is_exit _ = true
 
-is_exit_of : (phase : Phase) → is_exit (ending_of phase) ≡ true
-is_exit_of Fresh = refl
-is_exit_of Running = refl
-is_exit_of ShutDown = refl
-is_exit_of Exited = refl
-is_exit_of Left = refl
+ending_of_phase_is_exit : (phase : Phase) → is_exit (ending_of phase) ≡ true
+ending_of_phase_is_exit Fresh = refl
+ending_of_phase_is_exit Running = refl
+ending_of_phase_is_exit ShutDown = refl
+ending_of_phase_is_exit Exited = refl
+ending_of_phase_is_exit Left = refl
 
 -- no phase ends as where reading fails
 pub ends_by_no_input : (phase : Phase) → ending_of phase ≢ Some Input
-ends_by_no_input phase is = true≢false (sym (is_exit_of phase) ∙ ap is_exit is)
+ends_by_no_input phase is = true≢false (sym (ending_of_phase_is_exit phase) ∙ ap is_exit is)
 
 -- ---- What is sent unasked
 
 -- after what changes nothing of the session a step is one of the session
-pub takes_then : {X Y : Type 0} (r : Result X Y) (old mid now : Session)
+pub step_then_goes_on : {X Y : Type 0} (r : Result X Y) (old mid now : Session)
     (left after written sent_on : Option (List ℕ)) → mid ≡ old →
     OnOk r (TakesStep mid now left after written sent_on) → OnOk r (GoesOn old now left after written sent_on)
-takes_then (Ok x) old mid now left after written sent_on same step =
+step_then_goes_on (Ok x) old mid now left after written sent_on same step =
     takes (subst (λ (s : Session). TakesStep s now left after written sent_on) same step)
-takes_then (Err e) old mid now left after written sent_on same step = step
+step_then_goes_on (Err e) old mid now left after written sent_on same step = step
 
 -- what was sent unasked
-pub unasked_then : {X Y : Type 0} (r : Result X Y) (old mid : Session) (left written sent_on : Option (List ℕ))
+pub unasked_value_goes_on : {X Y : Type 0} (r : Result X Y) (old mid : Session) (left written sent_on : Option (List ℕ))
     (value : Data) → mid ≡ old → Unasked old value → OnOk r (Sends written sent_on (Some value)) →
     OnOk r (GoesOn old mid left left written sent_on)
-unasked_then (Ok x) old mid left written sent_on value same unasked sends =
+unasked_value_goes_on (Ok x) old mid left written sent_on value same unasked sends =
     sends_unasked value unasked same refl sends
-unasked_then (Err e) old mid left written sent_on value same unasked sends = sends
+unasked_value_goes_on (Err e) old mid left written sent_on value same unasked sends = sends
 
 -- why a session stops after what changes nothing of it
-pub stops_then : {X : Type 0} (r : Result X Ending) (old mid : Session) (left written now : Option (List ℕ)) →
+pub same_session_stops : {X : Type 0} (r : Result X Ending) (old mid : Session) (left written now : Option (List ℕ)) →
     mid ≡ old → IfErr r (λ ending. Stops mid left written ending now) →
     IfErr r (λ ending. Stops old left written ending now)
-stops_then r old mid left written now same stopped =
+same_session_stops r old mid left written now same stopped =
     subst (λ (s : Session). IfErr r (λ ending. Stops s left written ending now)) same stopped
 
 -- what is unasked could not be sent

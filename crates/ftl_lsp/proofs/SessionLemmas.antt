@@ -36,10 +36,10 @@ use Rattle.ftl_lsp.specs.declared.sessions.phases.Phase.{Phase}
 use Rattle.ftl_lsp.specs.declared.sessions.phases.Phase.TheVariants.{Running}
 
 -- what holds of a result's value, with what holds where there is one
-pub ok_with : {X Y : Type 0} (r : Result X Y) (P : Type 0) (Q R : X → Type 0) → (P → (x : X) → Q x → R x) →
+pub IfOk-with : {X Y : Type 0} (r : Result X Y) (P : Type 0) (Q R : X → Type 0) → (P → (x : X) → Q x → R x) →
     OnOk r P → IfOk r Q → IfOk r R
-ok_with (Ok x) P Q R both p q = both p x q
-ok_with (Err e) P Q R both p q = q
+IfOk-with (Ok x) P Q R both p q = both p x q
+IfOk-with (Err e) P Q R both p q = q
 
 -- a value that is as one that is sent
 pub sent_as : (reply : Reply) (value sent : Data) → value ≡ sent → IsSent reply (Some sent) → IsSent reply (Some value)
@@ -50,10 +50,10 @@ abbrev pub in_phase : Phase → Session → Session
 in_phase phase session = record { phase = phase; texts = session.texts }
 
 -- the session after a request that was answered
-pub answered_in : (phase : Phase) (before old : Session) (method : Option Method) →
+pub answered_session_is_in_phase : (phase : Phase) (before old : Session) (method : Option Method) →
     phase ≡ after_request before.phase method → before ≡ old →
     in_phase phase before ≡ in_phase (after_request old.phase method) old
-answered_in phase before old method after same =
+answered_session_is_in_phase phase before old method after same =
     ap (λ (p : Phase). in_phase p before) after
     ∙ ap (λ (s : Session). in_phase (after_request s.phase method) s) same
 
@@ -63,21 +63,21 @@ pub is_open : (old new : List ℕ → Option OpenText) (uri : List ℕ) (found :
 is_open old new uri found sets =
     sets uri ∙ update_same bytes_eq old uri (Some found) uri ((bytes_eq-Decides uri uri).1 refl)
 
-pub named_open : (texts : List ℕ → Option OpenText) (d : Data) (uri : List ℕ) → uri_in d ≡ Some uri →
+pub named_document_is_open : (texts : List ℕ → Option OpenText) (d : Data) (uri : List ℕ) → uri_in d ≡ Some uri →
     names_open texts d ≡ is_some (texts uri)
-named_open texts d uri named = ap (λ o. is_some (option_and_then texts o)) named
+named_document_is_open texts d uri named = ap (λ o. is_some (option_and_then texts o)) named
 
-pub not_named : (texts : List ℕ → Option OpenText) (d : Data) → uri_in d ≡ None → names_open texts d ≡ false
-not_named texts d none = ap (λ o. is_some (option_and_then texts o)) none
+pub unnamed_is_closed : (texts : List ℕ → Option OpenText) (d : Data) → uri_in d ≡ None → names_open texts d ≡ false
+unnamed_is_closed texts d none = ap (λ o. is_some (option_and_then texts o)) none
 
 -- nothing is opened without a name, or without a text
-pub no_name : (texts : List ℕ → Option OpenText) (d : Data) → uri_in d ≡ None →
+pub opening_needs_name : (texts : List ℕ → Option OpenText) (d : Data) → uri_in d ≡ None →
     concerns texts d (Some DidOpen) ≡ false
-no_name texts d none = ap (λ o. is_some o && is_some (opened_text_in d)) none
+opening_needs_name texts d none = ap (λ o. is_some o && is_some (opened_text_in d)) none
 
-pub no_text : (texts : List ℕ → Option OpenText) (d : Data) (uri : List ℕ) → uri_in d ≡ Some uri →
+pub open_needs_text : (texts : List ℕ → Option OpenText) (d : Data) (uri : List ℕ) → uri_in d ≡ Some uri →
     opened_text_in d ≡ None → concerns texts d (Some DidOpen) ≡ false
-no_text texts d uri named none =
+open_needs_text texts d uri named none =
     ap (λ o. is_some o && is_some (opened_text_in d)) named ∙ ap is_some none
 
 and_false : (b : Bool) → (b && false) ≡ false
@@ -85,13 +85,13 @@ and_false true = refl
 and_false false = refl
 
 -- nothing is changed that is not open, or by what can't be read
-pub unless_open : (texts : List ℕ → Option OpenText) (d : Data) → names_open texts d ≡ false →
+pub changing_needs_open : (texts : List ℕ → Option OpenText) (d : Data) → names_open texts d ≡ false →
     concerns texts d (Some DidChange) ≡ false
-unless_open texts d closed = ap (λ b. b && is_some (option_and_then edits_in (changes_in d))) closed
+changing_needs_open texts d closed = ap (λ b. b && is_some (option_and_then edits_in (changes_in d))) closed
 
-pub unreadable : (texts : List ℕ → Option OpenText) (d : Data) → option_and_then edits_in (changes_in d) ≡ None →
+pub change_needs_edit : (texts : List ℕ → Option OpenText) (d : Data) → option_and_then edits_in (changes_in d) ≡ None →
     concerns texts d (Some DidChange) ≡ false
-unreadable texts d none = ap (λ o. names_open texts d && is_some o) none ∙ and_false (names_open texts d)
+change_needs_edit texts d none = ap (λ o. names_open texts d && is_some o) none ∙ and_false (names_open texts d)
 
 pub edits_of_changes : (d : Data) (slice values : List Value) (edits : Option (List Edit)) →
     changes_in d ≡ Some (items_view values) → slice ≡ values → edits ≡ edits_in (items_view slice) →
@@ -101,16 +101,16 @@ edits_of_changes d slice values edits stated same is_read =
     ∙ ap (λ (vs : List Value). edits_in (items_view vs)) (sym same) ∙ sym is_read
 
 -- what is reported of a document that is not open, and of one that is
-pub unpublished : (old mid : Session) (uri : List ℕ) → mid ≡ old → None ≡ mid.texts uri →
+pub unopened_document_is_unpublished : (old mid : Session) (uri : List ℕ) → mid ≡ old → None ≡ mid.texts uri →
     IsSent (published uri (old.texts uri)) None
-unpublished old mid uri same none =
+unopened_document_is_unpublished old mid uri same none =
     let at : Session → Type 0 = λ s. IsSent (published uri (s.texts uri)) None in
     subst at same (subst (λ (o : Option OpenText). IsSent (published uri o) None) none sends_none)
 
-pub is_published : (old mid : Session) (uri : List ℕ) (found : OpenText) (value : Data) (list : List Data) →
+pub open_text_is_published : (old mid : Session) (uri : List ℕ) (found : OpenText) (value : Data) (list : List Data) →
     mid ≡ old → Some found ≡ mid.texts uri → value ≡ diagnostics_form uri list →
     PublishesDiagnostics uri found.text list → IsSent (published uri (old.texts uri)) (Some value)
-is_published old mid uri found value list same open' is publishes_all =
+open_text_is_published old mid uri found value list same open' is publishes_all =
     let at : Session → Type 0 = λ s. IsSent (published uri (s.texts uri)) (Some value) in
     let sent = sent_as (diagnosed uri found.text) value _ is (sends_diagnostics uri found.text list publishes_all) in
     subst at same (subst (λ (o : Option OpenText). IsSent (published uri o) (Some value)) open' sent)
@@ -130,9 +130,9 @@ publishes_document uri t takes_related errors values others all diagnoses stated
 }
 
 -- that there are none any more
-pub is_withdrawn : (uri : List ℕ) (value : Data) (list : List Data) → value ≡ diagnostics_form uri list → list ≡ [] →
+pub withdraws_all : (uri : List ℕ) (value : Data) (list : List Data) → value ≡ diagnostics_form uri list → list ≡ [] →
     IsSent (withdrawn uri) (Some value)
-is_withdrawn uri value list is none =
+withdraws_all uri value list is none =
     sent_as (withdrawn uri) value _ (is ∙ ap (diagnostics_form uri) none) (sends_withdrawal uri)
 
 -- the diagnostics of a document that is open are reported, after what was done before
@@ -143,7 +143,7 @@ pub republishes : {Y : Type 0} (r : Result (Option Value) Y) (old : List ℕ →
     OnOk r (new ≡ mid) → IfOk r (λ sent. IsSent (published uri (mid.texts uri)) (option_map view sent)) →
     IfOk r (λ sent. TakesRunning old d method (option_map view sent) new.texts)
 republishes r old d method uri found mid new open' follows same sent =
-    ok_with r _ _ _
+    IfOk-with r _ _ _
     (λ e x h. (
       diagnosed uri found.text,
       subst (λ (o : Option OpenText). IsSent (published uri o) (option_map view x)) open' h,
@@ -186,35 +186,35 @@ publishes_changed r d uri items edits version false old mid new named stated is_
     absurd (true≢false (sym open' ∙ ap is_some h.0))
 
 -- a document that is saved
-saved : (old new : List ℕ → Option OpenText) (d : Data) (uri : List ℕ) (sent : Option Data)
+takes_saving : (old new : List ℕ → Option OpenText) (d : Data) (uri : List ℕ) (sent : Option Data)
     (found : Option OpenText) → old uri ≡ found → uri_in d ≡ Some uri → new ≡ old → IsSent (published uri found) sent →
     TakesRunning old d (Some DidSave) sent new
-saved old new d uri sent (Some found) open' named same is =
+takes_saving old new d uri sent (Some found) open' named same is =
     (diagnosed uri found.text, is, saves uri found new named open' same)
-saved old new d uri sent None open' named same is =
-    (silence, is, passes (Some DidSave) new (named_open old d uri named ∙ ap is_some open') same)
+takes_saving old new d uri sent None open' named same is =
+    (silence, is, passes (Some DidSave) new (named_document_is_open old d uri named ∙ ap is_some open') same)
 
 pub publishes_saved : {Y : Type 0} (r : Result (Option Value) Y) (d : Data) (uri : List ℕ) (old new : Session) →
     uri_in d ≡ Some uri → OnOk r (new ≡ old) →
     IfOk r (λ sent. IsSent (published uri (old.texts uri)) (option_map view sent)) →
     IfOk r (λ sent. TakesRunning old.texts d (Some DidSave) (option_map view sent) new.texts)
 publishes_saved r d uri old new named same sent =
-    ok_with r _ _ _ (λ e x h. saved old.texts new.texts d uri _ _ refl named (ap (λ s. s.texts) e) h) same sent
+    IfOk-with r _ _ _ (λ e x h. takes_saving old.texts new.texts d uri _ _ refl named (ap (λ s. s.texts) e) h) same sent
 
 -- what is found for a request, where it is known to be a value
-pub finds_of : (old : Session) (d : Data) (method : Option Method) (found : Result Value ErrorCode) (value : Value) →
+pub finds_value : (old : Session) (d : Data) (method : Option Method) (found : Result Value ErrorCode) (value : Value) →
     refusal_of old.phase method ≡ None → IfOk found (λ v. fits old.texts d method ≡ true) →
     IfOk found (λ v. IsResult old.texts d method (view v)) → found ≡ Ok value → Finds old d method (view value)
-finds_of old d method found value allowed fitting is_result is = record {
+finds_value old d method found value allowed fitting is_result is = record {
   allowed = allowed;
   fitting = subst (λ (r : Result Value ErrorCode). IfOk r (λ v. fits old.texts d method ≡ true)) is fitting;
   is_result = subst (λ (r : Result Value ErrorCode). IfOk r (λ v. IsResult old.texts d method (view v))) is is_result;
 }
 
 -- why nothing is found, where it is known that there is nothing
-pub refuses_for : (method : Option Method) (fitting : Bool) (found : Result Value ErrorCode) (code : ErrorCode) →
+pub found_code_refuses : (method : Option Method) (fitting : Bool) (found : Result Value ErrorCode) (code : ErrorCode) →
     IfErr found (RefusesFor method fitting) → found ≡ Err code → RefusesFor method fitting code
-refuses_for method fitting found code refuses is =
+found_code_refuses method fitting found code refuses is =
     subst (λ (r : Result Value ErrorCode). IfErr r (RefusesFor method fitting)) is refuses
 
 -- a request that was taken after something that changes nothing of the session
@@ -250,33 +250,33 @@ unconcerned texts d DidClose a b c e = absurd (c refl)
 unconcerned texts d DidSave a b c e = absurd (e refl)
 unconcerned texts d _ a b c e = refl
 
-pub passed : (old : List ℕ → Option OpenText) (d : Data) (method : Option Method) → concerns old d method ≡ false →
+pub takes_none : (old : List ℕ → Option OpenText) (d : Data) (method : Option Method) → concerns old d method ≡ false →
     TakesRunning old d method None old
-passed old d method none = (silence, sends_none, passes method old none refl)
+takes_none old d method none = (silence, sends_none, passes method old none refl)
 
-pub passed_over : (old : List ℕ → Option OpenText) (d : Data) (method : Option Method) (known : Method) →
+pub other_method_passes_over : (old : List ℕ → Option OpenText) (d : Data) (method : Option Method) (known : Method) →
     method ≡ Some known → known ≢ DidOpen → known ≢ DidChange → known ≢ DidClose → known ≢ DidSave →
     TakesRunning old d method None old
-passed_over old d method known is a b c e =
-    passed old d method (ap (concerns old d) is ∙ unconcerned old d known a b c e)
+other_method_passes_over old d method known is a b c e =
+    takes_none old d method (ap (concerns old d) is ∙ unconcerned old d known a b c e)
 
 -- files are watched, or nothing is sent
-pub watched : (old : List ℕ → Option OpenText) (d : Data) (method : Option Method) (known : Method)
+pub initialized_watches : (old : List ℕ → Option OpenText) (d : Data) (method : Option Method) (known : Method)
     (sent : Option Data) → method ≡ Some known → known ≡ Initialized → IsSent watch sent ⊎ IsSent silence sent →
     TakesRunning old d method sent old
-watched old d method known sent is named (inl watches') =
+initialized_watches old d method known sent is named (inl watches') =
     let follows = subst (λ (m : Option Method). HandlesNotification old d m watch old) (sym (is ∙ ap Some named))
     (watches old refl) in
     (watch, watches', follows)
-watched old d method known sent is named (inr none) =
+initialized_watches old d method known sent is named (inr none) =
     (silence, none, passes method old (ap (concerns old d) (is ∙ ap Some named)) refl)
 
 -- a notification that was followed while the session runs
-followed : (old mid : Session) (d : Data) (method : Option Method) (sent : Option Data)
+running_is_followed : (old mid : Session) (d : Data) (method : Option Method) (sent : Option Data)
     (phase last : Phase) (new : List ℕ → Option OpenText) → old.phase ≡ Running → mid ≡ old → phase ≡ mid.phase →
     last ≡ after_notification phase method → TakesRunning mid.texts d method sent new →
     TakesNotification old d method sent (record { phase = last; texts = new })
-followed old mid d method sent phase last new is_running same kept after (reply, is, follows) = (
+running_is_followed old mid d method sent phase last new is_running same kept after (reply, is, follows) = (
   reply,
   is,
   runs reply _ is_running (subst (λ (s : Session). HandlesNotification s.texts d method reply new) same follows)
@@ -284,16 +284,16 @@ followed old mid d method sent phase last new is_running same kept after (reply,
 )
 
 -- the same, where nothing of the session is changed after it
-pub notified_running : (old mid beyond noted : Session) (d : Data) (method : Option Method) (sent : Option Data)
+pub running_notice_is_taken : (old mid beyond noted : Session) (d : Data) (method : Option Method) (sent : Option Data)
     (last : Phase) → old.phase ≡ Running → mid ≡ old → beyond.phase ≡ mid.phase → noted ≡ beyond →
     last ≡ after_notification noted.phase method → TakesRunning mid.texts d method sent beyond.texts →
     TakesNotification old d method sent (record { phase = last; texts = noted.texts })
-notified_running old mid beyond noted d method sent last is_running same kept same_noted after answers =
+running_notice_is_taken old mid beyond noted d method sent last is_running same kept same_noted after answers =
     subst
     (λ (s : Session). last ≡ after_notification s.phase method →
     TakesNotification old d method sent (record { phase = last; texts = s.texts }))
     (sym same_noted)
-    (λ e. followed old mid d method sent beyond.phase last beyond.texts is_running same kept e answers) after
+    (λ e. running_is_followed old mid d method sent beyond.phase last beyond.texts is_running same kept e answers) after
 
 -- ---- What is published again
 

@@ -4,7 +4,7 @@ use Rattle.serde_json.specs.Data.{Data}
 use Rattle.ftl_lsp.specs.Inbox.{EndsAs, TakesFrame}
 use Rattle.ftl_lsp.specs.Outbox.{Sends}
 use Rattle.ftl_lsp.specs.Phases.{ending_of}
-use Rattle.ftl_lsp.specs.Sessions.{TakesMessage, Session, Unasked}
+use Rattle.ftl_lsp.specs.Sessions.{Session, TakesMessage, Unasked}
 use Rattle.ftl_lsp.specs.declared.sessions.endings.Ending.{Ending}
 use Rattle.ftl_lsp.specs.declared.sessions.endings.Ending.TheVariants.{Memory, Output}
 use Rattle.ftl_lsp.specs.declared.sessions.phases.Phase.TheVariants.{Fresh}
@@ -46,7 +46,8 @@ pub data Serves (input output : Option (List ℕ)) : (now : Session) → (left w
 pub data IsUnsent (before : Session) (body : List ℕ) (written : Option (List ℕ)) : Ending → (now : Option (List ℕ)) →
     Type 0 where
   has_no_memory : (now : Option (List ℕ)) → now ≡ written → IsUnsent before body written Memory now
-  is_not_written : (now : Option (List ℕ)) (value : Data) (next : Session) → TakesMessage before body (Some value) next →
+  is_not_written : (now : Option (List ℕ)) (value : Data) (next : Session) →
+      TakesMessage before body (Some value) next →
       IsUnsent before body written Output now
 
 -- Why nothing is sent unasked, and what is on the output then: likewise.

@@ -20,13 +20,13 @@ use Rattle.ftl_files.specs.declared.options.Reading.{Reading}
 use Rattle.ftl_project.specs.declared.tally.Tally.{Tally}
 
 -- Files that all are unchanged are the same files.
-pub same_files : (at here : List ℕ → Option (List ℕ)) → AllUnchanged at here → here ≡ at
-same_files at here untouched = fun_ext untouched
+pub files_are_same : (at here : List ℕ → Option (List ℕ)) → AllUnchanged at here → here ≡ at
+files_are_same at here untouched = fun_ext untouched
 
 -- What was read of a file, under the names that a caller has for its path and its text.
-pub of_text : (at : List ℕ → Option (List ℕ)) (path own text said : List ℕ) → path ≡ own → text ≡ said →
+pub IsRead-as : (at : List ℕ → Option (List ℕ)) (path own text said : List ℕ) → path ≡ own → text ≡ said →
     IsRead (at path) said → IsRead (at own) text
-of_text at path own text said same_path same_text read =
+IsRead-as at path own text said same_path same_text read =
     subst (λ p. IsRead (at p) text) same_path (subst (λ t. IsRead (at path) t) (sym same_text) read)
 
 module _ (CallFails : Failing) (reading : Reading) (options : CompareOptions) (at : List ℕ → Option (List ℕ))

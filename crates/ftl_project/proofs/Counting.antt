@@ -13,21 +13,21 @@ use Rattle.ftl_project.specs.declared.fault.Fault.{Fault}
 use Rattle.ftl_project.specs.declared.tally.Tally.{Tally}
 
 -- What is left at an index is the file there, and what is left after it.
-pub suffix_at : {A : Type 0} (files : List A) (index : ℕ) (file : A) → index < length files →
+pub drop_is_file_and_rest : {A : Type 0} (files : List A) (index : ℕ) (file : A) → index < length files →
     file ≡ get_or files index file → drop index files ≡ file ∷ drop (index + 1) files
-suffix_at files index file below is =
+drop_is_file_and_rest files index file below is =
     drop_more files index file below ∙ ap (λ x. x ∷ drop (index + 1) files) (sym is)
 
-same_bytes : (known : Option (List ℕ)) → Appends known known []
-same_bytes None = tt
-same_bytes (Some bytes) = sym (append-nil bytes)
+known_bytes_append_nothing : (known : Option (List ℕ)) → Appends known known []
+known_bytes_append_nothing None = tt
+known_bytes_append_nothing (Some bytes) = sym (append-nil bytes)
 
 pub appends_nothing : (before after : Option (List ℕ)) → after ≡ before → Appends before after []
-appends_nothing before after same = subst (λ o. Appends before o []) (sym same) (same_bytes before)
+appends_nothing before after same = subst (λ o. Appends before o []) (sym same) (known_bytes_append_nothing before)
 
-pub appends_as : (before between after : Option (List ℕ)) (said text : List ℕ) → Appends before between said →
+pub Appends-as : (before between after : Option (List ℕ)) (said text : List ℕ) → Appends before between said →
     said ≡ text → after ≡ between → Appends before after text
-appends_as before between after said text appends says same =
+Appends-as before between after said text appends says same =
     subst (λ t. Appends before after t) says (subst (λ o. Appends before o said) (sym same) appends)
 
 pub on_ok_given : {A E P : Type 0} (result : Result A E) → P → OnOk result P
@@ -74,11 +74,11 @@ module _ (Is : (path : List ℕ) → Option (List ℕ) → Processed → List �
       let at_path = subst (λ bytes. Writes (Is path bytes) now next between beyond) in_place writes in
       let at_file = subst (λ p. Writes (Is p (at p)) now next between beyond) same at_path in
       so new after (subst (λ left. WritesEach Processes left now new between after)
-      (sym (suffix_at files index file below is))
+      (sym (drop_is_file_and_rest files index file below is))
       (next, beyond, at_file, rest))
 
   pub WritesSo-all : (index : ℕ) (old now : Tally) (before between : Option (List ℕ)) → length files ≤ index →
       WritesSo index old now before between → WritesEach Processes files old now before between
   WritesSo-all index old now before between all so = so now between
       (subst (λ left. WritesEach Processes left now now between between) (sym (drop_all index files all))
-      (refl, same_bytes between))
+      (refl, known_bytes_append_nothing between))

@@ -3,7 +3,7 @@ use Rattle.std.proofs.Common.{◌≡◌, ◌<◌, ◌≤◌, ◌+◌, ℕ, List,
 use Rattle.std.proofs.lemmas.List.{drop_all}
 use Rattle.std.specs.Global.{Global}
 use Rattle.std.specs.Prelude.{String}
-use Rattle.ftl_project.proofs.Counting.{suffix_at}
+use Rattle.ftl_project.proofs.Counting.{drop_is_file_and_rest}
 use Rattle.ftl_project.specs.Faults.{Failing}
 use Rattle.ftl_project.specs.Formatting.{Formats, FormatsEach}
 use Rattle.ftl_project.specs.declared.formatting.replacement.FormatOptions.{FormatOptions}
@@ -22,7 +22,7 @@ module _ (CallFails : Failing) (options : FormatOptions) (files : List (String G
       FormatsSo (index + 1) old next before beyond
   FormatsSo-more index file old now next before between beyond below is so formats = λ new after rest.
       so new after (subst (λ left. FormatsEach CallFails options left now new between after)
-      (sym (suffix_at files index file below is))
+      (sym (drop_is_file_and_rest files index file below is))
       (next, beyond, formats, rest))
 
   pub FormatsSo-all : (index : ℕ) (old now : List ℕ → Option (List ℕ)) (before between : Tally) →

@@ -5,18 +5,18 @@ use Rattle.std.specs.Str.Lines.{strip_carriage_return}
 use Rattle.std.proofs.lemmas.Bool.{eq-eqb, ne_eqb}
 use Rattle.std.proofs.lemmas.Grind.{common_steps}
 
-pub stripped : (l x : List ℕ) → l ≡ x ++ 13 ∷ [] → x ≡ strip_carriage_return l
-stripped l x e =
+pub line_with_cr_is_stripped : (l x : List ℕ) → l ≡ x ++ 13 ∷ [] → x ≡ strip_carriage_return l
+line_with_cr_is_stripped l x e =
     let last : get_or l (length l - 1) 0 ≡ 13 = grind (arith, common_steps) in
     let front : take (length l - 1) l ≡ x = grind (arith, common_steps) in
     sym (ap (λ t. cond t (take (length l - 1) l) l) (eq-eqb _ 13 last) ∙ front)
 
-ends : (l : List ℕ) → 0 < length l → get_or l (length l - 1) 0 ≡ 13 → l ≡ take (length l - 1) l ++ 13 ∷ []
-ends l some last = grind (arith, common_steps)
+line_ends_in_cr : (l : List ℕ) → 0 < length l → get_or l (length l - 1) 0 ≡ 13 → l ≡ take (length l - 1) l ++ 13 ∷ []
+line_ends_in_cr l some last = grind (arith, common_steps)
 
-pub unstripped : (l : List ℕ) → ((front : List ℕ) → l ≢ front ++ 13 ∷ []) → l ≡ strip_carriage_return l
-unstripped [] none = refl
-unstripped (b ∷ l) none =
+pub line_without_cr_stays : (l : List ℕ) → ((front : List ℕ) → l ≢ front ++ 13 ∷ []) → l ≡ strip_carriage_return l
+line_without_cr_stays [] none = refl
+line_without_cr_stays (b ∷ l) none =
     let whole = b ∷ l in
     sym (ap (λ t. cond t (take (length whole - 1) whole) whole)
-    (ne_eqb _ 13 (λ last. none (take (length whole - 1) whole) (ends whole (omega arith) last))))
+    (ne_eqb _ 13 (λ last. none (take (length whole - 1) whole) (line_ends_in_cr whole (omega arith) last))))

@@ -73,17 +73,17 @@ one_written Normal edition bytes normal t u a b = b ∙ sym a
 one_written Keep edition bytes normal t u a b = one_kept edition bytes normal t u a b
 
 -- there is one at most
-one_rewriting : (options : FormatOptions) (bytes t u : Text) → IsRewriting options bytes t →
+rewriting_is_unique : (options : FormatOptions) (bytes t u : Text) → IsRewriting options bytes t →
     IsRewriting options bytes u → u ≡ t
-one_rewriting options bytes t u a b =
+rewriting_is_unique options bytes t u a b =
     let edition = options.reading.edition in
     one_written options.blank_lines edition bytes a.normal t u a.written
     (subst (λ normal. IsWritten options.blank_lines edition bytes normal u) (one_normal options bytes t u a b)
     b.written)
 
-none_of_clean : (fs : List Fault) → Clean ≡ outcome_with fs → fs ≡ []
-none_of_clean [] clean = refl
-none_of_clean (f ∷ fs) clean = cc
+clean_has_no_faults : (fs : List Fault) → Clean ≡ outcome_with fs → fs ≡ []
+clean_has_no_faults [] clean = refl
+clean_has_no_faults (f ∷ fs) clean = cc
 
 -- formatting a normal text again changes nothing
 normal_settled : (edition : Edition) (tree : BodyTree Text) (normal again : Text) → Settles edition tree normal →
@@ -101,7 +101,7 @@ settled_by Normal edition bytes normal t next u answer lossless settles is secon
     then ∙ (normal_settled edition (tree_of bytes answer.tiles) normal next settles again ∙ sym is)
 settled_by Keep edition bytes normal t next u answer lossless settles is second then =
     let law = keeping_is_idempotent bytes edition answer.tiles (answered_tiles edition bytes normal Clean answer)
-    (none_of_clean (faults answer.tiles) answer.outcome_is) lossless t
+    (clean_has_no_faults (faults answer.tiles) answer.outcome_is) lossless t
     (subst (λ n. IsKept edition bytes n t) (answered_text edition bytes normal Clean answer) is) second.tiles
     (answered_tiles edition t next Clean second) in
     let same = answered_text edition t next Clean second ∙ law.same_normal in
@@ -116,11 +116,11 @@ settled options bytes t u a b =
 not_refused : (options : FormatOptions) (bytes t : Text) (errors : _) → IsRewriting options bytes t →
     IsRefused options.reading.edition bytes errors → ⊥
 not_refused options bytes t errors a refused = refused.3 (ap faults (tiles_same options bytes t a refused.0 refused.1)
-    ∙ none_of_clean (faults a.answer.tiles) a.answer.outcome_is)
+    ∙ clean_has_no_faults (faults a.answer.tiles) a.answer.outcome_is)
 
-not_lossy : (options : FormatOptions) (bytes t : Text) (entry : LossyEntry) → IsRewriting options bytes t →
+rewriting_is_not_lossy : (options : FormatOptions) (bytes t : Text) (entry : LossyEntry) → IsRewriting options bytes t →
     IsLossy options.reading.edition bytes entry → ⊥
-not_lossy options bytes t entry a lossy =
+rewriting_is_not_lossy options bytes t entry a lossy =
     let reads = lossy.reads in
     let same = ap (tree_of bytes) (sym (tiles_same options bytes t a reads.tiles reads.tiling)) ∙ reads.same in
     let lossless = sym (ap (is_lossless options.reading.edition) same) ∙ a.lossless in
@@ -134,7 +134,7 @@ module _ (options : FormatOptions) (bytes t : Text) (a : IsRewriting options byt
       BecomesRewriting options now new → new ≡ Some t
   becomes_normal now new is becomes = ⊎_elim
       (λ e. let step = subst (λ o. BecomesRewriting options o new) e becomes in
-      step.2 ∙ ap Some (one_rewriting options bytes t step.0 a step.1))
+      step.2 ∙ ap Some (rewriting_is_unique options bytes t step.0 a step.1))
       (λ e. let step = subst (λ o. BecomesRewriting options o new) e becomes in
       step.2 ∙ ap Some (settled options bytes t step.0 a step.1)) is
 
@@ -162,7 +162,7 @@ rewrites_normal CallFails options path old new (replacement.Text text) bytes t a
     (becomes_rewriting options (old path) (new path) read (string_bytes text) is_read that.0 puts.0)
 rewrites_normal CallFails options path old new replacement.Same bytes t a (read, is_read, that, untouched) is =
     untouched path ∙ ⊎_elim
-    (λ e. e ∙ ap Some (one_rewriting options bytes t bytes a (subst (λ b. IsRewriting options b b)
+    (λ e. e ∙ ap Some (rewriting_is_unique options bytes t bytes a (subst (λ b. IsRewriting options b b)
     (same_read options bytes t a (old path) read is_read e) that))) (λ e. e) is
 rewrites_normal CallFails options path old new (replacement.Errors refused) bytes t a
     (read, is_read, that, untouched) is =
@@ -173,35 +173,35 @@ rewrites_normal CallFails options path old new (replacement.Errors refused) byte
     (λ e. e) is
 rewrites_normal CallFails options path old new (replacement.Lossy entry) bytes t a (read, is_read, that, untouched) is =
     untouched path ∙ ⊎_elim
-    (λ e. absurd (not_lossy options bytes t entry a (subst (λ b. IsLossy options.reading.edition b entry)
+    (λ e. absurd (rewriting_is_not_lossy options bytes t entry a (subst (λ b. IsLossy options.reading.edition b entry)
     (same_read options bytes t a (old path) read is_read e) that))) (λ e. e) is
 
 -- ---- a run without faults
 
-counted_fault : (before : Tally) (processed : Processed) → (counted before processed).fault ≡ 0 → before.fault ≡ 0
-counted_fault before (answered errors warnings has_problems) none = none
-counted_fault before (failed status) none = omega (arith, none)
+no_fault_was_before : (before : Tally) (processed : Processed) → (counted before processed).fault ≡ 0 → before.fault ≡ 0
+no_fault_was_before before (answered errors warnings has_problems) none = none
+no_fault_was_before before (failed status) none = omega (arith, none)
 
-failed_fault : (before : Tally) (status : ℕ) → (counted before (failed status)).fault ≡ 0 → status ≡ 0
-failed_fault before status none = omega (arith, none)
+faultless_status_is_zero : (before : Tally) (status : ℕ) → (counted before (failed status)).fault ≡ 0 → status ≡ 0
+faultless_status_is_zero before status none = omega (arith, none)
 
 -- so none of its results is one
-processed_ok : (result : Result Replacement run.Fault) (before : Tally) (processed : Processed)
+result_was_ok : (result : Result Replacement run.Fault) (before : Tally) (processed : Processed)
     → IsProcessed result processed →
     (counted before processed).fault ≡ 0 → (found : Replacement) × (result ≡ Ok found)
-processed_ok (Ok found) before processed is none = (found, refl)
-processed_ok (Err fault) before processed is none =
-    let zero_status = failed_fault before is.0 (subst (λ m. (counted before m).fault ≡ 0) is.2 none) in
+result_was_ok (Ok found) before processed is none = (found, refl)
+result_was_ok (Err fault) before processed is none =
+    let zero_status = faultless_status_is_zero before is.0 (subst (λ m. (counted before m).fault ≡ 0) is.2 none) in
     let least = status_least fault is.0 is.1 in
     absurd (omega (arith, zero_status, least))
 
-faultless : (CallFails : Failing) (options : FormatOptions) (files : List (String Global))
+no_fault_at_start : (CallFails : Failing) (options : FormatOptions) (files : List (String Global))
     (old new : List ℕ → Option (List ℕ)) (before after : Tally) →
     FormatsEach CallFails options files old new before after → after.fault ≡ 0 → before.fault ≡ 0
-faultless CallFails options [] old new before after each none = sym (ap (λ (t : Tally). t.fault) each.1) ∙ none
-faultless CallFails options (file ∷ files) old new before after (now, between, formats, rest) none =
-    let here = faultless CallFails options files now new between after rest none in
-    counted_fault before formats.2 (sym (ap (λ (t : Tally). t.fault) formats.4) ∙ here)
+no_fault_at_start CallFails options [] old new before after each none = sym (ap (λ (t : Tally). t.fault) each.1) ∙ none
+no_fault_at_start CallFails options (file ∷ files) old new before after (now, between, formats, rest) none =
+    let here = no_fault_at_start CallFails options files now new between after rest none in
+    no_fault_was_before before formats.2 (sym (ap (λ (t : Tally). t.fault) formats.4) ∙ here)
 
 AllReach-each : (CallFails : Failing) (options : FormatOptions) (files : List (String Global))
     (old new : List ℕ → Option (List ℕ)) (before after : Tally) →
@@ -225,8 +225,8 @@ pub AllNormal-each : (CallFails : Failing) (options : FormatOptions) (files : Li
 AllNormal-each CallFails options [] start old new before after reach each none = λ k d below. absurd (omega arith)
 AllNormal-each CallFails options (file ∷ files) start old new before after reach (now, between, formats, rest) none =
     let path = string_bytes file in
-    let here = faultless CallFails options files now new between after rest none in
-    let ok = processed_ok formats.0 before formats.2 formats.3 (sym (ap (λ (t : Tally). t.fault) formats.4) ∙ here) in
+    let here = no_fault_at_start CallFails options files now new between after rest none in
+    let ok = result_was_ok formats.0 before formats.2 formats.3 (sym (ap (λ (t : Tally). t.fault) formats.4) ∙ here) in
     let rewrites = subst (λ r. Rewrites CallFails options path old now r) ok.1 formats.1 in
     let beyond = AllReach-each CallFails options files now new between after rest in
     let step = AllReach-rewrites CallFails options path old now formats.0 formats.1 in

@@ -16,9 +16,9 @@ use Rattle.ftl_project.specs.Lossless.{IsRewriting, IsWritten, Settles, format_o
 use Rattle.ftl_project.specs.declared.formatting.replacement.FormatOptions.{FormatOptions}
 
 -- a text that reads as the tree, and is its text, stays so
-settled : (text : Text) (tree : BodyTree Text) → ReadsAs Two text tree → text ≡ written false tree →
+text_of_tree_settles : (text : Text) (tree : BodyTree Text) → ReadsAs Two text tree → text ≡ written false tree →
     Settles Two tree text
-settled text tree reads is_written again next second =
+text_of_tree_settles text tree reads is_written again next second =
     let same = same_tilings Two text second.tiles reads.tiles second.has_tiles reads.tiling in
     let same_tree = ap (tree_of text) same ∙ reads.same in (
       second.outcome_is ∙ ap outcome_with (ap faults same ∙ reads.no_faults),
@@ -55,14 +55,14 @@ normal_settles Two t text tree utf8 reads is_written lossless law back =
     let reads_back = subst (λ x. ReadsAs Two x tree) (sym is_written) (back false lossless) in (
       first,
       ap (is_lossless Two) reads.same ∙ lossless,
-      subst (λ r. Settles Two r text) (sym reads.same) (settled text tree reads_back is_written),
+      subst (λ r. Settles Two r text) (sym reads.same) (text_of_tree_settles text tree reads_back is_written),
     )
 
-pub rewriting : (options : FormatOptions) (t normal text : Text) (tree : BodyTree Text) → IsUtf8 t →
+pub is_rewriting : (options : FormatOptions) (t normal text : Text) (tree : BodyTree Text) → IsUtf8 t →
     ReadsAs options.reading.edition t tree → normal ≡ written false tree →
     is_lossless options.reading.edition tree ≡ true → FormatsAgain t → ReadsBack Two tree →
     IsWritten options.blank_lines options.reading.edition t normal text → IsRewriting options t text
-rewriting options t normal text tree utf8 reads is_written lossless law back is =
+is_rewriting options t normal text tree utf8 reads is_written lossless law back is =
     let (answer, safe, settles) =
     normal_settles options.reading.edition t normal tree utf8 reads is_written lossless law back in
     record { normal = normal; answer = answer; lossless = safe; settles = settles; written = is }

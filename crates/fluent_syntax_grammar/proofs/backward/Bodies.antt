@@ -154,8 +154,8 @@ module _ (t : List ℕ) (bare : HasNoBareCr t) (Joins Junk : Type 0) (crs : (i :
     tiles_obey_joined i tiles (inl j) (next {end = end} b l (refuses x e) r) = (j, tiles_obey_joined end _ (inl j) r)
     tiles_obey_joined i tiles (inr f) (next {end = end} b l (refuses x e) r) = absurd cc
 
-no_cr_bare : (t : List ℕ) → HasNoCr t → HasNoBareCr t
-no_cr_bare t no_cr i e = differs e (no_cr i)
+no_cr_has_no_bare_cr : (t : List ℕ) → HasNoCr t → HasNoBareCr t
+no_cr_has_no_bare_cr t no_cr i e = differs e (no_cr i)
 
 -- The joined tree of a text's tiling is readable.
 pub joined_is_readable : (t : List ℕ) → JoinedIsReadable t
@@ -174,4 +174,4 @@ pub joined_is_same : (t : List ℕ) → JoinedIsSame t
 joined_is_same t tiles no_cr tiling f =
     body_same t ⊥ ⊥ (λ x. x) (λ x. x) (body tiles)
     (body_part t ⊥ ⊥ tiles
-    (tiles_obey_joined t (no_cr_bare t no_cr) ⊥ ⊥ (λ i e. differs e (no_cr i)) 0 tiles (inr f) tiling))
+    (tiles_obey_joined t (no_cr_has_no_bare_cr t no_cr) ⊥ ⊥ (λ i e. differs e (no_cr i)) 0 tiles (inr f) tiling))

@@ -30,7 +30,7 @@ use Rattle.fluent_syntax_grammar.proofs.Facts.{left_true, right_true}
 use Rattle.fluent_syntax_grammar.proofs.Tests.{both_true}
 use Rattle.fluent_syntax_grammar.proofs.backward.Lines.{range_none, range_all}
 use Rattle.fluent_syntax_grammar.proofs.backward.Words.{IsNameSpan}
-use Rattle.fluent_syntax_grammar.proofs.backward.Rules.{Ensures, ensures_bind, ensures_then, ensures_yields}
+use Rattle.fluent_syntax_grammar.proofs.backward.Rules.{Ensures, ensures_bind, second_ensures, ensures_yields}
 use Rattle.fluent_syntax_grammar.proofs.backward.Rules.{ensures_fails, ensures_peek, ensures_branch_on, ObeysJoined}
 use Rattle.fluent_syntax_grammar.proofs.backward.Rules.{IsPattern, ensures_name}
 use Rattle.fluent_syntax_grammar.proofs.backward.Family as family_back
@@ -39,9 +39,9 @@ use Rattle.fluent_syntax_grammar.proofs.Tests.{neither_left, not_false, not_true
 
 -- ---- comments
 
-no_lf_in : (v : Text) → list_all (λ b. not (b == lf)) v ≡ true → has_lf v ≡ false
-no_lf_in [] e = refl
-no_lf_in (b ∷ v) e = step (b == lf) (list_all (λ b. not (b == lf)) v) (has_lf v) e (no_lf_in v)
+no_lf_byte_has_no_lf : (v : Text) → list_all (λ b. not (b == lf)) v ≡ true → has_lf v ≡ false
+no_lf_byte_has_no_lf [] e = refl
+no_lf_byte_has_no_lf (b ∷ v) e = step (b == lf) (list_all (λ b. not (b == lf)) v) (has_lf v) e (no_lf_byte_has_no_lf v)
   where
     step : (x y z : Bool) → (not x && y) ≡ true → (y ≡ true → z ≡ false) → (x || z) ≡ false
     step false y z e f = f e
@@ -65,7 +65,7 @@ module _ (t : List ℕ) where
   line_read : (i j : ℕ) (s : Span) → rest_of_line t i (Read s j) → IsLines (s ∷ [])
   line_read i j s (goes_on at_place (goes_on (passed w) (goes_on at_place given))) =
       both_true (not_false (has_lf (slice_range t i j))
-      (no_lf_in (slice_range t i j)
+      (no_lf_byte_has_no_lf (slice_range t i j)
       (range_all t (λ b. not (b == lf)) i j w.forward (λ k x y. line_place k (w.each k x y))))) refl
 
   empty_read : (i j : ℕ) (s : Span) → comment_text t true i (Read s j) → IsLines (s ∷ [])
@@ -74,14 +74,14 @@ module _ (t : List ℕ) where
 
   ensures_text : (eol : Bool) → Ensures (comment_text t eol) (λ s. IsLines (s ∷ []))
   ensures_text true = record { on_read = empty_read }
-  ensures_text false = ensures_then (λ u. record { on_read = line_read })
+  ensures_text false = second_ensures (λ u. record { on_read = line_read })
 
   ensures_rest : (o : Option ℕ) → Ensures (comment_rest t o) IsLines
   ensures_rest None = ensures_yields refl
-  ensures_rest (Some b) = ensures_bind (ensures_peek ensures_text) (λ s g. ensures_then (λ u. ensures_yields g))
+  ensures_rest (Some b) = ensures_bind (ensures_peek ensures_text) (λ s g. second_ensures (λ u. ensures_yields g))
 
   ensures_line : (level : ℕ) → Ensures (comment_line t level) IsLines
-  ensures_line level = ensures_then (λ u. ensures_peek ensures_rest)
+  ensures_line level = second_ensures (λ u. ensures_peek ensures_rest)
 
   lines_append : (xs ys : List Span) → IsLines xs → IsLines ys → IsLines (xs ++ ys)
   lines_append [] ys e f = f
@@ -173,11 +173,11 @@ module _ (t : List ℕ) (bare : HasNoBareCr t) (Joins : Type 0) (crs : (i : ℕ)
 
   ensures_attribute : Ensures (attribute One t) IsAttribute
   ensures_attribute =
-      ensures_then (λ u.
-      ensures_then (λ u.
+      second_ensures (λ u.
+      second_ensures (λ u.
       ensures_bind (ensures_name t Joins)
-      (λ id n. ensures_then
-      (λ u. ensures_then (λ u. ensures_bind ensures_pattern (λ o g. ensures_with id o n g))))))
+      (λ id n. second_ensures
+      (λ u. second_ensures (λ u. ensures_bind ensures_pattern (λ o g. ensures_with id o n g))))))
 
   attributes_read : (i j : ℕ) (rest : List (AttributeTree Span)) → attributes One t i (Read rest j) →
       IsAttributes t Joins rest
@@ -208,17 +208,17 @@ module _ (t : List ℕ) (bare : HasNoBareCr t) (Joins : Type 0) (crs : (i : ℕ)
 
   ensures_message : Ensures (message_entry One t) (IsNotJunk t Joins)
   ensures_message =
-      ensures_then (λ start.
+      second_ensures (λ start.
       ensures_bind (ensures_name t Joins)
-      (λ id n. ensures_then (λ u. ensures_then (λ u. ensures_bind ensures_pattern (λ o g. ensures_then (λ u.
+      (λ id n. second_ensures (λ u. second_ensures (λ u. ensures_bind ensures_pattern (λ o g. second_ensures (λ u.
       ensures_bind ensures_attributes (λ rest k. ensures_message_with start id o rest n g k)))))))
 
   ensures_term : Ensures (term_entry One t) (IsNotJunk t Joins)
   ensures_term =
-      ensures_then (λ start.
-      ensures_then (λ u.
+      second_ensures (λ start.
+      second_ensures (λ u.
       ensures_bind (ensures_name t Joins)
-      (λ id n. ensures_then (λ u. ensures_then (λ u. ensures_bind ensures_pattern (λ o g. ensures_then (λ u.
+      (λ id n. second_ensures (λ u. second_ensures (λ u. ensures_bind ensures_pattern (λ o g. second_ensures (λ u.
       ensures_bind ensures_attributes (λ rest k. ensures_term_with start id o rest n g k))))))))
 
   ensures_comment : Ensures (comment_entry t) (IsNotJunk t Joins)

@@ -32,10 +32,10 @@ use Rattle.fluent_syntax_grammar.specs.Rules.{pattern_obeys}
 use Rattle.fluent_syntax_grammar.specs.Readable.{opening, defaults, readable_rules}
 use Rattle.fluent_syntax_grammar.specs.Joined.{is_joined, joined_pattern, joined_after, joined_variants}
 use Rattle.fluent_syntax_grammar.specs.RoundTrip.{HasNoBareCr}
-use Rattle.fluent_syntax_grammar.proofs.HoareTriple.{gave}
+use Rattle.fluent_syntax_grammar.proofs.HoareTriple.{yields_value}
 use Rattle.fluent_syntax_grammar.proofs.Cuts.{eol_cases}
-use Rattle.fluent_syntax_grammar.proofs.Functional.{longest_run_functional}
-use Rattle.fluent_syntax_grammar.proofs.Facts.{byte_holds, differs, two_on_as_one, not_next, longest_run_nonempty}
+use Rattle.fluent_syntax_grammar.proofs.Functional.{longest_run_is_functional}
+use Rattle.fluent_syntax_grammar.proofs.Facts.{holds-some, differs, two_on_is_not_next, not_next, longest_run_nonempty}
 use Rattle.fluent_syntax_grammar.proofs.Tests.{both_true}
 use Rattle.fluent_syntax_grammar.proofs.backward.Shapes.{LastItemStays, kept_cut, shape_cut, items_tree, Well}
 use Rattle.fluent_syntax_grammar.proofs.backward.Shapes.{items_well, items_same, Shape}
@@ -45,7 +45,7 @@ use Rattle.fluent_syntax_grammar.proofs.backward.Lines.{no_line as no_lines, a_l
 use Rattle.fluent_syntax_grammar.proofs.backward.Layouts.{layout_shape}
 use Rattle.fluent_syntax_grammar.proofs.backward.FirstLines.{spare}
 use Rattle.fluent_syntax_grammar.proofs.backward.Words.{number_inversion}
-use Rattle.fluent_syntax_grammar.proofs.backward.Rules.{Ensures, ensures_bind, ensures_then, ensures_yields}
+use Rattle.fluent_syntax_grammar.proofs.backward.Rules.{Ensures, ensures_bind, second_ensures, ensures_yields}
 use Rattle.fluent_syntax_grammar.proofs.backward.Rules.{ensures_fails, ensures_peek, ensures_branch_on, ObeysJoined}
 use Rattle.fluent_syntax_grammar.proofs.backward.Rules.{IsPattern, IsKey, IsVariants, ObeysJoinedFamily, ensures_name}
 use Rattle.fluent_syntax_grammar.proofs.backward.Rules.{IsInline, ensures_placeable, inline_inversion}
@@ -63,10 +63,10 @@ abbrev has_elements : PatternTree Text → Bool
 has_elements no_elements = false
 has_elements (elements e es) = true
 
-after_elements : (v : Text) (p : PatternTree Text) → has_elements (joined_after v p) ≡ true
-after_elements v no_elements = refl
-after_elements v (elements (placeable e) es) = refl
-after_elements v (elements (text_element w) es) = whichever (is_joined v w)
+joined_after_has_elements : (v : Text) (p : PatternTree Text) → has_elements (joined_after v p) ≡ true
+joined_after_has_elements v no_elements = refl
+joined_after_has_elements v (elements (placeable e) es) = refl
+joined_after_has_elements v (elements (text_element w) es) = whichever (is_joined v w)
   where
     whichever : (b : Bool) →
         has_elements (if b then elements (text_element (v ++ w)) (joined_pattern es) else elements (text_element v)
@@ -76,12 +76,12 @@ after_elements v (elements (text_element w) es) = whichever (is_joined v w)
 
 joined_elements : (e : ElementTree Text) (es : PatternTree Text) → has_elements (joined_pattern (elements e es)) ≡ true
 joined_elements (placeable e) es = refl
-joined_elements (text_element v) es = after_elements v es
+joined_elements (text_element v) es = joined_after_has_elements v es
 
-well_obeys : (p : PatternTree Text) → has_elements p ≡ true → Well (is_multiline p) opening p →
+well_pattern_obeys_rules : (p : PatternTree Text) → has_elements p ≡ true → Well (is_multiline p) opening p →
     pattern_obeys (readable_rules One) p ≡ true
-well_obeys no_elements e w = cc
-well_obeys (elements x xs) e w = both_true w.position w.obey
+well_pattern_obeys_rules no_elements e w = cc
+well_pattern_obeys_rules (elements x xs) e w = both_true w.position w.obey
 
 module _ (t : List ℕ) (bare : HasNoBareCr t) (Joins : Type 0) (crs : (i : ℕ) → has_byte t cr i ≡ true → Joins) where
   tree_elements : (x : Item) (xs : List Item) → has_elements (joined_pattern (items_tree t (x ∷ xs))) ≡ true
@@ -96,7 +96,7 @@ module _ (t : List ℕ) (bare : HasNoBareCr t) (Joins : Type 0) (crs : (i : ℕ)
       let m = is_multiline (joined_pattern (items_tree t (x ∷ xs))) in
       record {
         obeys =
-            well_obeys (joined_pattern (items_tree t (x ∷ xs))) (tree_elements x xs)
+            well_pattern_obeys_rules (joined_pattern (items_tree t (x ∷ xs))) (tree_elements x xs)
             (items_well t Joins m opening (x ∷ xs) tt s k);
         same = λ none. items_same t Joins m none opening (x ∷ xs) s;
       }
@@ -127,7 +127,7 @@ module _ (t : List ℕ) (Joins : Type 0) where
       EndingAt t Joins i (if test then lf_at i else crlf_at i) j
   good_ending_if i k j true f e s = elim (eol_cases t i k e) [
     | inl x ↦ subst (EndingAt t Joins i (lf_at i)) (sym x.1 ∙ s) (lf_ends x.0)
-    | inr x ↦ absurd (two_on_as_one i k x.2 f)
+    | inr x ↦ absurd (two_on_is_not_next i k x.2 f)
   ]
   good_ending_if i k j false f e s = elim (eol_cases t i k e) [
     | inl x ↦ absurd (not_next i k x.1 f)
@@ -142,7 +142,7 @@ module _ (t : List ℕ) (Joins : Type 0) where
       EndingAt t Joins i x j
   ending_at i j x None n e given = text_ends (end_none i n e)
   ending_at i j x (Some k) n e (goes_on {j = m} (passed w) y) =
-      let value = gave (if k == i + 1 then lf_at i else crlf_at i) x m j y in
+      let value = yields_value (if k == i + 1 then lf_at i else crlf_at i) x m j y in
       subst (λ x. EndingAt t Joins i x j) value.0 (good_ending_if i k j (k == i + 1) refl e (sym w.there ∙ value.1))
 
   pub ending_inversion : (i j : ℕ) (x : Ending) → IsEnd t i → ending t i (Read x j) → EndingAt t Joins i x j
@@ -158,7 +158,7 @@ module _ (t : List ℕ) (Joins : Type 0) where
   run_begins i b e f g h =
       let no_lf : (b == lf) ≡ false =
       ap (holds (λ c. c == lf)) (sym e) ∙ neither_left (has_byte t lf i) (has_byte t cr i && has_byte t lf (i + 1)) f in
-      both_true (byte_holds (λ b. not (b == lf || b == 123 || b == 125)) (slice_get t i) b e (rw (no_lf, h, g) refl))
+      both_true (holds-some (λ b. not (b == lf || b == 123 || b == 125)) (slice_get t i) b e (rw (no_lf, h, g) refl))
       (not_false (has_eol t i) f)
 
 module _ (t : List ℕ) (bare : HasNoBareCr t) (Joins : Type 0) (crs : (i : ℕ) → has_byte t cr i ≡ true → Joins)
@@ -221,7 +221,7 @@ module _ (t : List ℕ) (bare : HasNoBareCr t) (Joins : Type 0) (crs : (i : ℕ)
       let p = pieces_inversion start m ps x in
       let made =
       line_made i k b start m n ps e' w e f v p (ending_inversion t Joins m n e' (pieces_end t Joins start ps m p) y) in
-      let value = gave (record { start = i; spaces = start - i; pieces = ps; ending = e' }) l n j z in
+      let value = yields_value (record { start = i; spaces = start - i; pieces = ps; ending = e' }) l n j z in
       subst (λ l. LineAt t Joins i l j) value.0
       (subst (λ j. LineAt t Joins i (record { start = i; spaces = start - i; pieces = ps; ending = e' }) j) value.1
       made)
@@ -337,15 +337,15 @@ module _ (t : List ℕ) (bare : HasNoBareCr t) (Joins : Type 0) (crs : (i : ℕ)
       Ensures (variant_of t starred star key o) (IsNext starred)
   ensures_variant starred star key None e k p = ensures_fails
   ensures_variant starred star key (Some value) e k p =
-      ensures_then (λ u. ensures_yields (λ vs g. add_variant starred star key value vs e k p g))
+      second_ensures (λ u. ensures_yields (λ vs g. add_variant starred star key value vs e k p g))
 
   ensures_after : (starred star : Bool) → (starred && star) ≡ false →
       Ensures (variant_after One t R starred star) (IsNext starred)
   ensures_after starred star e =
-      ensures_then (λ u.
+      second_ensures (λ u.
       ensures_bind ensures_key
-      (λ key k. ensures_then
-      (λ u. ensures_then (λ u. ensures_bind ensures_pattern (λ o p. ensures_variant starred star key o e k p)))))
+      (λ key k. second_ensures
+      (λ u. second_ensures (λ u. ensures_bind ensures_pattern (λ o p. ensures_variant starred star key o e k p)))))
 
   ensures_only : (starred star : Bool) → Ensures (only_star starred star) (λ u. (starred && star) ≡ false)
   ensures_only starred star = ensures_branch_on (λ e. ensures_fails) (λ e. ensures_yields e)
@@ -355,16 +355,16 @@ module _ (t : List ℕ) (bare : HasNoBareCr t) (Joins : Type 0) (crs : (i : ℕ)
 
   ensures_variants : (starred : Bool) → Ensures (more_variants One t R starred) (IsVariants t Joins starred)
   ensures_variants = ensures_many (next_variant One t R) variants no_variants (IsVariants t Joins)
-      (λ starred. ensures_then (λ star.
+      (λ starred. second_ensures (λ star.
       ensures_bind (ensures_only starred star)
-      (λ u e. ensures_then
+      (λ u e. second_ensures
       (λ bracket. ensures_branch_on (λ y. ensures_after starred star e) (λ y. ensures_end starred star)))))
 
   -- ---- expressions
 
   ensures_variants_of : Ensures (variants_of_select One t R) (IsVariants t Joins false)
   ensures_variants_of =
-      ensures_then (λ u. ensures_then (λ u. ensures_then (λ u. ensures_then (λ u. ensures_variants false))))
+      second_ensures (λ u. second_ensures (λ u. second_ensures (λ u. second_ensures (λ u. ensures_variants false))))
 
   ensures_select : (e : InlineTree Span) (o : Option Kind) → IsInline t Joins e → selector_fault e ≡ o →
       Ensures (select_with One t R e o) (IsReadExpression t Joins)
@@ -375,7 +375,7 @@ module _ (t : List ℕ) (bare : HasNoBareCr t) (Joins : Type 0) (crs : (i : ℕ)
   pub ensures_expression : Ensures (expression One t R) (IsReadExpression t Joins)
   ensures_expression =
       ensures_bind (record { on_read = λ i j e x. (inline_inversion t Joins R h i j e x).0 })
-      (λ e f. ensures_then (λ u. ensures_then (λ arrow. ensures_branch_on
+      (λ e f. second_ensures (λ u. second_ensures (λ arrow. ensures_branch_on
       (λ y. ensures_select e (selector_fault e) f refl)
       (λ y. ensures_branch_on (λ z. ensures_fails) (λ z. ensures_yields (inline_obeys_joined t Joins R h e f z))))))
 

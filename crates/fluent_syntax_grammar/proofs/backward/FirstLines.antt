@@ -17,7 +17,7 @@ use Rattle.fluent_syntax_grammar.specs.Written.{Text, has_lf, is_select, is_mult
 use Rattle.fluent_syntax_grammar.specs.Joined.{joined_pattern}
 use Rattle.fluent_syntax_grammar.specs.RoundTrip.{HasNoBareCr}
 use Rattle.fluent_syntax_grammar.proofs.Facts.{append_nothing}
-use Rattle.fluent_syntax_grammar.proofs.backward.Texts.{line_end, plain_nonblank}
+use Rattle.fluent_syntax_grammar.proofs.backward.Texts.{line_end, nonblank_is_shows}
 use Rattle.fluent_syntax_grammar.proofs.backward.Shapes.{items_tree}
 use Rattle.fluent_syntax_grammar.proofs.backward.Lines.{range_last, byte_at, PiecesAt, no_piece, a_run, a_placeable}
 use Rattle.fluent_syntax_grammar.proofs.backward.Lines.{EndingAt, lf_ends, crlf_ends, text_ends, LineAt, LinesAt}
@@ -33,9 +33,9 @@ pub record Cons (xs : List Item) : Type 0 where
   pub rest : List Item
   pub is : xs ≡ head ∷ rest
 
-or_step : (x y z : Bool) → (x || y) ≡ true → (y ≡ true → z ≡ true) → (x || z) ≡ true
-or_step true y z e f = refl
-or_step false y z e f = f e
+or_true_by_implication : (x y z : Bool) → (x || y) ≡ true → (y ≡ true → z ≡ true) → (x || z) ≡ true
+or_true_by_implication true y z e f = refl
+or_true_by_implication false y z e f = f e
 
 module _ (t : List ℕ) where
   cut_at : (x : Item) (ys : List Item) (b z : Bool) → stays t x ≡ b → (b || z) ≡ true → (z ≡ true → Cons ys) →
@@ -71,7 +71,7 @@ module _ (t : List ℕ) where
       elim (or_cases (has_lf (slice_range t from to)) false e)
       [ inl f ↦ true_by_left (has_lf (slice_range t from to)) _ f | inr f ↦ absurd cc ]
   spans_tree (text from to ∷ y ∷ ys) z zs e =
-      or_step (has_lf (slice_range t from to)) (list_any spans (y ∷ ys))
+      or_true_by_implication (has_lf (slice_range t from to)) (list_any spans (y ∷ ys))
       (is_multiline (items_tree t ((y ∷ ys) ++ (z ∷ zs))))
       e (spans_tree (y ∷ ys) z zs)
   spans_tree (placeable_item x ∷ ys) z zs e =
@@ -123,7 +123,7 @@ module _ (t : List ℕ) (bare : HasNoBareCr t) (Joins : Type 0) (crs : (i : ℕ)
   shown_stays : (kept first to b : ℕ) (c : Bool) (end : ℕ) → LineText t bare kept first to b →
       slice_range t kept end ≡ slice_range t kept to ++ line_end c → is_nonblank (slice_range t kept end) ≡ true
   shown_stays kept first to b c end x e =
-      ap is_nonblank e ∙ (plain_nonblank (slice_range t kept to) c x.plain ∙ x.shown)
+      ap is_nonblank e ∙ (nonblank_is_shows (slice_range t kept to) c x.plain ∙ x.shown)
 
   run_stays : (kept first to b : ℕ) (ps : List Piece) (n : ℕ) (e : Ending) (j : ℕ) → kept ≤ to →
       LineText t bare kept first to b → PiecesAt t Joins to ps n → EndingAt t Joins n e j →

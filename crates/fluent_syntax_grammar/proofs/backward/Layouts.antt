@@ -15,13 +15,13 @@ use Rattle.fluent_syntax_grammar.specs.Elements.{items}
 use Rattle.fluent_syntax_grammar.specs.Written.{begins_with_mark, is_leading_mark}
 use Rattle.fluent_syntax_grammar.specs.Readable.{ElementPosition, opening, after_line, after_placeable}
 use Rattle.fluent_syntax_grammar.specs.RoundTrip.{HasNoBareCr}
-use Rattle.fluent_syntax_grammar.proofs.Facts.{byte_found, byte_holds, implies, left_true, right_true, differs}
-use Rattle.fluent_syntax_grammar.proofs.Facts.{equal, two_on, lt_or_le, byte_of}
+use Rattle.fluent_syntax_grammar.proofs.Facts.{byte_exists, holds-some, tests_imply, left_true, right_true, differs}
+use Rattle.fluent_syntax_grammar.proofs.Facts.{equal, two_on, lt_or_le, byte_passes}
 use Rattle.fluent_syntax_grammar.proofs.Tests.{or_cases}
-use Rattle.fluent_syntax_grammar.proofs.Functional.{longest_run_functional}
+use Rattle.fluent_syntax_grammar.proofs.Functional.{longest_run_is_functional}
 use Rattle.fluent_syntax_grammar.proofs.backward.Texts.{is_plain, shows, BeginsElement}
 use Rattle.fluent_syntax_grammar.proofs.backward.Shapes.{places, runs, ends_line, blank_line, joins, Shape, done, more}
-use Rattle.fluent_syntax_grammar.proofs.backward.Shapes.{space_plain}
+use Rattle.fluent_syntax_grammar.proofs.backward.Shapes.{space_is_plain}
 use Rattle.fluent_syntax_grammar.proofs.backward.Lines.{range_first, range_last, range_byte, range_all, byte_at}
 use Rattle.fluent_syntax_grammar.proofs.backward.Lines.{PiecesAt, no_piece, a_run, a_placeable, EndingAt, lf_ends}
 use Rattle.fluent_syntax_grammar.proofs.backward.Lines.{crlf_ends, text_ends, LineAt, LinesAt, a_line, LayoutAt}
@@ -29,8 +29,8 @@ use Rattle.fluent_syntax_grammar.proofs.backward.Lines.{on_line, below}
 use Rattle.fluent_syntax_grammar.proofs.Tests.{not_true, or_true}
 
 -- a byte that is no LF and no brace, and no CR, is plain
-plain_of : (b : ℕ) → not (b == lf || b == 123 || b == 125) ≡ true → (b == cr) ≡ false → is_plain b ≡ true
-plain_of b e f = bools (b == lf) (b == 123) (b == 125) (b == cr) e f
+no_brace_is_plain : (b : ℕ) → not (b == lf || b == 123 || b == 125) ≡ true → (b == cr) ≡ false → is_plain b ≡ true
+no_brace_is_plain b e f = bools (b == lf) (b == 123) (b == 125) (b == cr) e f
   where
     bools : (x y z w : Bool) → not (x || y || z) ≡ true → w ≡ false → not ((y || z) || (x || w)) ≡ true
     bools false false false false e f = refl
@@ -39,8 +39,8 @@ plain_of b e f = bools (b == lf) (b == 123) (b == 125) (b == cr) e f
     bools false false true w e f = cc
     bools false false false true e f = cc
 
-no_mark : (b : ℕ) → not (b == 46 || b == 125 || b == 91 || b == 42) ≡ true → is_leading_mark b ≡ false
-no_mark b e = bools (b == 46) (b == 125) (b == 91) (b == 42) e
+byte_is_no_mark : (b : ℕ) → not (b == 46 || b == 125 || b == 91 || b == 42) ≡ true → is_leading_mark b ≡ false
+byte_is_no_mark b e = bools (b == 46) (b == 125) (b == 91) (b == 42) e
   where
     bools : (x y z w : Bool) → not (x || y || z || w) ≡ true → (x || z || w) ≡ false
     bools false false false false e = refl
@@ -64,17 +64,17 @@ module _ (t : List ℕ) (bare : HasNoBareCr t) where
 
   no_cr : (i b : ℕ) (x : Bool) → (b == cr) ≡ x → slice_get t i ≡ Some b → has_eol t i ≡ false → (b == cr) ≡ false
   no_cr i b false e f g = e
-  no_cr i b true e f g = let h = byte_holds (λ c. c == cr) (slice_get t i) b f e in differs (eol_of i h (bare i h)) g
+  no_cr i b true e f g = let h = holds-some (λ c. c == cr) (slice_get t i) b f e in differs (eol_of i h (bare i h)) g
 
   -- a byte of a run is plain
   run_plain : (i : ℕ) → is_run_place t i ≡ true → has t is_plain i ≡ true
   run_plain i e =
       let b =
-      byte_found (λ b. not (b == lf || b == 123 || b == 125)) (slice_get t i) (left_true _ (not (has_eol t i)) e) in
+      byte_exists (λ b. not (b == lf || b == 123 || b == 125)) (slice_get t i) (left_true _ (not (has_eol t i)) e) in
       let f =
       not_true (has_eol t i)
       (right_true (has t (λ b. not (b == lf || b == 123 || b == 125)) i) (not (has_eol t i)) e) in
-      byte_holds is_plain (slice_get t i) b.0 b.1 (plain_of b.0 b.2 (no_cr i b.0 (b.0 == cr) refl b.1 f))
+      holds-some is_plain (slice_get t i) b.0 b.1 (no_brace_is_plain b.0 b.2 (no_cr i b.0 (b.0 == cr) refl b.1 f))
 
   -- where a run begins a later line, it begins with no mark
   own_mark : (indented : Bool) (i b : ℕ) → belongs t indented i ≡ true → is_run_place t i ≡ true →
@@ -83,18 +83,18 @@ module _ (t : List ℕ) (bare : HasNoBareCr t) where
     | inl h ↦ differs h
         (not_true (has_eol t i)
         (right_true (has t (λ b. not (b == lf || b == 123 || b == 125)) i) (not (has_eol t i)) f))
-    | inr h ↦ no_mark b (byte_of _ (slice_get t i) b g h)
+    | inr h ↦ byte_is_no_mark b (byte_passes _ (slice_get t i) b g h)
   ]
   own_mark false i b e f g =
-      let plain = byte_of is_plain (slice_get t i) b g (run_plain i f) in
+      let plain = byte_passes is_plain (slice_get t i) b g (run_plain i f) in
       elim (or_cases (has_eol t i || has_byte t 123 i) (has_byte t cr i) e) [
         | inl h ↦ elim (or_cases (has_eol t i) (has_byte t 123 i) h) [
           | inl k ↦ differs k
               (not_true (has_eol t i)
               (right_true (has t (λ b. not (b == lf || b == 123 || b == 125)) i) (not (has_eol t i)) f))
-          | inr k ↦ absurd (plain_not b 123 refl (byte_of _ (slice_get t i) b g k) plain)
+          | inr k ↦ absurd (plain_not b 123 refl (byte_passes _ (slice_get t i) b g k) plain)
         ]
-        | inr h ↦ absurd (plain_not b cr refl (byte_of _ (slice_get t i) b g h) plain)
+        | inr h ↦ absurd (plain_not b cr refl (byte_passes _ (slice_get t i) b g h) plain)
       ]
 
   -- spaces and then a byte that is none
@@ -109,7 +109,7 @@ module _ (t : List ℕ) (bare : HasNoBareCr t) where
       subst (λ k. slice_range t i j ≡ b ∷ slice_range t (k + 1) j) (sym s) r in
       rw (r', g) (refl, refl)
   head_of (suc n) i j b l e f g =
-      let c = byte_found is_space (slice_get t i) (e i (omega arith) (omega arith)) in
+      let c = byte_exists is_space (slice_get t i) (e i (omega arith) (omega arith)) in
       let s : (i + 1) + n ≡ i + suc n = omega arith in
       let r : slice_range t i j ≡ c.0 ∷ slice_range t (i + 1) j = range_first t i j c.0 (omega arith) c.1 in
       let q =
@@ -133,7 +133,7 @@ module _ (t : List ℕ) (bare : HasNoBareCr t) where
   kept_plain : (kept first to : ℕ) → ((k : ℕ) → kept ≤ k → k < first → has t is_space k ≡ true) →
       LongestRun (is_run_place t) first to → (k : ℕ) → kept ≤ k → k < to → has t is_plain k ≡ true
   kept_plain kept first to e w k l n = elim (lt_or_le k first) [
-    | inl x ↦ implies is_space is_plain (slice_get t k) space_plain (e k l x)
+    | inl x ↦ tests_imply is_space is_plain (slice_get t k) space_is_plain (e k l x)
     | inr x ↦ run_plain k (w.each k x n)
   ]
 
@@ -177,7 +177,7 @@ module _ (t : List ℕ) (bare : HasNoBareCr t) (Joins : Type 0) (crs : (i : ℕ)
 
   run_some : (i to : ℕ) → i < to → LongestRun (is_run_place t) i to → is_empty (slice_range t i to) ≡ false
   run_some i to l w =
-      let b = byte_found is_plain (slice_get t i) (run_plain t bare i (w.each i (omega arith) l)) in
+      let b = byte_exists is_plain (slice_get t i) (run_plain t bare i (w.each i (omega arith) l)) in
       ap is_empty (range_first t i to b.0 l b.1)
 
   run_all : (i to : ℕ) → i < to → LongestRun (is_run_place t) i to → list_all is_plain (slice_range t i to) ≡ true
@@ -278,7 +278,7 @@ module _ (t : List ℕ) (bare : HasNoBareCr t) (Joins : Type 0) (crs : (i : ℕ)
       slice_get t first ≡ Some byte → ⊥
   no_line_at_end i first byte e w f = elim (here_or i first w.forward) [
     | inl same ↦ (let g : slice_get t i ≡ Some byte = subst (λ k. slice_get t k ≡ Some byte) (sym same) f in absurd cc)
-    | inr l ↦ (let b = byte_found is_space (slice_get t i) (w.each i (omega arith) l) in let g = b.1 in absurd cc)
+    | inr l ↦ (let b = byte_exists is_space (slice_get t i) (w.each i (omega arith) l) in let g = b.1 in absurd cc)
   ]
     where
       here_or : (i k : ℕ) → i ≤ k → (i ≡ k) ⊎ (i < k)
@@ -348,7 +348,7 @@ module _ (t : List ℕ) (bare : HasNoBareCr t) (Joins : Type 0) (crs : (i : ℕ)
   opened_shape i [] n e j rest f g (no_piece x) (crlf_ends c y) a = differs (eol_of t bare n c y) g
   opened_shape i [] n e j rest f g (no_piece x) (text_ends y) a = subst (Shape t Joins m opening) (sym a) done
   opened_shape i (run from to ∷ ps) n e j rest f g (a_run l w x) y a =
-      let b = byte_found is_plain (slice_get t i) (run_plain t bare i (w.each i (omega arith) l)) in
+      let b = byte_exists is_plain (slice_get t i) (run_plain t bare i (w.each i (omega arith) l)) in
       let shown : is_space b.0 ≡ false = ap (holds is_space) (sym b.1) ∙ f in
       let h : HeadAt i i b.0 =
       record { on = omega arith; leading = λ k x y. absurd (omega arith); in_place = b.1; shown = shown } in

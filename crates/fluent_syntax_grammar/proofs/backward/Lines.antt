@@ -10,9 +10,9 @@ use Rattle.fluent_syntax_grammar.specs.Bytes.{lf, cr, is_space}
 use Rattle.fluent_syntax_grammar.specs.Places.{LongestRun, has, has_byte, has_eol, InlineBlank}
 use Rattle.fluent_syntax_grammar.specs.Layout.{Piece, run, placed, Ending, lf_at, crlf_at, text_end, Line, Layout}
 use Rattle.fluent_syntax_grammar.specs.Lines.{is_run_place, belongs}
-use Rattle.fluent_syntax_grammar.proofs.Facts.{byte_found, equal, has_inside}
+use Rattle.fluent_syntax_grammar.proofs.Facts.{byte_exists, equal, has_inside}
 use Rattle.fluent_syntax_grammar.proofs.SuffixAt.{SuffixAt, first, suffix_first, suffix_next}
-use Rattle.fluent_syntax_grammar.proofs.backward.Taken.{taken_all}
+use Rattle.fluent_syntax_grammar.proofs.backward.Taken.{taken_bytes_are_in_set}
 use Rattle.fluent_syntax_grammar.proofs.backward.Shapes.{IsReadExpression}
 
 -- ---- ranges
@@ -83,10 +83,10 @@ module _ (t : List ℕ) where
       at zero i e = refl
       at (suc n) i e =
           let l : i < length t = has_inside set t i (e i (omega arith) (omega arith)) in
-          taken_all set (suc n) (drop i t) i (record { within = omega arith; rest = refl }) e
+          taken_bytes_are_in_set set (suc n) (drop i t) i (record { within = omega arith; rest = refl }) e
 
   pub byte_at : (c i : ℕ) → has_byte t c i ≡ true → slice_get t i ≡ Some c
-  byte_at c i e = let b = byte_found (λ b. b == c) (slice_get t i) e in b.1 ∙ ap Some (equal b.0 c b.2)
+  byte_at c i e = let b = byte_exists (λ b. b == c) (slice_get t i) e in b.1 ∙ ap Some (equal b.0 c b.2)
 
 -- ---- the places of lines
 

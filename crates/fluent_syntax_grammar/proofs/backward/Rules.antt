@@ -47,38 +47,38 @@ use Rattle.fluent_syntax_grammar.proofs.Tests.{not_false}
 pub record Ensures {A : Type 0} (c : Construct A) (Good : A → Type 0) : Type 0 where
   pub on_read : (i j : ℕ) (a : A) → c i (Read a j) → Good a
 
-bind_read : {A B : Type 0} (c : Construct A) (f : A → Construct B) (Mid : A → Type 0) (Good : B → Type 0) →
+bind_reads_good : {A B : Type 0} (c : Construct A) (f : A → Construct B) (Mid : A → Type 0) (Good : B → Type 0) →
     Ensures c Mid → ((a : A) → Mid a → Ensures (f a) Good) → (i j : ℕ) (b : B) → (c >>= f) i (Read b j) → Good b
-bind_read c f Mid Good x g i j b (goes_on {j = m} {a = a} y z) = (g a (x.on_read i m a y)).on_read m j b z
+bind_reads_good c f Mid Good x g i j b (goes_on {j = m} {a = a} y z) = (g a (x.on_read i m a y)).on_read m j b z
 
 pub ensures_bind : {A B : Type 0} {Mid : A → Type 0} {Good : B → Type 0} {c : Construct A} {f : A → Construct B} →
     Ensures c Mid → ((a : A) → Mid a → Ensures (f a) Good) → Ensures (c >>= f) Good
-ensures_bind {Mid = Mid} {Good = Good} {c = c} {f = f} x g = record { on_read = bind_read c f Mid Good x g }
+ensures_bind {Mid = Mid} {Good = Good} {c = c} {f = f} x g = record { on_read = bind_reads_good c f Mid Good x g }
 
 -- what is not asked of a part
-pub ensures_then : {A B : Type 0} {Good : B → Type 0} {c : Construct A} {f : A → Construct B} →
+pub second_ensures : {A B : Type 0} {Good : B → Type 0} {c : Construct A} {f : A → Construct B} →
     ((a : A) → Ensures (f a) Good) → Ensures (c >>= f) Good
-ensures_then g = ensures_bind {Mid = λ a. Unit {0}} (record { on_read = λ i j a x. tt }) (λ a u. g a)
+second_ensures g = ensures_bind {Mid = λ a. Unit {0}} (record { on_read = λ i j a x. tt }) (λ a u. g a)
 
-yields_read : {A : Type 0} (Good : A → Type 0) (a b : A) (i j : ℕ) → Good a → yields a i (Read b j) → Good b
-yields_read Good a b i j g given = g
+yields_reads_good : {A : Type 0} (Good : A → Type 0) (a b : A) (i j : ℕ) → Good a → yields a i (Read b j) → Good b
+yields_reads_good Good a b i j g given = g
 
 pub ensures_yields : {A : Type 0} {Good : A → Type 0} {a : A} → Good a → Ensures (yields a) Good
-ensures_yields {Good = Good} {a = a} g = record { on_read = λ i j b x. yields_read Good a b i j g x }
+ensures_yields {Good = Good} {a = a} g = record { on_read = λ i j b x. yields_reads_good Good a b i j g x }
 
-fails_read : {A : Type 0} (X : Type 0) (k : Kind) (i j : ℕ) (a : A) → fails k i (Read a j) → X
-fails_read X k i j a x = elim x [ ]
+fails_reads_nothing : {A : Type 0} (X : Type 0) (k : Kind) (i j : ℕ) (a : A) → fails k i (Read a j) → X
+fails_reads_nothing X k i j a x = elim x [ ]
 
 pub ensures_fails : {A : Type 0} {Good : A → Type 0} {k : Kind} → Ensures (fails k) Good
-ensures_fails {Good = Good} {k = k} = record { on_read = λ i j a x. fails_read (Good a) k i j a x }
+ensures_fails {Good = Good} {k = k} = record { on_read = λ i j a x. fails_reads_nothing (Good a) k i j a x }
 
-peek_read : {A B : Type 0} (Good : B → Type 0) (look : ℕ → A) (part : A → Construct B) →
+peek_reads_good : {A B : Type 0} (Good : B → Type 0) (look : ℕ → A) (part : A → Construct B) →
     ((a : A) → Ensures (part a) Good) → (i j : ℕ) (b : B) → peek look part i (Read b j) → Good b
-peek_read Good look part g i j b (chosen x) = (g (look i)).on_read i j b x
+peek_reads_good Good look part g i j b (chosen x) = (g (look i)).on_read i j b x
 
 pub ensures_peek : {A B : Type 0} {Good : B → Type 0} {look : ℕ → A} {part : A → Construct B} →
     ((a : A) → Ensures (part a) Good) → Ensures (peek look part) Good
-ensures_peek {Good = Good} {look = look} {part = part} g = record { on_read = peek_read Good look part g }
+ensures_peek {Good = Good} {look = look} {part = part} g = record { on_read = peek_reads_good Good look part g }
 
 branch_on_read : {A : Type 0} (Good : A → Type 0) (test : Bool) (c d : Construct A) → (test ≡ true → Ensures c Good) →
     (test ≡ false → Ensures d Good) → (i j : ℕ) (a : A) → branch_on test c d i (Read a j) → Good a
@@ -157,7 +157,7 @@ module _ (t : List ℕ) (Joins : Type 0) where
 
   pub ensures_accessor : Ensures (accessor t) IsOptionName
   ensures_accessor =
-      ensures_then (λ dot.
+      second_ensures (λ dot.
       ensures_branch_on (λ e. ensures_bind ensures_name (λ a g. ensures_yields g)) (λ e. ensures_yields refl))
 
   arguments_obey_joined : (a : ArgumentsTree Span) → IsArguments [] a →
@@ -223,26 +223,26 @@ module _ (t : List ℕ) (Joins : Type 0) where
 
 -- ---- starts
 
-digit_of : (q d m l o n b : Bool) (x : Start) →
+digit_is_chosen : (q d m l o n b : Bool) (x : Start) →
     (if q then quote else if d then digit else if m then (if l then term else minus) else if o then dollar else if n
     then letter else if b then brace else other) ≡ digit → d ≡ true
-digit_of false true m l o n b x e = refl
-digit_of true d m l o n b x e = cc
-digit_of false false true true o n b x e = cc
-digit_of false false true false o n b x e = cc
-digit_of false false false l true n b x e = cc
-digit_of false false false l false true b x e = cc
-digit_of false false false l false false true x e = cc
-digit_of false false false l false false false x e = cc
+digit_is_chosen false true m l o n b x e = refl
+digit_is_chosen true d m l o n b x e = cc
+digit_is_chosen false false true true o n b x e = cc
+digit_is_chosen false false true false o n b x e = cc
+digit_is_chosen false false false l true n b x e = cc
+digit_is_chosen false false false l false true b x e = cc
+digit_is_chosen false false false l false false true x e = cc
+digit_is_chosen false false false l false false false x e = cc
 
 start_digit : (o : Option ℕ) (l : Bool) → start_of o l ≡ digit → holds is_digit o ≡ true
 start_digit None l e = cc
-start_digit (Some b) l e = digit_of (b == 34) (is_digit b) (b == 45) l (b == 36) (is_letter b) (b == 123) other e
+start_digit (Some b) l e = digit_is_chosen (b == 34) (is_digit b) (b == 45) l (b == 36) (is_letter b) (b == 123) other e
 
 module _ (t : List ℕ) (Joins : Type 0) (R : Family) (h : ObeysJoinedFamily t Joins R) where
   pub ensures_call : Ensures (call_arguments t R) (IsMaybe t Joins)
-  ensures_call = ensures_then (λ u. ensures_then (λ bracket. ensures_branch_on
-      (λ e. ensures_bind (ensures_then (λ u. h.argument_list))
+  ensures_call = second_ensures (λ u. second_ensures (λ bracket. ensures_branch_on
+      (λ e. ensures_bind (second_ensures (λ u. h.argument_list))
       (λ a g. ensures_yields (some_obeys_joined t Joins a (arguments_obey_joined t Joins a g))))
       (λ e. ensures_yields (record { obeys = refl; same = λ none. refl }))))
 
@@ -271,9 +271,9 @@ module _ (t : List ℕ) (Joins : Type 0) (R : Family) (h : ObeysJoinedFamily t J
 
   pub ensures_placeable : Ensures (placeable t R) (IsReadExpression t Joins)
   ensures_placeable =
-      ensures_then (λ u.
-      ensures_then (λ u.
-      ensures_bind h.expression (λ e f. ensures_then (λ u. ensures_then (λ u. ensures_yields f)))))
+      second_ensures (λ u.
+      second_ensures (λ u.
+      ensures_bind h.expression (λ e f. second_ensures (λ u. second_ensures (λ u. ensures_yields f)))))
 
   -- ---- inline expressions
 
@@ -298,14 +298,14 @@ module _ (t : List ℕ) (Joins : Type 0) (R : Family) (h : ObeysJoinedFamily t J
   inline_read term i j e s x = (r.on_read i j e x, tt)
     where
       r : Ensures (inline_of t R term) (IsInline t Joins)
-      r = ensures_then
+      r = second_ensures
           (λ u. ensures_bind (ensures_name t Joins)
           (λ id n. ensures_bind (ensures_accessor t Joins)
           (λ o p. ensures_bind ensures_call (λ a f. ensures_yields (term_obeys_joined t Joins id o a n p f)))))
   inline_read dollar i j e s x = (r.on_read i j e x, tt)
     where
       r : Ensures (inline_of t R dollar) (IsInline t Joins)
-      r = ensures_then
+      r = second_ensures
           (λ u. ensures_bind (ensures_name t Joins)
           (λ id n. ensures_yields (record { obeys = n; same = λ none. refl })))
   inline_read letter i j e s x = r.on_read i j e x
@@ -364,12 +364,12 @@ module _ (t : List ℕ) (Joins : Type 0) (R : Family) (h : ObeysJoinedFamily t J
       Ensures (named_rest t R names name) (IsNext names)
   ensures_named names name n =
       ensures_branch_on (λ y. ensures_fails)
-      (λ y. ensures_then (λ u. ensures_then (λ u. ensures_bind (record { on_read = value_at }) (λ e f.
-      ensures_then (λ u. ensures_yields (λ a g. add_named_obeys_joined names name e a n y f g))))))
+      (λ y. second_ensures (λ u. second_ensures (λ u. ensures_bind (record { on_read = value_at }) (λ e f.
+      second_ensures (λ u. ensures_yields (λ a g. add_named_obeys_joined names name e a n y f g))))))
 
   ensures_positional : (names : List Text) (e : InlineTree Span) → IsInline t Joins e →
       Ensures (positional_rest t names e) (IsNext names)
-  ensures_positional [] e f = ensures_then (λ u. ensures_yields (λ a g. add_positional_obeys_joined e a f g))
+  ensures_positional [] e f = second_ensures (λ u. ensures_yields (λ a g. add_positional_obeys_joined e a f g))
   ensures_positional (n ∷ ns) e f = ensures_fails
 
   name_of : (e : InlineTree Span) (s : Span) → IsInline t Joins e → argument_name e ≡ Some s → IsNameSpan t s
@@ -393,11 +393,11 @@ module _ (t : List ℕ) (Joins : Type 0) (R : Family) (h : ObeysJoinedFamily t J
       Ensures (next_argument_at t R names o) (IsNext names)
   ensures_arguments_at names None = ensures_fails
   ensures_arguments_at names (Some b) = ensures_branch_on
-      (λ y. ensures_then
+      (λ y. second_ensures
       (λ u. ensures_yields
       (record { obeys = refl; same = λ none. refl }, record { obeys = refl; same = λ none. refl }, refl)))
       (λ y. ensures_bind (record { on_read = λ i j e x. (inline_inversion i j e x).0 })
-      (λ e f. ensures_then (λ colon. ensures_argument names e (argument_name e) colon refl f)))
+      (λ e f. second_ensures (λ colon. ensures_argument names e (argument_name e) colon refl f)))
 
   pub ensures_arguments : (names : List Text) → Ensures (more_arguments t R names) (IsArguments t Joins names)
   ensures_arguments =

@@ -21,9 +21,9 @@ use Rattle.fluent_syntax_grammar.specs.Joined.{is_joined, joined_expression, joi
 use Rattle.fluent_syntax_grammar.proofs.Facts.{left_true, right_true, equal, append_nothing}
 use Rattle.fluent_syntax_grammar.proofs.Tests.{both_true}
 use Rattle.fluent_syntax_grammar.proofs.backward.Texts.{is_plain, line_end, line_not_empty, plain_is_text, line_ends}
-use Rattle.fluent_syntax_grammar.proofs.backward.Texts.{plain_ends_not, shows, plain_nonblank, trimmed_of}
-use Rattle.fluent_syntax_grammar.proofs.backward.Texts.{trimmed_range, BeginsElement, begins_kept, begin_holds}
-use Rattle.fluent_syntax_grammar.proofs.backward.Texts.{blank_holds, occurs_before_any}
+use Rattle.fluent_syntax_grammar.proofs.backward.Texts.{plain_ends_not, shows, nonblank_is_shows, plain_is_trimmed}
+use Rattle.fluent_syntax_grammar.proofs.backward.Texts.{trimmed_range_is_kept, BeginsElement, front_begins, begin_holds}
+use Rattle.fluent_syntax_grammar.proofs.backward.Texts.{blank_occurs, occurs_before_any}
 
 -- ---- expressions that were read
 
@@ -96,11 +96,11 @@ items_tree t xs = pattern_map (bytes_at t) (elements_of (spelled t xs))
 
 -- ---- joining
 
-line_joined : (w : Text) (q : PatternTree Text) → ends_in_lf w ≡ true →
+lf_text_is_alone : (w : Text) (q : PatternTree Text) → ends_in_lf w ≡ true →
     joined_after w q ≡ elements (text_element w) (joined_pattern q)
-line_joined w no_elements e = refl
-line_joined w (elements (placeable x) es) e = refl
-line_joined w (elements (text_element v) es) e = apart (is_lone_lf v) (ends_in_lf w) e
+lf_text_is_alone w no_elements e = refl
+lf_text_is_alone w (elements (placeable x) es) e = refl
+lf_text_is_alone w (elements (text_element v) es) e = apart (is_lone_lf v) (ends_in_lf w) e
   where
     apart : (a b : Bool) → b ≡ true →
         (if (a && not b) then elements (text_element (w ++ v)) (joined_pattern es) else elements (text_element w)
@@ -109,14 +109,14 @@ line_joined w (elements (text_element v) es) e = apart (is_lone_lf v) (ends_in_l
     apart false b e = refl
     apart true false e = cc
 
-lf_joined : (w : Text) (q : PatternTree Text) → ends_in_lf w ≡ false →
+lone_lf_is_joined_on : (w : Text) (q : PatternTree Text) → ends_in_lf w ≡ false →
     joined_after w (elements (text_element (lf ∷ [])) q) ≡ elements (text_element (w ++ (lf ∷ []))) (joined_pattern q)
-lf_joined w q e = rw e refl
+lone_lf_is_joined_on w q e = rw e refl
 
-after_more : (w v : Text) (es : PatternTree Text) → may_precede w (joined_after v es) ≡ true
-after_more w v no_elements = refl
-after_more w v (elements (placeable e) es) = refl
-after_more w v (elements (text_element x) es) = whichever (is_joined v x)
+may_precede_joined_after : (w v : Text) (es : PatternTree Text) → may_precede w (joined_after v es) ≡ true
+may_precede_joined_after w v no_elements = refl
+may_precede_joined_after w v (elements (placeable e) es) = refl
+may_precede_joined_after w v (elements (text_element x) es) = whichever (is_joined v x)
   where
     whichever : (b : Bool) →
         may_precede w (if b then elements (text_element (v ++ x)) (joined_pattern es) else elements (text_element v)
@@ -125,42 +125,42 @@ after_more w v (elements (text_element x) es) = whichever (is_joined v x)
     whichever false = refl
 
 -- a text before another element is not the last
-joined_more : (w : Text) (e : ElementTree Text) (es : PatternTree Text) →
+precedes_joined : (w : Text) (e : ElementTree Text) (es : PatternTree Text) →
     may_precede w (joined_pattern (elements e es)) ≡ true
-joined_more w (placeable e) es = refl
-joined_more w (text_element v) es = after_more w v es
+precedes_joined w (placeable e) es = refl
+precedes_joined w (text_element v) es = may_precede_joined_after w v es
 
 tree_more : (t : List ℕ) (w : Text) (x : Item) (xs : List Item) →
     may_precede w (joined_pattern (items_tree t (x ∷ xs))) ≡ true
 tree_more t w (text from to) [] = refl
-tree_more t w (text from to) (y ∷ ys) = joined_more w (text_element (slice_range t from to)) (items_tree t (y ∷ ys))
+tree_more t w (text from to) (y ∷ ys) = precedes_joined w (text_element (slice_range t from to)) (items_tree t (y ∷ ys))
 tree_more t w (placeable_item e) xs = refl
 
 -- ---- the elements are well
 
-text_well : (m : Bool) (s : ElementPosition) (v : Text) (p : PatternTree Text) → is_text v ≡ true →
+text_keeps_well : (m : Bool) (s : ElementPosition) (v : Text) (p : PatternTree Text) → is_text v ≡ true →
     may_occur_at One m s v no_elements ≡ true → may_precede v p ≡ true → are_elements One m (position_after v) p ≡ true
     → are_elements One m s (elements (text_element v) p) ≡ true
-text_well m s v p a b c d = both_true a (both_true (occurs_before_any m s v p no_elements ∙ b) (both_true c d))
+text_keeps_well m s v p a b c d = both_true a (both_true (occurs_before_any m s v p no_elements ∙ b) (both_true c d))
 
 pub record Well (m : Bool) (s : ElementPosition) (p : PatternTree Text) : Type 0 where
   pub position : are_elements One m s p ≡ true
   pub obey : elements_obey (readable_rules One) p ≡ true
 
 -- a line's text and what follows it
-line_well : (m : Bool) (s : ElementPosition) (u w : Text) (q : PatternTree Text) → w ≡ u ++ line_end true →
+line_keeps_well : (m : Bool) (s : ElementPosition) (u w : Text) (q : PatternTree Text) → w ≡ u ++ line_end true →
     list_all is_plain u ≡ true → may_occur_at One m s (u ++ line_end true) no_elements ≡ true →
     may_precede (u ++ line_end true) (joined_pattern q) ≡ true →
     Well m after_line (joined_pattern q) → Well m s (joined_after w q)
-line_well m s u w q e p b c h =
+line_keeps_well m s u w q e p b c h =
     let v = u ++ line_end true in
     let whole : joined_after w q ≡ elements (text_element v) (joined_pattern q) =
-    ap (λ w. joined_after w q) e ∙ line_joined v q (line_ends u) in
+    ap (λ w. joined_after w q) e ∙ lf_text_is_alone v q (line_ends u) in
     let next : position_after v ≡ after_line = rw (line_ends u) refl in
     subst (Well m s) (sym whole)
     (record {
       position =
-          text_well m s v (joined_pattern q) (plain_is_text u true p not_empty) b c
+          text_keeps_well m s v (joined_pattern q) (plain_is_text u true p not_empty) b c
           (subst (λ s. are_elements One m s (joined_pattern q) ≡ true) (sym next) h.position);
       obey = h.obey;
     })
@@ -168,29 +168,29 @@ line_well m s u w q e p b c h =
     not_empty : is_empty (u ++ line_end true) ≡ false
     not_empty = line_not_empty u
 
-shown_not_empty : (u : Text) → shows u ≡ true → is_empty u ≡ false
-shown_not_empty [] e = cc
-shown_not_empty (x ∷ u) e = refl
+showing_text_is_not_empty : (u : Text) → shows u ≡ true → is_empty u ≡ false
+showing_text_is_not_empty [] e = cc
+showing_text_is_not_empty (x ∷ u) e = refl
 
-pub space_plain : (b : ℕ) → is_space b ≡ true → is_plain b ≡ true
-space_plain b e = let same = equal b 32 e in subst (λ b. is_plain b ≡ true) (sym same) refl
+pub space_is_plain : (b : ℕ) → is_space b ≡ true → is_plain b ≡ true
+space_is_plain b e = let same = equal b 32 e in subst (λ b. is_plain b ≡ true) (sym same) refl
 
-spaces_plain : (u : Text) → is_spaces u ≡ true → list_all is_plain u ≡ true
-spaces_plain [] e = refl
-spaces_plain (x ∷ u) e =
-    both_true (space_plain x (left_true (is_space x) (is_spaces u) e))
-    (spaces_plain u (right_true (is_space x) (is_spaces u) e))
+spaces_are_plain : (u : Text) → is_spaces u ≡ true → list_all is_plain u ≡ true
+spaces_are_plain [] e = refl
+spaces_are_plain (x ∷ u) e =
+    both_true (space_is_plain x (left_true (is_space x) (is_spaces u) e))
+    (spaces_are_plain u (right_true (is_space x) (is_spaces u) e))
 
-spaces_show_not : (u : Text) → is_spaces u ≡ true → shows u ≡ false
-spaces_show_not [] e = refl
-spaces_show_not (x ∷ u) e =
-    rw (left_true (is_space x) (is_spaces u) e) (spaces_show_not u (right_true (is_space x) (is_spaces u) e))
+spaces_do_not_show : (u : Text) → is_spaces u ≡ true → shows u ≡ false
+spaces_do_not_show [] e = refl
+spaces_do_not_show (x ∷ u) e =
+    rw (left_true (is_space x) (is_spaces u) e) (spaces_do_not_show u (right_true (is_space x) (is_spaces u) e))
 
 -- a blank line does not stay
-blank_not : (w u : Text) → w ≡ u ++ line_end true → is_spaces u ≡ true → is_nonblank w ≡ true → ⊥
-blank_not w u e f k =
+blank_line_is_not_nonblank : (w u : Text) → w ≡ u ++ line_end true → is_spaces u ≡ true → is_nonblank w ≡ true → ⊥
+blank_line_is_not_nonblank w u e f k =
     let no : is_nonblank w ≡ false =
-    ap is_nonblank e ∙ (plain_nonblank u true (spaces_plain u f) ∙ spaces_show_not u f) in cc
+    ap is_nonblank e ∙ (nonblank_is_shows u true (spaces_are_plain u f) ∙ spaces_do_not_show u f) in cc
 
 -- not directly after a text that does not end in LF
 abbrev pub IsFree : ElementPosition → Type 0
@@ -209,20 +209,20 @@ module _ (t : List ℕ) (Joins : Type 0) (m : Bool) where
       list_all is_plain u ≡ true → BeginsElement m s u → is_nonblank (At from to) ≡ true →
       Well m s (elements (text_element (slice_range t from (trimmed_end t from to))) no_elements)
   last_well s u c from to e p b k =
-      let shown : shows u ≡ true = sym (plain_nonblank u c p) ∙ (sym (ap is_nonblank e) ∙ k) in
-      let r = trimmed_of u p shown in
-      let begins : BeginsElement m s r.kept = begins_kept m s r.kept r.rest r.shown (subst (BeginsElement m s) r.is b)
+      let shown : shows u ≡ true = sym (nonblank_is_shows u c p) ∙ (sym (ap is_nonblank e) ∙ k) in
+      let r = plain_is_trimmed u p shown in
+      let begins : BeginsElement m s r.kept = front_begins m s r.kept r.rest r.shown (subst (BeginsElement m s) r.is b)
       in
-      let same : slice_range t from (trimmed_end t from to) ≡ r.kept = trimmed_range t u c from to e r in
+      let same : slice_range t from (trimmed_end t from to) ≡ r.kept = trimmed_range_is_kept t u c from to e r in
       let bare : r.kept ++ line_end false ≡ r.kept = append_nothing r.kept in
       let is : is_text r.kept ≡ true =
       subst (λ v. is_text v ≡ true) bare
       (plain_is_text r.kept false r.plain
-      (subst (λ v. is_empty v ≡ false) (sym bare) (shown_not_empty r.kept r.shown))) in
+      (subst (λ v. is_empty v ≡ false) (sym bare) (showing_text_is_not_empty r.kept r.shown))) in
       let in_place : may_occur_at One m s r.kept no_elements ≡ true =
       subst (λ v. may_occur_at One m s v no_elements ≡ true) bare (begin_holds m s r.kept false r.plain begins) in
       subst (λ v. Well m s (elements (text_element v) no_elements)) (sym same)
-      (record { position = text_well m s r.kept no_elements is in_place r.ends refl; obey = refl })
+      (record { position = text_keeps_well m s r.kept no_elements is in_place r.ends refl; obey = refl })
 
   -- a run's text before a placeable
   run_well : (s : ElementPosition) (u w : Text) (e : ExpressionTree Span) (xs : List Item) → w ≡ u
@@ -238,7 +238,7 @@ module _ (t : List ℕ) (Joins : Type 0) (m : Bool) where
       subst (λ v. may_occur_at One m s v no_elements ≡ true) bare (begin_holds m s u false p b) in
       let rest = joined_pattern (items_tree t (placeable_item e ∷ xs)) in
       subst (λ w. Well m s (joined_after w (items_tree t (placeable_item e ∷ xs)))) (sym f)
-      (record { position = text_well m s u rest is in_place refl h.position; obey = both_true g.obeys h.obey })
+      (record { position = text_keeps_well m s u rest is in_place refl h.position; obey = both_true g.obeys h.obey })
 
   -- a run's text with the lone LF that is joined to it
   join_well : (s : ElementPosition) (u w v : Text) (q : PatternTree Text) → w ≡ u → v ≡ lf ∷ []
@@ -251,11 +251,11 @@ module _ (t : List ℕ) (Joins : Type 0) (m : Bool) where
       joined_after w (elements (text_element v) q)
       ≡ elements (text_element (u ++ line_end true)) (joined_pattern q) =
       ap (λ w. joined_after w (elements (text_element v) q)) f
-      ∙ (ap (λ v. joined_after u (elements (text_element v) q)) g ∙ lf_joined u q (plain_ends_not u p)) in
+      ∙ (ap (λ v. joined_after u (elements (text_element v) q)) g ∙ lone_lf_is_joined_on u q (plain_ends_not u p)) in
       let next : position_after (u ++ line_end true) ≡ after_line = rw (line_ends u) refl in
       subst (Well m s) (sym whole) (record {
         position =
-            text_well m s (u ++ line_end true) (joined_pattern q) (plain_is_text u true p (line_not_empty u))
+            text_keeps_well m s (u ++ line_end true) (joined_pattern q) (plain_is_text u true p (line_not_empty u))
             (begin_holds m s u true p b) c
             (subst (λ s. are_elements One m s (joined_pattern q) ≡ true) (sym next) h.position);
         obey = h.obey;
@@ -266,8 +266,8 @@ module _ (t : List ℕ) (Joins : Type 0) (m : Bool) where
       Well m s (elements (text_element (slice_range t from (trimmed_end t from to))) no_elements)
   last_of_step s s' from to (runs u e p n b) k = last_well s u false from to (e ∙ sym (append_nothing u)) p b k
   last_of_step s s' from to (ends_line u e p b) k = last_well s u true from to e p b k
-  last_of_step s s' from to (blank_line u e f) k = absurd (blank_not (At from to) u e f k)
-  last_of_step s s' from to (joins e j) k = absurd (blank_not (At from to) [] e refl k)
+  last_of_step s s' from to (blank_line u e f) k = absurd (blank_line_is_not_nonblank (At from to) u e f k)
+  last_of_step s s' from to (joins e j) k = absurd (blank_line_is_not_nonblank (At from to) [] e refl k)
 
   -- items of the shape whose last one stays spell well
   pub items_well : (s : ElementPosition) (xs : List Item) → IsFree s → Shape t Joins m s xs → LastItemStays t xs →
@@ -278,17 +278,17 @@ module _ (t : List ℕ) (Joins : Type 0) (m : Bool) where
       record { position = q.position; obey = both_true g.obeys q.obey }
   items_well s (text from to ∷ []) r (more e h) k = last_of_step s _ from to e k
   items_well s (text from to ∷ y ∷ ys) r (more (ends_line u e p b) h) k =
-      line_well m s u (At from to) (items_tree t (y ∷ ys)) e p (begin_holds m s u true p b)
+      line_keeps_well m s u (At from to) (items_tree t (y ∷ ys)) e p (begin_holds m s u true p b)
       (tree_more t (u ++ line_end true) y ys) (items_well after_line (y ∷ ys) tt h k)
   items_well s (text from to ∷ y ∷ ys) r (more (blank_line u e f) h) k =
-      line_well m after_line u (At from to) (items_tree t (y ∷ ys)) e (spaces_plain u f) (blank_holds m u f)
+      line_keeps_well m after_line u (At from to) (items_tree t (y ∷ ys)) e (spaces_are_plain u f) (blank_occurs m u f)
       (tree_more t (u ++ line_end true) y ys) (items_well after_line (y ∷ ys) tt h k)
   items_well s (text from to ∷ y ∷ ys) r (more (joins e j) h) k = absurd r
   items_well s (text from to ∷ placeable_item x ∷ ys) r (more (runs u e p n b) (more (places g) h)) k =
       run_well s u (At from to) x ys e p n b g (items_well after_placeable ys tt h
       (kept_after t (placeable_item x) ys k))
   items_well s (text from to ∷ text f g ∷ []) r (more (runs u e p n b) (more (joins i j) h)) k =
-      absurd (blank_not (At f g) [] i refl k)
+      absurd (blank_line_is_not_nonblank (At f g) [] i refl k)
   items_well s (text from to ∷ text f g ∷ y ∷ ys) r (more (runs u e p n b) (more (joins i j) h)) k =
       join_well s u (At from to) (At f g) (items_tree t (y ∷ ys)) e i p b (tree_more t (u ++ line_end true) y ys)
       (items_well after_line (y ∷ ys) tt h k)
@@ -297,7 +297,7 @@ module _ (t : List ℕ) (Joins : Type 0) (m : Bool) where
 
   line_unique : (w u : Text) (q : PatternTree Text) → w ≡ u ++ line_end true → joined_pattern q ≡ q →
       joined_after w q ≡ elements (text_element w) q
-  line_unique w u q e f = line_joined w q (ap ends_in_lf e ∙ line_ends u) ∙ ap (λ q. elements (text_element w) q) f
+  line_unique w u q e f = lf_text_is_alone w q (ap ends_in_lf e ∙ line_ends u) ∙ ap (λ q. elements (text_element w) q) f
 
   placed_same : (w : Text) {e f : ExpressionTree Text} {p q : PatternTree Text} → e ≡ f → p ≡ q →
       elements (text_element w) (elements (placeable e) p) ≡ elements (text_element w) (elements (placeable f) q)

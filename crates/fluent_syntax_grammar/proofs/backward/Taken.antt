@@ -11,33 +11,33 @@ use Rattle.fluent_syntax_grammar.specs.Construct.{Read, goes_on, given, at_place
 use Rattle.fluent_syntax_grammar.specs.Construct.{second}
 use Rattle.fluent_syntax_grammar.specs.Tokens.{identifier}
 use Rattle.fluent_syntax_grammar.specs.Spellings.{is_name}
-use Rattle.fluent_syntax_grammar.proofs.Facts.{right_true, implies}
+use Rattle.fluent_syntax_grammar.proofs.Facts.{right_true, tests_imply}
 use Rattle.fluent_syntax_grammar.proofs.Tests.{both_true, letter_name}
 use Rattle.fluent_syntax_grammar.proofs.SuffixAt.{SuffixAt, first, suffix_next, suffix_has}
 
 -- what is left at any place of the text
-suffix_at : (t : List ℕ) (i : ℕ) → i ≤ length t → SuffixAt t i (drop i t)
-suffix_at t i l = record { within = l; rest = refl }
+drop_is_suffix : (t : List ℕ) (i : ℕ) → i ≤ length t → SuffixAt t i (drop i t)
+drop_is_suffix t i l = record { within = l; rest = refl }
 
 -- Where each of so many places has a byte of the set, so many bytes are in the set.
-pub taken_all : {t : List ℕ} (set : ℕ → Bool) (n : ℕ) (bs : List ℕ) (i : ℕ) → SuffixAt t i bs →
+pub taken_bytes_are_in_set : {t : List ℕ} (set : ℕ → Bool) (n : ℕ) (bs : List ℕ) (i : ℕ) → SuffixAt t i bs →
     ((k : ℕ) → i ≤ k → k < i + n → has t set k ≡ true) → list_all set (take n bs) ≡ true
-taken_all set zero bs i l e = refl
-taken_all set (suc n) [] i l e = refl
-taken_all set (suc n) (b ∷ bs) i l e =
+taken_bytes_are_in_set set zero bs i l e = refl
+taken_bytes_are_in_set set (suc n) [] i l e = refl
+taken_bytes_are_in_set set (suc n) (b ∷ bs) i l e =
     both_true (sym (suffix_has set l) ∙ e i (omega arith) (omega arith))
-    (taken_all set n bs (i + 1) (suffix_next l) (λ k a c. e k (omega arith) (omega arith)))
+    (taken_bytes_are_in_set set n bs (i + 1) (suffix_next l) (λ k a c. e k (omega arith) (omega arith)))
 
 -- the bytes of a word
-word_bytes : (t : List ℕ) (set : ℕ → Bool) (i j : ℕ) → i ≤ length t → ByteRun t set i j →
+word_bytes_are_in_set : (t : List ℕ) (set : ℕ → Bool) (i j : ℕ) → i ≤ length t → ByteRun t set i j →
     list_all set (slice_range t i j) ≡ true
-word_bytes t set i j l w = let f = w.forward in
-    taken_all set (j - i) (drop i t) i (suffix_at t i l) (λ k a c. w.each k a (omega arith))
+word_bytes_are_in_set t set i j l w = let f = w.forward in
+    taken_bytes_are_in_set set (j - i) (drop i t) i (drop_is_suffix t i l) (λ k a c. w.each k a (omega arith))
 
-named_bytes : (bs : List ℕ) (n : ℕ) → holds is_letter (first bs) ≡ true →
+letter_first_makes_name : (bs : List ℕ) (n : ℕ) → holds is_letter (first bs) ≡ true →
     list_all is_name_byte (take (suc n) bs) ≡ true → is_name (take (suc n) bs) ≡ true
-named_bytes [] n e f = absurd cc
-named_bytes (b ∷ bs) n e f = both_true e (right_true (is_name_byte b) (list_all is_name_byte (take n bs)) f)
+letter_first_makes_name [] n e f = absurd cc
+letter_first_makes_name (b ∷ bs) n e f = both_true e (right_true (is_name_byte b) (list_all is_name_byte (take n bs)) f)
 
 module _ (t : List ℕ) where
   forward_one : (i j : ℕ) → i ≤ j → has t is_name_byte i ≡ true → ByteRun t is_name_byte i j → i < j
@@ -47,10 +47,10 @@ module _ (t : List ℕ) where
   pub name_was_read : (i j : ℕ) (s : Span) → i ≤ length t → identifier t i (Read s j) → is_name (bytes_at t s) ≡ true
   name_was_read i j s l
       (goes_on at_place (goes_on (chosen given) (first_of e (goes_on (passed w) (goes_on at_place given))))) =
-      let on = forward_one i j w.forward (implies is_letter is_name_byte (slice_get t i) letter_name e) w in
+      let on = forward_one i j w.forward (tests_imply is_letter is_name_byte (slice_get t i) letter_name e) w in
       let size : suc (j - (i + 1)) ≡ j - i = omega arith in
       subst (λ n. is_name (take n (drop i t)) ≡ true) size
-      (named_bytes (drop i t) (j - (i + 1)) (sym (suffix_has is_letter (suffix_at t i l)) ∙ e)
+      (letter_first_makes_name (drop i t) (j - (i + 1)) (sym (suffix_has is_letter (drop_is_suffix t i l)) ∙ e)
       (subst (λ n. list_all is_name_byte (take n (drop i t)) ≡ true) (sym size)
-      (word_bytes t is_name_byte i j l w)))
+      (word_bytes_are_in_set t is_name_byte i j l w)))
   name_was_read i j s l (goes_on at_place (goes_on (chosen given) (second e x))) = elim x [ ]

@@ -14,11 +14,11 @@ use Rattle.fluent_syntax_grammar.specs.Strings.{hex_digits, all_there, escaped, 
 use Rattle.fluent_syntax_grammar.specs.Strings.{unit_and_more, string_literal}
 use Rattle.fluent_syntax_grammar.specs.Spellings.{is_name, is_digits, is_number_rest, is_unsigned, is_number, is_units}
 use Rattle.fluent_syntax_grammar.specs.Spellings.{is_escape, is_string}
-use Rattle.fluent_syntax_grammar.proofs.Facts.{byte_found, byte_holds, differs, lt_or_same, has_inside}
+use Rattle.fluent_syntax_grammar.proofs.Facts.{byte_exists, holds-some, differs, lt_or_same, has_inside}
 use Rattle.fluent_syntax_grammar.proofs.Tests.{both_true}
 use Rattle.fluent_syntax_grammar.proofs.backward.Taken.{name_was_read}
 use Rattle.fluent_syntax_grammar.proofs.backward.Lines.{range_first, range_none, range_all, byte_at}
-use Rattle.fluent_syntax_grammar.proofs.Tests.{or_first, true_by_left, true_by_right, or_second, or_third}
+use Rattle.fluent_syntax_grammar.proofs.Tests.{or_by_first, true_by_left, true_by_right, or_by_second, or_by_third}
 
 -- the name's bytes are a name
 abbrev pub IsNameSpan : List ℕ → Span → Type 0
@@ -47,7 +47,7 @@ module _ (t : List ℕ) where
   digits_range : (i j : ℕ) → has t is_digit i ≡ true → ByteRun t is_digit i j → is_digits (slice_range t i j) ≡ true
   digits_range i j e w =
       let l = on_digit i j e w in
-      let b = byte_found is_digit (slice_get t i) e in
+      let b = byte_exists is_digit (slice_get t i) e in
       rw (range_first t i j b.0 l b.1)
       (both_true b.2 (range_all t is_digit (i + 1) j (omega arith) (λ k x y. w.each k (omega arith) y)))
 
@@ -65,7 +65,7 @@ module _ (t : List ℕ) where
   rest_range zero i j k s e l h = let same : k ≡ i = omega arith in
       subst (λ k. is_number_rest (slice_range t k j) ≡ true) same h
   rest_range (suc n) i j k s e l h =
-      let b = byte_found is_digit (slice_get t i) (e i (omega arith) (omega arith)) in
+      let b = byte_exists is_digit (slice_get t i) (e i (omega arith) (omega arith)) in
       let r = rest_range n (i + 1) j k (omega arith) (λ m x y. e m (omega arith) y) l h in
       rw (range_first t i j b.0 (omega arith) b.1)
       (true_by_left (is_digit b.0 && is_number_rest (slice_range t (i + 1) j)) _ (both_true b.2 r))
@@ -77,7 +77,7 @@ module _ (t : List ℕ) where
       let l = on_digit i k e w in
       let r = fraction_range k j f in
       let on = r.0 in
-      let b = byte_found is_digit (slice_get t i) e in
+      let b = byte_exists is_digit (slice_get t i) e in
       rw (range_first t i j b.0 (omega arith) b.1)
       (both_true b.2 (rest_range (k - (i + 1)) (i + 1) j k (omega arith) (λ m x y. w.each m (omega arith) y) on r.1))
 
@@ -149,7 +149,7 @@ module _ (t : List ℕ) where
   hex_range zero i j k s e l h = let same : k ≡ i = omega arith in
       subst (λ k. is_units 0 (slice_range t k j) ≡ true) same h
   hex_range (suc n) i j k s e l h =
-      let b = byte_found is_ascii_hexdigit (slice_get t i) (e i (omega arith) (omega arith)) in
+      let b = byte_exists is_ascii_hexdigit (slice_get t i) (e i (omega arith) (omega arith)) in
       rw (range_first t i j b.0 (omega arith) b.1)
       (both_true b.2 (hex_range n (i + 1) j k (omega arith) (λ m x y. e m (omega arith) y) l h))
 
@@ -186,7 +186,7 @@ module _ (t : List ℕ) where
         on = omega arith;
         more =
             λ j l r. two_on i j c f e (omega arith)
-            (or_first ((c == 92 || c == 34 || c == 123) && is_units 0 (slice_range t (i + 2) j))
+            (or_by_first ((c == 92 || c == 34 || c == 123) && is_units 0 (slice_range t (i + 2) j))
             (c == 117 && is_units 4 (slice_range t (i + 2) j)) (c == 85 && is_units 6 (slice_range t (i + 2) j))
             (both_true g (subst (λ k. is_units 0 (slice_range t k j) ≡ true) by r)));
       }
@@ -197,7 +197,7 @@ module _ (t : List ℕ) where
         on = omega arith;
         more =
             λ j l r. two_on i j c f e (omega arith)
-            (or_second ((c == 92 || c == 34 || c == 123) && is_units 0 (slice_range t (i + 2) j))
+            (or_by_second ((c == 92 || c == 34 || c == 123) && is_units 0 (slice_range t (i + 2) j))
             (c == 117 && is_units 4 (slice_range t (i + 2) j)) (c == 85 && is_units 6 (slice_range t (i + 2) j))
             (both_true h (subst (λ k. is_units 4 (slice_range t k j) ≡ true) by (hex_inversion 4 k j m u y l r))));
       }
@@ -208,7 +208,7 @@ module _ (t : List ℕ) where
         on = omega arith;
         more =
             λ j l r. two_on i j c f e (omega arith)
-            (or_third ((c == 92 || c == 34 || c == 123) && is_units 0 (slice_range t (i + 2) j))
+            (or_by_third ((c == 92 || c == 34 || c == 123) && is_units 0 (slice_range t (i + 2) j))
             (c == 117 && is_units 4 (slice_range t (i + 2) j)) (c == 85 && is_units 6 (slice_range t (i + 2) j))
             (both_true n (subst (λ k. is_units 6 (slice_range t k j) ≡ true) by (hex_inversion 6 k j m u y l r))));
       }
@@ -228,7 +228,7 @@ module _ (t : List ℕ) where
   unit_inversion i m u (Some b) e q (first f x) = elim x [ ]
   unit_inversion i m u (Some b) e q (second f (first g (chosen x))) =
       escape_inversion i m u (slice_get t (i + 1)) refl
-      (byte_at t 92 i (byte_holds (λ c. c == 92) (slice_get t i) b e g)) x
+      (byte_at t 92 i (holds-some (λ c. c == 92) (slice_get t i) b e g)) x
   unit_inversion i m u (Some b) e q (second f (second g (passed o))) =
       let by = o.by in
       record {

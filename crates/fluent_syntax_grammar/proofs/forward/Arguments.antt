@@ -37,61 +37,61 @@ use Rattle.fluent_syntax_grammar.proofs.forward.Reading.{more_map, reads_end, re
 use Rattle.fluent_syntax_grammar.proofs.marks.WrittenBytes.{inline_bytes, arguments_bytes, positional_bytes}
 use Rattle.fluent_syntax_grammar.proofs.marks.WrittenBytes.{named_bytes, is_none_of}
 use Rattle.fluent_syntax_grammar.proofs.forward.Inline.{Follows, bytes_past, passes_blank, passes_blanks, starts_with}
-use Rattle.fluent_syntax_grammar.proofs.forward.Inline.{digit_start, name_start, message_name_reads_back}
+use Rattle.fluent_syntax_grammar.proofs.forward.Inline.{start_of-digit, name_start, message_name_reads_back}
 
 -- a byte that begins an inline expression
-abbrev pub is_start : ℕ → Bool
-is_start b = b == 34 || is_digit b || b == 45 || b == 36 || is_letter b || b == 123
+abbrev pub begins_inline : ℕ → Bool
+begins_inline b = b == 34 || is_digit b || b == 45 || b == 36 || is_letter b || b == 123
 
 -- The bytes begin with one that begins an inline expression.
 pub record Begins (bs : List ℕ) : Type 0 where
   pub byte : ℕ
   pub rest : List ℕ
   pub are : bs ≡ byte ∷ rest
-  pub start : is_start byte ≡ true
+  pub start : begins_inline byte ≡ true
 
-second_of : (x d y z w v : Bool) → d ≡ true → (x || d || y || z || w || v) ≡ true
-second_of true true y z w v e = refl
-second_of false true y z w v e = refl
-second_of x false y z w v e = cc
+or_true_by_second_of_six : (x d y z w v : Bool) → d ≡ true → (x || d || y || z || w || v) ≡ true
+or_true_by_second_of_six true true y z w v e = refl
+or_true_by_second_of_six false true y z w v e = refl
+or_true_by_second_of_six x false y z w v e = cc
 
-fifth_of : (x d y z w v : Bool) → w ≡ true → (x || d || y || z || w || v) ≡ true
-fifth_of x d y z w v e = rw e (or_true (x || d || y || z) v)
+or_true_by_fifth_of_six : (x d y z w v : Bool) → w ≡ true → (x || d || y || z || w || v) ≡ true
+or_true_by_fifth_of_six x d y z w v e = rw e (or_true (x || d || y || z) v)
   where
     or_true : (a b : Bool) → (a || true || b) ≡ true
     or_true true b = refl
     or_true false b = refl
 
-digit_is_start : (b : ℕ) → is_digit b ≡ true → is_start b ≡ true
-digit_is_start b e = second_of (b == 34) (is_digit b) (b == 45) (b == 36) (is_letter b) (b == 123) e
+digit_begins_inline : (b : ℕ) → is_digit b ≡ true → begins_inline b ≡ true
+digit_begins_inline b e = or_true_by_second_of_six (b == 34) (is_digit b) (b == 45) (b == 36) (is_letter b) (b == 123) e
 
-letter_is_start : (b : ℕ) → is_letter b ≡ true → is_start b ≡ true
-letter_is_start b e = fifth_of (b == 34) (is_digit b) (b == 45) (b == 36) (is_letter b) (b == 123) e
+letter_begins_inline : (b : ℕ) → is_letter b ≡ true → begins_inline b ≡ true
+letter_begins_inline b e = or_true_by_fifth_of_six (b == 34) (is_digit b) (b == 45) (b == 36) (is_letter b) (b == 123) e
 
-pub name_begins : (v tail : List ℕ) → is_name v ≡ true → Begins (v ++ tail)
-name_begins [] tail e = absurd cc
-name_begins (b ∷ bs) tail e =
+pub name_begins_inline : (v tail : List ℕ) → is_name v ≡ true → Begins (v ++ tail)
+name_begins_inline [] tail e = absurd cc
+name_begins_inline (b ∷ bs) tail e =
     record {
       byte = b;
       rest = bs ++ tail;
       are = refl;
-      start = letter_is_start b (left_true (is_letter b) (list_all is_name_byte bs) e);
+      start = letter_begins_inline b (left_true (is_letter b) (list_all is_name_byte bs) e);
     }
 
-pub number_begins : (v tail : List ℕ) → is_number v ≡ true → Begins (v ++ tail)
-number_begins [] tail e = absurd cc
-number_begins (b ∷ bs) tail e = elim (or_cases (b == 45 && is_unsigned bs) (is_unsigned (b ∷ bs)) e) [
+pub number_begins_inline : (v tail : List ℕ) → is_number v ≡ true → Begins (v ++ tail)
+number_begins_inline [] tail e = absurd cc
+number_begins_inline (b ∷ bs) tail e = elim (or_cases (b == 45 && is_unsigned bs) (is_unsigned (b ∷ bs)) e) [
   | inl h ↦ record {
     byte = b;
     rest = bs ++ tail;
     are = refl;
-    start = ap is_start (equal b 45 (left_true (b == 45) (is_unsigned bs) h));
+    start = ap begins_inline (equal b 45 (left_true (b == 45) (is_unsigned bs) h));
   }
   | inr h ↦ record {
     byte = b;
     rest = bs ++ tail;
     are = refl;
-    start = digit_is_start b (left_true (is_digit b) (is_number_rest bs) h);
+    start = digit_begins_inline b (left_true (is_digit b) (is_number_rest bs) h);
   }
 ]
 
@@ -100,19 +100,19 @@ module _ (edition : Edition) where
   pub inline_begins : (level : ℕ) (e : InlineTree Text) (tail : List ℕ) →
       inline_obeys (canonical_rules edition) e ≡ true → Begins (inline_bytes level e tail)
   inline_begins level (string_literal v) tail h = record { byte = 34; rest = _; are = refl; start = refl }
-  inline_begins level (number_literal v) tail h = number_begins v tail h
-  inline_begins level (function_reference id a) tail h = name_begins id _ (left_true (is_name id) _ h)
-  inline_begins level (message_reference id a) tail h = name_begins id _ (left_true (is_name id) _ h)
+  inline_begins level (number_literal v) tail h = number_begins_inline v tail h
+  inline_begins level (function_reference id a) tail h = name_begins_inline id _ (left_true (is_name id) _ h)
+  inline_begins level (message_reference id a) tail h = name_begins_inline id _ (left_true (is_name id) _ h)
   inline_begins level (term_reference id a c) tail h = record { byte = 45; rest = _; are = refl; start = refl }
   inline_begins level (variable_reference id) tail h = record { byte = 36; rest = _; are = refl; start = refl }
   inline_begins level (inline_placeable e) tail h = record { byte = 123; rest = _; are = refl; start = refl }
 
 -- a byte that begins an inline expression is not this one
-pub begins_other : (c : ℕ) {bs : List ℕ} → Begins bs → is_start c ≡ false → holds (λ b. b == c) (first bs) ≡ false
-begins_other c b e = rw (b.are) (differ is_start b.byte c b.start e)
+pub begins_other : (c : ℕ) {bs : List ℕ} → Begins bs → begins_inline c ≡ false → holds (λ b. b == c) (first bs) ≡ false
+begins_other c b e = rw (b.are) (differ begins_inline b.byte c b.start e)
 
-past_same : (e : InlineTree Text) (more : List ℕ) → bytes_past e [] more ≡ more
-past_same e more = same (passes_blank e)
+past_no_gap : (e : InlineTree Text) (more : List ℕ) → bytes_past e [] more ≡ more
+past_no_gap e more = same (passes_blank e)
   where
     same : (b : Bool) → (if b then more else more) ≡ more
     same true = refl
@@ -268,7 +268,7 @@ module _ (edition : Edition) (t : List ℕ) where
       ReadsNext names i a left
   at_argument names i bs a left b l r =
       (reads_peek (Some b.byte) (suffix_first l ∙ ap first b.are)
-      (reads_second (differ is_start b.byte 41 b.start refl) r))
+      (reads_second (differ begins_inline b.byte 41 b.start refl) r))
 
   pub positional_reads_back : (level : ℕ) (e : InlineTree Text) (es : InlineTrees Text) (ns : NamedTrees Text) →
       InlineReadsBack edition t level e → ArgumentListReadsBack edition t level [] es ns →
@@ -280,7 +280,7 @@ module _ (edition : Edition) (t : List ℕ) where
         reads_item {c = says_positional e} {q = []}
         (at_argument [] i _ _ _ (inline_begins edition level e rest h.obeys) l
         (reads_bind (h.back i [] rest (follows_positional level es ns tail) l) (λ v j f m.
-        let n = suffix_as (past_same e rest) m in
+        let n = suffix_as (past_no_gap e rest) m in
         reads_look (has_byte t 58 j) refl
         (as_positional [] v (argument_name v) (has_byte t 58 j) j _ _
         (suffix_has (λ b. b == 58) n ∙ no_colon level es ns tail)
@@ -333,7 +333,7 @@ module _ (edition : Edition) (t : List ℕ) where
   value_at level (string_literal v) i tail left h a l r = reads_peek quote (starts_with quote refl l) r
   value_at level (number_literal []) i tail left h a l r = absurd cc
   value_at level (number_literal (b ∷ bs)) i tail left h a l r =
-      reads_peek digit (starts_with digit (digit_start b _ (left_true (is_digit b) (is_number_rest bs) a)) l) r
+      reads_peek digit (starts_with digit (start_of-digit b _ (left_true (is_digit b) (is_number_rest bs) a)) l) r
   value_at level (function_reference id c) i tail left h a l r =
       reads_peek letter (name_start edition t i id _ (left_true (is_name id) _ h) l) r
   value_at level (message_reference id c) i tail left h a l r =
@@ -360,7 +360,7 @@ module _ (edition : Edition) (t : List ℕ) where
       m) (λ k n.
       reads_bind (value_at level e k rest (bytes_past e [] rest) h.obeys value n
       (h.back k [] rest (follows_positional level no_inlines ns tail) n)) (λ v p g q.
-      passes_then (passes_separator level (name ∷ names) no_inlines ns p tail more (suffix_as (past_same e rest) q))
+      passes_then (passes_separator level (name ∷ names) no_inlines ns p tail more (suffix_as (past_no_gap e rest) q))
       (λ y z. reads_yields (same_item v f g) z)))))
     where
       same_item : (v : InlineTree Span) → bytes_at t id ≡ name → inline_map (bytes_at t) v ≡ e →
@@ -374,7 +374,7 @@ module _ (edition : Edition) (t : List ℕ) where
       ArgumentListReadsBack edition t level (name ∷ names) no_inlines ns →
       ArgumentListReadsBack edition t level names no_inlines (nameds (named_argument name e) ns)
   named_reads_back level names name e ns is h used value more = record {
-    begins = λ tail. inl (name_begins name _ is);
+    begins = λ tail. inl (name_begins_inline name _ is);
     back = λ i tail l.
         let rest = 58 ∷ 32 ∷ inline_bytes level e (named_bytes level false ns (41 ∷ tail)) in
         let f : Follows [] rest =
@@ -390,7 +390,7 @@ module _ (edition : Edition) (t : List ℕ) where
           no_attribute = refl;
         } in
         reads_item {c = says_named name e} {q = name ∷ names}
-        (at_argument names i _ _ _ (name_begins name rest is) l
+        (at_argument names i _ _ _ (name_begins_inline name rest is) l
         (reads_bind (message_name_reads_back edition t i level name [] rest is f l) (λ v j g m.
         let n = name_of v name g in
         reads_look (has_byte t 58 j) refl

@@ -25,14 +25,14 @@ use Rattle.fluent_syntax_grammar.specs.Rules.{option_obeys, pattern_obeys, attri
 use Rattle.fluent_syntax_grammar.specs.Readable.{has_field, are_lines}
 use Rattle.fluent_syntax_grammar.specs.Canonical.{canonical_rules, is_canonical}
 use Rattle.fluent_syntax_grammar.specs.RoundTrip.{ReadsAs, tree_of}
-use Rattle.fluent_syntax_grammar.proofs.Facts.{left_true, right_true, same_number}
+use Rattle.fluent_syntax_grammar.proofs.Facts.{left_true, right_true, number_eq_self}
 use Rattle.fluent_syntax_grammar.proofs.Tests.{differ}
-use Rattle.fluent_syntax_grammar.proofs.Cuts.{block_forward}
-use Rattle.fluent_syntax_grammar.proofs.SuffixAt.{SuffixAt, suffix_as, suffix_whole, suffix_first, suffix_next}
-use Rattle.fluent_syntax_grammar.proofs.SuffixAt.{suffix_end}
+use Rattle.fluent_syntax_grammar.proofs.Cuts.{block_goes_on}
+use Rattle.fluent_syntax_grammar.proofs.SuffixAt.{SuffixAt, suffix_as, whole_text_is_suffix, suffix_first, suffix_next}
+use Rattle.fluent_syntax_grammar.proofs.SuffixAt.{reaches_end}
 use Rattle.fluent_syntax_grammar.proofs.forward.Reading.{Reads, reads_into}
 use Rattle.fluent_syntax_grammar.proofs.forward.Lines.{Ends, stop, blank_line, no_spaces, lf_after}
-use Rattle.fluent_syntax_grammar.proofs.forward.Entries.{EntryStart, no_entry, begins, entry_stops, no_block, Tiles}
+use Rattle.fluent_syntax_grammar.proofs.forward.Entries.{EntryStart, no_entry, begins, ends_at_entry, no_block, Tiles}
 use Rattle.fluent_syntax_grammar.proofs.forward.Entries.{tiles_end}
 use Rattle.fluent_syntax_grammar.proofs.marks.WrittenBytes.{pattern_bytes}
 use Rattle.fluent_syntax_grammar.proofs.marks.WrittenEntries.{after_hashes, comment_bytes, more_attributes}
@@ -90,49 +90,49 @@ with_map f c (term m) = refl
 with_map f c (comment level d) = refl
 with_map f c (junk x) = refl
 
-pub attached_with : (c : List Span) (e : EntryTree Span) → takes_comment e ≡ true
+pub attached_is_with_comment : (c : List Span) (e : EntryTree Span) → takes_comment e ≡ true
     → attached c e ≡ Some (with_comment c e)
-attached_with c (message m) h = refl
-attached_with c (term m) h = refl
-attached_with c (comment level d) h = cc
-attached_with c (junk x) h = cc
+attached_is_with_comment c (message m) h = refl
+attached_is_with_comment c (term m) h = refl
+attached_is_with_comment c (comment level d) h = cc
+attached_is_with_comment c (junk x) h = cc
 
 -- ---- what tiles give
 
 -- a message or a term gives itself
-pub body_alone : (s : Span) (e : EntryTree Span) (tiles : List Tile) → takes_comment e ≡ true →
+pub entry_alone_gives_itself : (s : Span) (e : EntryTree Span) (tiles : List Tile) → takes_comment e ≡ true →
     body (entry s e ∷ tiles) ≡ e ∷ body tiles
-body_alone s e [] h = refl
-body_alone s (message m) (y ∷ tiles) h = refl
-body_alone s (term m) (y ∷ tiles) h = refl
-body_alone s (comment level c) (y ∷ tiles) h = cc
-body_alone s (junk x) (y ∷ tiles) h = cc
+entry_alone_gives_itself s e [] h = refl
+entry_alone_gives_itself s (message m) (y ∷ tiles) h = refl
+entry_alone_gives_itself s (term m) (y ∷ tiles) h = refl
+entry_alone_gives_itself s (comment level c) (y ∷ tiles) h = cc
+entry_alone_gives_itself s (junk x) (y ∷ tiles) h = cc
 
 -- a comment directly before it is attached to it
 pub body_attaches_comment : (i j k : ℕ) (c : List Span) (e : EntryTree Span) (tiles : List Tile) →
     takes_comment e ≡ true →
     body (entry (record { start = i; end = j }) (comment regular c) ∷ entry (record { start = j; end = k }) e ∷ tiles)
     ≡ with_comment c e ∷ body tiles
-body_attaches_comment i j k c e tiles h = rw (same_number j, attached_with c e h) refl
+body_attaches_comment i j k c e tiles h = rw (number_eq_self j, attached_is_with_comment c e h) refl
 
-other_number : (i j : ℕ) → i < j → (i == j) ≡ false
-other_number i j l = grind (arith, nat_tests)
+less_is_not_equal : (i j : ℕ) → i < j → (i == j) ≡ false
+less_is_not_equal i j l = grind (arith, nat_tests)
 
 -- a comment that the next tile does not follow directly gives itself
-free_comment : (edition : Edition) (t : List ℕ) (i j k : ℕ) (level : Level) (c : List Span) (tiles : List Tile) →
+free_comment_stays : (edition : Edition) (t : List ℕ) (i j k : ℕ) (level : Level) (c : List Span) (tiles : List Tile) →
     j < k → Tiled t (TileAt edition t) k tiles →
     body (entry (record { start = i; end = j }) (comment level c) ∷ tiles) ≡ comment level c ∷ body tiles
-free_comment edition t i j k level c [] n (done b) = refl
-free_comment edition t i j k group c (y ∷ tiles) n (next b l a m) = refl
-free_comment edition t i j k resource c (y ∷ tiles) n (next b l a m) = refl
-free_comment edition t i j k regular c (entry s e ∷ tiles) n (next {start = start} b l (reads r) m) =
-    let f = block_forward t k start b in rw (other_number j start (omega arith)) refl
-free_comment edition t i j k regular c (refused x ∷ tiles) n (next b l (refuses r q) m) = refl
-free_comment edition t i j k regular c (dropped ∷ tiles) n (next b l a m) = elim a [ ]
+free_comment_stays edition t i j k level c [] n (done b) = refl
+free_comment_stays edition t i j k group c (y ∷ tiles) n (next b l a m) = refl
+free_comment_stays edition t i j k resource c (y ∷ tiles) n (next b l a m) = refl
+free_comment_stays edition t i j k regular c (entry s e ∷ tiles) n (next {start = start} b l (reads r) m) =
+    let f = block_goes_on t k start b in rw (less_is_not_equal j start (omega arith)) refl
+free_comment_stays edition t i j k regular c (refused x ∷ tiles) n (next b l (refuses r q) m) = refl
+free_comment_stays edition t i j k regular c (dropped ∷ tiles) n (next b l a m) = elim a [ ]
 
 module _ (edition : Edition) (t : List ℕ) where
   pub entry_within : (i b : ℕ) (bs : List ℕ) → SuffixAt t i (b ∷ bs) → i < length t
-  entry_within i b bs l = let n = suffix_end l in omega arith
+  entry_within i b bs l = let n = reaches_end l in omega arith
 
   -- a blank line before tiles
   pub line_before : (i : ℕ) (bs : List ℕ) (tiles : List Tile) → SuffixAt t i (lf ∷ bs) →
@@ -166,7 +166,7 @@ module _ (edition : Edition) (t : List ℕ) where
         tiled = next (no_block edition t i (b ∷ bs) (begins b bs is) l) (entry_within i b bs l) (reads r.reads) n.tiled;
         no_faults = n.no_faults;
         same =
-            ap (map (entry_map (bytes_at t))) (body_alone s r.value n.tiles takes)
+            ap (map (entry_map (bytes_at t))) (entry_alone_gives_itself s r.value n.tiles takes)
             ∙ ap (λ y. y ∷ tree_of t n.tiles) r.spells ∙ ap (λ ys. e ∷ ys) n.same;
       }
 
@@ -243,7 +243,7 @@ module _ (edition : Edition) (t : List ℕ) where
             no_faults = n.no_faults;
             same =
                 ap (map (entry_map (bytes_at t)))
-                (free_comment edition t i q.end (q.end + 1) v d n.tiles (omega arith) n.tiled)
+                (free_comment_stays edition t i q.end (q.end + 1) v d n.tiles (omega arith) n.tiled)
                 ∙ ap (λ y. y ∷ tree_of t n.tiles) f ∙ ap (λ ys. comment level content ∷ ys) n.same;
           }
 
@@ -276,7 +276,7 @@ module _ (edition : Edition) (t : List ℕ) where
   begins_there : (es : BodyTree Text) (bs : List ℕ) → EntryStart bs →
       ((j : ℕ) → SuffixAt t j bs → Tiles edition t j es) →
       BodyReadsBack es bs
-  begins_there es bs s k = record { rest = bs; ends = stop (entry_stops bs s); starts = s; tiles = k }
+  begins_there es bs s k = record { rest = bs; ends = stop (ends_at_entry bs s); starts = s; tiles = k }
 
   -- the entry alone, or with its comment
   field_reads_back : (content : Option (List Text)) (e : EntryTree Text) (es : BodyTree Text) (b : ℕ)
@@ -381,7 +381,7 @@ module _ (edition : Edition) (t : List ℕ) where
   body_reads_back [] tail h nothing =
       record {
         rest = [];
-        ends = stop (entry_stops [] no_entry);
+        ends = stop (ends_at_entry [] no_entry);
         starts = no_entry;
         tiles = λ j l. tiles_end edition t j l;
       }
@@ -420,5 +420,5 @@ pub reads_back : (edition : Edition) (es : BodyTree Text) (t : Text) → is_cano
     ReadsAs edition t es
 reads_back edition es t h w =
     let k = body_reads_back edition t es t h w in
-    let n = tiles_after edition t t k.rest es 0 k.ends (suffix_whole t) k.tiles in
+    let n = tiles_after edition t t k.rest es 0 k.ends (whole_text_is_suffix t) k.tiles in
     record { tiles = n.tiles; tiling = n.tiled; no_faults = n.no_faults; same = n.same }

@@ -27,88 +27,88 @@ use Rattle.fluent_syntax_grammar.proofs.Tests.{neither_left, neither_right, not_
 
 -- ---- the end of a line
 
-doubled_end : (t : List ℕ) (b : Bool) (i : ℕ) (tail : List ℕ) → SuffixAt t i (doubled b tail) →
+doubled_ends_line : (t : List ℕ) (b : Bool) (i : ℕ) (tail : List ℕ) → SuffixAt t i (doubled b tail) →
     is_line_place t i ≡ false
-doubled_end t false i tail l = rw (suffix_first l) refl
-doubled_end t true i tail l = rw (suffix_first l, suffix_first (suffix_next l)) refl
+doubled_ends_line t false i tail l = rw (suffix_first l) refl
+doubled_ends_line t true i tail l = rw (suffix_first l, suffix_first (suffix_next l)) refl
 
-doubled_eol : (t : List ℕ) (b : Bool) (i : ℕ) (tail : List ℕ) → SuffixAt t i (doubled b tail) →
+optional_eol_passes_doubled : (t : List ℕ) (b : Bool) (i : ℕ) (tail : List ℕ) → SuffixAt t i (doubled b tail) →
     Passes t (optional_eol t) i tail
-doubled_eol t false i tail l =
+optional_eol_passes_doubled t false i tail l =
     reads_peek (Some (i + 1)) (rw (suffix_first l) refl)
     (passes_over {j = i + 1} (record { there = refl }) (suffix_next l))
-doubled_eol t true i tail l =
+optional_eol_passes_doubled t true i tail l =
     reads_peek (Some (i + 2)) (rw (suffix_first l, suffix_first (suffix_next l)) refl)
     (passes_over {j = i + 2} (record { there = refl })
     (subst (λ n. SuffixAt t n tail) (two_on i) (suffix_next (suffix_next l))))
 
 -- no line end begins at the byte
-line_place : (t : List ℕ) (i x : ℕ) (bs : List ℕ) → (x == lf) ≡ false →
+byte_is_line_place : (t : List ℕ) (i x : ℕ) (bs : List ℕ) → (x == lf) ≡ false →
     ((x == cr) && holds (λ b. b == lf) (first bs)) ≡ false → SuffixAt t i (x ∷ bs) → is_line_place t i ≡ true
-line_place t i x bs e f l = rw (suffix_first l, suffix_first (suffix_next l), e, f) refl
+byte_is_line_place t i x bs e f l = rw (suffix_first l, suffix_first (suffix_next l), e, f) refl
 
-and_no : (b : Bool) (c : Bool) → c ≡ false → (b && c) ≡ false
-and_no true c e = e
-and_no false c e = refl
+and_with_false_is_false : (b : Bool) (c : Bool) → c ≡ false → (b && c) ≡ false
+and_with_false_is_false true c e = e
+and_with_false_is_false false c e = refl
 
 last_safe : (b : Bool) (tail : List ℕ) → (b && holds (λ b. b == lf) (first (doubled b tail))) ≡ false
 last_safe true tail = refl
 last_safe false tail = refl
 
 -- a line reaches to its end
-suffix_line : (t line tail : List ℕ) (i : ℕ) → has_lf line ≡ false →
+suffix_line_is_longest_run : (t line tail : List ℕ) (i : ℕ) → has_lf line ≡ false →
     SuffixAt t i (line ++ doubled (is_last cr (last_of None line)) tail) →
     LongestRun (is_line_place t) i (i + length line)
-suffix_line t [] tail i e l = let s : i ≡ i + 0 = omega arith in
+suffix_line_is_longest_run t [] tail i e l = let s : i ≡ i + 0 = omega arith in
     subst (λ n. LongestRun (is_line_place t) i n) s (run_ends_here (is_line_place t) i
-    (doubled_end t false i tail l))
-suffix_line t (x ∷ []) tail i e l =
+    (doubled_ends_line t false i tail l))
+suffix_line_is_longest_run t (x ∷ []) tail i e l =
     let n = suffix_next l in
     run_goes_on (is_line_place t) i (i + 1)
-    (line_place t i x (doubled (x == cr) tail) (neither_left (x == lf) false e) (last_safe (x == cr) tail) l)
-    (run_ends_here (is_line_place t) (i + 1) (doubled_end t (x == cr) (i + 1) tail n))
-suffix_line t (x ∷ y ∷ xs) tail i e l =
+    (byte_is_line_place t i x (doubled (x == cr) tail) (neither_left (x == lf) false e) (last_safe (x == cr) tail) l)
+    (run_ends_here (is_line_place t) (i + 1) (doubled_ends_line t (x == cr) (i + 1) tail n))
+suffix_line_is_longest_run t (x ∷ y ∷ xs) tail i e l =
     let s : (i + 1) + length (y ∷ xs) ≡ i + length (x ∷ y ∷ xs) = omega arith in
     let more = neither_right (x == lf) (has_lf (y ∷ xs)) e in
     subst (λ n. LongestRun (is_line_place t) i n) s
     (run_goes_on (is_line_place t) i
-    _ (line_place t i x _ (neither_left (x == lf) (has_lf (y ∷ xs)) e)
-    (and_no (x == cr) (y == lf) (neither_left (y == lf) (has_lf xs) more)) l)
-    (suffix_line t (y ∷ xs) tail (i + 1) more (suffix_next l)))
+    _ (byte_is_line_place t i x _ (neither_left (x == lf) (has_lf (y ∷ xs)) e)
+    (and_with_false_is_false (x == cr) (y == lf) (neither_left (y == lf) (has_lf xs) more)) l)
+    (suffix_line_is_longest_run t (y ∷ xs) tail (i + 1) more (suffix_next l)))
 
 -- ---- hashes
 
 -- how many hashes the level has
-abbrev pub count : Level → ℕ
-count level = length (hashes_of level)
+abbrev pub hashes_in_level : Level → ℕ
+hashes_in_level level = length (hashes_of level)
 
-hash_count : (t : List ℕ) (level : Level) (i : ℕ) (more : List ℕ) → holds (λ b. b == 35) (first more) ≡ false →
-    SuffixAt t i (hashes_of level ++ more) → hashes t i ≡ count level
-hash_count t regular i more e l = rw (suffix_first l, suffix_has (λ b. b == 35) (suffix_next l), e) refl
-hash_count t group i more e l =
+counts_hashes : (t : List ℕ) (level : Level) (i : ℕ) (more : List ℕ) → holds (λ b. b == 35) (first more) ≡ false →
+    SuffixAt t i (hashes_of level ++ more) → hashes t i ≡ hashes_in_level level
+counts_hashes t regular i more e l = rw (suffix_first l, suffix_has (λ b. b == 35) (suffix_next l), e) refl
+counts_hashes t group i more e l =
     let two : SuffixAt t (i + 2) more = subst (λ n. SuffixAt t n more) (two_on i) (suffix_next (suffix_next l)) in
     rw (suffix_first l, suffix_first (suffix_next l), suffix_has (λ b. b == 35) two, e) refl
-hash_count t resource i more e l =
+counts_hashes t resource i more e l =
     let two : SuffixAt t (i + 2) (35 ∷ more) =
     subst (λ n. SuffixAt t n (35 ∷ more)) (two_on i) (suffix_next (suffix_next l)) in
     rw (suffix_first l, suffix_first (suffix_next l), suffix_first two) refl
 
-zero_no : (n : ℕ) → 0 ≡ suc n → ⊥
-zero_no n e = cc
+zero_is_not_suc : (n : ℕ) → 0 ≡ suc n → ⊥
+zero_is_not_suc n e = cc
 
-no_hash : (t : List ℕ) (level : Level) (i : ℕ) (more : List ℕ) → holds (λ b. b == 35) (first more) ≡ false →
-    SuffixAt t i more → hashes t i ≢ count level
-no_hash t regular i more e l f = let none : hashes t i ≡ 0 = rw (suffix_has (λ b. b == 35) l, e) refl in
-    zero_no 0 (sym none ∙ f)
-no_hash t group i more e l f = let none : hashes t i ≡ 0 = rw (suffix_has (λ b. b == 35) l, e) refl in
-    zero_no 1 (sym none ∙ f)
-no_hash t resource i more e l f = let none : hashes t i ≡ 0 = rw (suffix_has (λ b. b == 35) l, e) refl in
-    zero_no 2 (sym none ∙ f)
+no_hash_no_level : (t : List ℕ) (level : Level) (i : ℕ) (more : List ℕ) → holds (λ b. b == 35) (first more) ≡ false →
+    SuffixAt t i more → hashes t i ≢ hashes_in_level level
+no_hash_no_level t regular i more e l f = let none : hashes t i ≡ 0 = rw (suffix_has (λ b. b == 35) l, e) refl in
+    zero_is_not_suc 0 (sym none ∙ f)
+no_hash_no_level t group i more e l f = let none : hashes t i ≡ 0 = rw (suffix_has (λ b. b == 35) l, e) refl in
+    zero_is_not_suc 1 (sym none ∙ f)
+no_hash_no_level t resource i more e l f = let none : hashes t i ≡ 0 = rw (suffix_has (λ b. b == 35) l, e) refl in
+    zero_is_not_suc 2 (sym none ∙ f)
 
-same_level : (level : Level) → level_of (count level) ≡ level
-same_level regular = refl
-same_level group = refl
-same_level resource = refl
+level_of_count_is_same : (level : Level) → level_of (hashes_in_level level) ≡ level
+level_of_count_is_same regular = refl
+level_of_count_is_same group = refl
+level_of_count_is_same resource = refl
 
 -- ---- lines
 
@@ -117,17 +117,17 @@ pub data LineForm : Text → Bool → Type 0 where
   blank_line : LineForm [] false
   shown_line : {line : Text} → LineForm line true
 
-line_form : (line : Text) (shown : Bool) → (is_empty line || shown) ≡ true → LineForm line shown
-line_form line true e = shown_line
-line_form [] false e = blank_line
-line_form (b ∷ bs) false e = absurd cc
+line_has_form : (line : Text) (shown : Bool) → (is_empty line || shown) ≡ true → LineForm line shown
+line_has_form line true e = shown_line
+line_has_form [] false e = blank_line
+line_has_form (b ∷ bs) false e = absurd cc
 
-one_text : {X Y : Type 0} (f : X → Y) (x : X) (y : Y) → f x ≡ y → map f (x ∷ []) ≡ y ∷ []
-one_text f x y e = rw e refl
+map_of_one_is_one : {X Y : Type 0} (f : X → Y) (x : X) (y : Y) → f x ≡ y → map f (x ∷ []) ≡ y ∷ []
+map_of_one_is_one f x y e = rw e refl
 
-map_both : {X Y : Type 0} (f : X → Y) (xs ys : List X) → map f (xs ++ ys) ≡ map f xs ++ map f ys
-map_both f [] ys = refl
-map_both f (x ∷ xs) ys = ap (λ zs. f x ∷ zs) (map_both f xs ys)
+map_of_append_is_append : {X Y : Type 0} (f : X → Y) (xs ys : List X) → map f (xs ++ ys) ≡ map f xs ++ map f ys
+map_of_append_is_append f [] ys = refl
+map_of_append_is_append f (x ∷ xs) ys = ap (λ zs. f x ∷ zs) (map_of_append_is_append f xs ys)
 
 module _ (t : List ℕ) where
   -- the rest of a line after its hashes
@@ -137,8 +137,8 @@ module _ (t : List ℕ) where
   rest_reads_back [] false i tail blank_line e l =
       reads_peek (Some lf) (suffix_first l)
       (reads_bind (reads_peek true (rw (suffix_first l) refl) (reads_here (reads_spanned [] (lf ∷ tail) l l)))
-      (λ x j f m. passes_then (doubled_eol t false j tail m)
-      (λ k n. reads_yields (one_text (bytes_at t) x [] f) n)))
+      (λ x j f m. passes_then (optional_eol_passes_doubled t false j tail m)
+      (λ k n. reads_yields (map_of_one_is_one (bytes_at t) x [] f) n)))
   rest_reads_back (b ∷ line) false i tail x e l = elim x [ ]
   rest_reads_back line true i tail shown_line e l =
       let end = doubled (is_last cr (last_of None line)) tail in
@@ -146,18 +146,18 @@ module _ (t : List ℕ) where
       (reads_bind (reads_peek false (rw (suffix_first l) refl)
       (passes_then (passes_token 32 refl l)
       (λ j m. reads_here
-      (passes_then (passes_over (suffix_line t line tail j e m) (suffix_past line m))
+      (passes_then (passes_over (suffix_line_is_longest_run t line tail j e m) (suffix_past line m))
       (λ k n. reads_spanned line end m n)))))
-      (λ x j f m. passes_then (doubled_eol t (is_last cr (last_of None line)) j tail m)
-      (λ k n. reads_yields (one_text (bytes_at t) x line f) n)))
+      (λ x j f m. passes_then (optional_eol_passes_doubled t (is_last cr (last_of None line)) j tail m)
+      (λ k n. reads_yields (map_of_one_is_one (bytes_at t) x line f) n)))
 
   line_reads_back : (level : Level) (line : Text) (i : ℕ) (tail : List ℕ) → is_plain_line line ≡ true →
       has_lf line ≡ false →
       SuffixAt t i (hashes_of level ++ after_hashes (is_nonblank_line line) line tail) →
-      Reads t (comment_line t (count level)) (map (bytes_at t)) i (line ∷ []) tail
+      Reads t (comment_line t (hashes_in_level level)) (map (bytes_at t)) i (line ∷ []) tail
   line_reads_back level line i tail p e l =
-      passes_then (passes_over {j = i + count level} (record { by = refl }) (suffix_past (hashes_of level) l))
-      (λ j m. rest_reads_back line (is_nonblank_line line) j tail (line_form line (is_nonblank_line line) p) e m)
+      passes_then (passes_over {j = i + hashes_in_level level} (record { by = refl }) (suffix_past (hashes_of level) l))
+      (λ j m. rest_reads_back line (is_nonblank_line line) j tail (line_has_form line (is_nonblank_line line) p) e m)
 
   after_no_hash : (line : Text) (shown : Bool) (tail : List ℕ) →
       holds (λ b. b == 35) (first (after_hashes shown line tail)) ≡ false
@@ -167,14 +167,14 @@ module _ (t : List ℕ) where
   same_lines : (xs ys : List Span) (line : Text) (lines : List Text) → map (bytes_at t) xs ≡ line ∷ [] →
       map (bytes_at t) ys ≡ lines → map (bytes_at t) (xs ++ ys) ≡ line ∷ lines
   same_lines xs ys line lines e f =
-      map_both (bytes_at t) xs ys ∙ ap (λ zs. zs ++ map (bytes_at t) ys) e ∙ ap (λ zs. line ∷ zs) f
+      map_of_append_is_append (bytes_at t) xs ys ∙ ap (λ zs. zs ++ map (bytes_at t) ys) e ∙ ap (λ zs. line ∷ zs) f
 
   lines_read_back : (level : Level) (lines : List Text) (i : ℕ) (tail : List ℕ) → list_all is_plain_line lines ≡ true →
       are_lines lines ≡ true → holds (λ b. b == 35) (first tail) ≡ false →
       SuffixAt t i (comment_bytes (hashes_of level) lines tail) →
-      Reads t (comment_lines t (count level)) (map (bytes_at t)) i lines tail
+      Reads t (comment_lines t (hashes_in_level level)) (map (bytes_at t)) i lines tail
   lines_read_back level [] i tail p a e l =
-      record { value = []; end = i; reads = other_level (no_hash t level i tail e l); spells = refl; rest = l }
+      record { value = []; end = i; reads = other_level (no_hash_no_level t level i tail e l); spells = refl; rest = l }
   lines_read_back level (line ∷ lines) i tail p a e l =
       let one =
       line_reads_back level line i (comment_bytes (hashes_of level) lines tail) (left_true (is_plain_line line) _ p)
@@ -187,7 +187,7 @@ module _ (t : List ℕ) where
         value = one.value ++ others.value;
         end = others.end;
         reads =
-            one_more (hash_count t level i
+            one_more (counts_hashes t level i
             (after_hashes (is_nonblank_line line) line (comment_bytes (hashes_of level) lines tail))
             (after_no_hash line (is_nonblank_line line) (comment_bytes (hashes_of level) lines tail)) l) one.reads
             others.reads;
@@ -197,8 +197,8 @@ module _ (t : List ℕ) where
 
   same_comment : (level : Level) (xs ys : List Span) (line : Text) (lines : List Text) →
       map (bytes_at t) xs ≡ line ∷ [] → map (bytes_at t) ys ≡ lines →
-      entry_map (bytes_at t) (comment (level_of (count level)) (xs ++ ys)) ≡ comment level (line ∷ lines)
-  same_comment level xs ys line lines e f = rw (same_level level, same_lines xs ys line lines e f) refl
+      entry_map (bytes_at t) (comment (level_of (hashes_in_level level)) (xs ++ ys)) ≡ comment level (line ∷ lines)
+  same_comment level xs ys line lines e f = rw (level_of_count_is_same level, same_lines xs ys line lines e f) refl
 
   -- a comment, before a byte that is no hash
   pub comment_reads_back : (level : Level) (content : List Text) (i : ℕ) (tail : List ℕ) →
@@ -208,8 +208,8 @@ module _ (t : List ℕ) where
       Reads t (comment_entry t) (entry_map (bytes_at t)) i (comment level content) tail
   comment_reads_back level [] i tail p a e l = absurd cc
   comment_reads_back level (line ∷ lines) i tail p a e l =
-      reads_peek (count level)
-      (hash_count t level i (after_hashes (is_nonblank_line line) line (comment_bytes (hashes_of level) lines tail))
+      reads_peek (hashes_in_level level)
+      (counts_hashes t level i (after_hashes (is_nonblank_line line) line (comment_bytes (hashes_of level) lines tail))
       (after_no_hash line (is_nonblank_line line) (comment_bytes (hashes_of level) lines tail)) l)
       (reads_bind (line_reads_back level line i (comment_bytes (hashes_of level) lines tail)
       (left_true (is_plain_line line) _ p) (not_true (has_lf line) (left_true (not (has_lf line)) _ a)) l)

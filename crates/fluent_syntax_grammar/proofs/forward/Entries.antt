@@ -17,7 +17,7 @@ use Rattle.fluent_syntax_grammar.specs.Grammar as grammar
 use Rattle.fluent_syntax_grammar.specs.Written.{Text}
 use Rattle.fluent_syntax_grammar.specs.RoundTrip.{tree_of}
 use Rattle.fluent_syntax_grammar.proofs.Tests.{differ}
-use Rattle.fluent_syntax_grammar.proofs.SuffixAt.{SuffixAt, first, suffix_end, suffix_has, suffix_no_eol_after}
+use Rattle.fluent_syntax_grammar.proofs.SuffixAt.{SuffixAt, first, reaches_end, suffix_has, suffix_has_no_after_eol}
 use Rattle.fluent_syntax_grammar.proofs.forward.Reading.{Reads}
 use Rattle.fluent_syntax_grammar.proofs.marks.WrittenBytes.{pattern_bytes}
 use Rattle.fluent_syntax_grammar.proofs.forward.Lines.{Ends, EndsPattern, text_ends, column, no_spaces}
@@ -32,9 +32,9 @@ pub data EntryStart : List ℕ → Type 0 where
   no_entry : EntryStart []
   begins : (b : ℕ) (bs : List ℕ) → is_entry_byte b ≡ true → EntryStart (b ∷ bs)
 
-pub entry_stops : (rest : List ℕ) → EntryStart rest → EndsPattern rest
-entry_stops [] no_entry = text_ends
-entry_stops (b ∷ bs) (begins c cs e) =
+pub ends_at_entry : (rest : List ℕ) → EntryStart rest → EndsPattern rest
+ends_at_entry [] no_entry = text_ends
+ends_at_entry (b ∷ bs) (begins c cs e) =
     column (column_of b (differ is_entry_byte b space e refl) (differ is_entry_byte b lf e refl)
     (differ is_entry_byte b cr e refl) (differ is_entry_byte b 123 e refl))
   where
@@ -43,10 +43,10 @@ entry_stops (b ∷ bs) (begins c cs e) =
     column_of b e f g h = rw (e, f, g, h) refl
 
 -- there is no byte that begins an entry
-pub entry_other : (c : ℕ) (rest : List ℕ) → EntryStart rest → is_entry_byte c ≡ false →
+pub entry_start_is_no_other : (c : ℕ) (rest : List ℕ) → EntryStart rest → is_entry_byte c ≡ false →
     holds (λ b. b == c) (first rest) ≡ false
-entry_other c [] no_entry e = refl
-entry_other c (b ∷ bs) (begins d ds f) e = differ is_entry_byte b c f e
+entry_start_is_no_other c [] no_entry e = refl
+entry_start_is_no_other c (b ∷ bs) (begins d ds f) e = differ is_entry_byte b c f e
 
 -- From the place on the text is tiled without errors, and the tree is this one.
 pub record Tiles (edition : Edition) (t : List ℕ) (i : ℕ) (b : BodyTree Text) : Type 0 where
@@ -59,8 +59,8 @@ module _ (edition : Edition) (t : List ℕ) where
   -- there is no blank line
   pub no_block : (i : ℕ) (rest : List ℕ) → EntryStart rest → SuffixAt t i rest → BlankBlock t i i
   no_block i rest e l =
-      no_line (no_spaces edition t (entry_other space rest e refl) l)
-      (suffix_no_eol_after l (entry_other lf rest e refl) (entry_other cr rest e refl))
+      no_line (no_spaces edition t (entry_start_is_no_other space rest e refl) l)
+      (suffix_has_no_after_eol l (entry_start_is_no_other lf rest e refl) (entry_start_is_no_other cr rest e refl))
 
   no_token : (i c : ℕ) (rest : List ℕ) → holds (λ b. b == c) (first rest) ≡ false → SuffixAt t i rest →
       token t c i (Refused (ExpectedToken c) i (i + 1))
@@ -69,14 +69,14 @@ module _ (edition : Edition) (t : List ℕ) where
   -- there is no attribute
   pub no_attributes : (i : ℕ) (rest : List ℕ) → EntryStart rest → SuffixAt t i rest → attributes edition t i (Read [] i)
   no_attributes i rest e l =
-      no_more (goes_on (passed (no_spaces edition t (entry_other space rest e refl) l))
-      (stops (no_token i 46 rest (entry_other 46 rest e refl) l)))
+      no_more (goes_on (passed (no_spaces edition t (entry_start_is_no_other space rest e refl) l))
+      (stops (no_token i 46 rest (entry_start_is_no_other 46 rest e refl) l)))
 
   -- ---- tilings
 
   pub tiles_end : (i : ℕ) → SuffixAt t i [] → Tiles edition t i []
   tiles_end i l =
-      let e : i ≡ length t = let n = suffix_end l in omega arith in
+      let e : i ≡ length t = let n = reaches_end l in omega arith in
       record {
         tiles = [];
         tiled = done (subst (λ n. BlankBlock t i n) e (no_block i [] no_entry l));

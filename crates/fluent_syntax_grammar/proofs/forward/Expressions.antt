@@ -29,37 +29,37 @@ use Rattle.fluent_syntax_grammar.proofs.forward.Inline.{Follows, bytes_past, pas
 use Rattle.fluent_syntax_grammar.proofs.forward.Arguments.{Begins, InlineReadsBack, inline_begins, begins_other}
 
 -- what a tree of ranges is, its tree of texts is
-pub same_fault : {X Y : Type 0} (f : X → Y) (e : InlineTree X) → selector_fault (inline_map f e) ≡ selector_fault e
-same_fault f (string_literal v) = refl
-same_fault f (number_literal v) = refl
-same_fault f (function_reference id a) = refl
-same_fault f (message_reference id None) = refl
-same_fault f (message_reference id (Some a)) = refl
-same_fault f (term_reference id None a) = refl
-same_fault f (term_reference id (Some x) a) = refl
-same_fault f (variable_reference id) = refl
-same_fault f (inline_placeable e) = refl
+pub map_keeps_fault : {X Y : Type 0} (f : X → Y) (e : InlineTree X) → selector_fault (inline_map f e) ≡ selector_fault e
+map_keeps_fault f (string_literal v) = refl
+map_keeps_fault f (number_literal v) = refl
+map_keeps_fault f (function_reference id a) = refl
+map_keeps_fault f (message_reference id None) = refl
+map_keeps_fault f (message_reference id (Some a)) = refl
+map_keeps_fault f (term_reference id None a) = refl
+map_keeps_fault f (term_reference id (Some x) a) = refl
+map_keeps_fault f (variable_reference id) = refl
+map_keeps_fault f (inline_placeable e) = refl
 
-same_attribute : {X Y : Type 0} (f : X → Y) (e : InlineTree X) →
+inline_map_keeps_term_attribute : {X Y : Type 0} (f : X → Y) (e : InlineTree X) →
     is_term_attribute (inline_map f e) ≡ is_term_attribute e
-same_attribute f (string_literal v) = refl
-same_attribute f (number_literal v) = refl
-same_attribute f (function_reference id a) = refl
-same_attribute f (message_reference id a) = refl
-same_attribute f (term_reference id None a) = refl
-same_attribute f (term_reference id (Some x) a) = refl
-same_attribute f (variable_reference id) = refl
-same_attribute f (inline_placeable e) = refl
+inline_map_keeps_term_attribute f (string_literal v) = refl
+inline_map_keeps_term_attribute f (number_literal v) = refl
+inline_map_keeps_term_attribute f (function_reference id a) = refl
+inline_map_keeps_term_attribute f (message_reference id a) = refl
+inline_map_keeps_term_attribute f (term_reference id None a) = refl
+inline_map_keeps_term_attribute f (term_reference id (Some x) a) = refl
+inline_map_keeps_term_attribute f (variable_reference id) = refl
+inline_map_keeps_term_attribute f (inline_placeable e) = refl
 
-pub spaces_blank : (bs : List ℕ) → list_all is_space bs ≡ true → list_all is_space_or_lf bs ≡ true
-spaces_blank [] e = refl
-spaces_blank (b ∷ bs) e =
+pub spaces_are_blank : (bs : List ℕ) → list_all is_space bs ≡ true → list_all is_space_or_lf bs ≡ true
+spaces_are_blank [] e = refl
+spaces_are_blank (b ∷ bs) e =
     both_true (ap is_space_or_lf (equal b 32 (left_true (is_space b) (list_all is_space bs) e)))
-    (spaces_blank bs (right_true (is_space b) (list_all is_space bs) e))
+    (spaces_are_blank bs (right_true (is_space b) (list_all is_space bs) e))
 
 -- before the brace that closes a placeable
-follows_brace : (gap more : List ℕ) → list_all is_space gap ≡ true → Follows gap (125 ∷ more)
-follows_brace [] more e =
+brace_follows : (gap more : List ℕ) → list_all is_space gap ≡ true → Follows gap (125 ∷ more)
+brace_follows [] more e =
     record {
       spaces = refl;
       no_name = refl;
@@ -71,10 +71,10 @@ follows_brace [] more e =
       no_list = refl;
       no_attribute = refl;
     }
-follows_brace (b ∷ bs) more e =
+brace_follows (b ∷ bs) more e =
     let s : b ≡ 32 = equal b 32 (left_true (is_space b) (list_all is_space bs) e) in
     record {
-      spaces = spaces_blank (b ∷ bs) e;
+      spaces = spaces_are_blank (b ∷ bs) e;
       no_name = ap is_name_byte s;
       no_digit = ap is_digit s;
       no_point = ap (λ b. b == 46) s;
@@ -115,10 +115,10 @@ module _ (edition : Edition) (t : List ℕ) where
       Reads t (expression edition t) (expression_map (bytes_at t)) i (inline e) (125 ∷ more)
   expression_after e gap more i a g r =
       reads_bind r
-      (λ v j f m. passes_then (passes_after e gap (125 ∷ more) j (follows_brace gap more g) m) (λ k n.
+      (λ v j f m. passes_then (passes_after e gap (125 ∷ more) j (brace_follows gap more g) m) (λ k n.
       reads_look false (no_arrow k more n)
       (reads_second refl
-      (reads_second (sym (same_attribute (bytes_at t) v) ∙ ap is_term_attribute f ∙ a)
+      (reads_second (sym (inline_map_keeps_term_attribute (bytes_at t) v) ∙ ap is_term_attribute f ∙ a)
       (reads_yields (ap inline f) n)))))
 
   pub inline_expression_reads_back : (level : ℕ) (e : InlineTree Text) → is_term_attribute e ≡ false →
@@ -126,7 +126,7 @@ module _ (edition : Edition) (t : List ℕ) where
       ExpressionReadsBack edition t level (inline e)
   inline_expression_reads_back level e a h = record {
     begins = λ tail. inline_begins edition level e tail h.obeys;
-    back = λ i gap more g l. expression_after e gap more i a g (h.back i gap (125 ∷ more) (follows_brace gap more g) l);
+    back = λ i gap more g l. expression_after e gap more i a g (h.back i gap (125 ∷ more) (brace_follows gap more g) l);
   }
 
   -- ---- placeables
@@ -140,7 +140,7 @@ module _ (edition : Edition) (t : List ℕ) where
       let b = h.begins (closing_indent level e ++ (gap ++ (125 ∷ more))) in
       passes_then (passes_token 123 refl l)
       (λ j m. passes_then
-      (passes_blanks before _ (spaces_blank before a) (begins_other 32 b refl) (begins_other lf b refl)
+      (passes_blanks before _ (spaces_are_blank before a) (begins_other 32 b refl) (begins_other lf b refl)
       (begins_other cr b refl) m) (λ k n.
       reads_bind (reads_into (λ o x. into_expression edition t k o x) (h.back k gap more g n))
       (λ v p f o. passes_then (passes_inline_blank [] (125 ∷ more) refl refl o)

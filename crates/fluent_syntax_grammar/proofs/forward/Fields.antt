@@ -20,7 +20,7 @@ use Rattle.fluent_syntax_grammar.specs.Rules.{option_obeys, pattern_obeys, attri
 use Rattle.fluent_syntax_grammar.specs.Readable.{has_field}
 use Rattle.fluent_syntax_grammar.specs.Canonical.{canonical_rules}
 use Rattle.fluent_syntax_grammar.proofs.Facts.{left_true, right_true, some_same}
-use Rattle.fluent_syntax_grammar.proofs.SuffixAt.{SuffixAt, suffix_next, suffix_past, suffix_no_eol_after}
+use Rattle.fluent_syntax_grammar.proofs.SuffixAt.{SuffixAt, suffix_next, suffix_past, suffix_has_no_after_eol}
 use Rattle.fluent_syntax_grammar.proofs.SuffixAt.{suffix_byte_run}
 use Rattle.fluent_syntax_grammar.proofs.forward.Reading.{Reads, reads_bind, reads_yields, reads_here, passes_then}
 use Rattle.fluent_syntax_grammar.proofs.forward.Reading.{passes_over, passes_token, passes_inline_blank}
@@ -104,7 +104,7 @@ module _ (edition : Edition) (t : List ℕ) where
   no_block_before [] i tail rest s l = no_block edition t i rest s l
   no_block_before (a ∷ more) i tail rest s l =
       let bs = 46 ∷ (a.id ++ (32 ∷ 61 ∷ pattern_bytes 1 a.value (lf ∷ more_attributes more tail))) in
-      no_line (suffix_byte_run is_space deep bs refl refl l) (suffix_no_eol_after (suffix_past deep l) refl refl)
+      no_line (suffix_byte_run is_space deep bs refl refl l) (suffix_has_no_after_eol (suffix_past deep l) refl refl)
 
   -- no value, before an attribute
   no_value : (a : AttributeTree Text) (more : List (AttributeTree Text)) (i : ℕ) (tail rest : List ℕ) →

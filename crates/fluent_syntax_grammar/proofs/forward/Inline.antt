@@ -62,20 +62,20 @@ passes_blank (inline_placeable e) = false
 abbrev pub bytes_past : {X : Type 0} → InlineTree X → (gap more : List ℕ) → List ℕ
 bytes_past e gap more = if passes_blank e then more else gap ++ more
 
-digit_no_letter : (b : ℕ) → is_digit b ≡ true → is_letter b ≡ false
-digit_no_letter b e = grind (arith, nat_tests)
+digit_is_no_letter : (b : ℕ) → is_digit b ≡ true → is_letter b ≡ false
+digit_is_no_letter b e = grind (arith, nat_tests)
 
-pub letter_no_digit : (b : ℕ) → is_letter b ≡ true → is_digit b ≡ false
-letter_no_digit b e = grind (arith, nat_tests)
+pub letter_is_no_digit : (b : ℕ) → is_letter b ≡ true → is_digit b ≡ false
+letter_is_no_digit b e = grind (arith, nat_tests)
 
-pub digit_start : (b : ℕ) (next : Bool) → is_digit b ≡ true → start_of (Some b) next ≡ digit
-digit_start b next e = rw (differ is_digit b 34 e refl, e) refl
+pub start_of-digit : (b : ℕ) (next : Bool) → is_digit b ≡ true → start_of (Some b) next ≡ digit
+start_of-digit b next e = rw (differ is_digit b 34 e refl, e) refl
 
-letter_start : (b : ℕ) (next : Bool) → is_letter b ≡ true → start_of (Some b) next ≡ letter
-letter_start b next e =
+start_of-letter : (b : ℕ) (next : Bool) → is_letter b ≡ true → start_of (Some b) next ≡ letter
+start_of-letter b next e =
     rw (
       differ is_letter b 34 e refl,
-      letter_no_digit b e,
+      letter_is_no_digit b e,
       differ is_letter b 45 e refl,
       differ is_letter b 36 e refl,
       e,
@@ -128,7 +128,7 @@ module _ (edition : Edition) (t : List ℕ) where
   number_start i [] more e l = cc
   number_start i (b ∷ []) more e l = elim (or_cases (b == 45 && is_unsigned []) (is_unsigned (b ∷ [])) e) [
     | inl h ↦ absurd (false≢true (right_true (b == 45) false h))
-    | inr h ↦ inl (starts_with digit (digit_start b _ (left_true (is_digit b) true h)) l)
+    | inr h ↦ inl (starts_with digit (start_of-digit b _ (left_true (is_digit b) true h)) l)
   ]
   number_start i (b ∷ c ∷ bs) more e l =
       elim (or_cases (b == 45 && is_unsigned (c ∷ bs)) (is_unsigned (b ∷ c ∷ bs)) e) [
@@ -136,10 +136,10 @@ module _ (edition : Edition) (t : List ℕ) where
             (starts_with minus
             (rw (
               equal b 45 (left_true (b == 45) (is_unsigned (c ∷ bs)) h),
-              digit_no_letter c
+              digit_is_no_letter c
                   (left_true (is_digit c) (is_number_rest bs) (right_true (b == 45) (is_unsigned (c ∷ bs)) h)),
             ) refl) l)
-        | inr h ↦ inl (starts_with digit (digit_start b _ (left_true (is_digit b) (is_number_rest (c ∷ bs)) h)) l)
+        | inr h ↦ inl (starts_with digit (start_of-digit b _ (left_true (is_digit b) (is_number_rest (c ∷ bs)) h)) l)
       ]
 
   pub number_reads_back : (i level : ℕ) (v gap more : List ℕ) → is_number v ≡ true → Follows gap more →
@@ -174,7 +174,7 @@ module _ (edition : Edition) (t : List ℕ) where
   pub name_start : (i : ℕ) (id more : List ℕ) → is_name id ≡ true → SuffixAt t i (id ++ more) → start t i ≡ letter
   name_start i [] more e l = cc
   name_start i (b ∷ bs) more e l =
-      starts_with letter (letter_start b _ (left_true (is_letter b) (list_all is_name_byte bs) e)) l
+      starts_with letter (start_of-letter b _ (left_true (is_letter b) (list_all is_name_byte bs) e)) l
 
   -- ---- message references
 

@@ -21,14 +21,14 @@ use Rattle.fluent_syntax_grammar.proofs.forward.Lines.{belongs_eol}
 use Rattle.fluent_syntax_grammar.proofs.forward.Pieces.{ReadsMidLine, Starts, Run}
 use Rattle.fluent_syntax_grammar.proofs.Tests.{or_true}
 
-less_on : (i n : ℕ) → 1 ≤ n → nat_lt i (i + n) ≡ true
-less_on i n l = grind (arith, nat_tests)
+place_is_before_later : (i n : ℕ) → 1 ≤ n → nat_lt i (i + n) ≡ true
+place_is_before_later i n l = grind (arith, nat_tests)
 
 module _ (edition : Edition) (t : List ℕ) where
   -- after leading spaces a byte that is no mark begins a line that belongs
   belongs_text : (i n b : ℕ) (bs : List ℕ) → 1 ≤ n → not (is_mark_byte b) ≡ true → SuffixAt t (i + n) (b ∷ bs) →
       belongs t (nat_lt i (i + n)) (i + n) ≡ true
-  belongs_text i n b bs l e m = rw (less_on i n l, suffix_first m, e) (or_true _)
+  belongs_text i n b bs l e m = rw (place_is_before_later i n l, suffix_first m, e) (or_true _)
 
   -- a line that begins with a run
   pub start_run :

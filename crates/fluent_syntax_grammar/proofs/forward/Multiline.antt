@@ -23,7 +23,7 @@ use Rattle.fluent_syntax_grammar.proofs.SuffixAt.{SuffixAt, suffix_as, first, su
 use Rattle.fluent_syntax_grammar.proofs.marks.LastBytes.{last_append}
 use Rattle.fluent_syntax_grammar.proofs.forward.Spells.{spells_text}
 use Rattle.fluent_syntax_grammar.proofs.marks.WrittenBytes.{element_bytes, elements_bytes, line_indent}
-use Rattle.fluent_syntax_grammar.proofs.forward.Runs.{without_of, is_run_byte, TextForm, alone, with_lf, text_form}
+use Rattle.fluent_syntax_grammar.proofs.forward.Runs.{lf_is_taken_off, is_run_byte, TextForm, alone, with_lf, text_form}
 use Rattle.fluent_syntax_grammar.proofs.forward.Runs.{run_no_lf}
 use Rattle.fluent_syntax_grammar.proofs.forward.Lines.{Ends, reads_no_pieces, is_mark_byte}
 use Rattle.fluent_syntax_grammar.proofs.forward.Pieces.{ReadsMidLine, Starts, Run, mid_end, mid_placeable, mid_run}
@@ -36,22 +36,22 @@ use Rattle.fluent_syntax_grammar.proofs.Tests.{and_false, not_true, or_true}
 
 -- ---- the ends of texts
 
-run_no_end : (c : ℕ) (v : List ℕ) → list_all is_run_byte (c ∷ v) ≡ true → is_last lf (last_of (Some c) v) ≡ false
-run_no_end c [] e = run_no_lf c (left_true (is_run_byte c) true e)
-run_no_end c (b ∷ v) e = run_no_end b v (right_true (is_run_byte c) (list_all is_run_byte (b ∷ v)) e)
+run_ends_no_line : (c : ℕ) (v : List ℕ) → list_all is_run_byte (c ∷ v) ≡ true → is_last lf (last_of (Some c) v) ≡ false
+run_ends_no_line c [] e = run_no_lf c (left_true (is_run_byte c) true e)
+run_ends_no_line c (b ∷ v) e = run_ends_no_line b v (right_true (is_run_byte c) (list_all is_run_byte (b ∷ v)) e)
 
 -- a run does not end in LF
-pub run_ends_in : (v : List ℕ) → list_all is_run_byte v ≡ true → ends_in_lf v ≡ false
-run_ends_in [] e = refl
-run_ends_in (c ∷ v) e = run_no_end c v e
+pub no_lf_ends_run : (v : List ℕ) → list_all is_run_byte v ≡ true → ends_in_lf v ≡ false
+no_lf_ends_run [] e = refl
+no_lf_ends_run (c ∷ v) e = run_ends_no_line c v e
 
 -- a run and an LF do
-line_ends_in : (v body : List ℕ) → v ≡ body ++ (lf ∷ []) → ends_in_lf v ≡ true
-line_ends_in v body e = rw (e, last_append body None lf []) refl
+lf_after_ends_in_lf : (v body : List ℕ) → v ≡ body ++ (lf ∷ []) → ends_in_lf v ≡ true
+lf_after_ends_in_lf v body e = rw (e, last_append body None lf []) refl
 
-none_after : (xs ys : List ℕ) → xs ++ ys ≡ [] → ys ≡ []
-none_after [] ys e = e
-none_after (x ∷ xs) ys e = absurd cc
+rest_is_none : (xs ys : List ℕ) → xs ++ ys ≡ [] → ys ≡ []
+rest_is_none [] ys e = e
+rest_is_none (x ∷ xs) ys e = absurd cc
 
 -- ---- numbers and lone texts within a line
 
@@ -104,7 +104,7 @@ module _ (edition : Edition) where
       lone (sym (ap (λ b. are_lone (if b then after_line else within_line) es) e ∙ lone_within es)
       ∙ right_true (is_lone_lf v) (are_lone (position_after v) es) a)
       (sym (numbers_no_line v es e)
-      ∙ none_after (text_indents edition v) (line_indents edition (position_after v) es) b)
+      ∙ rest_is_none (text_indents edition v) (line_indents edition (position_after v) es) b)
 
   fit_line_start : (shift : ℕ) (common : Option ℕ) (v : Text) (es : PatternTree Text) → ends_in_lf v ≡ true →
       Fit shift common after_line (elements (text_element v) es) → Fit shift common after_line es
@@ -112,13 +112,13 @@ module _ (edition : Edition) where
   fit_line_start shift common v es e (lone a b) =
       lone (sym (ap (λ b. are_lone (if b then after_line else within_line) es) e)
       ∙ right_true (is_lone_lf v) (are_lone (position_after v) es) a)
-      (sym (numbers_line v es e) ∙ none_after (text_indents edition v) (line_indents edition (position_after v) es) b)
+      (sym (numbers_line v es e) ∙ rest_is_none (text_indents edition v) (line_indents edition (position_after v) es) b)
 
   fit_placeable_line : (shift : ℕ) (common : Option ℕ) (e : ExpressionTree Text) (es : PatternTree Text) →
       Fit shift common after_line (elements (placeable e) es) → Fit shift common after_placeable es
   fit_placeable_line shift common e es fixed = fixed
   fit_placeable_line shift common e es (lone a b) =
-      lone a (none_after (placeable_indents edition) (line_indents edition after_placeable es) b)
+      lone a (rest_is_none (placeable_indents edition) (line_indents edition after_placeable es) b)
 
   fit_placeable : (shift : ℕ) (common : Option ℕ) (e : ExpressionTree Text) (es : PatternTree Text) →
       Fit shift common after_placeable (elements (placeable e) es) → Fit shift common after_placeable es
@@ -134,8 +134,8 @@ pub record Split (v : List ℕ) : Type 0 where
   pub spaces : list_all is_space gap ≡ true
   pub plain : holds is_space (first more) ≡ false
 
-split_at : (b : ℕ) (v : List ℕ) (x : Bool) → is_space b ≡ x → Split v → Split (b ∷ v)
-split_at b v true e s =
+split_goes_on_after_byte : (b : ℕ) (v : List ℕ) (x : Bool) → is_space b ≡ x → Split v → Split (b ∷ v)
+split_goes_on_after_byte b v true e s =
     record {
       gap = b ∷ s.gap;
       more = s.more;
@@ -144,31 +144,31 @@ split_at b v true e s =
       plain =
           s.plain;
     }
-split_at b v false e s = record { gap = []; more = b ∷ v; are = refl; spaces = refl; plain = e }
+split_goes_on_after_byte b v false e s = record { gap = []; more = b ∷ v; are = refl; spaces = refl; plain = e }
 
-pub split : (v : List ℕ) → Split v
-split [] = record { gap = []; more = []; are = refl; spaces = refl; plain = refl }
-split (b ∷ v) = split_at b v (is_space b) refl (split v)
+pub text_splits : (v : List ℕ) → Split v
+text_splits [] = record { gap = []; more = []; are = refl; spaces = refl; plain = refl }
+text_splits (b ∷ v) = split_goes_on_after_byte b v (is_space b) refl (text_splits v)
 
-no_numbers : {m : ℕ} {ns : List ℕ} → m ∷ ns ≡ [] → ⊥
-no_numbers e = cc
+cons_is_not_empty : {m : ℕ} {ns : List ℕ} → m ∷ ns ≡ [] → ⊥
+cons_is_not_empty e = cc
 
 -- the spaces are counted
-leading_of : (gap : List ℕ) (b : ℕ) (bs : List ℕ) → list_all is_space gap ≡ true → is_space b ≡ false →
+leading_spaces-gap : (gap : List ℕ) (b : ℕ) (bs : List ℕ) → list_all is_space gap ≡ true → is_space b ≡ false →
     leading_spaces (gap ++ (b ∷ bs)) ≡ length gap
-leading_of [] b bs a e = rw e refl
-leading_of (x ∷ gap) b bs a e =
+leading_spaces-gap [] b bs a e = rw e refl
+leading_spaces-gap (x ∷ gap) b bs a e =
     rw (left_true (is_space x) (list_all is_space gap) a)
-    (ap (λ n. n + 1) (leading_of gap b bs (right_true (is_space x) (list_all is_space gap) a) e)
+    (ap (λ n. n + 1) (leading_spaces-gap gap b bs (right_true (is_space x) (list_all is_space gap) a) e)
     ∙ add_one (length gap))
 
 -- such a text is nonblank
-shown_nonblank : (gap : List ℕ) (b : ℕ) (bs : List ℕ) → is_space b ≡ false → (b == lf) ≡ false →
+byte_is_nonblank : (gap : List ℕ) (b : ℕ) (bs : List ℕ) → is_space b ≡ false → (b == lf) ≡ false →
     is_nonblank (gap ++ (b ∷ bs)) ≡ true
-shown_nonblank [] b [] e f = rw (f, e) refl
-shown_nonblank [] b (c ∷ bs) e f = rw e refl
-shown_nonblank (x ∷ []) b bs e f = rw (shown_nonblank [] b bs e f) (or_true (not (is_space x)))
-shown_nonblank (x ∷ y ∷ gap) b bs e f = rw (shown_nonblank (y ∷ gap) b bs e f) (or_true (not (is_space x)))
+byte_is_nonblank [] b [] e f = rw (f, e) refl
+byte_is_nonblank [] b (c ∷ bs) e f = rw e refl
+byte_is_nonblank (x ∷ []) b bs e f = rw (byte_is_nonblank [] b bs e f) (or_true (not (is_space x)))
+byte_is_nonblank (x ∷ y ∷ gap) b bs e f = rw (byte_is_nonblank (y ∷ gap) b bs e f) (or_true (not (is_space x)))
 
 numbers_shown : (edition : Edition) (v : Text) → is_nonblank v ≡ true → text_indents edition v ≡ leading_spaces v ∷ []
 numbers_shown One v e = rw e refl
@@ -299,16 +299,16 @@ placeable_starts Two t level common tail rest e es deep h fixed mid i l =
 
 -- ---- what a text that begins a line is asked
 
-after_of : (gap : List ℕ) (b : ℕ) (bs : List ℕ) → list_all is_space gap ≡ true → is_space b ≡ false →
+after_spaces-gap : (gap : List ℕ) (b : ℕ) (bs : List ℕ) → list_all is_space gap ≡ true → is_space b ≡ false →
     after_spaces (gap ++ (b ∷ bs)) ≡ b ∷ bs
-after_of [] b bs a e = rw e refl
-after_of (x ∷ gap) b bs a e =
+after_spaces-gap [] b bs a e = rw e refl
+after_spaces-gap (x ∷ gap) b bs a e =
     rw (left_true (is_space x) (list_all is_space gap) a)
-    (after_of gap b bs (right_true (is_space x) (list_all is_space gap) a) e)
+    (after_spaces-gap gap b bs (right_true (is_space x) (list_all is_space gap) a) e)
 
 -- a byte of a run that begins no mark begins a line that belongs
-not_mark : (b : ℕ) → is_run_byte b ≡ true → begins_with_mark (b ∷ []) ≡ false → not (is_mark_byte b) ≡ true
-not_mark b e f = marks (b == 46) (b == 91) (b == 42) (b == 125) (b == lf) (b == 123) e f
+run_byte_is_no_mark : (b : ℕ) → is_run_byte b ≡ true → begins_with_mark (b ∷ []) ≡ false → not (is_mark_byte b) ≡ true
+run_byte_is_no_mark b e f = marks (b == 46) (b == 91) (b == 42) (b == 125) (b == lf) (b == 123) e f
   where
     marks : (x y z w l o : Bool) → not (l || o || w) ≡ true → (x || y || z) ≡ false → not (x || w || y || z) ≡ true
     marks false false false false l o e f = refl
@@ -319,23 +319,23 @@ not_mark b e f = marks (b == 46) (b == 91) (b == 42) (b == 125) (b == lf) (b == 
     marks false false false true true o e f = cc
     marks false false false true false true e f = cc
 
-no_mark_there : (edition : Edition) (v : Text) (es : PatternTree Text) (gap : List ℕ) (b : ℕ) (bs : List ℕ) →
+later_text_has_no_mark : (edition : Edition) (v : Text) (es : PatternTree Text) (gap : List ℕ) (b : ℕ) (bs : List ℕ) →
     v ≡ gap ++ (b ∷ bs) → list_all is_space gap ≡ true → is_space b ≡ false →
     may_occur_at edition true after_line v es ≡ true → begins_with_mark (b ∷ []) ≡ false
-no_mark_there edition v es gap b bs is a e g =
-    sym (ap begins_with_mark (ap after_spaces is ∙ after_of gap b bs a e))
+later_text_has_no_mark edition v es gap b bs is a e g =
+    sym (ap begins_with_mark (ap after_spaces is ∙ after_spaces-gap gap b bs a e))
     ∙ not_true (begins_with_mark (after_spaces v)) (right_true (not (is_spaces v) || indents edition v es) _ g)
 
-pub all_last : (p : ℕ → Bool) (xs ys : List ℕ) → list_all p (xs ++ ys) ≡ true → list_all p ys ≡ true
-all_last p [] ys e = e
-all_last p (x ∷ xs) ys e = all_last p xs ys (right_true (p x) (list_all p (xs ++ ys)) e)
+pub second_part_passes : (p : ℕ → Bool) (xs ys : List ℕ) → list_all p (xs ++ ys) ≡ true → list_all p ys ≡ true
+second_part_passes p [] ys e = e
+second_part_passes p (x ∷ xs) ys e = second_part_passes p xs ys (right_true (p x) (list_all p (xs ++ ys)) e)
 
 pub append_none : (xs : List ℕ) → xs ++ [] ≡ xs
 append_none [] = refl
 append_none (x ∷ xs) = ap (λ xs. x ∷ xs) (append_none xs)
 
-pub last_of_part : (gap : List ℕ) (b : ℕ) (bs : List ℕ) → last_of None (gap ++ (b ∷ bs)) ≡ last_of None (b ∷ bs)
-last_of_part gap b bs = last_append gap None b bs
+pub last_of-gap : (gap : List ℕ) (b : ℕ) (bs : List ℕ) → last_of None (gap ++ (b ∷ bs)) ≡ last_of None (b ∷ bs)
+last_of-gap gap b bs = last_append gap None b bs
 
 module _ (edition : Edition) (t : List ℕ) (level : ℕ) (rest : List ℕ) where
   -- the line of such a text, given the run after its spaces
@@ -350,15 +350,15 @@ module _ (edition : Edition) (t : List ℕ) (level : ℕ) (rest : List ℕ) wher
       Starts edition t common (elements (text_element v) es)
       (map (λ n. length (indent level) + n) (line_indents edition after_line (elements (text_element v) es))) i rest
   shown_starts common v gap b bs source es i is deep a s n e (lone x y) l k =
-      absurd (no_numbers
+      absurd (cons_is_not_empty
       (sym (ap (λ ns. ns ++ line_indents edition (position_after v) es)
-      (numbers_shown edition v (ap is_nonblank is ∙ shown_nonblank gap b bs s n))) ∙ y))
+      (numbers_shown edition v (ap is_nonblank is ∙ byte_is_nonblank gap b bs s n))) ∙ y))
   shown_starts common v gap b bs source es i is deep a s n e fixed l k =
       let shift = length (indent level) in
       let others = map (λ n. shift + n) (line_indents edition (position_after v) es) in
       let numbers : text_indents edition v ≡ length gap ∷ [] =
-      numbers_shown edition v (ap is_nonblank is ∙ shown_nonblank gap b bs s n)
-      ∙ ap (λ m. m ∷ []) (ap leading_spaces is ∙ leading_of gap b bs a s) in
+      numbers_shown edition v (ap is_nonblank is ∙ byte_is_nonblank gap b bs s n)
+      ∙ ap (λ m. m ∷ []) (ap leading_spaces is ∙ leading_spaces-gap gap b bs a s) in
       let all :
       map (λ n. shift + n) (line_indents edition after_line (elements (text_element v) es))
       ≡ (shift + length gap) ∷ others =
@@ -373,32 +373,32 @@ module _ (edition : Edition) (t : List ℕ) (level : ℕ) (rest : List ℕ) wher
 
 -- ---- blank lines
 
-pub blank_of : (gap : List ℕ) → list_all is_space gap ≡ true → list_any (λ b. not (is_space b)) gap ≡ false
-blank_of [] e = refl
-blank_of (x ∷ gap) e =
+pub gap_is_blank : (gap : List ℕ) → list_all is_space gap ≡ true → list_any (λ b. not (is_space b)) gap ≡ false
+gap_is_blank [] e = refl
+gap_is_blank (x ∷ gap) e =
     rw (left_true (is_space x) (list_all is_space gap) e)
-    (blank_of gap (right_true (is_space x) (list_all is_space gap) e))
+    (gap_is_blank gap (right_true (is_space x) (list_all is_space gap) e))
 
-pub no_spaces_end : (gap : List ℕ) → list_all is_space (gap ++ (lf ∷ [])) ≡ false
-no_spaces_end [] = refl
-no_spaces_end (x ∷ gap) = rw (no_spaces_end gap) (and_false (is_space x))
+pub spaces_and_lf_are_not_spaces : (gap : List ℕ) → list_all is_space (gap ++ (lf ∷ [])) ≡ false
+spaces_and_lf_are_not_spaces [] = refl
+spaces_and_lf_are_not_spaces (x ∷ gap) = rw (spaces_and_lf_are_not_spaces gap) (and_false (is_space x))
 
 -- a blank line has no number
-blank_number : (edition : Edition) (v gap : List ℕ) → v ≡ gap ++ (lf ∷ []) → list_all is_space gap ≡ true →
+blank_line_has_no_indent : (edition : Edition) (v gap : List ℕ) → v ≡ gap ++ (lf ∷ []) → list_all is_space gap ≡ true →
     text_indents edition v ≡ []
-blank_number One v gap e s =
-    rw (ap is_nonblank e ∙ ap (list_any (λ b. not (is_space b))) (without_of gap) ∙ blank_of gap s) refl
-blank_number Two v gap e s =
+blank_line_has_no_indent One v gap e s =
+    rw (ap is_nonblank e ∙ ap (list_any (λ b. not (is_space b))) (lf_is_taken_off gap) ∙ gap_is_blank gap s) refl
+blank_line_has_no_indent Two v gap e s =
     rw (
-      ap is_nonblank e ∙ ap (list_any (λ b. not (is_space b))) (without_of gap) ∙ blank_of gap s,
+      ap is_nonblank e ∙ ap (list_any (λ b. not (is_space b))) (lf_is_taken_off gap) ∙ gap_is_blank gap s,
       ap is_spaces e
-          ∙ no_spaces_end gap,
+          ∙ spaces_and_lf_are_not_spaces gap,
     ) refl
 
-lone_is : (v : List ℕ) → is_lone_lf v ≡ true → v ≡ lf ∷ []
-lone_is [] e = absurd cc
-lone_is (b ∷ []) e = ap (λ b. b ∷ []) (equal b lf (left_true (b == lf) true e))
-lone_is (b ∷ c ∷ bs) e = absurd (differs e (and_false (b == lf)))
+lone_lf_is_lf : (v : List ℕ) → is_lone_lf v ≡ true → v ≡ lf ∷ []
+lone_lf_is_lf [] e = absurd cc
+lone_lf_is_lf (b ∷ []) e = ap (λ b. b ∷ []) (equal b lf (left_true (b == lf) true e))
+lone_lf_is_lf (b ∷ c ∷ bs) e = absurd (differs e (and_false (b == lf)))
 
 module _ (edition : Edition) (t : List ℕ) (level : ℕ) (rest : List ℕ) where
   blank_starts :
@@ -420,7 +420,7 @@ module _ (edition : Edition) (t : List ℕ) (level : ℕ) (rest : List ℕ) wher
       (subst (λ p. SuffixAt t p (v ++ more)) kept (suffix_past ind l)) k
   blank_starts common v gap d es numbers more i e s (lone x y) l k =
       let ind = indent level in
-      let only = lone_is v (left_true (is_lone_lf v) (are_lone (position_after v) (elements d es)) x) in
+      let only = lone_lf_is_lf v (left_true (is_lone_lf v) (are_lone (position_after v) (elements d es)) x) in
       let kept : i + length ind ≡ i + ((i + length ind) - i) = omega arith in
       start_blank edition t None ind v more d es numbers rest i (spaces_of (4 * level))
       (suffix_as (ap (λ v. ind ++ (v ++ more)) only) l)
@@ -458,7 +458,7 @@ spaces_starts :
 spaces_starts One t level common tail rest v es is a s g f mid i l =
     absurd (false≢true (must_indent (is_spaces v) false _ s g))
 spaces_starts Two t level common tail rest v es is a s g (lone x y) mid i l =
-    absurd (no_numbers (sym (ap (λ ns. ns ++ line_indents Two (position_after v) es) (spaces_number v s)) ∙ y))
+    absurd (cons_is_not_empty (sym (ap (λ ns. ns ++ line_indents Two (position_after v) es) (spaces_number v s)) ∙ y))
 spaces_starts Two t level common tail rest v no_elements is a s g fixed mid i l =
     absurd (false≢true (right_true (is_spaces v) false (must_indent (is_spaces v) (is_spaces v && false) _ s g)))
 spaces_starts Two t level common tail rest v (elements (text_element w) es) is a s g fixed mid i l =
@@ -468,7 +468,7 @@ spaces_starts Two t level common tail rest (c ∷ v) (elements (placeable e) es)
     let ind = indent level in
     let sp = c ∷ v in
     let brace = element_brace level e (elements_bytes level false es (lf ∷ tail)) in
-    let end = run_ends_in sp a in
+    let end = no_lf_ends_run sp a in
     let m =
     suffix_as (ap (λ b. ind ++
     (sp ++
@@ -552,32 +552,32 @@ module _ (edition : Edition) (t : List ℕ) (level : ℕ) (common : Option ℕ) 
       (ends_in_lf v ≡ true → StartsIf es) → TextForm v → MidOf (elements (text_element v) es)
   mid_of_text v no_elements s g mid start (alone a) i l =
       text_last edition t level common tail rest ends v i (text_is s v no_elements g) (text_ends_well s v no_elements g)
-      (suffix_as (ap (λ b. v ++ (lf ∷ tail)) (run_ends_in v a)) l)
+      (suffix_as (ap (λ b. v ++ (lf ∷ tail)) (no_lf_ends_run v a)) l)
   mid_of_text v no_elements s g mid start (with_lf body is a c) i l =
       absurd (plain_not_line edition t level common tail rest ends v body is (text_ends_well s v no_elements g))
   mid_of_text v (elements (placeable e) es) s g mid start (alone a) i l =
       subst (λ ns. ReadsMidLine edition t common (elements (text_element v) (elements (placeable e) es)) ns i rest)
       (ap (map (λ n. length (indent level) + n))
-      (sym (numbers_no_line edition v (elements (placeable e) es) (run_ends_in v a))))
+      (sym (numbers_no_line edition v (elements (placeable e) es) (no_lf_ends_run v a))))
       (text_then edition t level common tail rest ends v e es (Numbers after_placeable (elements (placeable e) es)) i
       (text_is s v (elements (placeable e) es) g) a
       (suffix_as (ap (λ b. v ++
       (line_indent level b ++ element_bytes level (placeable e) (elements_bytes level false es (lf ∷ tail))))
-      (run_ends_in v a)) l) (mid (run_ends_in v a)))
+      (no_lf_ends_run v a)) l) (mid (no_lf_ends_run v a)))
   mid_of_text v (elements (text_element w) es) s g mid start (alone a) i l =
-      absurd (no_text_after v w es (run_ends_in v a) (text_more s v (elements (text_element w) es) g))
+      absurd (no_text_after v w es (no_lf_ends_run v a) (text_more s v (elements (text_element w) es) g))
   mid_of_text v (elements d es) s g mid start (with_lf body is a c) i l =
       subst (λ ns. ReadsMidLine edition t common (elements (text_element v) (elements d es)) ns i rest)
       (ap (map (λ n. length (indent level) + n))
-      (sym (numbers_line edition v (elements d es) (line_ends_in v body is))))
+      (sym (numbers_line edition v (elements d es) (lf_after_ends_in_lf v body is))))
       (text_line edition t level common tail rest ends v body d es (Numbers after_line (elements d es)) i is a c
       (elements_bytes level true (elements d es) (lf ∷ tail))
-      (suffix_as (ap (λ b. v ++ elements_bytes level b (elements d es) (lf ∷ tail)) (line_ends_in v body is)) l)
-      (start (line_ends_in v body is)))
+      (suffix_as (ap (λ b. v ++ elements_bytes level b (elements d es) (lf ∷ tail)) (lf_after_ends_in_lf v body is)) l)
+      (start (lf_after_ends_in_lf v body is)))
 
   pub run_part : (v gap : List ℕ) (b : ℕ) (bs : List ℕ) → v ≡ gap ++ (b ∷ bs) → list_all is_run_byte v ≡ true →
       list_all is_run_byte (b ∷ bs) ≡ true
-  run_part v gap b bs is a = all_last is_run_byte gap (b ∷ bs) (sym (ap (list_all is_run_byte) is) ∙ a)
+  run_part v gap b bs is a = second_part_passes is_run_byte gap (b ∷ bs) (sym (ap (list_all is_run_byte) is) ∙ a)
 
   -- a run after spaces
   shown_alone : (v : Text) (es : PatternTree Text) →
@@ -590,22 +590,22 @@ module _ (edition : Edition) (t : List ℕ) (level : ℕ) (common : Option ℕ) 
       let part = run_part v gap b bs is a in
       let byte = left_true (is_run_byte b) (list_all is_run_byte bs) part in
       let mark =
-      not_mark b byte
-      (no_mark_there edition v no_elements gap b bs is c e (text_holds after_line v no_elements g)) in
+      run_byte_is_no_mark b byte
+      (later_text_has_no_mark edition v no_elements gap b bs is c e (text_holds after_line v no_elements g)) in
       let plain = text_ends_well after_line v no_elements g in
       let safe : is_last cr (last_of None (b ∷ bs)) ≡ false =
-      sym (ap (is_last cr) (ap (last_of None) is ∙ last_of_part gap b bs)) ∙ plain_no_cr v plain in
+      sym (ap (is_last cr) (ap (last_of None) is ∙ last_of-gap gap b bs)) ∙ plain_no_cr v plain in
       shown_starts edition t level rest common v gap b bs (lf ∷ tail) no_elements i is deep c e (run_no_lf b byte) mark
       f l (λ j m. run_end edition t common v tail rest j b bs plain ends part (rw safe refl) m)
   shown_alone v (elements (placeable x) es) g f mid a gap b bs is c e i l =
       let part = run_part v gap b bs is a in
       let byte = left_true (is_run_byte b) (list_all is_run_byte bs) part in
       let mark =
-      not_mark b byte
-      (no_mark_there edition v (elements (placeable x) es) gap b bs is c e
+      run_byte_is_no_mark b byte
+      (later_text_has_no_mark edition v (elements (placeable x) es) gap b bs is c e
       (text_holds after_line v (elements (placeable x) es) g)) in
       let brace = element_brace level x (elements_bytes level false es (lf ∷ tail)) in
-      let end = run_ends_in v a in
+      let end = no_lf_ends_run v a in
       let m =
       suffix_as (ap (λ b. indent level ++
       (v ++
@@ -619,7 +619,7 @@ module _ (edition : Edition) (t : List ℕ) (level : ℕ) (common : Option ℕ) 
       (run_more edition t common v x es (Numbers after_placeable (elements (placeable x) es)) rest j b bs brace.rest
       part n (λ k o. mid end k (suffix_as (sym brace.are) o))))
   shown_alone v (elements (text_element w) es) g f mid a gap b bs is c e i l =
-      absurd (no_text_after v w es (run_ends_in v a) (text_more after_line v (elements (text_element w) es) g))
+      absurd (no_text_after v w es (no_lf_ends_run v a) (text_more after_line v (elements (text_element w) es) g))
 
   -- what a text at the beginning of a line leads to
   start_of_text : (v : Text) (es : PatternTree Text) →
@@ -627,12 +627,12 @@ module _ (edition : Edition) (t : List ℕ) (level : ℕ) (common : Option ℕ) 
       Fit edition (length (indent level)) common after_line (elements (text_element v) es) →
       (ends_in_lf v ≡ false → MidOf es) → (ends_in_lf v ≡ true → StartsIf es) → TextForm v →
       StartsOf (elements (text_element v) es)
-  start_of_text v es g f mid start (alone a) = alone_of (split v)
+  start_of_text v es g f mid start (alone a) = alone_of (text_splits v)
     where
       spaces_alone : list_all is_space v ≡ true → StartsOf (elements (text_element v) es)
       spaces_alone e =
           spaces_starts edition t level common tail rest v es (text_is after_line v es g) a e
-          (text_holds after_line v es g) f (mid (run_ends_in v a))
+          (text_holds after_line v es g) f (mid (no_lf_ends_run v a))
 
       alone_at : (gap more : List ℕ) → v ≡ gap ++ more → list_all is_space gap ≡ true →
           holds is_space (first more) ≡ false → StartsOf (elements (text_element v) es)
@@ -644,10 +644,10 @@ module _ (edition : Edition) (t : List ℕ) (level : ℕ) (common : Option ℕ) 
   start_of_text v no_elements g f mid start (with_lf body is a c) =
       absurd (plain_not_line edition t level common tail rest ends v body is
       (text_ends_well after_line v no_elements g))
-  start_of_text v (elements d es) g f mid start (with_lf body is a c) = line_of_split (split body)
+  start_of_text v (elements d es) g f mid start (with_lf body is a c) = line_of_split (text_splits body)
     where
       ends_in : ends_in_lf v ≡ true
-      ends_in = line_ends_in v body is
+      ends_in = lf_after_ends_in_lf v body is
 
       blank_line_of : (gap : List ℕ) → v ≡ gap ++ (lf ∷ []) → list_all is_space gap ≡ true →
           StartsOf (elements (text_element v) (elements d es))
@@ -657,7 +657,7 @@ module _ (edition : Edition) (t : List ℕ) (level : ℕ) (common : Option ℕ) 
           suffix_as (ap (λ b. indent level ++ (v ++ elements_bytes level b (elements d es) (lf ∷ tail))) ends_in) l in
           let same =
           ap (λ ns. map (λ n. length (indent level) + n)
-          (ns ++ line_indents edition (position_after v) (elements d es))) (blank_number edition v gap e s)
+          (ns ++ line_indents edition (position_after v) (elements d es))) (blank_line_has_no_indent edition v gap e s)
           ∙ ap (map (λ n. length (indent level) + n)) (numbers_line edition v (elements d es) ends_in) in
           subst (λ ns. Starts edition t common (elements (text_element v) (elements d es)) ns i rest) (sym same)
           (blank_starts edition t level rest common v gap d es (Numbers after_line (elements d es)) more i e s f m
@@ -671,11 +671,11 @@ module _ (edition : Edition) (t : List ℕ) (level : ℕ) (common : Option ℕ) 
           let whole : v ≡ gap ++ (b ∷ (bs ++ (lf ∷ []))) =
           is ∙ ap (λ v. v ++ (lf ∷ [])) e ∙ append_assoc gap (b ∷ bs) (lf ∷ []) in
           let mark =
-          not_mark b byte
-          (no_mark_there edition v (elements d es) gap b (bs ++ (lf ∷ [])) whole s n
+          run_byte_is_no_mark b byte
+          (later_text_has_no_mark edition v (elements d es) gap b (bs ++ (lf ∷ [])) whole s n
           (text_holds after_line v (elements d es) g)) in
           let safe : is_last cr (last_of None (b ∷ bs)) ≡ false =
-          sym (ap (is_last cr) (ap (last_of None) e ∙ last_of_part gap b bs)) ∙ c in
+          sym (ap (is_last cr) (ap (last_of None) e ∙ last_of-gap gap b bs)) ∙ c in
           let more = elements_bytes level true (elements d es) (lf ∷ tail) in
           let m =
           suffix_as (ap (λ b. indent level ++ (v ++ elements_bytes level b (elements d es) (lf ∷ tail))) ends_in) l in

@@ -25,16 +25,16 @@ use Rattle.fluent_syntax_grammar.specs.Written.{Text, is_last, last_of, has_lf}
 use Rattle.fluent_syntax_grammar.specs.Readable.{ElementPosition, after_line, within_line, after_placeable, is_text}
 use Rattle.fluent_syntax_grammar.specs.Readable.{are_elements, may_occur_at, position_after}
 use Rattle.fluent_syntax_grammar.proofs.Facts.{left_true, right_true}
-use Rattle.fluent_syntax_grammar.proofs.SuffixAt.{SuffixAt, suffix_as, first, suffix_byte_run, suffix_no_eol_after}
+use Rattle.fluent_syntax_grammar.proofs.SuffixAt.{SuffixAt, suffix_as, first, suffix_byte_run, suffix_has_no_after_eol}
 use Rattle.fluent_syntax_grammar.proofs.forward.Reading.{Reads}
 use Rattle.fluent_syntax_grammar.proofs.forward.Spells.{spelled_pattern}
 use Rattle.fluent_syntax_grammar.proofs.marks.WrittenBytes.{element_bytes, elements_bytes, line_indent}
-use Rattle.fluent_syntax_grammar.proofs.forward.Runs.{is_run_byte, ends_in_cr_before, run_all, run_place, inside}
+use Rattle.fluent_syntax_grammar.proofs.forward.Runs.{is_run_byte, ends_in_cr_before, run_all, run_place, no_eol_in_run}
 use Rattle.fluent_syntax_grammar.proofs.forward.Lines.{Ends, reads_ending}
 use Rattle.fluent_syntax_grammar.proofs.forward.Pieces.{ReadsMidLine, mid_end, mid_placeable, mid_run, run_end}
 use Rattle.fluent_syntax_grammar.proofs.forward.Pieces.{run_more}
-use Rattle.fluent_syntax_grammar.proofs.Tests.{neither_left, neither_right, not_true, without}
-use Rattle.fluent_syntax_grammar.proofs.LineEnds.{eol_none}
+use Rattle.fluent_syntax_grammar.proofs.Tests.{neither_left, neither_right, not_true, negated_right_is_false}
+use Rattle.fluent_syntax_grammar.proofs.LineEnds.{no_bytes_no_eol}
 
 -- A placeable that is an element is read back.
 pub record ElementReadsBack (edition : Edition) (t : List ℕ) (level : ℕ) (e : ExpressionTree Text) : Type 0 where
@@ -87,9 +87,9 @@ no_lf_from : (c : ℕ) (v : List ℕ) → (c == lf) ≡ false → has_lf v ≡ f
 no_lf_from c [] e f = e
 no_lf_from c (b ∷ v) e f = no_lf_from b v (neither_left (b == lf) (has_lf v) f) (neither_right (b == lf) (has_lf v) f)
 
-pub no_lf_end : (v : List ℕ) → has_lf v ≡ false → ends_in_lf v ≡ false
-no_lf_end [] e = refl
-no_lf_end (b ∷ v) e = no_lf_from b (b ∷ v) (neither_left (b == lf) (has_lf v) e) e
+pub ends_not_in_lf : (v : List ℕ) → has_lf v ≡ false → ends_in_lf v ≡ false
+ends_not_in_lf [] e = refl
+ends_not_in_lf (b ∷ v) e = no_lf_from b (b ∷ v) (neither_left (b == lf) (has_lf v) e) e
 
 module _ (edition : Edition) (t : List ℕ) (level : ℕ) (common : Option ℕ) (tail rest : List ℕ) (ends : Ends tail rest)
   where
@@ -130,7 +130,7 @@ module _ (edition : Edition) (t : List ℕ) (level : ℕ) (common : Option ℕ) 
     text_after_text v w es e f =
         false≢true (sym
         (ap (λ s. may_occur_at edition false s w es) (ap (λ b. if b then after_line else within_line)
-        (no_lf_end v e)))
+        (ends_not_in_lf v e)))
         ∙ f)
 
     -- from within a line on
@@ -152,7 +152,7 @@ module _ (edition : Edition) (t : List ℕ) (level : ℕ) (common : Option ℕ) 
         text_before v e es i (left_true (is_text v) _ g) (not_true (has_lf v) (left_true (not (has_lf v)) _ f))
         (suffix_as (ap (λ b. v ++
         (line_indent level b ++ element_bytes level (placeable e) (elements_bytes level false es (lf ∷ tail))))
-        (no_lf_end v (not_true (has_lf v) (left_true (not (has_lf v)) _ f)))) l)
+        (ends_not_in_lf v (not_true (has_lf v) (left_true (not (has_lf v)) _ f)))) l)
         (λ j m. line_reads_back (elements (placeable e) es) (position_after v) j h
         (right_true (may_occur_at edition false s v (elements (placeable e) es)) _ (right_true (is_text v) _ g))
         (right_true (not (has_lf v)) _ f) m)
@@ -176,16 +176,16 @@ module _ (edition : Edition) (t : List ℕ) where
   opens_run i b bs ys s a c l =
       let on : is_run_place t i ≡ true =
       run_place t i b (bs ++ ys) (left_true (is_run_byte b) (list_all is_run_byte bs) a)
-      (inside b bs ys (right_true (is_run_byte b) (list_all is_run_byte bs) a) c) l in
+      (no_eol_in_run b bs ys (right_true (is_run_byte b) (list_all is_run_byte bs) a) c) l in
       record {
         no_space = s;
         no_eol =
-            eol_none (has_byte t lf i) (has_byte t cr i && has_byte t lf (i + 1)) (Some (i + 1)) (Some (i + 2))
-            (without _ (has_eol t i) on);
+            no_bytes_no_eol (has_byte t lf i) (has_byte t cr i && has_byte t lf (i + 1)) (Some (i + 1)) (Some (i + 2))
+            (negated_right_is_false _ (has_eol t i) on);
       }
 
   pub opens_brace : (i : ℕ) (bs ys : List ℕ) → bs ≡ 123 ∷ ys → SuffixAt t i bs → OpensAt t i bs
-  opens_brace i bs ys e l = record { no_space = rw e refl; no_eol = suffix_no_eol_after (suffix_as e l) refl refl }
+  opens_brace i bs ys e l = record { no_space = rw e refl; no_eol = suffix_has_no_after_eol (suffix_as e l) refl refl }
 
   -- the layout of a pattern that opens within its line
   reads_layout : (i j at end : ℕ) (ps : List Piece) (ls : List Line) (bs : List ℕ) → InlineBlank t i j →

@@ -18,23 +18,23 @@ use Rattle.fluent_syntax_grammar.proofs.SuffixAt.{SuffixAt, suffix_as, suffix_ne
 use Rattle.fluent_syntax_grammar.proofs.marks.WrittenBytes.{element_bytes, elements_bytes, pattern_bytes, line_indent}
 use Rattle.fluent_syntax_grammar.proofs.forward.Lines.{Ends}
 use Rattle.fluent_syntax_grammar.proofs.forward.OneLine.{ElementsReadBack, has_no_lf, element_brace, plain_no_cr}
-use Rattle.fluent_syntax_grammar.proofs.forward.OneLine.{no_lf_end, text_bytes, text_after_text, line_reads_back}
+use Rattle.fluent_syntax_grammar.proofs.forward.OneLine.{ends_not_in_lf, text_bytes, text_after_text, line_reads_back}
 use Rattle.fluent_syntax_grammar.proofs.forward.OneLine.{OpensAt, opens_run, opens_brace, opening_reads_back}
 use Rattle.fluent_syntax_grammar.proofs.forward.Entries.{PatternReadsBack}
 use Rattle.fluent_syntax_grammar.proofs.Tests.{and_false, neither_left, neither_right, not_true}
 
-one_line_texts : (p : PatternTree Text) → is_multiline p ≡ false → has_no_lf p ≡ true
-one_line_texts no_elements e = refl
-one_line_texts (elements (text_element v) es) e =
-    rw (neither_left (has_lf v) (is_multiline es) e) (one_line_texts es (neither_right (has_lf v) (is_multiline es) e))
-one_line_texts (elements (placeable x) es) e = one_line_texts es (neither_right _ (is_multiline es) e)
+one_line_no_lf : (p : PatternTree Text) → is_multiline p ≡ false → has_no_lf p ≡ true
+one_line_no_lf no_elements e = refl
+one_line_no_lf (elements (text_element v) es) e =
+    rw (neither_left (has_lf v) (is_multiline es) e) (one_line_no_lf es (neither_right (has_lf v) (is_multiline es) e))
+one_line_no_lf (elements (placeable x) es) e = one_line_no_lf es (neither_right _ (is_multiline es) e)
 
-one_line_bytes : (level : ℕ) (p : PatternTree Text) (tail : Text) → is_multiline p ≡ false →
+one_line_pattern_begins_with_space : (level : ℕ) (p : PatternTree Text) (tail : Text) → is_multiline p ≡ false →
     pattern_bytes level p tail ≡ space ∷ elements_bytes level false p tail
-one_line_bytes level p tail e = rw e refl
+one_line_pattern_begins_with_space level p tail e = rw e refl
 
-opens_as : {t : List ℕ} {i : ℕ} {bs cs : List ℕ} → bs ≡ cs → OpensAt t i cs → OpensAt t i bs
-opens_as e o = record { no_space = rw e (o.no_space); no_eol = o.no_eol }
+opens_at_equal_bytes : {t : List ℕ} {i : ℕ} {bs cs : List ℕ} → bs ≡ cs → OpensAt t i cs → OpensAt t i bs
+opens_at_equal_bytes e o = record { no_space = rw e (o.no_space); no_eol = o.no_eol }
 
 module _ (edition : Edition) (t : List ℕ) (level : ℕ) (tail rest : List ℕ) (ends : Ends tail rest) where
   -- how a pattern opens
@@ -71,8 +71,8 @@ module _ (edition : Edition) (t : List ℕ) (level : ℕ) (tail rest : List ℕ)
       ap (λ c. b ∷
       (bs ++
       (line_indent level c ++ element_bytes level (placeable x) (elements_bytes level false es (lf ∷ tail)))))
-      (no_lf_end (b ∷ bs) no_lf) ∙ ap (λ xs. b ∷ (bs ++ xs)) brace.are in
-      opens_as are (opens_run edition t i b bs (123 ∷ brace.rest) begins
+      (ends_not_in_lf (b ∷ bs) no_lf) ∙ ap (λ xs. b ∷ (bs ++ xs)) brace.are in
+      opens_at_equal_bytes are (opens_run edition t i b bs (123 ∷ brace.rest) begins
       (text_bytes edition t level None tail rest ends (b ∷ bs) is no_lf)
       (and_false (is_last cr (last_of None (b ∷ bs)))) (suffix_as are l))
   opens (elements (text_element (b ∷ bs)) (elements (text_element w) es)) i e g l n =
@@ -88,12 +88,12 @@ module _ (edition : Edition) (t : List ℕ) (level : ℕ) (tail rest : List ℕ)
       SuffixAt t i (pattern_bytes level (elements e es) (lf ∷ tail)) →
       Reads t (grammar.pattern edition t) (option_map (pattern_map (bytes_at t))) i (Some (elements e es)) rest
   one_line_at e es i a g h l =
-      let m = suffix_as (one_line_bytes level (elements e es) (lf ∷ tail) a) l in
+      let m = suffix_as (one_line_pattern_begins_with_space level (elements e es) (lf ∷ tail) a) l in
       let good = elements_off_line_start (is_multiline (elements e es)) a g in
       opening_reads_back edition t None [] e es i (elements_bytes level false (elements e es) (lf ∷ tail)) rest refl m
       (opens (elements e es) (i + 1) a good (suffix_next m) none_absurd)
       (line_reads_back edition t level None tail rest ends (elements e es) opening (i + 1) h good
-      (one_line_texts (elements e es) a) (suffix_next m))
+      (one_line_no_lf (elements e es) a) (suffix_next m))
     where
       elements_off_line_start : (b : Bool) → b ≡ false → are_elements edition b opening (elements e es) ≡ true →
           are_elements edition false opening (elements e es) ≡ true

@@ -29,7 +29,7 @@ use Rattle.fluent_syntax_grammar.specs.Canonical.{line_indents, are_flush, hides
 use Rattle.fluent_syntax_grammar.proofs.Facts.{left_true, right_true, right_false, equal}
 use Rattle.fluent_syntax_grammar.proofs.Tests.{both_true, differ}
 use Rattle.fluent_syntax_grammar.proofs.SuffixAt.{SuffixAt, first, suffix_as, suffix_past, suffix_byte_run, suffix_next}
-use Rattle.fluent_syntax_grammar.proofs.SuffixAt.{suffix_no_eol_after}
+use Rattle.fluent_syntax_grammar.proofs.SuffixAt.{suffix_has_no_after_eol}
 use Rattle.fluent_syntax_grammar.proofs.forward.Reading.{Reads}
 use Rattle.fluent_syntax_grammar.proofs.marks.WrittenBytes.{element_bytes, elements_bytes, line_indent, pattern_bytes}
 use Rattle.fluent_syntax_grammar.proofs.forward.Entries.{PatternReadsBack}
@@ -38,27 +38,27 @@ use Rattle.fluent_syntax_grammar.proofs.forward.Pieces.{Starts}
 use Rattle.fluent_syntax_grammar.proofs.forward.Spells.{spelled_pattern}
 use Rattle.fluent_syntax_grammar.proofs.forward.OneLine.{ElementsReadBack, OpensAt, opens_run, opens_brace}
 use Rattle.fluent_syntax_grammar.proofs.forward.OneLine.{element_brace, plain_no_cr, opening_reads_back}
-use Rattle.fluent_syntax_grammar.proofs.forward.Multiline.{Fit, fixed, lone, lines_mid, lines_start, split}
-use Rattle.fluent_syntax_grammar.proofs.forward.Multiline.{plain_not_line, blank_of, no_spaces_end}
-use Rattle.fluent_syntax_grammar.proofs.forward.Runs.{without_of}
-use Rattle.fluent_syntax_grammar.proofs.forward.Multiline.{spaces_blank_text, run_ends_in, last_of_part, append_none}
+use Rattle.fluent_syntax_grammar.proofs.forward.Multiline.{Fit, fixed, lone, lines_mid, lines_start, text_splits}
+use Rattle.fluent_syntax_grammar.proofs.forward.Multiline.{plain_not_line, gap_is_blank, spaces_and_lf_are_not_spaces}
+use Rattle.fluent_syntax_grammar.proofs.forward.Runs.{lf_is_taken_off}
+use Rattle.fluent_syntax_grammar.proofs.forward.Multiline.{spaces_blank_text, no_lf_ends_run, last_of-gap, append_none}
 use Rattle.fluent_syntax_grammar.proofs.forward.Multiline.{run_part, no_text_after, text_is, text_holds}
 use Rattle.fluent_syntax_grammar.proofs.forward.Multiline.{text_ends_well, text_more}
 use Rattle.fluent_syntax_grammar.proofs.Tests.{and_false, not_true}
 
 -- ---- the least of the shifted numbers
 
-least_shift : (s : ℕ) (ns : List ℕ) → least (map (λ n. s + n) ns) ≡ option_map (λ n. s + n) (least ns)
-least_shift s [] = refl
-least_shift s (n ∷ ns) = ap (λ o. Some (least_with (s + n) o)) (least_shift s ns) ∙ ap Some (with_shift n (least ns))
+least_shifts : (s : ℕ) (ns : List ℕ) → least (map (λ n. s + n) ns) ≡ option_map (λ n. s + n) (least ns)
+least_shifts s [] = refl
+least_shifts s (n ∷ ns) = ap (λ o. Some (least_with (s + n) o)) (least_shifts s ns) ∙ ap Some (with_shift n (least ns))
   where
     with_shift : (n : ℕ) (o : Option ℕ) → least_with (s + n) (option_map (λ n. s + n) o) ≡ s + least_with n o
     with_shift n None = refl
     with_shift n (Some m) = omega arith
 
-least_none : (ns : List ℕ) → least ns ≡ None → ns ≡ []
-least_none [] e = refl
-least_none (n ∷ ns) e = absurd cc
+no_least_is_empty : (ns : List ℕ) → least ns ≡ None → ns ≡ []
+no_least_is_empty [] e = refl
+no_least_is_empty (n ∷ ns) e = absurd cc
 
 -- the common indent of a flush pattern at a level: it fits, and it is the least of the counts
 pub record Chosen (edition : Edition) (shift : ℕ) (s : ElementPosition) (p : PatternTree Text) : Type 0 where
@@ -66,26 +66,26 @@ pub record Chosen (edition : Edition) (shift : ℕ) (s : ElementPosition) (p : P
   pub fit : Fit edition shift common s p
   pub least_is : least (map (λ n. shift + n) (line_indents edition s p)) ≡ common
 
-choose_at : (edition : Edition) (shift : ℕ) (s : ElementPosition) (p : PatternTree Text) (o : Option ℕ) →
+chosen_indent_by_least : (edition : Edition) (shift : ℕ) (s : ElementPosition) (p : PatternTree Text) (o : Option ℕ) →
     least (line_indents edition s p) ≡ o → are_flush o s p ≡ true → Chosen edition shift s p
-choose_at edition shift s p None e f =
-    let none = least_none (line_indents edition s p) e in
+chosen_indent_by_least edition shift s p None e f =
+    let none = no_least_is_empty (line_indents edition s p) e in
     record { common = None; fit = lone f none; least_is = ap (λ ns. least (map (λ n. shift + n) ns)) none }
-choose_at edition shift s p (Some n) e f =
+chosen_indent_by_least edition shift s p (Some n) e f =
     let zero_n : n ≡ 0 = equal n 0 f in
     let at : Some (shift + n) ≡ Some shift = ap Some (plus_zero n zero_n) in
     record {
       common = Some shift;
       fit = fixed;
-      least_is = least_shift shift (line_indents edition s p) ∙ ap (option_map (λ n. shift + n)) e ∙ at;
+      least_is = least_shifts shift (line_indents edition s p) ∙ ap (option_map (λ n. shift + n)) e ∙ at;
     }
   where
     plus_zero : (n : ℕ) → n ≡ 0 → shift + n ≡ shift
     plus_zero n e = omega arith
 
-pub choose : (edition : Edition) (shift : ℕ) (s : ElementPosition) (p : PatternTree Text) →
+pub flush_is_chosen : (edition : Edition) (shift : ℕ) (s : ElementPosition) (p : PatternTree Text) →
     are_flush (least (line_indents edition s p)) s p ≡ true → Chosen edition shift s p
-choose edition shift s p f = choose_at edition shift s p (least (line_indents edition s p)) refl f
+flush_is_chosen edition shift s p f = chosen_indent_by_least edition shift s p (least (line_indents edition s p)) refl f
 
 -- ---- a pattern that opens within its line
 
@@ -95,7 +95,7 @@ module _ (edition : Edition) (t : List ℕ) (level : ℕ) (tail rest : List ℕ)
   opens_mark i b bs e l =
       record {
         no_space = differ is_leading_mark b space e refl;
-        no_eol = suffix_no_eol_after l (differ is_leading_mark b lf e refl) (differ is_leading_mark b cr e refl);
+        no_eol = suffix_has_no_after_eol l (differ is_leading_mark b lf e refl) (differ is_leading_mark b cr e refl);
       }
 
   mark_opens : (e : ElementTree Text) (es : PatternTree Text) (i : ℕ) → has_leading_mark (elements e es) ≡ true →
@@ -113,7 +113,7 @@ module _ (edition : Edition) (t : List ℕ) (level : ℕ) (tail rest : List ℕ)
       SuffixAt t i (space ∷ elements_bytes (level + 1) false (elements e es) (lf ∷ tail)) →
       Reads t (grammar.pattern edition t) (option_map (pattern_map (bytes_at t))) i (Some (elements e es)) rest
   marked_reads_back e es i m g f h l =
-      let c = choose edition (length (indent (level + 1))) after_placeable (elements e es) f in
+      let c = flush_is_chosen edition (length (indent (level + 1))) after_placeable (elements e es) f in
       let n = suffix_next l in
       opening_reads_back edition t c.common
       (map (λ n. length (indent (level + 1)) + n) (line_indents edition after_placeable (elements e es))) e es i
@@ -151,16 +151,16 @@ at_line edition (text_element v) es a b g =
     occurs_at v true e f m =
         rw (e, m) (both_true (sym (ap (λ b. b || indents edition v es) (spaces_blank_text v e)) ∙ f) refl)
 
-flush_at : (edition : Edition) (e : ElementTree Text) (es : PatternTree Text) (o : Option ℕ) →
+opening_flush_is_line_flush : (edition : Edition) (e : ElementTree Text) (es : PatternTree Text) (o : Option ℕ) →
     are_flush o opening (elements e es) ≡ true → are_flush o after_line (elements e es) ≡ true
-flush_at edition e es (Some n) f = f
-flush_at edition (text_element v) es None f = f
-flush_at edition (placeable x) es None f = f
+opening_flush_is_line_flush edition e es (Some n) f = f
+opening_flush_is_line_flush edition (text_element v) es None f = f
+opening_flush_is_line_flush edition (placeable x) es None f = f
 
-indents_at : (edition : Edition) (e : ElementTree Text) (es : PatternTree Text) →
+opening_indents_as_at_line : (edition : Edition) (e : ElementTree Text) (es : PatternTree Text) →
     line_indents edition opening (elements e es) ≡ line_indents edition after_line (elements e es)
-indents_at edition (text_element v) es = refl
-indents_at edition (placeable x) es = refl
+opening_indents_as_at_line edition (text_element v) es = refl
+opening_indents_as_at_line edition (placeable x) es = refl
 
 module _ (edition : Edition) (t : List ℕ) where
   -- the layout of a pattern that opens a line
@@ -195,14 +195,14 @@ module _ (edition : Edition) (t : List ℕ) where
 
 -- ---- the first line is not blank
 
-or_second : (x y : Bool) → x ≡ false → (x || y) ≡ true → y ≡ true
-or_second false y e f = f
-or_second true y e f = cc
+second_of_or_is_true : (x y : Bool) → x ≡ false → (x || y) ≡ true → y ≡ true
+second_of_or_is_true false y e f = f
+second_of_or_is_true true y e f = cc
 
-indents_placeable : (edition : Edition) (v : Text) (es : PatternTree Text) → indents edition v es ≡ true →
+indenting_text_is_spaces : (edition : Edition) (v : Text) (es : PatternTree Text) → indents edition v es ≡ true →
     (is_spaces v ≡ true) × (begins_with_placeable es ≡ true)
-indents_placeable One v es e = absurd cc
-indents_placeable Two v es e = (left_true (is_spaces v) _ e, right_true (is_spaces v) _ e)
+indenting_text_is_spaces One v es e = absurd cc
+indenting_text_is_spaces Two v es e = (left_true (is_spaces v) _ e, right_true (is_spaces v) _ e)
 
 module _ (edition : Edition) (t : List ℕ) (level : ℕ) (tail : List ℕ) where
   no_block_at : (i : ℕ) (gap : List ℕ) (bs : List ℕ) → list_all is_space gap ≡ true → OpensAt t (i + length gap) bs →
@@ -237,7 +237,7 @@ module _ (edition : Edition) (t : List ℕ) (level : ℕ) (common : Option ℕ) 
   first_alone v no_elements i g a gap (b ∷ bs) is c s l =
       let plain = text_ends_well edition t level common tail rest ends deep opening v no_elements g in
       let safe : is_last cr (last_of None (b ∷ bs)) ≡ false =
-      sym (ap (is_last cr) (ap (last_of None) is ∙ last_of_part gap b bs)) ∙ plain_no_cr v plain in
+      sym (ap (is_last cr) (ap (last_of None) is ∙ last_of-gap gap b bs)) ∙ plain_no_cr v plain in
       first_run edition t level tail i gap b bs (lf ∷ tail) (all_append (indent level) gap (spaces_of (4 * level)) c) s
       (run_part edition t level common tail rest ends deep v gap b bs is a) (rw safe refl)
       (suffix_as (ap (λ v. indent level ++ (v ++ (lf ∷ tail))) is) l)
@@ -247,20 +247,20 @@ module _ (edition : Edition) (t : List ℕ) (level : ℕ) (common : Option ℕ) 
       ap (λ b. indent level ++
       (v ++
       (line_indent level b ++ element_bytes level (placeable x) (elements_bytes level false es (lf ∷ tail)))))
-      (run_ends_in v a) ∙ ap (λ xs. indent level ++ (v ++ xs)) brace.are
+      (no_lf_ends_run v a) ∙ ap (λ xs. indent level ++ (v ++ xs)) brace.are
       ∙ ap (λ v. indent level ++ (v ++ (123 ∷ brace.rest))) is in
       first_run edition t level tail i gap b bs (123 ∷ brace.rest)
       (all_append (indent level) gap (spaces_of (4 * level)) c) s
       (run_part edition t level common tail rest ends deep v gap b bs is a)
       (and_false (is_last cr (last_of None (b ∷ bs)))) (suffix_as are l)
   first_alone v (elements (text_element w) es) i g a gap more is c s l =
-      absurd (no_text_after edition t level common tail rest ends deep v w es (run_ends_in v a)
+      absurd (no_text_after edition t level common tail rest ends deep v w es (no_lf_ends_run v a)
       (text_more edition t level common tail rest ends deep opening v (elements (text_element w) es) g))
   first_alone v no_elements i g a gap [] is c s l =
       let all : is_spaces v ≡ true = ap is_spaces (is ∙ append_none gap) ∙ c in
       let d =
-      indents_placeable edition v no_elements
-      (or_second (is_nonblank v) _ (spaces_blank_text v all)
+      indenting_text_is_spaces edition v no_elements
+      (second_of_or_is_true (is_nonblank v) _ (spaces_blank_text v all)
       (text_holds edition t level common tail rest ends deep opening v no_elements g)) in absurd (false≢true d.1)
   first_alone v (elements (placeable x) es) i g a gap [] is c s l =
       let all : is_spaces v ≡ true = ap is_spaces (is ∙ append_none gap) ∙ c in
@@ -268,7 +268,7 @@ module _ (edition : Edition) (t : List ℕ) (level : ℕ) (common : Option ℕ) 
       ap (λ b. indent level ++
       (v ++
       (line_indent level b ++ element_bytes level (placeable x) (elements_bytes level false es (lf ∷ tail)))))
-      (run_ends_in v a)
+      (no_lf_ends_run v a)
       ∙ sym (append_assoc (indent level) v
       (element_bytes level (placeable x) (elements_bytes level false es (lf ∷ tail)))) in
       first_placeable edition t level tail i (indent level ++ v) x (elements_bytes level false es (lf ∷ tail))
@@ -283,7 +283,7 @@ module _ (edition : Edition) (t : List ℕ) (level : ℕ) (common : Option ℕ) 
   first_lined v d es body i g is a c gap (b ∷ bs) e s n l =
       let after = elements_bytes level (ends_in_lf v) (elements d es) (lf ∷ tail) in
       let safe : is_last cr (last_of None (b ∷ bs)) ≡ false =
-      sym (ap (is_last cr) (ap (last_of None) e ∙ last_of_part gap b bs)) ∙ c in
+      sym (ap (is_last cr) (ap (last_of None) e ∙ last_of-gap gap b bs)) ∙ c in
       let are : v ++ after ≡ (gap ++ (b ∷ bs)) ++ (lf ∷ after) =
       ap (λ v. v ++ after) (is ∙ ap (λ v. v ++ (lf ∷ [])) e) ∙ append_assoc (gap ++ (b ∷ bs)) (lf ∷ []) after in
       first_run edition t level tail i gap b bs (lf ∷ after) (all_append (indent level) gap (spaces_of (4 * level)) s) n
@@ -292,12 +292,12 @@ module _ (edition : Edition) (t : List ℕ) (level : ℕ) (common : Option ℕ) 
   first_lined v d es body i g is a c gap [] e s n l =
       let whole : v ≡ gap ++ (lf ∷ []) = is ∙ ap (λ v. v ++ (lf ∷ [])) (e ∙ append_none gap) in
       let blank : is_nonblank v ≡ false =
-      ap is_nonblank whole ∙ ap (list_any (λ b. not (is_space b))) (without_of gap) ∙ blank_of gap s in
+      ap is_nonblank whole ∙ ap (list_any (λ b. not (is_space b))) (lf_is_taken_off gap) ∙ gap_is_blank gap s in
       let d =
-      indents_placeable edition v (elements d es)
-      (or_second (is_nonblank v) _ blank
+      indenting_text_is_spaces edition v (elements d es)
+      (second_of_or_is_true (is_nonblank v) _ blank
       (text_holds edition t level common tail rest ends deep opening v (elements d es) g)) in
-      absurd (false≢true (sym (ap is_spaces whole ∙ no_spaces_end gap) ∙ d.0))
+      absurd (false≢true (sym (ap is_spaces whole ∙ spaces_and_lf_are_not_spaces gap) ∙ d.0))
 
   -- The first line is not blank.
   first_line : (e : ElementTree Text) (es : PatternTree Text) (i : ℕ) →
@@ -312,11 +312,11 @@ module _ (edition : Edition) (t : List ℕ) (level : ℕ) (common : Option ℕ) 
       by_form : (es : PatternTree Text) → are_elements edition true opening (elements (text_element v) es) ≡ true →
           TextForm v → SuffixAt t i (elements_bytes level true (elements (text_element v) es) (lf ∷ tail)) →
           BlankBlock t i i
-      by_form es g (alone a) l = let s = split v in first_alone v es i g a s.gap s.more s.are s.spaces s.plain l
+      by_form es g (alone a) l = let s = text_splits v in first_alone v es i g a s.gap s.more s.are s.spaces s.plain l
       by_form no_elements g (with_lf body is a c) l =
           absurd (plain_not_line edition t level common tail rest ends v body is
           (text_ends_well edition t level common tail rest ends deep opening v no_elements g))
-      by_form (elements d ds) g (with_lf body is a c) l = let s = split body in
+      by_form (elements d ds) g (with_lf body is a c) l = let s = text_splits body in
           first_lined v d ds body i g is a c s.gap s.more s.are s.spaces s.plain l
 
 module _ (edition : Edition) (t : List ℕ) (level : ℕ) (tail rest : List ℕ) (ends : Ends tail rest)
@@ -331,9 +331,9 @@ module _ (edition : Edition) (t : List ℕ) (level : ℕ) (tail rest : List ℕ)
   line_opened_reads_back e es i a m g f h l =
       let shift = length (indent (level + 1)) in
       let flush =
-      subst (λ ns. are_flush (least ns) after_line (elements e es) ≡ true) (indents_at edition e es)
-      (flush_at edition e es (least (line_indents edition opening (elements e es))) f) in
-      let c = choose edition shift after_line (elements e es) flush in
+      subst (λ ns. are_flush (least ns) after_line (elements e es) ≡ true) (opening_indents_as_at_line edition e es)
+      (opening_flush_is_line_flush edition e es (least (line_indents edition opening (elements e es))) f) in
+      let c = flush_is_chosen edition shift after_line (elements e es) flush in
       let n = suffix_next l in
       opened_reads_back edition t c.common (map (λ n. shift + n) (line_indents edition after_line (elements e es)))
       e es i
@@ -344,29 +344,29 @@ module _ (edition : Edition) (t : List ℕ) (level : ℕ) (tail rest : List ℕ)
 
 -- ---- multiline patterns
 
-replicated : (n : ℕ) → length (replicate n space) ≡ n
-replicated zero = refl
-replicated (suc n) = ap suc (replicated n)
+replicate_has_length : (n : ℕ) → length (replicate n space) ≡ n
+replicate_has_length zero = refl
+replicate_has_length (suc n) = ap suc (replicate_has_length n)
 
-opened_position : (p : PatternTree Text) → is_multiline p ≡ true → has_leading_mark p ≡ false
+unmarked_begins_opening : (p : PatternTree Text) → is_multiline p ≡ true → has_leading_mark p ≡ false
     → first_position p ≡ opening
-opened_position p e f = rw (e, f) refl
+unmarked_begins_opening p e f = rw (e, f) refl
 
-marked_position : (p : PatternTree Text) → is_multiline p ≡ true → has_leading_mark p ≡ true →
+marked_begins_after_placeable : (p : PatternTree Text) → is_multiline p ≡ true → has_leading_mark p ≡ true →
     first_position p ≡ after_placeable
-marked_position p e f = rw (e, f) refl
+marked_begins_after_placeable p e f = rw (e, f) refl
 
-opened_bytes : (level : ℕ) (p : PatternTree Text) (tail : Text) → is_multiline p ≡ true → has_leading_mark p ≡ false →
+opens_by_lf : (level : ℕ) (p : PatternTree Text) (tail : Text) → is_multiline p ≡ true → has_leading_mark p ≡ false →
     pattern_bytes level p tail ≡ lf ∷ elements_bytes (level + 1) true p tail
-opened_bytes level p tail e f = rw (e, f) refl
+opens_by_lf level p tail e f = rw (e, f) refl
 
-marked_bytes : (level : ℕ) (p : PatternTree Text) (tail : Text) → is_multiline p ≡ true → has_leading_mark p ≡ true →
+opens_by_space : (level : ℕ) (p : PatternTree Text) (tail : Text) → is_multiline p ≡ true → has_leading_mark p ≡ true →
     pattern_bytes level p tail ≡ space ∷ elements_bytes (level + 1) false p tail
-marked_bytes level p tail e f = rw (e, f) refl
+opens_by_space level p tail e f = rw (e, f) refl
 
-flush_of : (edition : Edition) (p : PatternTree Text) → is_multiline p ≡ true → is_flush edition p ≡ true →
+flush_hides_no_mark : (edition : Edition) (p : PatternTree Text) → is_multiline p ≡ true → is_flush edition p ≡ true →
     (not (hides_mark p) && are_flush (least (line_indents edition (first_position p) p)) (first_position p) p) ≡ true
-flush_of edition p e f = or_second (not (is_multiline p)) _ (ap not e) f
+flush_hides_no_mark edition p e f = second_of_or_is_true (not (is_multiline p)) _ (ap not e) f
 
 multiline_at : (edition : Edition) (t : List ℕ) (level : ℕ) (e : ElementTree Text) (es : PatternTree Text) (x : Bool) →
     has_leading_mark (elements e es) ≡ x → is_multiline (elements e es) ≡ true →
@@ -376,21 +376,21 @@ multiline_at : (edition : Edition) (t : List ℕ) (level : ℕ) (e : ElementTree
     Reads t (grammar.pattern edition t) (option_map (pattern_map (bytes_at t))) i (Some (elements e es)) rest
 multiline_at edition t level e es true m a g f h deep i tail rest ends l =
     let p = elements e es in
-    let parts = flush_of edition p a f in
+    let parts = flush_hides_no_mark edition p a f in
     let flush =
-    subst (λ s. are_flush (least (line_indents edition s p)) s p ≡ true) (marked_position p a m)
+    subst (λ s. are_flush (least (line_indents edition s p)) s p ≡ true) (marked_begins_after_placeable p a m)
     (right_true (not (hides_mark p)) _ parts) in
     marked_reads_back edition t level tail rest ends deep e es i m g flush h
-    (suffix_as (marked_bytes level p (lf ∷ tail) a m) l)
+    (suffix_as (opens_by_space level p (lf ∷ tail) a m) l)
 multiline_at edition t level e es false m a g f h deep i tail rest ends l =
     let p = elements e es in
-    let parts = flush_of edition p a f in
+    let parts = flush_hides_no_mark edition p a f in
     let flush =
-    subst (λ s. are_flush (least (line_indents edition s p)) s p ≡ true) (opened_position p a m)
+    subst (λ s. are_flush (least (line_indents edition s p)) s p ≡ true) (unmarked_begins_opening p a m)
     (right_true (not (hides_mark p)) _ parts) in
     line_opened_reads_back edition t level tail rest ends deep e es i
     (not_true (hides_mark p) (left_true (not (hides_mark p)) _ parts)) m g flush h
-    (suffix_as (opened_bytes level p (lf ∷ tail) a m) l)
+    (suffix_as (opens_by_lf level p (lf ∷ tail) a m) l)
 
 -- A multiline pattern is read back, if its placeables are.
 pub multiline_reads_back : (edition : Edition) (t : List ℕ) (level : ℕ) (p : PatternTree Text) → is_multiline p ≡ true →
@@ -398,7 +398,7 @@ pub multiline_reads_back : (edition : Edition) (t : List ℕ) (level : ℕ) (p :
     PatternReadsBack edition t level p
 multiline_reads_back edition t level no_elements a g f h = absurd cc
 multiline_reads_back edition t level (elements e es) a g f h =
-    let deep : 1 ≤ length (indent (level + 1)) = let n = replicated (4 * (level + 1)) in omega arith in
+    let deep : 1 ≤ length (indent (level + 1)) = let n = replicate_has_length (4 * (level + 1)) in omega arith in
     record {
       back =
           λ i tail rest ends l.

@@ -20,12 +20,12 @@ use Rattle.fluent_syntax_grammar.specs.Grammar.{family}
 use Rattle.fluent_syntax_grammar.specs.Grammar as grammar
 use Rattle.fluent_syntax_grammar.specs.Written.{Text, is_last, last_of}
 use Rattle.fluent_syntax_grammar.proofs.Facts.{left_true}
-use Rattle.fluent_syntax_grammar.proofs.SuffixAt.{SuffixAt, suffix_first, suffix_next, suffix_past, suffix_no_eol}
+use Rattle.fluent_syntax_grammar.proofs.SuffixAt.{SuffixAt, suffix_first, suffix_next, suffix_past, suffix_has_no_eol}
 use Rattle.fluent_syntax_grammar.proofs.forward.Reading.{Reads}
 use Rattle.fluent_syntax_grammar.proofs.forward.Spells.{Spells, nothing, last_text, spells_text, spells_placeable}
-use Rattle.fluent_syntax_grammar.proofs.forward.Runs.{is_run_byte, ends_in_cr_before, suffix_run}
+use Rattle.fluent_syntax_grammar.proofs.forward.Runs.{is_run_byte, ends_in_cr_before, suffix_has_run}
 use Rattle.fluent_syntax_grammar.proofs.forward.Lines.{Ends, after_reads_back, reads_no_pieces, lf_cut}
-use Rattle.fluent_syntax_grammar.proofs.Tests.{and_false, without}
+use Rattle.fluent_syntax_grammar.proofs.Tests.{and_false, negated_right_is_false}
 
 -- From a place within a line on, the rest of a pattern is read: the pieces of this line and its LF, and the later
 -- lines. Under this common indent their items spell the elements, and the lines count with these numbers.
@@ -101,7 +101,7 @@ module _ (edition : Edition) (t : List ℕ) where
   reads_placed {i = i} {j = j} x ps at l p q =
       item_and_more (chosen (subst (λ o. next_piece_at t (family edition t) o i (Read (item (placed x) tt) j))
       (sym (suffix_first l))
-      (chosen (second (suffix_no_eol l refl refl) (second refl (first_of refl (goes_on p given))))))) q
+      (chosen (second (suffix_has_no_eol l refl refl) (second refl (first_of refl (goes_on p given))))))) q
 
   pub mid_placeable :
       (common : Option ℕ) (e : ExpressionTree Text) (es : PatternTree Text) (numbers : List ℕ) (i : ℕ)
@@ -139,7 +139,7 @@ module _ (edition : Edition) (t : List ℕ) where
       grammar.more_pieces edition t i (Read (run i j ∷ ps) at)
   reads_run {i = i} {j = j} {b = b} ps at e l m w q =
       let f = third_false (b == lf) (b == 123) (b == 125) e in
-      let no_eol : has_eol t i ≡ false = without _ (has_eol t i) (w.each i (omega arith) m) in
+      let no_eol : has_eol t i ≡ false = negated_right_is_false _ (has_eol t i) (w.each i (omega arith) m) in
       item_and_more (chosen (subst (λ o. next_piece_at t (family edition t) o i (Read (item (run i j) tt) j))
       (sym (suffix_first l))
       (chosen (second no_eol (second f.1 (second f.0
@@ -162,7 +162,7 @@ module _ (edition : Edition) (t : List ℕ) where
         end = r.end;
         reads_pieces =
             reads_run [] to (left_true (is_run_byte b) (list_all is_run_byte bs) a) l (omega arith)
-            (suffix_run t (b ∷ bs) (lf ∷ tail) i a c refl l) (reads_no_pieces edition t m);
+            (suffix_has_run t (b ∷ bs) (lf ∷ tail) i a c refl l) (reads_no_pieces edition t m);
         ends = m;
         reads_lines = r.reads;
         left = r.left;
@@ -200,7 +200,7 @@ module _ (edition : Edition) (t : List ℕ) where
         end = m.end;
         reads_pieces =
             reads_run m.pieces m.at (left_true (is_run_byte b) (list_all is_run_byte bs) a) l (omega arith)
-            (suffix_run t (b ∷ bs) (123 ∷ more) i a (and_false (is_last cr (last_of None (b ∷ bs)))) refl l)
+            (suffix_has_run t (b ∷ bs) (123 ∷ more) i a (and_false (is_last cr (last_of None (b ∷ bs)))) refl l)
             m.reads_pieces;
         ends = m.ends;
         reads_lines = m.reads_lines;
@@ -231,7 +231,7 @@ module _ (edition : Edition) (t : List ℕ) where
         end = m.end;
         reads_pieces =
             reads_run [] to (left_true (is_run_byte b) (list_all is_run_byte bs) a) l (omega arith)
-            (suffix_run t (b ∷ bs) (lf ∷ more) i a (rw c refl) refl l) (reads_no_pieces edition t n);
+            (suffix_has_run t (b ∷ bs) (lf ∷ more) i a (rw c refl) refl l) (reads_no_pieces edition t n);
         ends = n;
         reads_lines = m.reads;
         left = m.left;

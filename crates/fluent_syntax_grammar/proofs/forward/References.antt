@@ -37,20 +37,20 @@ arguments_begin_no_name : (level : ℕ) (a : MaybeArguments Text) (gap more : Li
 arguments_begin_no_name level no_arguments gap more f = f.no_name
 arguments_begin_no_name level (some_arguments (arguments ps ns)) gap more f = refl
 
-no_point_before : (level : ℕ) (a : MaybeArguments Text) (gap more : List ℕ) → Follows gap more →
+no_point_is_first : (level : ℕ) (a : MaybeArguments Text) (gap more : List ℕ) → Follows gap more →
     holds (λ b. b == 46) (first (maybe_bytes level a (gap ++ more))) ≡ false
-no_point_before level no_arguments gap more f = f.no_point
-no_point_before level (some_arguments (arguments ps ns)) gap more f = refl
+no_point_is_first level no_arguments gap more f = f.no_point
+no_point_is_first level (some_arguments (arguments ps ns)) gap more f = refl
 
 -- what is left after arguments, or the blank after none
-abbrev pub after_maybe : MaybeArguments Text → (gap more : List ℕ) → List ℕ
-after_maybe no_arguments gap more = more
-after_maybe (some_arguments a) gap more = gap ++ more
+abbrev pub bytes_after_arguments : MaybeArguments Text → (gap more : List ℕ) → List ℕ
+bytes_after_arguments no_arguments gap more = more
+bytes_after_arguments (some_arguments a) gap more = gap ++ more
 
 -- Arguments, or none, are read back.
 pub record MaybeArgumentsReadBack (edition : Edition) (t : List ℕ) (level : ℕ) (a : MaybeArguments Text) : Type 0 where
   pub back : (i : ℕ) (gap more : List ℕ) → Follows gap more → SuffixAt t i (maybe_bytes level a (gap ++ more)) →
-      Reads t (call_arguments edition t) (maybe_map (bytes_at t)) i a (after_maybe a gap more)
+      Reads t (call_arguments edition t) (maybe_map (bytes_at t)) i a (bytes_after_arguments a gap more)
 
 module _ (edition : Edition) (t : List ℕ) where
   pub string_literal_reads_back : (level : ℕ) (v : Text) → inline_obeys (canonical_rules edition) (string_literal v) ≡
@@ -134,7 +134,7 @@ module _ (edition : Edition) (t : List ℕ) where
       option_obeys is_name attribute ≡ true → Follows gap more →
       SuffixAt t i (attribute_bytes attribute (maybe_bytes level a (gap ++ more))) →
       Reads t (accessor t) (option_texts (bytes_at t)) i attribute (maybe_bytes level a (gap ++ more))
-  accessor_reads_back level None a i gap more e f l = no_accessor edition t i _ (no_point_before level a gap more f) l
+  accessor_reads_back level None a i gap more e f l = no_accessor edition t i _ (no_point_is_first level a gap more f) l
   accessor_reads_back level (Some x) a i gap more e f l =
       some_accessor edition t i x _ e (arguments_begin_no_name level a gap more f) l
 
@@ -151,7 +151,7 @@ module _ (edition : Edition) (t : List ℕ) where
       Follows gap more →
       SuffixAt t i (45 ∷ (id ++ attribute_bytes attribute (maybe_bytes level a (gap ++ more)))) →
       Reads t (inline_expression edition t) (inline_map (bytes_at t)) i (term_reference id attribute a)
-      (after_maybe a gap more)
+      (bytes_after_arguments a gap more)
   term_at level id attribute a i gap more h b f l =
       let is : is_name id ≡ true = left_true (is_name id) _ h in
       let accessor_is : option_obeys is_name attribute ≡ true =

@@ -14,7 +14,7 @@ use Rattle.fluent_syntax_grammar.proofs.Facts.{left_true, right_true, equal}
 use Rattle.fluent_syntax_grammar.proofs.Tests.{both_true, and_right}
 use Rattle.fluent_syntax_grammar.proofs.Stretches.{run_ends_here, run_goes_on}
 use Rattle.fluent_syntax_grammar.proofs.SuffixAt.{SuffixAt, first, suffix_first, suffix_next}
-use Rattle.fluent_syntax_grammar.proofs.forward.Spells.{last_from}
+use Rattle.fluent_syntax_grammar.proofs.forward.Spells.{nonempty_has_last_byte}
 use Rattle.fluent_syntax_grammar.proofs.Tests.{neither_left, neither_right, not_true}
 
 -- a byte that no run ends at
@@ -33,36 +33,36 @@ run_no_lf b e = first_false (b == lf) (b == 123) (b == 125) e
     first_false true y z e = cc
 
 -- no line end begins inside a run
-pub inside : (x : ℕ) (xs ys : List ℕ) → list_all is_run_byte xs ≡ true → ends_in_cr_before (x ∷ xs) ys ≡ false →
+pub no_eol_in_run : (x : ℕ) (xs ys : List ℕ) → list_all is_run_byte xs ≡ true → ends_in_cr_before (x ∷ xs) ys ≡ false →
     ((x == cr) && holds (λ b. b == lf) (first (xs ++ ys))) ≡ false
-inside x [] ys a e = e
-inside x (y ∷ xs) ys a e =
+no_eol_in_run x [] ys a e = e
+no_eol_in_run x (y ∷ xs) ys a e =
     and_right (x == cr) (y == lf) (run_no_lf y (left_true (is_run_byte y) (list_all is_run_byte xs) a))
 
-rest_safe : (x : ℕ) (xs ys : List ℕ) → ends_in_cr_before (x ∷ xs) ys ≡ false → ends_in_cr_before xs ys ≡ false
-rest_safe x [] ys e = refl
-rest_safe x (y ∷ xs) ys e = e
+rest_ends_in_no_cr : (x : ℕ) (xs ys : List ℕ) → ends_in_cr_before (x ∷ xs) ys ≡ false → ends_in_cr_before xs ys ≡ false
+rest_ends_in_no_cr x [] ys e = refl
+rest_ends_in_no_cr x (y ∷ xs) ys e = e
 
 pub run_place : (t : List ℕ) (i x : ℕ) (bs : List ℕ) → is_run_byte x ≡ true →
     ((x == cr) && holds (λ b. b == lf) (first bs)) ≡ false → SuffixAt t i (x ∷ bs) → is_run_place t i ≡ true
 run_place t i x bs e f l = rw (suffix_first l, suffix_first (suffix_next l), e, run_no_lf x e, f) refl
 
-run_ends : (t : List ℕ) (i : ℕ) (bs : List ℕ) → holds is_run_byte (first bs) ≡ false → SuffixAt t i bs →
+run_ends_before_other : (t : List ℕ) (i : ℕ) (bs : List ℕ) → holds is_run_byte (first bs) ≡ false → SuffixAt t i bs →
     is_run_place t i ≡ false
-run_ends t i bs e l = rw (suffix_first l, e) refl
+run_ends_before_other t i bs e l = rw (suffix_first l, e) refl
 
 -- a run reaches over these bytes
-pub suffix_run : (t xs ys : List ℕ) (i : ℕ) → list_all is_run_byte xs ≡ true → ends_in_cr_before xs ys ≡ false →
+pub suffix_has_run : (t xs ys : List ℕ) (i : ℕ) → list_all is_run_byte xs ≡ true → ends_in_cr_before xs ys ≡ false →
     holds is_run_byte (first ys) ≡ false → SuffixAt t i (xs ++ ys) → LongestRun (is_run_place t) i (i + length xs)
-suffix_run t [] ys i a f e l = let s : i ≡ i + 0 = omega arith in
-    subst (λ n. LongestRun (is_run_place t) i n) s (run_ends_here (is_run_place t) i (run_ends t i ys e l))
-suffix_run t (x ∷ xs) ys i a f e l =
+suffix_has_run t [] ys i a f e l = let s : i ≡ i + 0 = omega arith in
+    subst (λ n. LongestRun (is_run_place t) i n) s (run_ends_here (is_run_place t) i (run_ends_before_other t i ys e l))
+suffix_has_run t (x ∷ xs) ys i a f e l =
     let s : (i + 1) + length xs ≡ i + suc (length xs) = omega arith in
     let more = right_true (is_run_byte x) (list_all is_run_byte xs) a in
     subst (λ n. LongestRun (is_run_place t) i n) s
     (run_goes_on (is_run_place t) i
-    _ (run_place t i x (xs ++ ys) (left_true (is_run_byte x) (list_all is_run_byte xs) a) (inside x xs ys more f)
-    l) (suffix_run t xs ys (i + 1) more (rest_safe x xs ys f) e (suffix_next l)))
+    _ (run_place t i x (xs ++ ys) (left_true (is_run_byte x) (list_all is_run_byte xs) a) (no_eol_in_run x xs ys more f)
+    l) (suffix_has_run t xs ys (i + 1) more (rest_ends_in_no_cr x xs ys f) e (suffix_next l)))
 
 -- ---- the texts of a pattern
 
@@ -73,15 +73,15 @@ pub data TextForm (v : List ℕ) : Type 0 where
       is_last cr (last_of None body) ≡ false → TextForm v
 
 -- an LF that ends a text is taken off
-pub without_of : (u : List ℕ) → without_last_lf (u ++ (lf ∷ [])) ≡ u
-without_of [] = refl
-without_of (x ∷ []) = refl
-without_of (x ∷ y ∷ u) = ap (λ v. x ∷ v) (without_of (y ∷ u))
+pub lf_is_taken_off : (u : List ℕ) → without_last_lf (u ++ (lf ∷ [])) ≡ u
+lf_is_taken_off [] = refl
+lf_is_taken_off (x ∷ []) = refl
+lf_is_taken_off (x ∷ y ∷ u) = ap (λ v. x ∷ v) (lf_is_taken_off (y ∷ u))
 
-without_other : (u : List ℕ) (b : ℕ) → (b == lf) ≡ false → without_last_lf (u ++ (b ∷ [])) ≡ u ++ (b ∷ [])
-without_other [] b e = rw e refl
-without_other (x ∷ []) b e = rw e refl
-without_other (x ∷ y ∷ u) b e = ap (λ v. x ∷ v) (without_other (y ∷ u) b e)
+other_last_byte_is_kept : (u : List ℕ) (b : ℕ) → (b == lf) ≡ false → without_last_lf (u ++ (b ∷ [])) ≡ u ++ (b ∷ [])
+other_last_byte_is_kept [] b e = rw e refl
+other_last_byte_is_kept (x ∷ []) b e = rw e refl
+other_last_byte_is_kept (x ∷ y ∷ u) b e = ap (λ v. x ∷ v) (other_last_byte_is_kept (y ∷ u) b e)
 
 pub run_all : (v : List ℕ) → list_any is_brace v ≡ false → has_lf v ≡ false → list_all is_run_byte v ≡ true
 run_all [] e f = refl
@@ -96,9 +96,9 @@ run_all (b ∷ v) e f =
     byte_of false true z e f = cc
     byte_of false false true e f = cc
 
-any_front : (p : ℕ → Bool) (u w : List ℕ) → list_any p (u ++ w) ≡ false → list_any p u ≡ false
-any_front p [] w e = refl
-any_front p (x ∷ u) w e = front_of (p x) (list_any p (u ++ w)) (list_any p u) e (any_front p u w)
+none_in_front : (p : ℕ → Bool) (u w : List ℕ) → list_any p (u ++ w) ≡ false → list_any p u ≡ false
+none_in_front p [] w e = refl
+none_in_front p (x ∷ u) w e = front_of (p x) (list_any p (u ++ w)) (list_any p u) e (none_in_front p u w)
   where
     front_of : (x y z : Bool) → (x || y) ≡ false → (y ≡ false → z ≡ false) → (x || z) ≡ false
     front_of false y z e f = f e
@@ -112,29 +112,29 @@ no_cr_before x [] e = cr_of (x == cr) e
     cr_of false e = refl
 no_cr_before x (y ∷ u) e = no_cr_before y u (neither_right (x == cr && y == lf) (has_crlf ((y ∷ u) ++ (lf ∷ []))) e)
 
-no_cr_of : (u : List ℕ) → has_crlf (u ++ (lf ∷ [])) ≡ false → is_last cr (last_of None u) ≡ false
-no_cr_of [] e = refl
-no_cr_of (x ∷ u) e = no_cr_before x u e
+no_crlf_ends_in_no_cr : (u : List ℕ) → has_crlf (u ++ (lf ∷ [])) ≡ false → is_last cr (last_of None u) ≡ false
+no_crlf_ends_in_no_cr [] e = refl
+no_crlf_ends_in_no_cr (x ∷ u) e = no_cr_before x u e
 
-form_at : (u : List ℕ) (b : ℕ) (x : Bool) → (b == lf) ≡ x → list_any is_brace (u ++ (b ∷ [])) ≡ false →
+form_by_last : (u : List ℕ) (b : ℕ) (x : Bool) → (b == lf) ≡ x → list_any is_brace (u ++ (b ∷ [])) ≡ false →
     has_crlf (u ++ (b ∷ [])) ≡ false → has_lf (without_last_lf (u ++ (b ∷ []))) ≡ false → TextForm (u ++ (b ∷ []))
-form_at u b true e f g h =
+form_by_last u b true e f g h =
     let same : b ≡ lf = equal b lf e in
     subst (λ b. TextForm (u ++ (b ∷ []))) (sym same)
     (with_lf u refl
-    (run_all u (any_front is_brace u (b ∷ []) f)
-    (sym (ap has_lf (subst (λ b. without_last_lf (u ++ (b ∷ [])) ≡ u) (sym same) (without_of u))) ∙ h))
-    (no_cr_of u (subst (λ b. has_crlf (u ++ (b ∷ [])) ≡ false) same g)))
-form_at u b false e f g h = alone (run_all (u ++ (b ∷ [])) f (sym (ap has_lf (without_other u b e)) ∙ h))
+    (run_all u (none_in_front is_brace u (b ∷ []) f)
+    (sym (ap has_lf (subst (λ b. without_last_lf (u ++ (b ∷ [])) ≡ u) (sym same) (lf_is_taken_off u))) ∙ h))
+    (no_crlf_ends_in_no_cr u (subst (λ b. has_crlf (u ++ (b ∷ [])) ≡ false) same g)))
+form_by_last u b false e f g h = alone (run_all (u ++ (b ∷ [])) f (sym (ap has_lf (other_last_byte_is_kept u b e)) ∙ h))
 
 pub text_form : (v : List ℕ) → is_text v ≡ true → TextForm v
 text_form [] e = absurd cc
 text_form (c ∷ v) e =
-    let r = last_from c v in
+    let r = nonempty_has_last_byte c v in
     let a = not_true (list_any is_brace (c ∷ v)) (left_true (not (list_any is_brace (c ∷ v))) _ e) in
     let b = right_true (not (list_any is_brace (c ∷ v))) _ e in
     let d = not_true (has_crlf (c ∷ v)) (left_true (not (has_crlf (c ∷ v))) _ b) in
     let g = not_true (has_lf (without_last_lf (c ∷ v))) (right_true (not (has_crlf (c ∷ v))) _ b) in
     subst TextForm (sym r.is)
-    (form_at r.front r.byte (r.byte == lf) refl (subst (λ v. list_any is_brace v ≡ false) r.is a)
+    (form_by_last r.front r.byte (r.byte == lf) refl (subst (λ v. list_any is_brace v ≡ false) r.is a)
     (subst (λ v. has_crlf v ≡ false) r.is d) (subst (λ v. has_lf (without_last_lf v) ≡ false) r.is g))

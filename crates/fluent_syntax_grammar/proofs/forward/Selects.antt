@@ -28,21 +28,21 @@ use Rattle.fluent_syntax_grammar.proofs.forward.Reading.{reads_second, reads_pre
 use Rattle.fluent_syntax_grammar.proofs.forward.Reading.{reads_absent, passes_token, passes_two, passes_inline_blank}
 use Rattle.fluent_syntax_grammar.proofs.forward.Words.{reads_name, reads_number}
 use Rattle.fluent_syntax_grammar.proofs.marks.WrittenBytes.{inline_bytes, variants_bytes, pattern_bytes}
-use Rattle.fluent_syntax_grammar.proofs.forward.Inline.{Follows, passes_blanks, letter_no_digit}
-use Rattle.fluent_syntax_grammar.proofs.forward.Arguments.{Begins, InlineReadsBack, inline_begins, name_begins}
-use Rattle.fluent_syntax_grammar.proofs.forward.Arguments.{number_begins, begins_other}
-use Rattle.fluent_syntax_grammar.proofs.forward.Expressions.{ExpressionReadsBack, passes_after, same_fault}
-use Rattle.fluent_syntax_grammar.proofs.forward.Expressions.{spaces_blank}
+use Rattle.fluent_syntax_grammar.proofs.forward.Inline.{Follows, passes_blanks, letter_is_no_digit}
+use Rattle.fluent_syntax_grammar.proofs.forward.Arguments.{Begins, InlineReadsBack, inline_begins, name_begins_inline}
+use Rattle.fluent_syntax_grammar.proofs.forward.Arguments.{number_begins_inline, begins_other}
+use Rattle.fluent_syntax_grammar.proofs.forward.Expressions.{ExpressionReadsBack, passes_after, map_keeps_fault}
+use Rattle.fluent_syntax_grammar.proofs.forward.Expressions.{spaces_are_blank}
 use Rattle.fluent_syntax_grammar.proofs.forward.Lines.{lf_after, stop, EndsPattern, column, indented, is_mark_byte}
 use Rattle.fluent_syntax_grammar.proofs.forward.Lines.{is_column_byte}
 use Rattle.fluent_syntax_grammar.proofs.forward.Entries.{PatternReadsBack}
 use Rattle.fluent_syntax_grammar.proofs.Tests.{and_false, true_by_left, true_by_right}
 
 -- a line that begins, perhaps after spaces, with a mark that is no pattern's
-stops_gap : (gap : List ℕ) (b : ℕ) (bs : List ℕ) → list_all is_space gap ≡ true → is_mark_byte b ≡ true →
+mark_ends_pattern : (gap : List ℕ) (b : ℕ) (bs : List ℕ) → list_all is_space gap ≡ true → is_mark_byte b ≡ true →
     is_column_byte b ≡ true → EndsPattern (gap ++ (b ∷ bs))
-stops_gap [] b bs a e f = column f
-stops_gap (x ∷ gap) b bs a e f =
+mark_ends_pattern [] b bs a e f = column f
+mark_ends_pattern (x ∷ gap) b bs a e f =
     let s : x ≡ space = equal x space (left_true (is_space x) (list_all is_space gap) a) in
     subst (λ x. EndsPattern (x ∷ (gap ++ (b ∷ bs)))) (sym s)
     (indented gap b bs (right_true (is_space x) (list_all is_space gap) a) e)
@@ -66,13 +66,13 @@ bare_bytes level (variants (variant key value true) vs) close more =
 bare_bytes level (variants (variant key value false) vs) close more =
     91 ∷ (key_text key ++ (93 ∷ pattern_bytes level value (lf ∷ variants_bytes level vs (close ++ (125 ∷ more)))))
 
-variants_stop : (level : ℕ) (vs : VariantTrees Text) (close more : Text) → list_all is_space close ≡ true →
+variants_end_pattern : (level : ℕ) (vs : VariantTrees Text) (close more : Text) → list_all is_space close ≡ true →
     EndsPattern (variants_bytes level vs (close ++ (125 ∷ more)))
-variants_stop level no_variants close more a = stops_gap close 125 more a refl refl
-variants_stop level (variants (variant key value true) vs) close more a =
-    stops_gap (star_indent level) 42 _ (spaces_of (4 * level - 1)) refl refl
-variants_stop level (variants (variant key value false) vs) close more a =
-    stops_gap (indent level) 91 _ (spaces_of (4 * level)) refl refl
+variants_end_pattern level no_variants close more a = mark_ends_pattern close 125 more a refl refl
+variants_end_pattern level (variants (variant key value true) vs) close more a =
+    mark_ends_pattern (star_indent level) 42 _ (spaces_of (4 * level - 1)) refl refl
+variants_end_pattern level (variants (variant key value false) vs) close more a =
+    mark_ends_pattern (indent level) 91 _ (spaces_of (4 * level)) refl refl
 
 -- The rest of a list of variants is read back; the flag says whether there was a default before.
 pub record VariantsReadBack (edition : Edition) (t : List ℕ) (level : ℕ) (starred : Bool) (vs : VariantTrees Text) :
@@ -91,12 +91,12 @@ module _ (edition : Edition) (t : List ℕ) where
       SuffixAt t i (variants_bytes level vs (close ++ (125 ∷ more))) →
       Passes t (Rattle.fluent_syntax_grammar.specs.Tokens.blank t) i (bare_bytes level vs close more)
   passes_indent level no_variants close more i a l =
-      passes_blanks close (125 ∷ more) (spaces_blank close a) refl refl refl l
+      passes_blanks close (125 ∷ more) (spaces_are_blank close a) refl refl refl l
   passes_indent level (variants (variant key value true) vs) close more i a l =
-      passes_blanks (star_indent level) _ (spaces_blank (star_indent level) (spaces_of (4 * level - 1))) refl refl
+      passes_blanks (star_indent level) _ (spaces_are_blank (star_indent level) (spaces_of (4 * level - 1))) refl refl
       refl l
   passes_indent level (variants (variant key value false) vs) close more i a l =
-      passes_blanks (indent level) _ (spaces_blank (indent level) (spaces_of (4 * level))) refl refl refl l
+      passes_blanks (indent level) _ (spaces_are_blank (indent level) (spaces_of (4 * level))) refl refl refl l
 
   -- what an item says
   abbrev said : More (VariantTree Span) Bool → More (VariantTree Text) Bool
@@ -142,7 +142,7 @@ module _ (edition : Edition) (t : List ℕ) where
       (reads_bind (reads_name (b ∷ bs) (93 ∷ tail) e refl l) (λ s j f m. reads_yields (ap name_key f) m)))
     where
       no_number : (b : ℕ) → is_letter b ≡ true → is_number_start b ≡ false
-      no_number b e = rw (letter_no_digit b e, differ is_letter b 45 e refl) refl
+      no_number b e = rw (letter_is_no_digit b e, differ is_letter b 45 e refl) refl
   key_reads_back (number_key []) i tail e l = absurd cc
   key_reads_back (number_key (b ∷ bs)) i tail e l =
       reads_peek true (suffix_has is_number_start l ∙ starts_number b bs e)
@@ -156,8 +156,8 @@ module _ (edition : Edition) (t : List ℕ) where
       ]
 
   key_begins : (key : KeyTree Text) (tail : Text) → key_obeys' key ≡ true → Begins (key_text key ++ tail)
-  key_begins (name_key v) tail e = name_begins v tail e
-  key_begins (number_key v) tail e = number_begins v tail e
+  key_begins (name_key v) tail e = name_begins_inline v tail e
+  key_begins (number_key v) tail e = number_begins_inline v tail e
 
   -- from the end of a variant's pattern on
   after_value :
@@ -194,7 +194,7 @@ module _ (edition : Edition) (t : List ℕ) where
       (λ j m. reads_bind (key_reads_back key j _ o m) (λ k q e n.
       passes_then (passes_blanks [] _ refl refl refl refl n) (λ r x. passes_then (passes_token 93 refl x) (λ y z.
       reads_bind (p.back y (variants_bytes level vs (close ++ (125 ∷ more)))
-      (variants_bytes level vs (close ++ (125 ∷ more))) (stop (variants_stop level vs close more a)) z)
+      (variants_bytes level vs (close ++ (125 ∷ more))) (stop (variants_end_pattern level vs close more a)) z)
       (λ v w f u. after_value level starred star key value vs k v w close more a e f u)))))
 
   -- one more variant, which is not the default
@@ -267,7 +267,7 @@ module _ (edition : Edition) (t : List ℕ) where
       (125 ∷ more)
   from_arrow level e vs v i close more a f g h l =
       let none : selector_fault v ≡ None =
-      sym (same_fault (bytes_at t) v) ∙ ap selector_fault f ∙ none_of (selector_fault e) g in
+      sym (map_keeps_fault (bytes_at t) v) ∙ ap selector_fault f ∙ none_of (selector_fault e) g in
       rw none (reads_bind
       (passes_then (passes_two l)
       (λ j m. passes_then (passes_inline_blank [] _ refl refl m)

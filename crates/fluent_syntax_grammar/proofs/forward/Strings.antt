@@ -14,7 +14,7 @@ use Rattle.fluent_syntax_grammar.specs.Spellings.{is_units, is_escape, is_string
 use Rattle.fluent_syntax_grammar.proofs.Facts.{left_true, right_true, equal}
 use Rattle.fluent_syntax_grammar.proofs.Tests.{both_true, or_cases}
 use Rattle.fluent_syntax_grammar.proofs.SuffixAt.{SuffixAt, suffix_as, suffix_first, suffix_next, suffix_past}
-use Rattle.fluent_syntax_grammar.proofs.SuffixAt.{suffix_has, suffix_each}
+use Rattle.fluent_syntax_grammar.proofs.SuffixAt.{suffix_has, each_in_set}
 use Rattle.fluent_syntax_grammar.proofs.forward.Reading.{Reads, Passes, reads_bind, reads_yields, passes_then}
 use Rattle.fluent_syntax_grammar.proofs.forward.Reading.{reads_here, reads_peek, reads_first, reads_second}
 use Rattle.fluent_syntax_grammar.proofs.forward.Reading.{passes_one, passes_two, passes_token, reads_spanned}
@@ -28,11 +28,11 @@ pub record HexThen (n : ℕ) (v : List ℕ) : Type 0 where
   pub digits : list_all is_ascii_hexdigit hex ≡ true
   pub units : is_units zero more ≡ true
 
-hex_then : (n : ℕ) (v : List ℕ) → is_units n v ≡ true → HexThen n v
-hex_then zero v e = record { hex = []; more = v; joins = refl; count = refl; digits = refl; units = e }
-hex_then (suc n) [] e = cc
-hex_then (suc n) (b ∷ bs) e =
-    let r = hex_then n bs (right_true (is_ascii_hexdigit b) (is_units n bs) e) in
+units_begin_with_hex : (n : ℕ) (v : List ℕ) → is_units n v ≡ true → HexThen n v
+units_begin_with_hex zero v e = record { hex = []; more = v; joins = refl; count = refl; digits = refl; units = e }
+units_begin_with_hex (suc n) [] e = cc
+units_begin_with_hex (suc n) (b ∷ bs) e =
+    let r = units_begin_with_hex n bs (right_true (is_ascii_hexdigit b) (is_units n bs) e) in
     record {
       hex = b ∷ r.hex;
       more = r.more;
@@ -61,7 +61,7 @@ module _ {t : List ℕ} where
       record {
         forward = omega arith;
         most = omega arith;
-        each = suffix_each is_ascii_hexdigit hex more a l;
+        each = each_in_set is_ascii_hexdigit hex more a l;
         longest = λ m. absurd (omega arith);
       } in
       record {
@@ -115,7 +115,7 @@ module _ {t : List ℕ} where
       ((left : List ℕ) → Passes t (skip (Steps 2) >> hex_digits t n) i left → Passes t (escaped t (Some c)) i left) →
       Passes t (string_units t) i (34 ∷ more)
   hex_escape_then m n h b c cs more i l e f x k =
-      let r = hex_then n cs f in
+      let r = units_begin_with_hex n cs f in
       let size : length r.more ≤ m = let a = length-append r.hex r.more in let b = ap length r.joins in omega arith in
       unit_then x (ap (λ b. b == 34) e)
       (passes_escape e x (k (r.more ++ (34 ∷ more)) (passes_hex_escape (34 ∷ more) n r x)))

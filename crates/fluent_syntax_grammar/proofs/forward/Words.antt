@@ -21,9 +21,9 @@ name_bytes (b ∷ bs) e =
     rw (letter_name b (left_true (is_letter b) (list_all is_name_byte bs) e))
     (right_true (is_letter b) (list_all is_name_byte bs) e)
 
-name_begins : (bs ys : List ℕ) → is_name bs ≡ true → holds is_letter (first (bs ++ ys)) ≡ true
-name_begins [] ys e = cc
-name_begins (b ∷ bs) ys e = left_true (is_letter b) (list_all is_name_byte bs) e
+name_begins_with_letter : (bs ys : List ℕ) → is_name bs ≡ true → holds is_letter (first (bs ++ ys)) ≡ true
+name_begins_with_letter [] ys e = cc
+name_begins_with_letter (b ∷ bs) ys e = left_true (is_letter b) (list_all is_name_byte bs) e
 
 -- ---- parts of numbers
 
@@ -54,11 +54,11 @@ rest_point : (b : ℕ) (bs : List ℕ) → b ≡ 46 → is_digits bs ≡ true �
 rest_point b bs e f =
     record { whole = []; fraction = 46 ∷ bs; joins = ap (λ b. b ∷ bs) (sym e); digits = refl; is = point f }
 
-number_rest : (v : List ℕ) → is_number_rest v ≡ true → NumberRest v
-number_rest [] e = record { whole = []; fraction = []; joins = refl; digits = refl; is = none }
-number_rest (b ∷ bs) e = elim (or_cases (is_digit b && is_number_rest bs) (b == 46 && is_digits bs) e) [
+number_rest_has_form : (v : List ℕ) → is_number_rest v ≡ true → NumberRest v
+number_rest_has_form [] e = record { whole = []; fraction = []; joins = refl; digits = refl; is = none }
+number_rest_has_form (b ∷ bs) e = elim (or_cases (is_digit b && is_number_rest bs) (b == 46 && is_digits bs) e) [
   | inl f ↦ rest_digit b bs (left_true (is_digit b) (is_number_rest bs) f)
-      (number_rest bs (right_true (is_digit b) (is_number_rest bs) f))
+      (number_rest_has_form bs (right_true (is_digit b) (is_number_rest bs) f))
   | inr f ↦ rest_point b bs (equal b 46 (left_true (b == 46) (is_digits bs) f)) (right_true (b == 46) (is_digits bs) f)
 ]
 
@@ -72,7 +72,7 @@ module _ {t : List ℕ} where
   pub reads_name : {i : ℕ} (name more : List ℕ) → is_name name ≡ true → holds is_name_byte (first more) ≡ false →
       SuffixAt t i (name ++ more) → Reads t (identifier t) (bytes_at t) i name more
   reads_name name more e f l =
-      reads_here (reads_look true (suffix_has is_letter l ∙ name_begins name more e)
+      reads_here (reads_look true (suffix_has is_letter l ∙ name_begins_with_letter name more e)
       (reads_first refl
       (reads_bind (passes_over (suffix_byte_run is_name_byte name more (name_bytes name e) f l) (suffix_past name l))
       (λ u k h n. reads_spanned name more l n))))
@@ -103,7 +103,7 @@ module _ {t : List ℕ} where
       Reads t (digits t >>= λ d. optional t 46 >>= λ p. branch_on p (digits t) (yields tt) >>= λ u. c) r i y left
   then_unsigned [] more e f g l k = cc
   then_unsigned (b ∷ bs) more e f g l k =
-      let r = number_rest bs (right_true (is_digit b) (is_number_rest bs) e) in
+      let r = number_rest_has_form bs (right_true (is_digit b) (is_number_rest bs) e) in
       let parts : (b ∷ r.whole) ++ (r.fraction ++ more) ≡ (b ∷ bs) ++ more =
       ap (λ v. b ∷ v) (sym (append_assoc r.whole r.fraction more) ∙ ap (λ v. v ++ more) r.joins) in
       passes_then (passes_digits (b ∷ r.whole) (r.fraction ++ more)

@@ -16,21 +16,21 @@ use Rattle.fluent_syntax_grammar.specs.RoundTrip.{ReadsAs, tree_of, WrittenApart
 use Rattle.fluent_syntax_grammar.proofs.Facts.{append_nothing}
 use Rattle.fluent_syntax_grammar.proofs.OneTiling.{same_tilings}
 use Rattle.fluent_syntax_grammar.proofs.JunkAndSpans.{junk_of_errors}
-use Rattle.fluent_syntax_grammar.proofs.marks.Entries.{written_back}
-use Rattle.fluent_syntax_grammar.proofs.marks.JoinedTrees.{SameText, same, same_append, message_text, term_text}
-use Rattle.fluent_syntax_grammar.proofs.marks.JoinedTrees.{joined_back}
+use Rattle.fluent_syntax_grammar.proofs.marks.Entries.{written_is_read_back}
+use Rattle.fluent_syntax_grammar.proofs.marks.JoinedTrees.{SameText, same, SameText-append, message_text, term_text}
+use Rattle.fluent_syntax_grammar.proofs.marks.JoinedTrees.{joined_reads_back}
 
 -- a text reads as one tree
-reads_one : (edition : Edition) (t : Text) (r other : BodyTree Text) → ReadsAs edition t r →
+text_reads_as_one_tree : (edition : Edition) (t : Text) (r other : BodyTree Text) → ReadsAs edition t r →
     ReadsAs edition t other → r ≡ other
-reads_one edition t r other a b =
+text_reads_as_one_tree edition t r other a b =
     sym a.same ∙ (ap (tree_of t) (same_tilings edition t a.tiles b.tiles a.tiling b.tiling) ∙ b.same)
 
 -- Two canonical trees that are written as one text are equal.
 pub serialize_is_injective : (edition : Edition) (r other : BodyTree Text) → WrittenApart edition r other
 serialize_is_injective edition r other h g e =
-    reads_one edition (written false r) r other (written_back edition r false h)
-    (subst (λ t. ReadsAs edition t other) (sym e) (written_back edition other false g))
+    text_reads_as_one_tree edition (written false r) r other (written_is_read_back edition r false h)
+    (subst (λ t. ReadsAs edition t other) (sym e) (written_is_read_back edition other false g))
 
 -- ---- a body without junk is written as its joined body is
 
@@ -42,17 +42,17 @@ module _ (t : List ℕ) where
   body_text (message m ∷ es) follows h =
       let n = message_map (bytes_at t) m in
       let rest = body_map (bytes_at t) es in
-      same_append (message_marks n) (message_marks (joined_message n)) (body_marks false true rest)
+      SameText-append (message_marks n) (message_marks (joined_message n)) (body_marks false true rest)
       (body_marks false true (joined_body rest)) (message_text n) (body_text es true h)
   body_text (term m ∷ es) follows h =
       let n = term_map (bytes_at t) m in
       let rest = body_map (bytes_at t) es in
-      same_append (term_marks n) (term_marks (joined_term n)) (body_marks false true rest)
+      SameText-append (term_marks n) (term_marks (joined_term n)) (body_marks false true rest)
       (body_marks false true (joined_body rest)) (term_text n) (body_text es true h)
   body_text (comment level content ∷ es) follows h =
       let lines = free_comment_marks follows (hashes_of level) (map (bytes_at t) content) in
       let rest = body_map (bytes_at t) es in
-      same_append lines lines (body_marks false true rest) (body_marks false true (joined_body rest)) (same lines)
+      SameText-append lines lines (body_marks false true rest) (body_marks false true (joined_body rest)) (same lines)
       (body_text es true h)
   body_text (junk s ∷ es) follows h = absurd cc
 
@@ -71,7 +71,7 @@ module _ (t : List ℕ) where
   -- What a text is read as is written as a text that reads as its joined tree, and is written so again.
   pub written_again : WrittenAgain t
   written_again tiles tiling canonical = (
-    joined_back (tree_of t tiles) canonical,
-    written_back One (joined_body (tree_of t tiles)) false canonical,
+    joined_reads_back (tree_of t tiles) canonical,
+    written_is_read_back One (joined_body (tree_of t tiles)) false canonical,
     λ clean. written_joined (body tiles) (no_junk tiles tiling clean),
   )

@@ -37,9 +37,9 @@ line_end_mark_is_written : (last : Option ℕ) (after_cr : Bool) (ms : List Mark
 line_end_mark_is_written last true ms e = rw e refl
 line_end_mark_is_written last false ms e = rw e refl
 
-same_last : (line : Text) → is_last cr (last_of (Some 32) line) ≡ is_last cr (last_of None line)
-same_last [] = refl
-same_last (b ∷ bs) = refl
+space_keeps_last_cr : (line : Text) → is_last cr (last_of (Some 32) line) ≡ is_last cr (last_of None line)
+space_keeps_last_cr [] = refl
+space_keeps_last_cr (b ∷ bs) = refl
 
 comment_text_is_written : (line : Text) (shown : Bool) (b : ℕ) (ms : List Mark) → (b == lf) ≡ false → (b == cr) ≡ false
     →
@@ -47,7 +47,7 @@ comment_text_is_written : (line : Text) (shown : Bool) (b : ℕ) (ms : List Mark
     ≡ after_hashes shown line (text_after (Some lf) ms)
 comment_text_is_written line true b ms e f =
     rw e (ap (λ x. 32 ∷ (line ++ x))
-    (line_end_mark_is_written (last_of (Some 32) line) (is_last cr (last_of None line)) ms (same_last line)))
+    (line_end_mark_is_written (last_of (Some 32) line) (is_last cr (last_of None line)) ms (space_keeps_last_cr line)))
 comment_text_is_written line false b ms e f = line_end_mark_is_written (Some b) false ms f
 
 comment_line_is_written : (level : Level) (line : Text) (ms : List Mark) →
@@ -240,9 +240,9 @@ term_starts m ms =
     starting_as _ _ (append_assoc (own_comment_marks m.comment) (literal 0 (codes "-") ∷ literal 0 m.id ∷ fields) ms)
     (own_starts m.comment (literal 0 (codes "-") ∷ literal 0 m.id ∷ (fields ++ ms)) refl)
 
-pub free_starts : (level : Level) (content : List Text) (ms : List Mark) →
+pub free_comment_starts : (level : Level) (content : List Text) (ms : List Mark) →
     Starting (free_comment_marks false (hashes_of level) content ++ ms)
-free_starts level content ms =
+free_comment_starts level content ms =
     starting_as _ _ (append_assoc (comment_marks (hashes_of level) content) (line_end ∷ []) ms)
     (comment_starts level content (line_end ∷ ms) refl)
 
@@ -256,16 +256,16 @@ body_starts edition (message m ∷ es) h =
     _ (right_true (option_obeys (canonical_rules edition).comment m.comment)
     _ (right_true (has_field m.value m.attributes) _ this)))
 body_starts edition (term m ∷ es) h = term_starts m (body_marks false true es)
-body_starts edition (comment level content ∷ es) h = free_starts level content (body_marks false true es)
+body_starts edition (comment level content ∷ es) h = free_comment_starts level content (body_marks false true es)
 body_starts edition (junk x ∷ es) h = absurd cc
 
 -- ---- the round trip
 
 -- a canonical body and the text that it is written as
-canonical_written : (edition : Edition) (es : BodyTree Text) → is_canonical edition es ≡ true →
+canonical_body_is_written : (edition : Edition) (es : BodyTree Text) → is_canonical edition es ≡ true →
     IsWritten es (written false es)
 unfolding written
-canonical_written edition es h = subst (IsWritten es) (sym (body_starts edition es h))
+canonical_body_is_written edition es h = subst (IsWritten es) (sym (body_starts edition es h))
     (body_is_written edition es false h)
 
 -- ---- with junk or without
@@ -284,18 +284,18 @@ marks_same edition (comment level content ∷ es) follows h =
 marks_same edition (junk x ∷ es) follows h = absurd cc
 
 -- A canonical body has no junk, so it is written as one text under both options.
-written_same : (edition : Edition) (es : BodyTree Text) → is_canonical edition es ≡ true →
+canonical_text_is_same : (edition : Edition) (es : BodyTree Text) → is_canonical edition es ≡ true →
     written true es ≡ written false es
 unfolding written
-written_same edition es h = ap (text_after None) (marks_same edition es false h)
+canonical_text_is_same edition es h = ap (text_after None) (marks_same edition es false h)
 
 -- A canonical tree is read back from the text that it is written as, under both options.
-pub written_back : (edition : Edition) (es : BodyTree Text) → ReadsBack edition es
-written_back edition es with_junk h = by_option with_junk
+pub written_is_read_back : (edition : Edition) (es : BodyTree Text) → ReadsBack edition es
+written_is_read_back edition es with_junk h = by_option with_junk
   where
     plain : ReadsAs edition (written false es) es
-    plain = reads_back edition es (written false es) h (canonical_written edition es h)
+    plain = reads_back edition es (written false es) h (canonical_body_is_written edition es h)
 
     by_option : (with_junk : Bool) → ReadsAs edition (written with_junk es) es
     by_option false = plain
-    by_option true = subst (λ t. ReadsAs edition t es) (sym (written_same edition es h)) plain
+    by_option true = subst (λ t. ReadsAs edition t es) (sym (canonical_text_is_same edition es h)) plain

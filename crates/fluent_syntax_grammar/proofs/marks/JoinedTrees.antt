@@ -36,9 +36,9 @@ use Rattle.fluent_syntax_grammar.proofs.forward.Bodies.{IsWritten, nothing, a_me
 use Rattle.fluent_syntax_grammar.proofs.marks.WrittenBytes.{line_indent}
 use Rattle.fluent_syntax_grammar.proofs.JoinedLines.{multiline_same}
 use Rattle.fluent_syntax_grammar.proofs.marks.LastBytes.{last_append}
-use Rattle.fluent_syntax_grammar.proofs.marks.Words.{literal_after, literal_at}
+use Rattle.fluent_syntax_grammar.proofs.marks.Words.{literal_after, literal_is_written_at_line}
 use Rattle.fluent_syntax_grammar.proofs.marks.Entries.{message_is_written, term_is_written, free_comment_is_written}
-use Rattle.fluent_syntax_grammar.proofs.marks.Entries.{Starting, message_starts, term_starts, free_starts}
+use Rattle.fluent_syntax_grammar.proofs.marks.Entries.{Starting, message_starts, term_starts, free_comment_starts}
 use Rattle.fluent_syntax_grammar.proofs.Tests.{not_true}
 
 -- ---- marks that give the same text, whatever comes before and after them
@@ -52,14 +52,14 @@ same xs last ms = refl
 same_cons : (m : Mark) (xs ys : List Mark) → SameText xs ys → SameText (m ∷ xs) (m ∷ ys)
 same_cons m xs ys h last ms = ap (λ t. mark_text last m ++ t) (h (last_of last (mark_text last m)) ms)
 
-same_under : (front xs ys : List Mark) → SameText xs ys → SameText (front ++ xs) (front ++ ys)
-same_under [] xs ys h = h
-same_under (m ∷ front) xs ys h = same_cons m (front ++ xs) (front ++ ys) (same_under front xs ys h)
+SameText-prepend : (front xs ys : List Mark) → SameText xs ys → SameText (front ++ xs) (front ++ ys)
+SameText-prepend [] xs ys h = h
+SameText-prepend (m ∷ front) xs ys h = same_cons m (front ++ xs) (front ++ ys) (SameText-prepend front xs ys h)
 
-pub same_append : (as' bs xs ys : List Mark) → SameText as' bs → SameText xs ys → SameText (as' ++ xs) (bs ++ ys)
-same_append as' bs xs ys g h last ms =
+pub SameText-append : (as' bs xs ys : List Mark) → SameText as' bs → SameText xs ys → SameText (as' ++ xs) (bs ++ ys)
+SameText-append as' bs xs ys g h last ms =
     ap (text_after last) (append_assoc as' xs ms) ∙ g last (xs ++ ms)
-    ∙ sym (ap (text_after last) (append_assoc bs xs ms)) ∙ same_under bs xs ys h last ms
+    ∙ sym (ap (text_after last) (append_assoc bs xs ms)) ∙ SameText-prepend bs xs ys h last ms
 
 -- lists of marks, each of which gives the same
 data SameLists : (xs ys : List (List Mark)) → Type 0 where
@@ -73,36 +73,36 @@ lists_append [] (b ∷ bs) xs ys g h = elim g [ ]
 lists_append (a ∷ as') [] xs ys g h = elim g [ ]
 lists_append (a ∷ as') (b ∷ bs) xs ys (more_lists g gs) h = more_lists g (lists_append as' bs xs ys gs h)
 
-same_more : (level : ℕ) (xs ys : List (List Mark)) → SameLists xs ys →
+more_joined_is_same_text : (level : ℕ) (xs ys : List (List Mark)) → SameLists xs ys →
     SameText (more_joined level xs) (more_joined level ys)
-same_more level [] [] no_lists = same []
-same_more level [] (y ∷ ys) g = elim g [ ]
-same_more level (x ∷ xs) [] g = elim g [ ]
-same_more level (x ∷ xs) (y ∷ ys) (more_lists g gs) =
+more_joined_is_same_text level [] [] no_lists = same []
+more_joined_is_same_text level [] (y ∷ ys) g = elim g [ ]
+more_joined_is_same_text level (x ∷ xs) [] g = elim g [ ]
+more_joined_is_same_text level (x ∷ xs) (y ∷ ys) (more_lists g gs) =
     same_cons (literal level (codes ", ")) (x ++ more_joined level xs) (y ++ more_joined level ys)
-    (same_append x y (more_joined level xs) (more_joined level ys) g (same_more level xs ys gs))
+    (SameText-append x y (more_joined level xs) (more_joined level ys) g (more_joined_is_same_text level xs ys gs))
 
 same_joined : (level : ℕ) (xs ys : List (List Mark)) → SameLists xs ys → SameText (joined level xs) (joined level ys)
 same_joined level [] [] no_lists = same []
 same_joined level [] (y ∷ ys) g = elim g [ ]
 same_joined level (x ∷ xs) [] g = elim g [ ]
 same_joined level (x ∷ xs) (y ∷ ys) (more_lists g gs) =
-    same_append x y (more_joined level xs) (more_joined level ys) g (same_more level xs ys gs)
+    SameText-append x y (more_joined level xs) (more_joined level ys) g (more_joined_is_same_text level xs ys gs)
 
 -- ---- a text and a lone LF
 
-lone_is : (w : Text) → is_lone_lf w ≡ true → w ≡ lf ∷ []
-lone_is [] e = cc
-lone_is (b ∷ bs) e =
+lone_lf_is_one_lf : (w : Text) → is_lone_lf w ≡ true → w ≡ lf ∷ []
+lone_lf_is_one_lf [] e = cc
+lone_lf_is_one_lf (b ∷ bs) e =
     lone_at b bs (equal b lf (left_true (b == lf) (is_empty bs) e)) (right_true (b == lf) (is_empty bs) e)
   where
     lone_at : (b : ℕ) (bs : Text) → b ≡ lf → is_empty bs ≡ true → b ∷ bs ≡ lf ∷ []
     lone_at b [] e f = ap (λ b. b ∷ []) e
     lone_at b (c ∷ bs) e f = cc
 
-spaces_end : (n : ℕ) → is_last lf (last_of (Some space) (replicate n space)) ≡ false
-spaces_end zero = refl
-spaces_end (suc n) = spaces_end n
+spaces_end_in_no_lf : (n : ℕ) → is_last lf (last_of (Some space) (replicate n space)) ≡ false
+spaces_end_in_no_lf zero = refl
+spaces_end_in_no_lf (suc n) = spaces_end_in_no_lf n
 
 -- after nothing
 empty_literal_is_written : (at_line : Bool) (n : ℕ) (last : Option ℕ) (ms : List Mark) → is_last lf last ≡ at_line →
@@ -117,49 +117,49 @@ empty_literal_is_written : (at_line : Bool) (n : ℕ) (last : Option ℕ) (ms : 
 empty_literal_is_written false n last ms e = rw e refl
 empty_literal_is_written true zero last ms e = rw e refl
 empty_literal_is_written true (suc n) last ms e =
-    rw (append_nothing (replicate n space), spaces_end n, last_append (replicate n space) (Some space) lf [])
+    rw (append_nothing (replicate n space), spaces_end_in_no_lf n, last_append (replicate n space) (Some space) lf [])
     (ap (λ t. space ∷ t) (sym (append_assoc (replicate n space) (lf ∷ []) (text_after (Some lf) ms))))
 
-two_as_one : (level : ℕ) (v : Text) (ms : List Mark) (last : Option ℕ) → ends_in_lf v ≡ false →
+two_literals_are_one : (level : ℕ) (v : Text) (ms : List Mark) (last : Option ℕ) → ends_in_lf v ≡ false →
     text_after last (literal level v ∷ literal level (lf ∷ []) ∷ ms)
     ≡ text_after last (literal level (v ++ (lf ∷ [])) ∷ ms)
-two_as_one level [] ms last e = empty_literal_is_written (is_last lf last) (4 * level) last ms refl
-two_as_one level (c ∷ v) ms last e =
+two_literals_are_one level [] ms last e = empty_literal_is_written (is_last lf last) (4 * level) last ms refl
+two_literals_are_one level (c ∷ v) ms last e =
     let at_line = is_last lf last in
-    literal_at last at_line level c v (literal level (lf ∷ []) ∷ ms) refl
+    literal_is_written_at_line last at_line level c v (literal level (lf ∷ []) ∷ ms) refl
     ∙ ap (λ t. line_indent level at_line ++ ((c ∷ v) ++ t))
     (literal_after (last_of None (c ∷ v)) level (lf ∷ []) ms e)
     ∙ ap (λ t. line_indent level at_line ++ t)
     (sym (append_assoc (c ∷ v) (lf ∷ []) (text_after (Some lf) ms))
     ∙ ap (λ o. (c ∷ (v ++ (lf ∷ []))) ++ text_after o ms) (sym (last_append v (Some c) lf [])))
-    ∙ sym (literal_at last at_line level c (v ++ (lf ∷ [])) ms refl)
+    ∙ sym (literal_is_written_at_line last at_line level c (v ++ (lf ∷ [])) ms refl)
 
-joined_parts : (v w : Text) → is_joined v w ≡ true → (w ≡ lf ∷ []) × (ends_in_lf v ≡ false)
-joined_parts v w e = (
-  lone_is w (left_true (is_lone_lf w) (not (ends_in_lf v)) e),
+joined_parts_are_text_and_lf : (v w : Text) → is_joined v w ≡ true → (w ≡ lf ∷ []) × (ends_in_lf v ≡ false)
+joined_parts_are_text_and_lf v w e = (
+  lone_lf_is_one_lf w (left_true (is_lone_lf w) (not (ends_in_lf v)) e),
   not_true (ends_in_lf v) (right_true (is_lone_lf w) (not (ends_in_lf v)) e),
 )
 
 -- a text, a lone LF and more
-two_same : (level : ℕ) (v w : Text) (xs ys : List Mark) → is_joined v w ≡ true → SameText xs ys →
+text_and_lf_are_same_text : (level : ℕ) (v w : Text) (xs ys : List Mark) → is_joined v w ≡ true → SameText xs ys →
     SameText (literal level v ∷ literal level w ∷ xs) (literal level (v ++ w) ∷ ys)
-two_same level v w xs ys e h last ms =
-    let p = joined_parts v w e in
+text_and_lf_are_same_text level v w xs ys e h last ms =
+    let p = joined_parts_are_text_and_lf v w e in
     subst (λ w. text_after last (literal level v ∷ literal level w ∷ (xs ++ ms))
     ≡ text_after last (literal level (v ++ w) ∷ (ys ++ ms))) (sym p.0)
-    (two_as_one level v (xs ++ ms) last p.1 ∙ same_cons (literal level (v ++ (lf ∷ []))) xs ys h last ms)
+    (two_literals_are_one level v (xs ++ ms) last p.1 ∙ same_cons (literal level (v ++ (lf ∷ []))) xs ys h last ms)
 
 -- ---- how a joined pattern opens
 
-begins_same : (v w : Text) → is_joined v w ≡ true → begins_with_mark (v ++ w) ≡ begins_with_mark v
-begins_same [] w e = let p = joined_parts [] w e in rw (p.0) refl
-begins_same (b ∷ v) w e = refl
+joined_begins_with_same_mark : (v w : Text) → is_joined v w ≡ true → begins_with_mark (v ++ w) ≡ begins_with_mark v
+joined_begins_with_same_mark [] w e = let p = joined_parts_are_text_and_lf [] w e in rw (p.0) refl
+joined_begins_with_same_mark (b ∷ v) w e = refl
 
 after_text_leading : (v w : Text) (es : PatternTree Text) (x : Bool) → is_joined v w ≡ x →
     has_leading_mark
     (if x then elements (text_element (v ++ w)) (joined_pattern es) else elements (text_element v)
     (joined_after w es)) ≡ begins_with_mark v
-after_text_leading v w es true e = begins_same v w e
+after_text_leading v w es true e = joined_begins_with_same_mark v w e
 after_text_leading v w es false e = refl
 
 leading_same : (p : PatternTree Text) → has_leading_mark (joined_pattern p) ≡ has_leading_mark p
@@ -169,52 +169,52 @@ leading_same (elements (text_element v) no_elements) = refl
 leading_same (elements (text_element v) (elements (placeable e) es)) = refl
 leading_same (elements (text_element v) (elements (text_element w) es)) = after_text_leading v w es (is_joined v w) refl
 
-opening_same : (level : ℕ) (p : PatternTree Text) → opening_mark level (joined_pattern p) ≡ opening_mark level p
-opening_same level p = rw (multiline_same p, leading_same p) refl
+same_opening_mark : (level : ℕ) (p : PatternTree Text) → opening_mark level (joined_pattern p) ≡ opening_mark level p
+same_opening_mark level p = rw (multiline_same p, leading_same p) refl
 
-inner_same : (level : ℕ) (p : PatternTree Text) → inner_level level (joined_pattern p) ≡ inner_level level p
-inner_same level p = rw (multiline_same p) refl
+same_inner_level : (level : ℕ) (p : PatternTree Text) → inner_level level (joined_pattern p) ≡ inner_level level p
+same_inner_level level p = rw (multiline_same p) refl
 
 -- ---- each node
 
-same_pattern : (level : ℕ) (p : PatternTree Text) →
+pattern_is_same_text_by_elements : (level : ℕ) (p : PatternTree Text) →
     ((l : ℕ) → SameText (elements_marks l p) (elements_marks l (joined_pattern p))) →
     SameText (pattern_marks level p) (pattern_marks level (joined_pattern p))
-same_pattern level p h =
+pattern_is_same_text_by_elements level p h =
     subst (λ m. SameText (pattern_marks level p)
-    (m ∷ elements_marks (inner_level level (joined_pattern p)) (joined_pattern p))) (sym (opening_same level p))
+    (m ∷ elements_marks (inner_level level (joined_pattern p)) (joined_pattern p))) (sym (same_opening_mark level p))
     (subst (λ l. SameText (pattern_marks level p) (opening_mark level p ∷ elements_marks l (joined_pattern p)))
-    (sym (inner_same level p))
+    (sym (same_inner_level level p))
     (same_cons (opening_mark level p) (elements_marks (inner_level level p) p)
     (elements_marks (inner_level level p) (joined_pattern p)) (h (inner_level level p))))
 
 -- in braces
-same_wrapped : (front close : Mark) (xs ys : List Mark) → SameText xs ys →
+SameText-wrapped : (front close : Mark) (xs ys : List Mark) → SameText xs ys →
     SameText (front ∷ (xs ++ (close ∷ []))) (front ∷ (ys ++ (close ∷ [])))
-same_wrapped front close xs ys h =
+SameText-wrapped front close xs ys h =
     same_cons front (xs ++ (close ∷ [])) (ys ++ (close ∷ []))
-    (same_append xs ys (close ∷ []) (close ∷ []) h (same (close ∷ [])))
+    (SameText-append xs ys (close ∷ []) (close ∷ []) h (same (close ∷ [])))
 
-after_text : (level : ℕ) (v w : Text) (es : PatternTree Text) (x : Bool) → is_joined v w ≡ x →
+joined_after_is_same_text : (level : ℕ) (v w : Text) (es : PatternTree Text) (x : Bool) → is_joined v w ≡ x →
     SameText (elements_marks level es) (elements_marks level (joined_pattern es)) →
     SameText (literal level w ∷ elements_marks level es) (elements_marks level (joined_after w es)) →
     SameText (literal level v ∷ literal level w ∷ elements_marks level es)
     (elements_marks level
     (if x then elements (text_element (v ++ w)) (joined_pattern es) else elements (text_element v)
     (joined_after w es)))
-after_text level v w es true e g h =
-    two_same level v w (elements_marks level es) (elements_marks level (joined_pattern es)) e g
-after_text level v w es false e g h =
+joined_after_is_same_text level v w es true e g h =
+    text_and_lf_are_same_text level v w (elements_marks level es) (elements_marks level (joined_pattern es)) e g
+joined_after_is_same_text level v w es false e g h =
     same_cons (literal level v) (literal level w ∷ elements_marks level es) (elements_marks level (joined_after w es)) h
 
-same_select : (level : ℕ) (e : InlineTree Text) (vs : VariantTrees Text) →
+select_is_same : (level : ℕ) (e : InlineTree Text) (vs : VariantTrees Text) →
     SameText (inline_marks level e) (inline_marks level (joined_inline e)) →
     SameText (variants_marks (level + 1) vs) (variants_marks (level + 1) (joined_variants vs)) →
     SameText (expression_marks level (select e vs)) (expression_marks level (joined_expression (select e vs)))
-same_select level e vs g h =
+select_is_same level e vs g h =
     let xs = variants_marks (level + 1) vs in
     let ys = variants_marks (level + 1) (joined_variants vs) in
-    same_append (inline_marks level e) (inline_marks level (joined_inline e))
+    SameText-append (inline_marks level e) (inline_marks level (joined_inline e))
     (literal level (codes " ->") ∷ line_end ∷ xs) (literal level (codes " ->") ∷ line_end ∷ ys) g
     (same_cons (literal level (codes " ->")) (line_end ∷ xs) (line_end ∷ ys) (same_cons line_end xs ys h))
 
@@ -227,44 +227,44 @@ same_variant level key value default h =
     let c = literal level (codes "]") in
     let xs = pattern_marks level value in
     let ys = pattern_marks level (joined_pattern value) in
-    same_under (default_marks level default) (literal level (codes "[") ∷ k ∷ c ∷ xs)
+    SameText-prepend (default_marks level default) (literal level (codes "[") ∷ k ∷ c ∷ xs)
     (literal level (codes "[") ∷ k ∷ c ∷ ys)
     (same_cons (literal level (codes "[")) (k ∷ c ∷ xs) (k ∷ c ∷ ys)
     (same_cons k (c ∷ xs) (c ∷ ys) (same_cons c xs ys h)))
 
-same_function : (level : ℕ) (id : Text) (a : ArgumentsTree Text) →
+joined_function_is_same_text : (level : ℕ) (id : Text) (a : ArgumentsTree Text) →
     SameText (arguments_marks level a) (arguments_marks level (joined_arguments a)) →
     SameText (inline_marks level (function_reference id a))
     (inline_marks level (joined_inline (function_reference id a)))
-same_function level id a h =
+joined_function_is_same_text level id a h =
     same_cons (literal level id) (arguments_marks level a) (arguments_marks level (joined_arguments a)) h
 
-same_term : (level : ℕ) (id : Text) (b : Option Text) (a : MaybeArguments Text) →
+joined_term_reference_is_same_text : (level : ℕ) (id : Text) (b : Option Text) (a : MaybeArguments Text) →
     SameText (maybe_marks level a) (maybe_marks level (joined_maybe a)) →
     SameText (inline_marks level (term_reference id b a)) (inline_marks level (joined_inline (term_reference id b a)))
-same_term level id b a h =
+joined_term_reference_is_same_text level id b a h =
     let xs = attribute_marks level b ++ maybe_marks level a in
     let ys = attribute_marks level b ++ maybe_marks level (joined_maybe a) in
     same_cons (literal level (codes "-")) (literal level id ∷ xs) (literal level id ∷ ys)
     (same_cons (literal level id) xs ys
-    (same_under (attribute_marks level b) (maybe_marks level a) (maybe_marks level (joined_maybe a)) h))
+    (SameText-prepend (attribute_marks level b) (maybe_marks level a) (maybe_marks level (joined_maybe a)) h))
 
 mutual
   same_expression : (level : ℕ) (e : ExpressionTree Text) →
       SameText (expression_marks level e) (expression_marks level (joined_expression e))
-  same_expression level (select e vs) = same_select level e vs (same_inline level e) (same_variants (level + 1) vs)
+  same_expression level (select e vs) = select_is_same level e vs (same_inline level e) (same_variants (level + 1) vs)
   same_expression level (inline e) = same_inline level e
 
   same_inline : (level : ℕ) (e : InlineTree Text) →
       SameText (inline_marks level e) (inline_marks level (joined_inline e))
   same_inline level (string_literal v) = λ last ms. refl
   same_inline level (number_literal v) = λ last ms. refl
-  same_inline level (function_reference id a) = same_function level id a (same_arguments level a)
+  same_inline level (function_reference id a) = joined_function_is_same_text level id a (same_arguments level a)
   same_inline level (message_reference id a) = λ last ms. refl
-  same_inline level (term_reference id b a) = same_term level id b a (same_maybe level a)
+  same_inline level (term_reference id b a) = joined_term_reference_is_same_text level id b a (same_maybe level a)
   same_inline level (variable_reference id) = λ last ms. refl
   same_inline level (inline_placeable e) =
-      same_wrapped (literal level (codes "{")) (literal level (codes "}")) (expression_marks level e)
+      SameText-wrapped (literal level (codes "{")) (literal level (codes "}")) (expression_marks level e)
       (expression_marks level (joined_expression e)) (same_expression level e)
 
   same_maybe : (level : ℕ) (a : MaybeArguments Text) →
@@ -277,7 +277,7 @@ mutual
   same_arguments level (arguments ps ns) =
       let xs = positional_marks level ps ++ named_marks level ns in
       let ys = positional_marks level (joined_inlines ps) ++ named_marks level (joined_nameds ns) in
-      same_wrapped (literal level (codes "(")) (literal level (codes ")")) (joined level xs) (joined level ys)
+      SameText-wrapped (literal level (codes "(")) (literal level (codes ")")) (joined level xs) (joined level ys)
       (same_joined level xs ys
       (lists_append (positional_marks level ps) (positional_marks level (joined_inlines ps))
       (named_marks level ns) (named_marks level (joined_nameds ns)) (same_inlines level ps)
@@ -307,16 +307,16 @@ mutual
   same_variants level (variants (variant key value default) vs) =
       let xs = variants_marks level vs in
       let ys = variants_marks level (joined_variants vs) in
-      same_append (variant_marks level (variant key value default))
+      SameText-append (variant_marks level (variant key value default))
       (variant_marks level (variant key (joined_pattern value) default)) (line_end ∷ xs) (line_end ∷ ys)
-      (same_variant level key value default (same_pattern level value (λ l. same_elements l value)))
+      (same_variant level key value default (pattern_is_same_text_by_elements level value (λ l. same_elements l value)))
       (same_cons line_end xs ys (same_variants level vs))
 
   same_elements : (level : ℕ) (p : PatternTree Text) →
       SameText (elements_marks level p) (elements_marks level (joined_pattern p))
   same_elements level no_elements = same []
   same_elements level (elements (placeable e) es) =
-      same_append (element_marks level (placeable e)) (element_marks level (placeable (joined_expression e)))
+      SameText-append (element_marks level (placeable e)) (element_marks level (placeable (joined_expression e)))
       (elements_marks level es) (elements_marks level (joined_pattern es)) (same_placeable level e)
       (same_elements level es)
   same_elements level (elements (text_element v) es) = same_after level es v
@@ -328,72 +328,72 @@ mutual
       let xs = element_marks level (placeable e) ++ elements_marks level es in
       let ys = element_marks level (placeable (joined_expression e)) ++ elements_marks level (joined_pattern es) in
       same_cons (literal level v) xs ys
-      (same_append (element_marks level (placeable e)) (element_marks level (placeable (joined_expression e)))
+      (SameText-append (element_marks level (placeable e)) (element_marks level (placeable (joined_expression e)))
       (elements_marks level es) (elements_marks level (joined_pattern es)) (same_placeable level e)
       (same_elements level es))
   same_after level (elements (text_element w) es) v =
-      after_text level v w es (is_joined v w) refl (same_elements level es) (same_after level es w)
+      joined_after_is_same_text level v w es (is_joined v w) refl (same_elements level es) (same_after level es w)
 
   same_placeable : (level : ℕ) (e : ExpressionTree Text) →
       SameText (element_marks level (placeable e)) (element_marks level (placeable (joined_expression e)))
   same_placeable level (select e vs) =
-      same_wrapped (literal level (codes "{ ")) (literal level (codes "}")) (expression_marks level (select e vs))
+      SameText-wrapped (literal level (codes "{ ")) (literal level (codes "}")) (expression_marks level (select e vs))
       (expression_marks level (joined_expression (select e vs)))
-      (same_select level e vs (same_inline level e) (same_variants (level + 1) vs))
+      (select_is_same level e vs (same_inline level e) (same_variants (level + 1) vs))
   same_placeable level (inline (string_literal v)) = λ last ms. refl
   same_placeable level (inline (number_literal v)) = λ last ms. refl
   same_placeable level (inline (function_reference id a)) =
-      same_wrapped (literal level (codes "{ ")) (literal level (codes " }"))
+      SameText-wrapped (literal level (codes "{ ")) (literal level (codes " }"))
       (inline_marks level (function_reference id a)) (inline_marks level (joined_inline (function_reference id a)))
-      (same_function level id a (same_arguments level a))
+      (joined_function_is_same_text level id a (same_arguments level a))
   same_placeable level (inline (message_reference id a)) = λ last ms. refl
   same_placeable level (inline (term_reference id b a)) =
-      same_wrapped (literal level (codes "{ ")) (literal level (codes " }"))
+      SameText-wrapped (literal level (codes "{ ")) (literal level (codes " }"))
       (inline_marks level (term_reference id b a)) (inline_marks level (joined_inline (term_reference id b a)))
-      (same_term level id b a (same_maybe level a))
+      (joined_term_reference_is_same_text level id b a (same_maybe level a))
   same_placeable level (inline (variable_reference id)) = λ last ms. refl
   same_placeable level (inline (inline_placeable e)) =
-      same_wrapped (literal level (codes "{{ ")) (literal level (codes " }}")) (expression_marks level e)
+      SameText-wrapped (literal level (codes "{{ ")) (literal level (codes " }}")) (expression_marks level e)
       (expression_marks level (joined_expression e)) (same_expression level e)
 
 -- ---- entries
 
-pattern_text : (level : ℕ) (p : PatternTree Text) →
+joined_pattern_is_same_text : (level : ℕ) (p : PatternTree Text) →
     SameText (pattern_marks level p) (pattern_marks level (joined_pattern p))
-pattern_text level p = same_pattern level p (λ l. same_elements l p)
+joined_pattern_is_same_text level p = pattern_is_same_text_by_elements level p (λ l. same_elements l p)
 
-value_text : (value : Option (PatternTree Text)) →
+joined_value_is_same_text : (value : Option (PatternTree Text)) →
     SameText (value_marks value) (value_marks (option_map joined_pattern value))
-value_text None = same []
-value_text (Some p) = pattern_text 0 p
+joined_value_is_same_text None = same []
+joined_value_is_same_text (Some p) = joined_pattern_is_same_text 0 p
 
-attribute_text : (a : AttributeTree Text) →
+joined_attribute_is_same_text : (a : AttributeTree Text) →
     SameText (attribute_line_marks a) (attribute_line_marks (joined_attribute a))
-attribute_text a =
+joined_attribute_is_same_text a =
     let i = literal 1 a.id in
     let q = literal 1 (codes " =") in
     let xs = pattern_marks 1 a.value in
     let ys = pattern_marks 1 (joined_pattern a.value) in
     same_cons line_end (literal 1 (codes ".") ∷ i ∷ q ∷ xs) (literal 1 (codes ".") ∷ i ∷ q ∷ ys)
     (same_cons (literal 1 (codes ".")) (i ∷ q ∷ xs) (i ∷ q ∷ ys)
-    (same_cons i (q ∷ xs) (q ∷ ys) (same_cons q xs ys (pattern_text 1 a.value))))
+    (same_cons i (q ∷ xs) (q ∷ ys) (same_cons q xs ys (joined_pattern_is_same_text 1 a.value))))
 
-attributes_text : (more : List (AttributeTree Text)) →
+joined_attributes_same_text : (more : List (AttributeTree Text)) →
     SameText (attributes_marks more) (attributes_marks (map joined_attribute more))
-attributes_text [] = same []
-attributes_text (a ∷ rest) =
-    same_append (attribute_line_marks a) (attribute_line_marks (joined_attribute a)) (attributes_marks rest)
-    (attributes_marks (map joined_attribute rest)) (attribute_text a) (attributes_text rest)
+joined_attributes_same_text [] = same []
+joined_attributes_same_text (a ∷ rest) =
+    SameText-append (attribute_line_marks a) (attribute_line_marks (joined_attribute a)) (attributes_marks rest)
+    (attributes_marks (map joined_attribute rest)) (joined_attribute_is_same_text a) (joined_attributes_same_text rest)
 
 -- the value, the attributes and the line end
-fields_text : (xs ys : List Mark) (more : List (AttributeTree Text)) → SameText xs ys →
+joined_fields_are_same_text : (xs ys : List Mark) (more : List (AttributeTree Text)) → SameText xs ys →
     SameText (xs ++ (attributes_marks more ++ (line_end ∷ [])))
     (ys ++ (attributes_marks (map joined_attribute more) ++ (line_end ∷ [])))
-fields_text xs ys more h =
-    same_append xs ys (attributes_marks more ++ (line_end ∷ []))
+joined_fields_are_same_text xs ys more h =
+    SameText-append xs ys (attributes_marks more ++ (line_end ∷ []))
     (attributes_marks (map joined_attribute more) ++ (line_end ∷ [])) h
-    (same_append (attributes_marks more) (attributes_marks (map joined_attribute more)) (line_end ∷ [])
-    (line_end ∷ []) (attributes_text more) (same (line_end ∷ [])))
+    (SameText-append (attributes_marks more) (attributes_marks (map joined_attribute more)) (line_end ∷ [])
+    (line_end ∷ []) (joined_attributes_same_text more) (same (line_end ∷ [])))
 
 pub message_text : (m : MessageTree Text) → SameText (message_marks m) (message_marks (joined_message m))
 message_text m =
@@ -403,11 +403,11 @@ message_text m =
     let ys =
     value_marks (option_map joined_pattern m.value) ++
     (attributes_marks (map joined_attribute m.attributes) ++ (line_end ∷ [])) in
-    same_under (own_comment_marks m.comment) (i ∷ q ∷ xs) (i ∷ q ∷ ys)
+    SameText-prepend (own_comment_marks m.comment) (i ∷ q ∷ xs) (i ∷ q ∷ ys)
     (same_cons i (q ∷ xs) (q ∷ ys)
     (same_cons q xs ys
-    (fields_text (value_marks m.value) (value_marks (option_map joined_pattern m.value)) m.attributes
-    (value_text m.value))))
+    (joined_fields_are_same_text (value_marks m.value) (value_marks (option_map joined_pattern m.value)) m.attributes
+    (joined_value_is_same_text m.value))))
 
 pub term_text : (m : TermTree Text) → SameText (term_marks m) (term_marks (joined_term m))
 term_text m =
@@ -418,12 +418,12 @@ term_text m =
     let ys =
     pattern_marks 0 (joined_pattern m.value) ++
     (attributes_marks (map joined_attribute m.attributes) ++ (line_end ∷ [])) in
-    same_under (own_comment_marks m.comment) (d ∷ i ∷ q ∷ xs) (d ∷ i ∷ q ∷ ys)
+    SameText-prepend (own_comment_marks m.comment) (d ∷ i ∷ q ∷ xs) (d ∷ i ∷ q ∷ ys)
     (same_cons d (i ∷ q ∷ xs) (i ∷ q ∷ ys)
     (same_cons i (q ∷ xs) (q ∷ ys)
     (same_cons q xs ys
-    (fields_text (pattern_marks 0 m.value) (pattern_marks 0 (joined_pattern m.value)) m.attributes
-    (pattern_text 0 m.value)))))
+    (joined_fields_are_same_text (pattern_marks 0 m.value) (pattern_marks 0 (joined_pattern m.value)) m.attributes
+    (joined_pattern_is_same_text 0 m.value)))))
 
 -- ---- bodies, without junk
 
@@ -465,14 +465,14 @@ module _ (edition : Edition) where
       _ (right_true (has_field (option_map joined_pattern m.value) (map joined_attribute m.attributes))
       _ this)))
   joined_starts (term m ∷ es) h = term_starts m (body_marks false true es)
-  joined_starts (comment level content ∷ es) h = free_starts level content (body_marks false true es)
+  joined_starts (comment level content ∷ es) h = free_comment_starts level content (body_marks false true es)
   joined_starts (junk x ∷ es) h = joined_starts es h
 
-joined_written : (es : BodyTree Text) → is_canonical One (joined_body es) ≡ true →
+joined_body_is_written : (es : BodyTree Text) → is_canonical One (joined_body es) ≡ true →
     IsWritten (joined_body es) (written false es)
 unfolding written
-joined_written es h = subst (IsWritten (joined_body es)) (sym (joined_starts One es h))
+joined_body_is_written es h = subst (IsWritten (joined_body es)) (sym (joined_starts One es h))
     (joined_is_written One es false h)
 
-pub joined_back : (es : BodyTree Text) → ReadsBackJoined es
-joined_back es h = reads_back One (joined_body es) (written false es) h (joined_written es h)
+pub joined_reads_back : (es : BodyTree Text) → ReadsBackJoined es
+joined_reads_back es h = reads_back One (joined_body es) (written false es) h (joined_body_is_written es h)

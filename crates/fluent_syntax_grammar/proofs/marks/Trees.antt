@@ -35,10 +35,10 @@ use Rattle.fluent_syntax_grammar.proofs.marks.WrittenBytes.{expression_bytes, va
 use Rattle.fluent_syntax_grammar.proofs.marks.WrittenBytes.{inline_bytes, maybe_bytes, arguments_bytes}
 use Rattle.fluent_syntax_grammar.proofs.marks.WrittenBytes.{positional_bytes, named_bytes, argument_bytes}
 use Rattle.fluent_syntax_grammar.proofs.marks.WrittenBytes.{elements_bytes, element_bytes, pattern_bytes}
-use Rattle.fluent_syntax_grammar.proofs.marks.LastBytes.{Plain, none_plain, plain_same, literal_is_written}
-use Rattle.fluent_syntax_grammar.proofs.marks.LastBytes.{literal_at_line, last_append, plain_text}
-use Rattle.fluent_syntax_grammar.proofs.marks.Words.{id_plain, number_plain, key_plain, string_last, literal_after}
-use Rattle.fluent_syntax_grammar.proofs.marks.Words.{literal_at, ending, closing_is_written, plain_byte}
+use Rattle.fluent_syntax_grammar.proofs.marks.LastBytes.{Plain, none_is_plain, plain_same, literal_is_written}
+use Rattle.fluent_syntax_grammar.proofs.marks.LastBytes.{literal_is_indented, last_append, ends_plainly_is_plain}
+use Rattle.fluent_syntax_grammar.proofs.marks.Words.{id_plain, number_ends_plain, key_plain, string_last, literal_after}
+use Rattle.fluent_syntax_grammar.proofs.marks.Words.{literal_is_written_at_line, ending, closing_is_written, plain_byte}
 use Rattle.fluent_syntax_grammar.proofs.forward.Trees.{key_is}
 
 -- a space, an LF and a CR differ from the byte that these marks end with
@@ -117,8 +117,8 @@ string_marks level v e ms =
     (literal_after (last_of (Some 34) v) level (34 ∷ []) ms e ∙ ap (λ o. 34 ∷ text_after o ms) refl
     ∙ ap (λ x. 34 ∷ x) (after_byte 34 ms refl refl)))
 
-number_marks : (level : ℕ) (v : Text) → Plain (last_of None v) → InlineMarks level (number_literal v)
-number_marks level v p ms = literal_is_written level v ms p
+number_literal_is_written : (level : ℕ) (v : Text) → Plain (last_of None v) → InlineMarks level (number_literal v)
+number_literal_is_written level v p ms = literal_is_written level v ms p
 
 attribute_is_written : (level : ℕ) (a : Option Text) (ms : List Mark) → option_obeys is_name a ≡ true →
     text_after None (attribute_marks level a ++ ms) ≡ attribute_bytes a (text_after None ms)
@@ -126,20 +126,20 @@ attribute_is_written level None ms h = refl
 attribute_is_written level (Some a) ms h =
     ap (λ x. 46 ∷ x) (after_byte 46 (literal level a ∷ ms) refl refl ∙ literal_is_written level a ms (id_plain a h))
 
-message_marks : (level : ℕ) (id : Text) (a : Option Text) → is_name id ≡ true → option_obeys is_name a ≡ true →
+reference_is_written : (level : ℕ) (id : Text) (a : Option Text) → is_name id ≡ true → option_obeys is_name a ≡ true →
     InlineMarks level (message_reference id a)
-message_marks level id a h g ms =
+reference_is_written level id a h g ms =
     literal_is_written level id (attribute_marks level a ++ ms) (id_plain id h)
     ∙ ap (λ x. id ++ x) (attribute_is_written level a ms g)
 
-function_marks : (level : ℕ) (id : Text) (a : ArgumentsTree Text) → is_name id ≡ true → ArgumentsMarks level a →
+function_is_written : (level : ℕ) (id : Text) (a : ArgumentsTree Text) → is_name id ≡ true → ArgumentsMarks level a →
     InlineMarks level (function_reference id a)
-function_marks level id a h k ms =
+function_is_written level id a h k ms =
     literal_is_written level id (arguments_marks level a ++ ms) (id_plain id h) ∙ ap (λ x. id ++ x) (k ms)
 
-term_marks : (level : ℕ) (id : Text) (a : Option Text) (c : MaybeArguments Text) → is_name id ≡ true →
+term_reference_is_written : (level : ℕ) (id : Text) (a : Option Text) (c : MaybeArguments Text) → is_name id ≡ true →
     option_obeys is_name a ≡ true → MaybeMarks level c → InlineMarks level (term_reference id a c)
-term_marks level id a c h g k ms =
+term_reference_is_written level id a c h g k ms =
     ap (λ x. 45 ∷ x)
     (after_byte 45 (literal level id ∷ ((attribute_marks level a ++ maybe_marks level c) ++ ms)) refl refl
     ∙ literal_is_written level id ((attribute_marks level a ++ maybe_marks level c) ++ ms) (id_plain id h)
@@ -180,33 +180,33 @@ named_more level n ns h k ms =
     ∙ ap (text_after None) (append_assoc (argument_marks level n) more ms) ∙ h (more ++ ms)
     ∙ ap (argument_bytes level n) (k ms))
 
-one_marks : (level : ℕ) (name : Text) (e : InlineTree Text) → is_name name ≡ true → InlineMarks level e →
+one_named_is_written : (level : ℕ) (name : Text) (e : InlineTree Text) → is_name name ≡ true → InlineMarks level e →
     NamedArgumentMarks level (named_argument name e)
-one_marks level name e h k ms =
+one_named_is_written level name e h k ms =
     literal_is_written level name (literal level (58 ∷ 32 ∷ []) ∷ (inline_marks level e ++ ms)) (id_plain name h)
     ∙ ap (λ x. name ++ (58 ∷ 32 ∷ x)) (after_byte 32 (inline_marks level e ++ ms) refl refl ∙ k ms)
 
 -- the list between its parentheses
-parentheses : (level : ℕ) (inside : List Mark) (bytes : Text → Text) →
+list_is_written : (level : ℕ) (inside : List Mark) (bytes : Text → Text) →
     ((ms : List Mark) → text_after None (inside ++ ms) ≡ bytes (text_after None ms)) → (ms : List Mark) →
     text_after None ((literal level (40 ∷ []) ∷ (inside ++ (literal level (41 ∷ []) ∷ []))) ++ ms)
     ≡ 40 ∷ bytes (41 ∷ text_after None ms)
-parentheses level inside bytes k ms =
+list_is_written level inside bytes k ms =
     let close = literal level (41 ∷ []) in
     ap (λ x. 40 ∷ x)
     (after_byte 40 ((inside ++ (close ∷ [])) ++ ms) refl refl
     ∙ ap (text_after None) (append_assoc inside (close ∷ []) ms) ∙ k (close ∷ ms)
     ∙ ap (λ x. bytes (41 ∷ x)) (after_byte 41 ms refl refl))
 
-nothing_marks : (level : ℕ) → ArgumentsMarks level (arguments no_inlines no_named)
-nothing_marks level ms = parentheses level [] (λ x. x) (λ ms. refl) ms
+no_arguments_are_written : (level : ℕ) → ArgumentsMarks level (arguments no_inlines no_named)
+no_arguments_are_written level ms = list_is_written level [] (λ x. x) (λ ms. refl) ms
 
 named_first : (level : ℕ) (n : NamedTree Text) (ns : NamedTrees Text) → NamedArgumentMarks level n →
     NamedMarks level ns →
     ArgumentsMarks level (arguments no_inlines (nameds n ns))
 named_first level n ns h k ms =
     let more = more_joined level (named_marks level ns) in
-    parentheses level (argument_marks level n ++ more) (λ x. argument_bytes level n (named_bytes level false ns x))
+    list_is_written level (argument_marks level n ++ more) (λ x. argument_bytes level n (named_bytes level false ns x))
     (λ ms. ap (text_after None) (append_assoc (argument_marks level n) more ms) ∙ h (more ++ ms)
     ∙ ap (argument_bytes level n) (k ms)) ms
 
@@ -214,29 +214,29 @@ positional_first : (level : ℕ) (e : InlineTree Text) (es : InlineTrees Text) (
     InlineMarks level e → MoreMarks level es → NamedMarks level ns → ArgumentsMarks level (arguments (inlines e es) ns)
 positional_first level e es ns h k q ms =
     let more = more_joined level (positional_marks level es ++ named_marks level ns) in
-    parentheses level (inline_marks level e ++ more)
+    list_is_written level (inline_marks level e ++ more)
     (λ x. inline_bytes level e (positional_bytes level false es (named_bytes level false ns x)))
     (λ ms. ap (text_after None) (append_assoc (inline_marks level e) more ms) ∙ h (more ++ ms)
     ∙ ap (inline_bytes level e) (k (named_marks level ns) ms ∙ ap (positional_bytes level false es) (q ms))) ms
 
 -- ---- selects
 
-select_marks : (level : ℕ) (e : InlineTree Text) (vs : VariantTrees Text) → InlineMarks level e →
+select_is_written : (level : ℕ) (e : InlineTree Text) (vs : VariantTrees Text) → InlineMarks level e →
     VariantsMarks (level + 1) vs → ExpressionMarks level (select e vs)
-select_marks level e vs h k ms =
+select_is_written level e vs h k ms =
     let rest = variants_marks (level + 1) vs in
     ap (text_after None) (append_assoc (inline_marks level e) (literal level (codes " ->") ∷ line_end ∷ rest) ms)
     ∙ h (literal level (codes " ->") ∷ line_end ∷ (rest ++ ms))
     ∙ ap (λ x. inline_bytes level e (32 ∷ 45 ∷ 62 ∷ lf ∷ x)) (k ms)
 
 -- from the bracket on
-bracket : (level : ℕ) (key : KeyTree Text) (value : PatternTree Text) (ms : List Mark) →
+bracket_is_written : (level : ℕ) (key : KeyTree Text) (value : PatternTree Text) (ms : List Mark) →
     Plain (last_of None (key_text key)) → PatternMarks level value →
     text_after None
     (literal level (codes "[") ∷ literal level (key_text key) ∷ literal level (codes "]") ∷
     (pattern_marks level value ++ ms))
     ≡ 91 ∷ (key_text key ++ (93 ∷ pattern_bytes level value (text_after None ms)))
-bracket level key value ms p k =
+bracket_is_written level key value ms p k =
     ap (λ x. 91 ∷ x)
     (after_byte 91 (literal level (key_text key) ∷ literal level (codes "]") ∷ (pattern_marks level value ++ ms))
     refl refl
@@ -249,8 +249,8 @@ variant_is_written : (level : ℕ) (key : KeyTree Text) (value : PatternTree Tex
     ≡ variant_bytes level (variant key value default) (text_after None ms)
 variant_is_written level key value false ms p k =
     let rest = literal level (key_text key) ∷ literal level (codes "]") ∷ (pattern_marks level value ++ ms) in
-    literal_at_line level 91 [] rest (plain_byte 91 refl refl)
-    ∙ ap (λ x. indent level ++ x) (bracket_same rest ∙ bracket level key value ms p k)
+    literal_is_indented level 91 [] rest (plain_byte 91 refl refl)
+    ∙ ap (λ x. indent level ++ x) (bracket_same rest ∙ bracket_is_written level key value ms p k)
   where
     bracket_same : (rest : List Mark) → 91 ∷ text_after None rest ≡ text_after None (literal level (91 ∷ []) ∷ rest)
     bracket_same rest = ap (λ x. 91 ∷ x) (sym (after_byte 91 rest refl refl))
@@ -260,7 +260,7 @@ variant_is_written level key value true ms p k =
     (pattern_marks level value ++ ms) in
     ap (λ o. (star_indent level ++ (42 ∷ [])) ++ text_after o rest) (last_append (star_indent level) (Some lf) 42 [])
     ∙ append_assoc (star_indent level) (42 ∷ []) (text_after (Some 42) rest)
-    ∙ ap (λ x. star_indent level ++ (42 ∷ x)) (after_byte 42 rest refl refl ∙ bracket level key value ms p k)
+    ∙ ap (λ x. star_indent level ++ (42 ∷ x)) (after_byte 42 rest refl refl ∙ bracket_is_written level key value ms p k)
 
 variants_more : (level : ℕ) (key : KeyTree Text) (value : PatternTree Text) (default : Bool) (vs : VariantTrees Text) →
     Plain (last_of None (key_text key)) → PatternMarks level value → VariantsMarks level vs →
@@ -278,19 +278,19 @@ select_element : (level : ℕ) (e : InlineTree Text) (vs : VariantTrees Text) �
 select_element level e vs k last at_line ms s =
     let x = expression_marks level (select e vs) in
     let close = literal level (125 ∷ []) in
-    literal_at last at_line level 123 (32 ∷ []) ((x ++ (close ∷ [])) ++ ms) s
+    literal_is_written_at_line last at_line level 123 (32 ∷ []) ((x ++ (close ∷ [])) ++ ms) s
     ∙ ap (λ y. line_indent level at_line ++ (123 ∷ 32 ∷ y))
     (after_byte 32 ((x ++ (close ∷ [])) ++ ms) refl refl ∙ ap (text_after None) (append_assoc x (close ∷ []) ms)
     ∙ k (close ∷ ms)
     ∙ ap (expression_bytes level (select e vs)) (closing_is_written level (select e vs) 125 [] ms
     (plain_byte 125 refl refl)))
 
-double_element : (level : ℕ) (e : ExpressionTree Text) → ExpressionMarks level e →
+double_placeable_is_written : (level : ℕ) (e : ExpressionTree Text) → ExpressionMarks level e →
     PlaceableMarks level (inline (inline_placeable e))
-double_element level e k last at_line ms s =
+double_placeable_is_written level e k last at_line ms s =
     let x = expression_marks level e in
     let close = literal level (32 ∷ 125 ∷ 125 ∷ []) in
-    literal_at last at_line level 123 (123 ∷ 32 ∷ []) ((x ++ (close ∷ [])) ++ ms) s
+    literal_is_written_at_line last at_line level 123 (123 ∷ 32 ∷ []) ((x ++ (close ∷ [])) ++ ms) s
     ∙ ap (λ y. line_indent level at_line ++ (123 ∷ 123 ∷ 32 ∷ y))
     (after_byte 32 ((x ++ (close ∷ [])) ++ ms) refl refl ∙ ap (text_after None) (append_assoc x (close ∷ []) ms)
     ∙ k (close ∷ ms)
@@ -305,58 +305,58 @@ spaced : (level : ℕ) (e : InlineTree Text) → InlineMarks level e → (last :
 spaced level e k last at_line ms s =
     let x = inline_marks level e in
     let close = literal level (32 ∷ 125 ∷ []) in
-    literal_at last at_line level 123 (32 ∷ []) ((x ++ (close ∷ [])) ++ ms) s
+    literal_is_written_at_line last at_line level 123 (32 ∷ []) ((x ++ (close ∷ [])) ++ ms) s
     ∙ ap (λ y. line_indent level at_line ++ (123 ∷ 32 ∷ y))
     (after_byte 32 ((x ++ (close ∷ [])) ++ ms) refl refl ∙ ap (text_after None) (append_assoc x (close ∷ []) ms)
     ∙ k (close ∷ ms)
     ∙ ap (λ y. inline_bytes level e (32 ∷ 125 ∷ y)) (after_byte 125 ms refl refl))
 
-nothing_more : (level : ℕ) → ElementsMarks level no_elements
-nothing_more level last at_line ms s c = plain_same ms last c
+no_elements_are_written : (level : ℕ) → ElementsMarks level no_elements
+no_elements_are_written level last at_line ms s c = plain_same ms last c
 
-text_more : (level b : ℕ) (bs : Text) (es : PatternTree Text) → Closed es (last_of None (b ∷ bs)) →
+text_element_is_written : (level b : ℕ) (bs : Text) (es : PatternTree Text) → Closed es (last_of None (b ∷ bs)) →
     ElementsMarks level es → ElementsMarks level (elements (text_element (b ∷ bs)) es)
-text_more level b bs es c k last at_line ms s d =
-    literal_at last at_line level b bs (elements_marks level es ++ ms) s
+text_element_is_written level b bs es c k last at_line ms s d =
+    literal_is_written_at_line last at_line level b bs (elements_marks level es ++ ms) s
     ∙ ap (λ x. line_indent level at_line ++ ((b ∷ bs) ++ x))
     (k (last_of None (b ∷ bs)) (ends_in_lf (b ∷ bs)) ms refl c)
 
-placeable_more : (level : ℕ) (x : ExpressionTree Text) (es : PatternTree Text) → PlaceableMarks level x →
+placeable_element_is_written : (level : ℕ) (x : ExpressionTree Text) (es : PatternTree Text) → PlaceableMarks level x →
     ElementsMarks level es → ElementsMarks level (elements (placeable x) es)
-placeable_more level x es h k last at_line ms s d =
+placeable_element_is_written level x es h k last at_line ms s d =
     ap (text_after last) (append_assoc (element_marks level (placeable x)) (elements_marks level es) ms)
     ∙ h last at_line (elements_marks level es ++ ms) s
     ∙ ap (λ y. line_indent level at_line ++ element_bytes level (placeable x) y)
     (k None false ms refl (none_closed es))
   where
     none_closed : (es : PatternTree Text) → Closed es None
-    none_closed no_elements = none_plain
+    none_closed no_elements = none_is_plain
     none_closed (elements e es) = tt
 
-text_closes : (v : Text) (es : PatternTree Text) → may_precede v es ≡ true → Closed es (last_of None v)
-text_closes v no_elements e = plain_text v e
-text_closes v (elements x es) e = tt
+preceding_text_is_closed : (v : Text) (es : PatternTree Text) → may_precede v es ≡ true → Closed es (last_of None v)
+preceding_text_is_closed v no_elements e = ends_plainly_is_plain v e
+preceding_text_is_closed v (elements x es) e = tt
 
 -- ---- patterns
 
-opened : (level : ℕ) (opens : Bool) (ms : List Mark) →
+opening_mark_is_written : (level : ℕ) (opens : Bool) (ms : List Mark) →
     text_after None ((if opens then line_end else literal level (space ∷ [])) ∷ ms)
     ≡ opening_byte opens ∷ text_after (if opens then Some lf else None) ms
-opened level true ms = refl
-opened level false ms = ap (λ x. 32 ∷ x) (after_byte 32 ms refl refl)
+opening_mark_is_written level true ms = refl
+opening_mark_is_written level false ms = ap (λ x. 32 ∷ x) (after_byte 32 ms refl refl)
 
-opened_last : (opens : Bool) → is_last lf (if opens then Some lf else None) ≡ opens
-opened_last true = refl
-opened_last false = refl
+opening_is_lf_exactly : (opens : Bool) → is_last lf (if opens then Some lf else None) ≡ opens
+opening_is_lf_exactly true = refl
+opening_is_lf_exactly false = refl
 
 pattern_is_written : (level : ℕ) (e : ElementTree Text) (es : PatternTree Text) →
     ((l : ℕ) → ElementsMarks l (elements e es)) → PatternMarks level (elements e es)
 pattern_is_written level e es k ms =
     let p = elements e es in
-    opened level (opens_line p) (elements_marks (inner_level level p) p ++ ms)
+    opening_mark_is_written level (opens_line p) (elements_marks (inner_level level p) p ++ ms)
     ∙ ap (λ x. opening_byte (opens_line p) ∷ x)
     (k (inner_level level p) (if opens_line p then Some lf else None) (opens_line p) ms
-    (opened_last (opens_line p)) tt)
+    (opening_is_lf_exactly (opens_line p)) tt)
 
 module _ (edition : Edition) where
   elements_rest : (multiline : Bool) (s : ElementPosition) (b : ℕ) (bs : Text) (es : PatternTree Text) →
@@ -371,7 +371,7 @@ module _ (edition : Edition) where
         → ExpressionMarks level e
     expression_is_written level (inline e) h = inline_is_written level e (inline_part edition e h)
     expression_is_written level (select e vs) h =
-        select_marks level e vs
+        select_is_written level e vs
         (inline_is_written level e (left_true (inline_obeys (canonical_rules edition) e) _
         (select_parts edition e vs h)))
         (variants_are_written (level + 1) vs
@@ -380,14 +380,14 @@ module _ (edition : Edition) where
     inline_is_written : (level : ℕ) (e : InlineTree Text) → inline_obeys (canonical_rules edition) e ≡ true →
         InlineMarks level e
     inline_is_written level (string_literal v) h = string_marks level v (string_last v h)
-    inline_is_written level (number_literal v) h = number_marks level v (number_plain v h)
+    inline_is_written level (number_literal v) h = number_literal_is_written level v (number_ends_plain v h)
     inline_is_written level (function_reference id a) h =
-        function_marks level id a (left_true (is_name id) _ h)
+        function_is_written level id a (left_true (is_name id) _ h)
         (arguments_are_written level a (right_true (list_all is_callee_byte id) _ (right_true (is_name id) _ h)))
     inline_is_written level (message_reference id a) h =
-        message_marks level id a (left_true (is_name id) _ h) (right_true (is_name id) _ h)
+        reference_is_written level id a (left_true (is_name id) _ h) (right_true (is_name id) _ h)
     inline_is_written level (term_reference id a c) h =
-        term_marks level id a c (left_true (is_name id) _ h)
+        term_reference_is_written level id a c (left_true (is_name id) _ h)
         (left_true (option_obeys is_name a) _ (right_true (is_name id) _ h))
         (optional_arguments_are_written level c (right_true (option_obeys is_name a) _ (right_true (is_name id) _ h)))
     inline_is_written level (variable_reference id) h = variable_marks level id h
@@ -401,7 +401,7 @@ module _ (edition : Edition) where
 
     arguments_are_written : (level : ℕ) (a : ArgumentsTree Text) → arguments_obey (canonical_rules edition) a ≡ true →
         ArgumentsMarks level a
-    arguments_are_written level (arguments no_inlines no_named) h = nothing_marks level
+    arguments_are_written level (arguments no_inlines no_named) h = no_arguments_are_written level
     arguments_are_written level (arguments no_inlines (nameds n ns)) h =
         let rest = right_true (are_named_well [] (nameds n ns)) _ h in
         named_first level n ns (named_argument_is_written level n (left_true (named_obeys (canonical_rules edition) n) _
@@ -435,7 +435,7 @@ module _ (edition : Edition) where
     named_argument_is_written : (level : ℕ) (n : NamedTree Text) → named_obeys (canonical_rules edition) n ≡ true →
         NamedArgumentMarks level n
     named_argument_is_written level (named_argument name e) h =
-        one_marks level name e (left_true (is_name name) _ h) (inline_is_written level e
+        one_named_is_written level name e (left_true (is_name name) _ h) (inline_is_written level e
         (right_true (is_name name) _ h))
 
     variants_are_written : (level : ℕ) (vs : VariantTrees Text) → variants_obey (canonical_rules edition) vs ≡ true →
@@ -459,7 +459,7 @@ module _ (edition : Edition) where
         (left_true (is_pattern edition p && is_flush edition p) _ h) in
         let rest = right_true (is_pattern edition p && is_flush edition p) _ h in
         pattern_is_written level (placeable x) es
-        (λ l. placeable_more l x es
+        (λ l. placeable_element_is_written l x es
         (placeable_is_written l x (left_true (expression_obeys (canonical_rules edition) x) _ rest))
         (elements_are_written l es (is_multiline p) after_placeable are
         (right_true (expression_obeys (canonical_rules edition) x) _ rest)))
@@ -472,29 +472,29 @@ module _ (edition : Edition) where
         let rest = right_true (is_pattern edition p && is_flush edition p) _ h in
         let more = elements_rest (is_multiline p) opening b bs es are in
         pattern_is_written level (text_element (b ∷ bs)) es
-        (λ l. text_more l b bs es (text_closes (b ∷ bs) es more.0)
+        (λ l. text_element_is_written l b bs es (preceding_text_is_closed (b ∷ bs) es more.0)
         (elements_are_written l es (is_multiline p) (position_after (b ∷ bs)) more.1 rest))
 
     elements_are_written : (level : ℕ) (es : PatternTree Text) (multiline : Bool) (s : ElementPosition) →
         are_elements edition multiline s es ≡ true → elements_obey (canonical_rules edition) es ≡ true →
         ElementsMarks level es
-    elements_are_written level no_elements multiline s g h = nothing_more level
+    elements_are_written level no_elements multiline s g h = no_elements_are_written level
     elements_are_written level (elements (placeable x) es) multiline s g h =
-        placeable_more level x es
+        placeable_element_is_written level x es
         (placeable_is_written level x (left_true (expression_obeys (canonical_rules edition) x) _ h))
         (elements_are_written level es multiline after_placeable g
         (right_true (expression_obeys (canonical_rules edition) x) _ h))
     elements_are_written level (elements (text_element []) es) multiline s g h = absurd cc
     elements_are_written level (elements (text_element (b ∷ bs)) es) multiline s g h =
         let more = elements_rest multiline s b bs es g in
-        text_more level b bs es (text_closes (b ∷ bs) es more.0)
+        text_element_is_written level b bs es (preceding_text_is_closed (b ∷ bs) es more.0)
         (elements_are_written level es multiline (position_after (b ∷ bs)) more.1 h)
 
     placeable_is_written : (level : ℕ) (x : ExpressionTree Text) → expression_obeys (canonical_rules edition) x ≡ true →
         PlaceableMarks level x
     placeable_is_written level (select e vs) h =
         select_element level e vs
-        (select_marks level e vs
+        (select_is_written level e vs
         (inline_is_written level e (left_true (inline_obeys (canonical_rules edition) e) _
         (select_parts edition e vs h)))
         (variants_are_written (level + 1) vs
@@ -504,23 +504,23 @@ module _ (edition : Edition) where
         (string_marks level v (string_last v (inline_part edition (string_literal v) h)))
     placeable_is_written level (inline (number_literal v)) h =
         spaced level (number_literal v)
-        (number_marks level v (number_plain v (inline_part edition (number_literal v) h)))
+        (number_literal_is_written level v (number_ends_plain v (inline_part edition (number_literal v) h)))
     placeable_is_written level (inline (function_reference id a)) h =
         let i = inline_part edition (function_reference id a) h in
         spaced level (function_reference id a)
-        (function_marks level id a (left_true (is_name id) _ i)
+        (function_is_written level id a (left_true (is_name id) _ i)
         (arguments_are_written level a (right_true (list_all is_callee_byte id) _ (right_true (is_name id) _ i))))
     placeable_is_written level (inline (message_reference id a)) h =
         let i = inline_part edition (message_reference id a) h in
         spaced level (message_reference id a)
-        (message_marks level id a (left_true (is_name id) _ i) (right_true (is_name id) _ i))
+        (reference_is_written level id a (left_true (is_name id) _ i) (right_true (is_name id) _ i))
     placeable_is_written level (inline (term_reference id a c)) h =
         let i = inline_part edition (term_reference id a c) h in
         spaced level (term_reference id a c)
-        (term_marks level id a c (left_true (is_name id) _ i)
+        (term_reference_is_written level id a c (left_true (is_name id) _ i)
         (left_true (option_obeys is_name a) _ (right_true (is_name id) _ i))
         (optional_arguments_are_written level c (right_true (option_obeys is_name a) _ (right_true (is_name id) _ i))))
     placeable_is_written level (inline (variable_reference id)) h =
         spaced level (variable_reference id) (variable_marks level id (inline_part edition (variable_reference id) h))
     placeable_is_written level (inline (inline_placeable e)) h =
-        double_element level e (expression_is_written level e (inline_part edition (inline_placeable e) h))
+        double_placeable_is_written level e (expression_is_written level e (inline_part edition (inline_placeable e) h))

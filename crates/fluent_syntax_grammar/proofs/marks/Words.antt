@@ -16,93 +16,93 @@ use Rattle.fluent_syntax_grammar.proofs.forward.Words.{name_bytes}
 use Rattle.fluent_syntax_grammar.proofs.forward.Strings.{none_of_three}
 use Rattle.fluent_syntax_grammar.proofs.forward.Selects.{key_obeys'}
 use Rattle.fluent_syntax_grammar.proofs.marks.WrittenBytes.{line_indent, closing_indent}
-use Rattle.fluent_syntax_grammar.proofs.marks.LastBytes.{Plain, none_plain, literal_is_written, literal_at_line}
-use Rattle.fluent_syntax_grammar.proofs.marks.LastBytes.{last_append, name_plain}
+use Rattle.fluent_syntax_grammar.proofs.marks.LastBytes.{Plain, none_is_plain, literal_is_written, literal_is_indented}
+use Rattle.fluent_syntax_grammar.proofs.marks.LastBytes.{last_append, name_bytes_are_plain}
 use Rattle.fluent_syntax_grammar.proofs.Tests.{neither_left, neither_right, true_by_left, true_by_right}
 
 -- ---- how words end
 
-all_last : (p : ℕ → Bool) → p lf ≡ false → p cr ≡ false → (bs : Text) (c : ℕ) → p c ≡ true → list_all p bs ≡ true →
+last_is_plain : (p : ℕ → Bool) → p lf ≡ false → p cr ≡ false → (bs : Text) (c : ℕ) → p c ≡ true → list_all p bs ≡ true →
     Plain (last_of (Some c) bs)
-all_last p n m [] c e f = record { no_lf = differ p c lf e n; no_cr = differ p c cr e m }
-all_last p n m (b ∷ bs) c e f =
-    all_last p n m bs b (left_true (p b) (list_all p bs) f) (right_true (p b) (list_all p bs) f)
+last_is_plain p n m [] c e f = record { no_lf = differ p c lf e n; no_cr = differ p c cr e m }
+last_is_plain p n m (b ∷ bs) c e f =
+    last_is_plain p n m bs b (left_true (p b) (list_all p bs) f) (right_true (p b) (list_all p bs) f)
 
 all_plain : (p : ℕ → Bool) → p lf ≡ false → p cr ≡ false → (bs : Text) → list_all p bs ≡ true → Plain (last_of None bs)
-all_plain p n m [] e = none_plain
+all_plain p n m [] e = none_is_plain
 all_plain p n m (b ∷ bs) e =
-    all_last p n m bs b (left_true (p b) (list_all p bs) e) (right_true (p b) (list_all p bs) e)
+    last_is_plain p n m bs b (left_true (p b) (list_all p bs) e) (right_true (p b) (list_all p bs) e)
 
 -- a byte of a number
 abbrev is_number_byte : ℕ → Bool
 is_number_byte b = is_digit b || (b == 46 || b == 45)
 
-digits_all : (v : Text) → list_all is_digit v ≡ true → list_all is_number_byte v ≡ true
-digits_all [] e = refl
-digits_all (b ∷ v) e =
+digits_are_number_bytes : (v : Text) → list_all is_digit v ≡ true → list_all is_number_byte v ≡ true
+digits_are_number_bytes [] e = refl
+digits_are_number_bytes (b ∷ v) e =
     both_true (true_by_left (is_digit b) (b == 46 || b == 45) (left_true (is_digit b) (list_all is_digit v) e))
-    (digits_all v (right_true (is_digit b) (list_all is_digit v) e))
+    (digits_are_number_bytes v (right_true (is_digit b) (list_all is_digit v) e))
 
-fraction_all : (v : Text) → is_digits v ≡ true → list_all is_number_byte v ≡ true
-fraction_all [] e = refl
-fraction_all (b ∷ v) e = digits_all (b ∷ v) e
+fraction_has_number_bytes : (v : Text) → is_digits v ≡ true → list_all is_number_byte v ≡ true
+fraction_has_number_bytes [] e = refl
+fraction_has_number_bytes (b ∷ v) e = digits_are_number_bytes (b ∷ v) e
 
-rest_all : (v : Text) → is_number_rest v ≡ true → list_all is_number_byte v ≡ true
-rest_all [] e = refl
-rest_all (b ∷ v) e = elim (or_cases (is_digit b && is_number_rest v) (b == 46 && is_digits v) e) [
+number_rest_has_number_bytes : (v : Text) → is_number_rest v ≡ true → list_all is_number_byte v ≡ true
+number_rest_has_number_bytes [] e = refl
+number_rest_has_number_bytes (b ∷ v) e = elim (or_cases (is_digit b && is_number_rest v) (b == 46 && is_digits v) e) [
   | inl f ↦ both_true (true_by_left (is_digit b) (b == 46 || b == 45) (left_true (is_digit b) (is_number_rest v) f))
-      (rest_all v (right_true (is_digit b) (is_number_rest v) f))
+      (number_rest_has_number_bytes v (right_true (is_digit b) (is_number_rest v) f))
   | inr f ↦ both_true
       (true_by_right (is_digit b) (b == 46 || b == 45) (true_by_left (b == 46) (b == 45)
       (left_true (b == 46) (is_digits v) f)))
-      (fraction_all v (right_true (b == 46) (is_digits v) f))
+      (fraction_has_number_bytes v (right_true (b == 46) (is_digits v) f))
 ]
 
-unsigned_all : (v : Text) → is_unsigned v ≡ true → list_all is_number_byte v ≡ true
-unsigned_all [] e = cc
-unsigned_all (b ∷ v) e =
+unsigned_has_number_bytes : (v : Text) → is_unsigned v ≡ true → list_all is_number_byte v ≡ true
+unsigned_has_number_bytes [] e = cc
+unsigned_has_number_bytes (b ∷ v) e =
     both_true (true_by_left (is_digit b) (b == 46 || b == 45) (left_true (is_digit b) (is_number_rest v) e))
-    (rest_all v (right_true (is_digit b) (is_number_rest v) e))
+    (number_rest_has_number_bytes v (right_true (is_digit b) (is_number_rest v) e))
 
-number_all : (v : Text) → is_number v ≡ true → list_all is_number_byte v ≡ true
-number_all [] e = cc
-number_all (b ∷ v) e = elim (or_cases (b == 45 && is_unsigned v) (is_unsigned (b ∷ v)) e) [
+number_has_number_bytes : (v : Text) → is_number v ≡ true → list_all is_number_byte v ≡ true
+number_has_number_bytes [] e = cc
+number_has_number_bytes (b ∷ v) e = elim (or_cases (b == 45 && is_unsigned v) (is_unsigned (b ∷ v)) e) [
   | inl f ↦ both_true
       (true_by_right (is_digit b) (b == 46 || b == 45)
       (true_by_right (b == 46) (b == 45) (left_true (b == 45) (is_unsigned v) f)))
-      (unsigned_all v (right_true (b == 45) (is_unsigned v) f))
-  | inr f ↦ unsigned_all (b ∷ v) f
+      (unsigned_has_number_bytes v (right_true (b == 45) (is_unsigned v) f))
+  | inr f ↦ unsigned_has_number_bytes (b ∷ v) f
 ]
 
-pub number_plain : (v : Text) → is_number v ≡ true → Plain (last_of None v)
-number_plain v e = all_plain is_number_byte refl refl v (number_all v e)
+pub number_ends_plain : (v : Text) → is_number v ≡ true → Plain (last_of None v)
+number_ends_plain v e = all_plain is_number_byte refl refl v (number_has_number_bytes v e)
 
 pub id_plain : (v : Text) → is_name v ≡ true → Plain (last_of None v)
-id_plain v e = name_plain v (name_bytes v e)
+id_plain v e = name_bytes_are_plain v (name_bytes v e)
 
 pub key_plain : (key : KeyTree Text) → key_obeys' key ≡ true → Plain (last_of None (key_text key))
 key_plain (name_key v) e = id_plain v e
-key_plain (number_key v) e = number_plain v e
+key_plain (number_key v) e = number_ends_plain v e
 
 -- ---- a string holds no LF
 
-no_lf_more : (b : ℕ) (bs : Text) → (b == lf) ≡ false → has_lf bs ≡ false → has_lf (b ∷ bs) ≡ false
-no_lf_more b bs e f = rw (e, f) refl
+has_lf-cons : (b : ℕ) (bs : Text) → (b == lf) ≡ false → has_lf bs ≡ false → has_lf (b ∷ bs) ≡ false
+has_lf-cons b bs e f = rw (e, f) refl
 
 mutual
   units_no_lf : (v : Text) (n : ℕ) → is_units n v ≡ true → has_lf v ≡ false
   units_no_lf [] n e = refl
   units_no_lf (b ∷ bs) (suc n) e =
-      no_lf_more b bs (differ is_ascii_hexdigit b lf (left_true (is_ascii_hexdigit b) (is_units n bs) e) refl)
+      has_lf-cons b bs (differ is_ascii_hexdigit b lf (left_true (is_ascii_hexdigit b) (is_units n bs) e) refl)
       (units_no_lf bs n (right_true (is_ascii_hexdigit b) (is_units n bs) e))
   units_no_lf (b ∷ bs) zero e =
       elim (or_cases (b == 92 && is_escape bs) (not (b == 92 || b == 34 || b == lf) && is_units zero bs) e) [
-        | inl f ↦ no_lf_more b bs (differ (λ c. c == 92) b lf (left_true (b == 92) (is_escape bs) f) refl)
+        | inl f ↦ has_lf-cons b bs (differ (λ c. c == 92) b lf (left_true (b == 92) (is_escape bs) f) refl)
             (escape_no_lf bs (right_true (b == 92) (is_escape bs) f))
         | inr f ↦ let n =
             none_of_three (b == 92) (b == 34) (b == lf)
             (left_true (not (b == 92 || b == 34 || b == lf)) (is_units zero bs) f) in
-            no_lf_more b bs n.2
+            has_lf-cons b bs n.2
             (units_no_lf bs zero (right_true (not (b == 92 || b == 34 || b == lf)) (is_units zero bs) f))
       ]
 
@@ -111,14 +111,14 @@ mutual
   escape_no_lf (b ∷ bs) e =
       elim (or_cases ((b == 92 || b == 34 || b == 123) && is_units zero bs || b == 117 && is_units 4 bs)
       (b == 85 && is_units 6 bs) e) [
-        | inr f ↦ no_lf_more b bs (differ (λ c. c == 85) b lf (left_true (b == 85) (is_units 6 bs) f) refl)
+        | inr f ↦ has_lf-cons b bs (differ (λ c. c == 85) b lf (left_true (b == 85) (is_units 6 bs) f) refl)
             (units_no_lf bs 6 (right_true (b == 85) (is_units 6 bs) f))
         | inl g ↦ elim (or_cases ((b == 92 || b == 34 || b == 123) && is_units zero bs) (b == 117 && is_units 4 bs) g) [
-          | inl f ↦ no_lf_more b bs
+          | inl f ↦ has_lf-cons b bs
               (differ (λ c. c == 92 || c == 34 || c == 123) b lf
               (left_true (b == 92 || b == 34 || b == 123) (is_units zero bs) f) refl)
               (units_no_lf bs zero (right_true (b == 92 || b == 34 || b == 123) (is_units zero bs) f))
-          | inr f ↦ no_lf_more b bs (differ (λ c. c == 117) b lf (left_true (b == 117) (is_units 4 bs) f) refl)
+          | inr f ↦ has_lf-cons b bs (differ (λ c. c == 117) b lf (left_true (b == 117) (is_units 4 bs) f) refl)
               (units_no_lf bs 4 (right_true (b == 117) (is_units 4 bs) f))
         ]
       ]
@@ -138,12 +138,12 @@ pub literal_after : (last : Option ℕ) (level : ℕ) (bs : Text) (ms : List Mar
 literal_after last level bs ms e = rw e refl
 
 -- at the beginning of a line or not
-pub literal_at : (last : Option ℕ) (at_line : Bool) (level b : ℕ) (bs : Text) (ms : List Mark) →
+pub literal_is_written_at_line : (last : Option ℕ) (at_line : Bool) (level b : ℕ) (bs : Text) (ms : List Mark) →
     is_last lf last ≡ at_line →
     text_after last (literal level (b ∷ bs) ∷ ms)
     ≡ line_indent level at_line ++ ((b ∷ bs) ++ text_after (last_of None (b ∷ bs)) ms)
-literal_at last false level b bs ms e = rw e refl
-literal_at last true level b bs ms e =
+literal_is_written_at_line last false level b bs ms e = rw e refl
+literal_is_written_at_line last true level b bs ms e =
     same_at last e ∙ ap (λ o. (indent level ++ (b ∷ bs)) ++ text_after o ms) (last_append (indent level) last b bs)
     ∙ append_assoc (indent level) (b ∷ bs) (text_after (last_of (Some b) bs) ms)
   where
@@ -161,7 +161,7 @@ ending (inline e) = None
 pub closing_is_written : (level : ℕ) (e : ExpressionTree Text) (b : ℕ) (bs : Text) (ms : List Mark) →
     Plain (last_of None (b ∷ bs)) →
     text_after (ending e) (literal level (b ∷ bs) ∷ ms) ≡ closing_indent level e ++ ((b ∷ bs) ++ text_after None ms)
-closing_is_written level (select e vs) b bs ms p = literal_at_line level b bs ms p
+closing_is_written level (select e vs) b bs ms p = literal_is_indented level b bs ms p
 closing_is_written level (inline e) b bs ms p = literal_is_written level (b ∷ bs) ms p
 
 -- ASCII marks are plain

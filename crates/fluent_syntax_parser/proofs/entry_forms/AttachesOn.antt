@@ -9,16 +9,16 @@ use Rattle.fluent_syntax_grammar.specs.Body.{body, attached}
 use Rattle.fluent_syntax_grammar.specs.Construct.{Read}
 use Rattle.fluent_syntax_grammar.specs.Places.{BlankBlock}
 use Rattle.fluent_syntax_grammar.specs.Tiling.{Tile, entry, entry_at, Tiled, done, next, TileAt, reads, refuses}
-use Rattle.fluent_syntax_grammar.proofs.Facts.{equal, same_number}
+use Rattle.fluent_syntax_grammar.proofs.Facts.{equal, number_eq_self}
 use Rattle.fluent_syntax_grammar.proofs.Functional.{single_block}
 use Rattle.fluent_syntax_grammar.proofs.FunctionalEntries.{entry_is_functional}
 use Rattle.fluent_syntax_parser.specs.Outcomes.{IsRefusedAs}
 use Rattle.fluent_syntax_parser.specs.Rest.{Attaches}
 use Rattle.fluent_syntax_parser.specs.declared.fault.Refusal.{Refusal}
 
-if_none : {X : Type 0} (b : Bool) (o : Option X) → (b ≡ true → o ≡ None) → (if b then o else None) ≡ None
-if_none true o none = none refl
-if_none false o none = refl
+if_of_none_is_none : {X : Type 0} (b : Bool) (o : Option X) → (b ≡ true → o ≡ None) → (if b then o else None) ≡ None
+if_of_none_is_none true o none = none refl
+if_of_none_is_none false o none = refl
 
 module _ (edition : Edition) (t : List ℕ) (content : List Span) (ptr : ℕ) where
   -- no entry that begins at the place can have the comment
@@ -32,7 +32,7 @@ module _ (edition : Edition) (t : List ℕ) (content : List Span) (ptr : ℕ) wh
       ≡ comment regular content ∷ body tiles
   by_itself none i tiles (done b) = refl
   by_itself none i tiles (next {start = start} {end = end} b l (reads {e = e} read) m) =
-      rw (if_none (ptr == start) (attached content e) (λ same.
+      rw (if_of_none_is_none (ptr == start) (attached content e) (λ same.
       let here = sym (equal ptr start same) in
       none (subst (BlankBlock t ptr) here b) e end (subst (λ k. entry_at edition t k (Read e end)) here read))) refl
   by_itself none i tiles (next b l (refuses x end) m) = refl
@@ -53,7 +53,7 @@ module _ (edition : Edition) (t : List ℕ) (content : List Span) (ptr : ℕ) wh
   attaches_to e with_comment j block inside read same = λ i entries errors rest. (
     entry (record { start = ptr; end = j }) e ∷ rest.tiles,
     next block inside (reads read) rest.tiled,
-    rw (same_number ptr, same) (ap (λ b. with_comment ∷ b) rest.yields),
+    rw (number_eq_self ptr, same) (ap (λ b. with_comment ∷ b) rest.yields),
     rest.errors_are,
   )
 

@@ -13,13 +13,13 @@ use Rattle.fluent_syntax_parser.specs.declared.fault.Fault.{Fault}
 use Rattle.fluent_syntax_parser.specs.declared.fault.Fault.TheVariants as fault
 use Rattle.fluent_syntax_parser.specs.declared.fault.ReadFault.TheVariants as faults
 use Rattle.fluent_syntax_parser.proofs.entry_forms.ExtentForms.{attribute_is_included}
-use Rattle.fluent_syntax_parser.proofs.readers.Fails.{shown}
+use Rattle.fluent_syntax_parser.proofs.readers.Fails.{failure_refuses}
 
 -- the place is not after the end of what the fault says
-place_before_end : (f : Fault) (place : ℕ) → place ≤ to_of f place
-place_before_end fault.MessageField place = omega arith
-place_before_end fault.TermField place = omega arith
-place_before_end f place = omega arith
+place_precedes_refusal_end : (f : Fault) (place : ℕ) → place ≤ to_of f place
+place_precedes_refusal_end fault.MessageField place = omega arith
+place_precedes_refusal_end fault.TermField place = omega arith
+place_precedes_refusal_end f place = omega arith
 
 module _ (edition : Edition) (t : List ℕ) (n i : ℕ) (f : Fault) (from place : ℕ) (inside : i ≤ length t)
     (fails : Fails t (attribute_of edition t (within edition t n)) i (faults.Refused f from place)) where
@@ -27,7 +27,7 @@ module _ (edition : Edition) (t : List ℕ) (n i : ℕ) (f : Fault) (from place 
       attribute edition t i (Refused (kind_at t f from place) (from_of f from place) (to_of f place))
   attribute_refused =
       (attribute_is_included edition t (within edition t n) (family edition t) (within_family edition t n)).part i _
-      (shown fails)
+      (failure_refuses fails)
 
   pub refusal_starts_in_text : from_of f from place ≤ length t
   refusal_starts_in_text =
@@ -40,4 +40,4 @@ module _ (edition : Edition) (t : List ℕ) (n i : ℕ) (f : Fault) (from place 
       let fault =
       (attribute_is_sound edition t (InText t) (text_cuts t) {s = i}).holds.on_refused i _ _ _
       (record { late = omega arith; place = inside }) attribute_refused in
-      omega (arith, place_before_end f place, fault.one, fault.in_text)
+      omega (arith, place_precedes_refusal_end f place, fault.one, fault.in_text)

@@ -14,8 +14,8 @@ use Rattle.fluent_syntax_grammar.specs.Family.{Family}
 use Rattle.fluent_syntax_grammar.specs.Grammar.{family}
 use Rattle.fluent_syntax_grammar.specs.Places.{has, holds, has_byte}
 use Rattle.fluent_syntax_grammar.specs.Tiling.{entry_at, entry_in, entry_of}
-use Rattle.fluent_syntax_grammar.proofs.Facts.{differs, excludes}
-use Rattle.fluent_syntax_grammar.proofs.HoareTriple.{gave}
+use Rattle.fluent_syntax_grammar.proofs.Facts.{differs, tests_exclude}
+use Rattle.fluent_syntax_grammar.proofs.HoareTriple.{yields_value}
 use Rattle.fluent_syntax_parser.specs.Made.{AddsParsed, made}
 use Rattle.fluent_syntax_parser.specs.Outcomes.{Fails}
 use Rattle.fluent_syntax_parser.specs.declared.fault.ReadFault.{ReadFault}
@@ -23,11 +23,11 @@ use Rattle.fluent_syntax_parser.proofs.readers.Fails.{fails_as}
 use Rattle.fluent_syntax_parser.proofs.readers.Made.{on_made}
 
 -- what was added of a construct, as of one with the same outcomes there
-pub adds_as : {A B X : Type 0} {t : List ℕ} (f : A → B) {c d : Construct A} (view : X → B) {i : ℕ} →
+pub adds_alike : {A B X : Type 0} {t : List ℕ} (f : A → B) {c d : Construct A} (view : X → B) {i : ℕ} →
     ((o : Outcome A) → c i o → d i o) → ((e : ReadFault) → Fails t c i e → Fails t d i e) →
     (old new : List X) (r : Result ℕ ReadFault) → AddsParsed t f c view old new i r → AddsParsed t f d view old new i r
-adds_as f view read fails old new (Ok j) (x, all, h) = (x, all, on_made h (λ a there same. made (read _ there) same))
-adds_as f view read fails old new (Err e) (h, all) = (fails e h, all)
+adds_alike f view read fails old new (Ok j) (x, all, h) = (x, all, on_made h (λ a there same. made (read _ there) same))
+adds_alike f view read fails old new (Err e) (h, all) = (fails e h, all)
 
 module _ (edition : Edition) (t : List ℕ) (R : Family) (i : ℕ) (o : Outcome (EntryTree Span)) where
   comment_of_byte : (here : Option ℕ) → holds (λ b. b == hash) here ≡ true → comment_entry t i o →
@@ -107,7 +107,7 @@ module _ (edition : Edition) (t : List ℕ) (R : Family) (i : ℕ) {f : ReadFaul
 
 module _ (edition : Edition) (t : List ℕ) (content : List Span) (i j : ℕ) (e : EntryTree Span) where
   comment_attaches_not : comment_entry t i (Read e j) → attached content e ≡ None
-  comment_attaches_not (chosen (goes_on x (goes_on {j = m} y z))) = rw (← (gave _ e m j z).0) refl
+  comment_attaches_not (chosen (goes_on x (goes_on {j = m} y z))) = rw (← (yields_value _ e m j z).0) refl
 
   hash_of_byte : (here : Option ℕ) → holds (λ b. b == hash) here ≡ true →
       entry_of edition t (family edition t) here i (Read e j) →
@@ -129,10 +129,10 @@ letter_no_hyphen b letter = grind (arith, nat_tests)
 
 module _ (t : List ℕ) (i : ℕ) (letter : has t is_letter i ≡ true) where
   no_hash : has_byte t hash i ≡ false
-  no_hash = excludes is_letter (λ b. b == hash) (slice_get t i) letter_no_hash letter
+  no_hash = tests_exclude is_letter (λ b. b == hash) (slice_get t i) letter_no_hash letter
 
   no_hyphen : has_byte t hyphen i ≡ false
-  no_hyphen = excludes is_letter (λ b. b == hyphen) (slice_get t i) letter_no_hyphen letter
+  no_hyphen = tests_exclude is_letter (λ b. b == hyphen) (slice_get t i) letter_no_hyphen letter
 
   pub message_at_letter : (edition : Edition) (R : Family) (o : Outcome (EntryTree Span)) →
       message_of edition t R i o → entry_in edition t R i o

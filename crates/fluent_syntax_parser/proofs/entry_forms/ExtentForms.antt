@@ -15,7 +15,7 @@ use Rattle.fluent_syntax_grammar.specs.Family.{Family}
 use Rattle.fluent_syntax_grammar.specs.Grammar.{family, within}
 use Rattle.fluent_syntax_grammar.specs.Places.{has_byte}
 use Rattle.fluent_syntax_grammar.specs.Tiling.{entry_at, entry_in}
-use Rattle.fluent_syntax_grammar.proofs.HoareTriple.{gave}
+use Rattle.fluent_syntax_grammar.proofs.HoareTriple.{yields_value}
 use Rattle.fluent_syntax_grammar.proofs.Facts.{append_nothing}
 use Rattle.fluent_syntax_grammar.proofs.FunctionalEntries.{entry_is_functional}
 use Rattle.fluent_syntax_grammar.proofs.Included.{IsIncluded, IsIncludedFamily, pattern_is_included, inclusions}
@@ -170,7 +170,7 @@ module _ (t : List ℕ) (i j : ℕ) (e : EntryTree Span) where
   IsComment = (level : Level) × (content : List Span) × (e ≡ comment level content)
 
   comment_read : comment_entry t i (Read e j) → IsComment
-  comment_read (chosen (goes_on x (goes_on {j = m} y z))) = (_, _, sym (gave _ e m j z).0)
+  comment_read (chosen (goes_on x (goes_on {j = m} y z))) = (_, _, sym (yields_value _ e m j z).0)
 
   pub hash_is_comment : (edition : Edition) → has_byte t hash i ≡ true → entry_at edition t i (Read e j) → IsComment
   hash_is_comment edition there (chosen x) =
@@ -194,9 +194,9 @@ module _ (edition : Edition) (t : List ℕ) (n i : ℕ) where
 
 -- ---- a place that there is where there is a value
 
-pub same_place : {A B C : Type 0} (f : A → C) (g : B → C) (place : Span) (o : Option A) (p : Option B) →
+pub equal_options_same_place : {A B C : Type 0} (f : A → C) (g : B → C) (place : Span) (o : Option A) (p : Option B) →
     option_map f o ≡ option_map g p → option_map (λ v. place) o ≡ option_map (λ v. place) p
-same_place f g place None None e = refl
-same_place f g place None (Some y) e = cc
-same_place f g place (Some x) None e = cc
-same_place f g place (Some x) (Some y) e = refl
+equal_options_same_place f g place None None e = refl
+equal_options_same_place f g place None (Some y) e = cc
+equal_options_same_place f g place (Some x) None e = cc
+equal_options_same_place f g place (Some x) (Some y) e = refl

@@ -15,11 +15,11 @@ use Rattle.fluent_syntax_grammar.specs.Grammar.{family, pattern}
 use Rattle.fluent_syntax_grammar.specs.Places.{InlineBlank, has}
 use Rattle.fluent_syntax_grammar.specs.Tokens.{identifier, token}
 use Rattle.fluent_syntax_grammar.proofs.Boundaries.{boundary_cuts}
-use Rattle.fluent_syntax_grammar.proofs.Cuts.{AreBoundaries, ascii_has, ascii_name}
+use Rattle.fluent_syntax_grammar.proofs.Cuts.{AreBoundaries, has_ascii, name_set_is_ascii}
 use Rattle.fluent_syntax_grammar.proofs.Sound.{Ended, IsSpan, Sound, blank_block_is_sound, inline_blank_is_sound}
 use Rattle.fluent_syntax_grammar.proofs.SoundEntries.{attribute_is_sound, pattern_is_sound}
 use Rattle.fluent_syntax_grammar.proofs.SoundWords.{identifier_is_sound, token_is_sound}
-use Rattle.fluent_syntax_grammar.proofs.Facts.{implies}
+use Rattle.fluent_syntax_grammar.proofs.Facts.{tests_imply}
 use Rattle.fluent_syntax_grammar.proofs.Tests.{letter_name}
 use Rattle.fluent_syntax_parser.specs.PartRanges.{HasAttributeParts, HaveAttributeParts, HasEntryParts, HaveFieldParts}
 use Rattle.fluent_syntax_parser.specs.PartRanges.{HasRanges, ReadAt, each_attribute_range, message_has_parts}
@@ -28,15 +28,15 @@ use Rattle.fluent_syntax_parser.specs.Fields.{FieldTrees}
 use Rattle.fluent_syntax_parser.specs.declared.ranges.AttributeRanges.{AttributeRanges}
 use Rattle.fluent_syntax_parser.specs.declared.ranges.EntryRanges.{EntryRanges}
 
-letter_there : (t : List ℕ) (i j : ℕ) (a : Span) → identifier t i (Read a j) → has t is_letter i ≡ true
-letter_there t i j a (goes_on at_place (goes_on (chosen given) (first e x))) = e
-letter_there t i j a (goes_on at_place (goes_on (chosen given) (second e x))) = elim x [ ]
+letter_leads : (t : List ℕ) (i j : ℕ) (a : Span) → identifier t i (Read a j) → has t is_letter i ≡ true
+letter_leads t i j a (goes_on at_place (goes_on (chosen given) (first e x))) = e
+letter_leads t i j a (goes_on at_place (goes_on (chosen given) (second e x))) = elim x [ ]
 
-if_any : {A : Type 0} (good : Span → Type 0) (place : Span) (o : Option Span) (p : Option A) →
+place_in_option_is_good : {A : Type 0} (good : Span → Type 0) (place : Span) (o : Option Span) (p : Option A) →
     o ≡ option_map (λ v. place) p → good place → option_every good o
-if_any good place None p e g = tt
-if_any good place (Some s) None e g = cc
-if_any good place (Some s) (Some v) e g = let same : s ≡ place = cc in subst good (sym same) g
+place_in_option_is_good good place None p e g = tt
+place_in_option_is_good good place (Some s) None e g = cc
+place_in_option_is_good good place (Some s) (Some v) e g = let same : s ≡ place = cc in subst good (sym same) g
 
 module _ (edition : Edition) (t : List ℕ) (P : ℕ → Type 0) (cuts : AreBoundaries t P) where
   beyond : {A : Type 0} {Good : A → Type 0} {c : Construct A} {i j : ℕ} {a : A} → Sound t P i c Good → P i →
@@ -45,8 +45,8 @@ module _ (edition : Edition) (t : List ℕ) (P : ℕ → Type 0) (cuts : AreBoun
 
   name_range : (name : Span) → ReadAt (identifier t) name name → IsSpan P name
   name_range name read =
-      let there = implies is_letter is_name_byte (slice_get t name.start) letter_name (letter_there t _ _ _ read) in
-      let begins = cuts.before name.start (ascii_has t is_name_byte name.start ascii_name there) in
+      let there = tests_imply is_letter is_name_byte (slice_get t name.start) letter_name (letter_leads t _ _ _ read) in
+      let begins = cuts.before name.start (has_ascii t is_name_byte name.start name_set_is_ascii there) in
       (beyond (identifier_is_sound t P cuts) begins read).good
 
   value_range : (i equals : ℕ) (place : Span) (v : Option (PatternTree Span)) → P i → InlineBlank t i equals →
@@ -77,15 +77,15 @@ module _ (edition : Edition) (t : List ℕ) (P : ℕ → Type 0) (cuts : AreBoun
       let n = name_range x.name name in
       let v = value_range _ _ s.place _ n.2 s.beyond s.sign s.value in
       let line = beyond (blank_block_is_sound t P cuts) v.2 (passed s.blank) in
-      (n, if_any (IsSpan P) s.place x.value f.0 s.there v, attributes_in_text s.attributes line.place)
+      (n, place_in_option_is_good (IsSpan P) s.place x.value f.0 s.there v, attributes_in_text s.attributes line.place)
 
   entry_in_text : (i end : ℕ) (x : EntryRanges) (e : EntryTree Span) →
       HasEntryParts edition t (family edition t) i x e end → each_range (IsSpan P) x
   entry_in_text i end x e (message_has_parts {f = f} begins name s) = fields_in_text x f end name s
   entry_in_text i end x e (term_has_parts mark name s) = fields_in_text x _ end name s
 
-pub ranges_in_text : (edition : Edition) (t : List ℕ) → IsUtf8 t → (i : ℕ) (found : Option EntryRanges) →
+pub found_ranges_lie_in_text : (edition : Edition) (t : List ℕ) → IsUtf8 t → (i : ℕ) (found : Option EntryRanges) →
     HasRanges edition t i found → IfSome found (each_range (IsTextRange t))
-ranges_in_text edition t utf8 i None s = tt
-ranges_in_text edition t utf8 i (Some x) s =
+found_ranges_lie_in_text edition t utf8 i None s = tt
+found_ranges_lie_in_text edition t utf8 i (Some x) s =
     entry_in_text edition t (IsCharBoundary t) (boundary_cuts t utf8) i s.end x s.tree s.parts

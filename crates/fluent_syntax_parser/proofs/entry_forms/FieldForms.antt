@@ -93,12 +93,12 @@ module _ (t : List ℕ) (start j : ℕ) (id : Span) where
 
 -- ---- whether there is a value, and whether there are attributes
 
-pub is_some_of : {A B C : Type 0} (f : A → C) (g : B → C) (o : Option A) (p : Option B) →
+pub equals_are_both_some : {A B C : Type 0} (f : A → C) (g : B → C) (o : Option A) (p : Option B) →
     option_map f o ≡ option_map g p → is_some p ≡ is_some o
-is_some_of f g None None e = refl
-is_some_of f g None (Some y) e = cc
-is_some_of f g (Some x) None e = cc
-is_some_of f g (Some x) (Some y) e = refl
+equals_are_both_some f g None None e = refl
+equals_are_both_some f g None (Some y) e = cc
+equals_are_both_some f g (Some x) None e = cc
+equals_are_both_some f g (Some x) (Some y) e = refl
 
 pub none_of : {A B C : Type 0} (f : A → C) (g : B → C) (xs : List A) (ys : List B) → map f xs ≡ map g ys → xs ≡ [] →
     ys ≡ []
@@ -120,10 +120,10 @@ module _ {A B C : Type 0} (g : A → C) (c : Construct (Option A × List B)) {i 
   no_field (None, rest) h e = h
   no_field (Some a, rest) h e = cc
 
-pub empty_by_length : {X : Type 0} (xs : List X) (n : ℕ) → length xs ≡ n → true ≡ (n == 0) → xs ≡ []
-empty_by_length [] n e h = refl
-empty_by_length (x ∷ xs) n e h = grind (arith, nat_tests)
+pub zero_count_is_empty : {X : Type 0} (xs : List X) (n : ℕ) → length xs ≡ n → true ≡ (n == 0) → xs ≡ []
+zero_count_is_empty [] n e h = refl
+zero_count_is_empty (x ∷ xs) n e h = grind (arith, nat_tests)
 
-pub some_items : {X : Type 0} (xs : List X) (n : ℕ) → length xs ≡ n → false ≡ (n == 0) → xs ≡ [] → ⊥
-some_items [] n e h f = grind (arith, nat_tests)
-some_items (x ∷ xs) n e h f = cc
+pub has_items : {X : Type 0} (xs : List X) (n : ℕ) → length xs ≡ n → false ≡ (n == 0) → xs ≡ [] → ⊥
+has_items [] n e h f = grind (arith, nat_tests)
+has_items (x ∷ xs) n e h f = cc

@@ -27,27 +27,27 @@ abbrev or : {B : Type 0} → B → Option B → B
 or b None = b
 or b (Some c) = c
 
-some_of : {A B : Type 0} (g : A → B) (o : Option A) (b : B) → Some b ≡ option_map g o →
+mapped_some_comes_from_some : {A B : Type 0} (g : A → B) (o : Option A) (b : B) → Some b ≡ option_map g o →
     (a : A) × (o ≡ Some a) × (b ≡ g a)
-some_of g None b e = cc
-some_of g (Some a) b e = (a, refl, ap (or b) e)
+mapped_some_comes_from_some g None b e = cc
+mapped_some_comes_from_some g (Some a) b e = (a, refl, ap (or b) e)
 
-pub same_some : {X : Type 0} (a b : X) → Some a ≡ Some b → a ≡ b
-same_some a b e = ap (or a) e
+pub some_cancels : {X : Type 0} (a b : X) → Some a ≡ Some b → a ≡ b
+some_cancels a b e = ap (or a) e
 
 -- what is taken from the end of a list that holds one item at most
-pub only : {X : Type 0} (item taken : Option X) (left : List X) →
+pub taken_is_only_item : {X : Type 0} (item taken : Option X) (left : List X) →
     option_to_list item ≡ left ++ option_to_list taken →
     (0 < length (option_to_list item) → is_some taken ≡ true) → taken ≡ item
-only None None left same some = refl
-only None (Some y) [] same some = cc
-only None (Some y) (x ∷ left) same some = cc
-only (Some x) None left same some = let taken = some (omega arith) in cc
-only (Some x) (Some y) left same some = ap Some (sym (same_from_push [] left x y same).1)
+taken_is_only_item None None left same some = refl
+taken_is_only_item None (Some y) [] same some = cc
+taken_is_only_item None (Some y) (x ∷ left) same some = cc
+taken_is_only_item (Some x) None left same some = let taken = some (omega arith) in cc
+taken_is_only_item (Some x) (Some y) left same some = ap Some (sym (same_from_push [] left x y same).1)
 
-none_of : {A B : Type 0} (g : A → B) (o : Option A) → None ≡ option_map g o → o ≡ None
-none_of g None e = refl
-none_of g (Some a) e = cc
+mapped_none_comes_from_none : {A B : Type 0} (g : A → B) (o : Option A) → None ≡ option_map g o → o ≡ None
+mapped_none_comes_from_none g None e = refl
+mapped_none_comes_from_none g (Some a) e = cc
 
 -- ---- entries with a comment
 
@@ -58,101 +58,101 @@ with_lines content (term m) = Some (term (record m { comment = Some content }))
 with_lines content (comment level c) = None
 with_lines content (junk x) = None
 
-attached_is : (content : List Span) (e : EntryTree Span) → attached content e ≡ with_lines content e
-attached_is content (message m) = refl
-attached_is content (term m) = refl
-attached_is content (comment level c) = refl
-attached_is content (junk x) = refl
+attached_is_with_lines : (content : List Span) (e : EntryTree Span) → attached content e ≡ with_lines content e
+attached_is_with_lines content (message m) = refl
+attached_is_with_lines content (term m) = refl
+attached_is_with_lines content (comment level c) = refl
+attached_is_with_lines content (junk x) = refl
 
-mapped_lines : {X : Type 0} (f : Span → X) (content : List Span) (e : EntryTree Span) →
+with_lines-entry_map : {X : Type 0} (f : Span → X) (content : List Span) (e : EntryTree Span) →
     with_lines (map f content) (entry_map f e) ≡ option_map (entry_map f) (with_lines content e)
-mapped_lines f content (message m) = refl
-mapped_lines f content (term m) = refl
-mapped_lines f content (comment level c) = refl
-mapped_lines f content (junk x) = refl
+with_lines-entry_map f content (message m) = refl
+with_lines-entry_map f content (term m) = refl
+with_lines-entry_map f content (comment level c) = refl
+with_lines-entry_map f content (junk x) = refl
 
-viewed_lines : {S X : Type 0} (v : S → X) (c : Comment S) (e : Entry S) →
+with_lines-entry_view : {S X : Type 0} (v : S → X) (c : Comment S) (e : Entry S) →
     with_lines (comment_view v c) (entry_view v e) ≡ option_map (entry_view v) (commented c e)
-viewed_lines v c (entries.Message m) = refl
-viewed_lines v c (entries.Term m) = refl
-viewed_lines v c (entries.Comment d) = refl
-viewed_lines v c (entries.GroupComment d) = refl
-viewed_lines v c (entries.ResourceComment d) = refl
-viewed_lines v c (entries.Junk x) = refl
+with_lines-entry_view v c (entries.Message m) = refl
+with_lines-entry_view v c (entries.Term m) = refl
+with_lines-entry_view v c (entries.Comment d) = refl
+with_lines-entry_view v c (entries.GroupComment d) = refl
+with_lines-entry_view v c (entries.ResourceComment d) = refl
+with_lines-entry_view v c (entries.Junk x) = refl
 
 -- ---- comments of level 1
 
-mapped_may : {X : Type 0} (f : Span → X) (e : EntryTree Span) → may_attach (entry_map f e) ≡ may_attach e
-mapped_may f (message m) = refl
-mapped_may f (term m) = refl
-mapped_may f (comment regular c) = refl
-mapped_may f (comment group c) = refl
-mapped_may f (comment resource c) = refl
-mapped_may f (junk x) = refl
+may_attach-entry_map : {X : Type 0} (f : Span → X) (e : EntryTree Span) → may_attach (entry_map f e) ≡ may_attach e
+may_attach-entry_map f (message m) = refl
+may_attach-entry_map f (term m) = refl
+may_attach-entry_map f (comment regular c) = refl
+may_attach-entry_map f (comment group c) = refl
+may_attach-entry_map f (comment resource c) = refl
+may_attach-entry_map f (junk x) = refl
 
-viewed_may : {S X : Type 0} (v : S → X) (e : Entry S) → may_attach (entry_view v e) ≡ is_comment e
-viewed_may v (entries.Message m) = refl
-viewed_may v (entries.Term m) = refl
-viewed_may v (entries.Comment d) = refl
-viewed_may v (entries.GroupComment d) = refl
-viewed_may v (entries.ResourceComment d) = refl
-viewed_may v (entries.Junk x) = refl
+may_attach-entry_view : {S X : Type 0} (v : S → X) (e : Entry S) → may_attach (entry_view v e) ≡ is_comment e
+may_attach-entry_view v (entries.Message m) = refl
+may_attach-entry_view v (entries.Term m) = refl
+may_attach-entry_view v (entries.Comment d) = refl
+may_attach-entry_view v (entries.GroupComment d) = refl
+may_attach-entry_view v (entries.ResourceComment d) = refl
+may_attach-entry_view v (entries.Junk x) = refl
 
-comment_seen : {S : Type 0} (e : Entry S) → is_comment e ≡ true → (c : Comment S) × (e ≡ entries.Comment c)
-comment_seen (entries.Message m) h = cc
-comment_seen (entries.Term m) h = cc
-comment_seen (entries.Comment c) h = (c, refl)
-comment_seen (entries.GroupComment c) h = cc
-comment_seen (entries.ResourceComment c) h = cc
-comment_seen (entries.Junk x) h = cc
+is_comment_has_comment : {S : Type 0} (e : Entry S) → is_comment e ≡ true → (c : Comment S) × (e ≡ entries.Comment c)
+is_comment_has_comment (entries.Message m) h = cc
+is_comment_has_comment (entries.Term m) h = cc
+is_comment_has_comment (entries.Comment c) h = (c, refl)
+is_comment_has_comment (entries.GroupComment c) h = cc
+is_comment_has_comment (entries.ResourceComment c) h = cc
+is_comment_has_comment (entries.Junk x) h = cc
 
 -- the last entry, as a slice gives it
 abbrev pub last_seen : {S : Type 0} → Option (Entry S) → Bool
 last_seen None = false
 last_seen (Some e) = is_comment e
 
-last_at : {S : Type 0} (e : Entry S) (es : List (Entry S)) →
+ends_with_comment-cons : {S : Type 0} (e : Entry S) (es : List (Entry S)) →
     last_seen (slice_get (e ∷ es) (length es)) ≡ ends_with_comment (e ∷ es)
-last_at e [] = refl
-last_at e (d ∷ es) = last_at d es
+ends_with_comment-cons e [] = refl
+ends_with_comment-cons e (d ∷ es) = ends_with_comment-cons d es
 
-pub last_of : {S : Type 0} (es : List (Entry S)) → last_seen (slice_get es (length es - 1)) ≡ ends_with_comment es
-last_of [] = refl
-last_of (e ∷ es) =
+pub last_decides : {S : Type 0} (es : List (Entry S)) → last_seen (slice_get es (length es - 1)) ≡ ends_with_comment es
+last_decides [] = refl
+last_decides (e ∷ es) =
     let before : suc (length es) - 1 ≡ length es = omega arith in
-    ap (λ n. last_seen (slice_get (e ∷ es) n)) before ∙ last_at e es
+    ap (λ n. last_seen (slice_get (e ∷ es) n)) before ∙ ends_with_comment-cons e es
 
-ends_with : {S : Type 0} (es : List (Entry S)) (e : Entry S) → ends_with_comment (es ++ e ∷ []) ≡ is_comment e
-ends_with [] e = refl
-ends_with (d ∷ []) e = refl
-ends_with (d ∷ x ∷ es) e = ends_with (x ∷ es) e
+ends_with_appended : {S : Type 0} (es : List (Entry S)) (e : Entry S) → ends_with_comment (es ++ e ∷ []) ≡ is_comment e
+ends_with_appended [] e = refl
+ends_with_appended (d ∷ []) e = refl
+ends_with_appended (d ∷ x ∷ es) e = ends_with_appended (x ∷ es) e
 
 abbrev lines_or : {X : Type 0} → List X → EntryTree X → List X
 lines_or xs (comment level lines) = lines
 lines_or xs e = xs
 
 -- one more in the middle
-one_more : {X : Type 0} (before : List X) (x : X) (after : List X) → before ++ x ∷ [] ++ after ≡ before ++ x ∷ after
-one_more before x after = append_assoc before (x ∷ []) after
+one_is_cons : {X : Type 0} (before : List X) (x : X) (after : List X) → before ++ x ∷ [] ++ after ≡ before ++ x ∷ after
+one_is_cons before x after = append_assoc before (x ∷ []) after
 
 module _ {S X : Type 0} (f : Span → X) (v : S → X) where
   module _ (c : Comment S) (e : Entry S) (content : List Span) (tree : EntryTree Span)
       (lines : comment_view v c ≡ map f content) (same : entry_view v e ≡ entry_map f tree) where
     same_attached : option_map (entry_view v) (commented c e) ≡ option_map (entry_map f) (attached content tree)
     same_attached =
-        sym (viewed_lines v c e) ∙ ap (λ xs. with_lines xs (entry_view v e)) lines
-        ∙ ap (λ x. with_lines (map f content) x) same ∙ mapped_lines f content tree
-        ∙ ap (option_map (entry_map f)) (sym (attached_is content tree))
+        sym (with_lines-entry_view v c e) ∙ ap (λ xs. with_lines xs (entry_view v e)) lines
+        ∙ ap (λ x. with_lines (map f content) x) same ∙ with_lines-entry_map f content tree
+        ∙ ap (option_map (entry_map f)) (sym (attached_is_with_lines content tree))
 
     -- the entry with the comment represents the tree with it
     pub attached_made : (with_comment : Entry S) → commented c e ≡ Some with_comment →
         (x : EntryTree Span) × (attached content tree ≡ Some x) × (entry_view v with_comment ≡ entry_map f x)
     attached_made with_comment h =
-        some_of (entry_map f) (attached content tree) (entry_view v with_comment)
+        mapped_some_comes_from_some (entry_map f) (attached content tree) (entry_view v with_comment)
         (ap (option_map (entry_view v)) (sym h) ∙ same_attached)
 
     pub attached_not : commented c e ≡ None → attached content tree ≡ None
-    attached_not h = none_of (entry_map f) (attached content tree)
+    attached_not h = mapped_none_comes_from_none (entry_map f) (attached content tree)
         (ap (option_map (entry_view v)) (sym h) ∙ same_attached)
 
   -- what represents a comment of level 1
@@ -168,7 +168,7 @@ module _ {S X : Type 0} (f : Span → X) (v : S → X) where
   other_tree : (e : Entry S) (tree : EntryTree Span) → entry_view v e ≡ entry_map f tree → is_comment e ≡ false →
       may_attach tree ≡ false
   other_tree e tree same h =
-      sym (mapped_may f tree) ∙ ap may_attach (sym same) ∙ viewed_may v e ∙ h
+      sym (may_attach-entry_map f tree) ∙ ap may_attach (sym same) ∙ may_attach-entry_view v e ∙ h
 
   -- The entry is a comment of level 1, and so is the tree that it represents.
   pub record IsCommentEntry (e : Entry S) (tree : EntryTree Span) : Type 0 where
@@ -181,11 +181,11 @@ module _ {S X : Type 0} (f : Span → X) (v : S → X) where
   module _ (before body : List (Entry S)) (e : Entry S) (tree : EntryTree Span) (added : body ≡ before ++ e ∷ [])
       (same : entry_view v e ≡ entry_map f tree) where
     last_is : (b : Bool) → ends_with_comment body ≡ b → is_comment e ≡ b
-    last_is b h = sym (ends_with before e) ∙ ap ends_with_comment (sym added) ∙ h
+    last_is b h = sym (ends_with_appended before e) ∙ ap ends_with_comment (sym added) ∙ h
 
     pub comment_added : ends_with_comment body ≡ true → IsCommentEntry e tree
     comment_added h =
-        let seen = comment_seen e (last_is true h) in
+        let seen = is_comment_has_comment e (last_is true h) in
         let of_tree = comment_tree tree _ (sym (ap (entry_view v) seen.1) ∙ same) in
         record { lines = seen.0; is = seen.1; content = of_tree.0; tree_is = of_tree.1; same = of_tree.2 }
 
@@ -229,15 +229,15 @@ module _ {S X : Type 0} (f : Span → X) (v : S → X) where
               ∙ ap (λ xs. xs ++ entry_view v e ∷ []) read.same ∙ ap (λ x. body_map f read.trees ++ x ∷ []) same
               ∙ sym (map-append (entry_map f) read.trees (tree ∷ []));
           rest = λ others after h. rw
-              (one_more read.trees tree others, more, append_assoc (map fault_of errors) faults after)
+              (one_is_cons read.trees tree others, more, append_assoc (map fault_of errors) faults after)
               (read.rest _ _ (next others after h));
         }
 
 -- what one more error says, if there is one
-pub error_faults : (errors stated : List ParserError) (error : Option ParserError) →
+pub faults_append : (errors stated : List ParserError) (error : Option ParserError) →
     stated ≡ errors ++ option_to_list error → map fault_of stated ≡ map fault_of errors ++ faults_of error
-error_faults errors stated None same = ap (map fault_of) same ∙ map-append fault_of errors []
-error_faults errors stated (Some e) same = ap (map fault_of) same ∙ map-append fault_of errors (e ∷ [])
+faults_append errors stated None same = ap (map fault_of) same ∙ map-append fault_of errors []
+faults_append errors stated (Some e) same = ap (map fault_of) same ∙ map-append fault_of errors (e ∷ [])
 
 -- ---- entries of spans
 

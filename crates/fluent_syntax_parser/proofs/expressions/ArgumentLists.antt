@@ -25,7 +25,7 @@ use Rattle.fluent_syntax_grammar.specs.Inline.{inline_expression}
 use Rattle.fluent_syntax_grammar.specs.Places.{Blank, has_byte}
 use Rattle.fluent_syntax_grammar.specs.Starts.{start}
 use Rattle.fluent_syntax_grammar.specs.Tokens.{token}
-use Rattle.fluent_syntax_grammar.proofs.Facts.{byte_found}
+use Rattle.fluent_syntax_grammar.proofs.Facts.{byte_exists}
 use Rattle.fluent_syntax_grammar.proofs.FunctionalRules.{IsFunctionalFamily, inline_is_functional}
 use Rattle.fluent_syntax_grammar.proofs.FunctionalRules.{next_argument_is_functional}
 use Rattle.fluent_syntax_parser.specs.Gathered.{names_in}
@@ -38,8 +38,8 @@ use Rattle.fluent_syntax_parser.specs.Made.{IsMade, made}
 use Rattle.fluent_syntax_parser.proofs.readers.ContinuesFrom.{ContinuesFrom, whole_list_read, one_after}
 use Rattle.fluent_syntax_parser.proofs.readers.Fails.{fails_first, fails_next, fails_no, fails_seen, look_is_functional}
 
-pub token_there : (t : List ℕ) (b i : ℕ) → has_byte t b i ≡ true → token t b i (Read tt (i + 1))
-token_there t b i there =
+pub byte_is_token : (t : List ℕ) (b i : ℕ) → has_byte t b i ≡ true → token t b i (Read tt (i + 1))
+byte_is_token t b i there =
     goes_on (chosen (first there (goes_on (passed (record { by = refl })) given))) (first refl given)
 
 module _ (t : List ℕ) (R : Family) where
@@ -54,8 +54,8 @@ module _ (t : List ℕ) (R : Family) where
   pub list_closed : (names : List (List ℕ)) (i : ℕ) → has_byte t right_parenthesis i ≡ true →
       next_argument t R names i (Read no_item (i + 1))
   list_closed names i there =
-      let found = byte_found (λ c. c == right_parenthesis) (slice_get t i) there in
-      let close = token_there t right_parenthesis i there in
+      let found = byte_exists (λ c. c == right_parenthesis) (slice_get t i) there in
+      let close = byte_is_token t right_parenthesis i there in
       chosen {o = Read no_item (i + 1)} (rw found.1 (first found.2 (goes_on close given)))
 
   module _ (names : List (List ℕ)) (i : ℕ) (within : i < length t) (no_end : has_byte t right_parenthesis i ≡ false)
@@ -176,7 +176,7 @@ module _ {S X : Type 0} (t : List ℕ) (R : Family) (f : Span → X) (v : S → 
               (named t R (names_in t names) i within no_end e j read name is mark
               (Read (item added (bytes_at t name ∷ names_in t names)) next)
               (second new
-              (goes_on (token_there t colon j mark)
+              (goes_on (byte_is_token t colon j mark)
               (goes_on (passed blank)
               (goes_on read_value
               (goes_on after given))))));

@@ -14,7 +14,7 @@ use Rattle.fluent_syntax_grammar.specs.Starts.{Start, brace, digit, dollar, lett
 use Rattle.fluent_syntax_grammar.specs.Tokens.{identifier}
 use Rattle.fluent_syntax_grammar.proofs.FunctionalWords.{identifier_is_functional}
 use Rattle.fluent_syntax_parser.specs.Outcomes.{name_text}
-use Rattle.fluent_syntax_parser.proofs.scanning.NameTexts.{identifier_text}
+use Rattle.fluent_syntax_parser.proofs.scanning.NameTexts.{identifier_has_name_text}
 
 -- a message reference without attribute
 abbrev pub is_name : {X : Type 0} → InlineTree X → Bool
@@ -27,15 +27,15 @@ is_name (term_reference id attribute a) = false
 is_name (variable_reference id) = false
 is_name (inline_placeable e) = false
 
-pub is_name_mapped : {X Y : Type 0} (f : X → Y) (e : InlineTree X) → is_name (inline_map f e) ≡ is_name e
-is_name_mapped f (string_literal x) = refl
-is_name_mapped f (number_literal x) = refl
-is_name_mapped f (function_reference x a) = refl
-is_name_mapped f (message_reference x None) = refl
-is_name_mapped f (message_reference x (Some a)) = refl
-is_name_mapped f (term_reference x a c) = refl
-is_name_mapped f (variable_reference x) = refl
-is_name_mapped f (inline_placeable e) = refl
+pub is_name-inline_map : {X Y : Type 0} (f : X → Y) (e : InlineTree X) → is_name (inline_map f e) ≡ is_name e
+is_name-inline_map f (string_literal x) = refl
+is_name-inline_map f (number_literal x) = refl
+is_name-inline_map f (function_reference x a) = refl
+is_name-inline_map f (message_reference x None) = refl
+is_name-inline_map f (message_reference x (Some a)) = refl
+is_name-inline_map f (term_reference x a c) = refl
+is_name-inline_map f (variable_reference x) = refl
+is_name-inline_map f (inline_placeable e) = refl
 
 pub no_argument_name : (e : InlineTree Span) → is_name e ≡ false → argument_name e ≡ None
 no_argument_name (string_literal x) h = refl
@@ -100,7 +100,7 @@ module _ (t : List ℕ) (i : ℕ) where
         by true named =
             let found = argument_name_is_identifier e j read named in
             let same : name ≡ found.0 = let both : Some name ≡ Some found.0 = sym is ∙ found.3 in cc in
-            rw same (identifier_text t found.2)
+            rw same (identifier_has_name_text t found.2)
         by false unnamed = let none : Some name ≡ None = sym is ∙ no_argument_name e unnamed in cc
 
 -- ---- a name that was looked for
@@ -109,10 +109,10 @@ abbrev value_of : {A : Type 0} → Outcome A → Option A
 value_of (Read a j) = Some a
 value_of (Refused k from to) = None
 
-pub name_found : (t : List ℕ) {i j m : ℕ} {a b : Span} → identifier t i (Read a j) → identifier t i (Read b m) →
+pub one_name_is_read : (t : List ℕ) {i j m : ℕ} {a b : Span} → identifier t i (Read a j) → identifier t i (Read b m) →
     Some a ≡ Some b
-name_found t h r = let f = identifier_is_functional t in ap value_of (f.same _ _ _ h r)
+one_name_is_read t h r = let f = identifier_is_functional t in ap value_of (f.same _ _ _ h r)
 
-pub none_found : (t : List ℕ) {i m from to : ℕ} {k : Kind} {b : Span} → identifier t i (Refused k from to) →
+pub refused_is_not_read : (t : List ℕ) {i m from to : ℕ} {k : Kind} {b : Span} → identifier t i (Refused k from to) →
     identifier t i (Read b m) → None ≡ Some b
-none_found t h r = let f = identifier_is_functional t in ap value_of (f.same _ _ _ h r)
+refused_is_not_read t h r = let f = identifier_is_functional t in ap value_of (f.same _ _ _ h r)

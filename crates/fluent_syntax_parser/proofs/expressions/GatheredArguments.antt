@@ -21,42 +21,42 @@ put_arguments ps ns (arguments es ms) = arguments (inlines_before ps es) (nameds
 pub put_none : (a : ArgumentsTree Span) → put_arguments [] [] a ≡ a
 put_none (arguments es ms) = refl
 
-inlines_added : (xs : List (InlineTree Span)) (x : InlineTree Span) (es : InlineTrees Span) →
+inlines_before-append : (xs : List (InlineTree Span)) (x : InlineTree Span) (es : InlineTrees Span) →
     inlines_before (xs ++ x ∷ []) es ≡ inlines_before xs (inlines x es)
-inlines_added [] x es = refl
-inlines_added (y ∷ ys) x es = ap (inlines y) (inlines_added ys x es)
+inlines_before-append [] x es = refl
+inlines_before-append (y ∷ ys) x es = ap (inlines y) (inlines_before-append ys x es)
 
-nameds_added : (xs : List (NamedTree Span)) (x : NamedTree Span) (es : NamedTrees Span) →
+nameds_before-append : (xs : List (NamedTree Span)) (x : NamedTree Span) (es : NamedTrees Span) →
     nameds_before (xs ++ x ∷ []) es ≡ nameds_before xs (nameds x es)
-nameds_added [] x es = refl
-nameds_added (y ∷ ys) x es = ap (nameds y) (nameds_added ys x es)
+nameds_before-append [] x es = refl
+nameds_before-append (y ∷ ys) x es = ap (nameds y) (nameds_before-append ys x es)
 
 -- one more positional argument
 pub put_positional : (ps : List (InlineTree Span)) (ns : List (NamedTree Span)) (e : InlineTree Span)
     (a : ArgumentsTree Span) → put_arguments (ps ++ e ∷ []) ns a ≡ put_arguments ps ns (add_positional e a)
-put_positional ps ns e (arguments es ms) = ap (λ xs. arguments xs (nameds_before ns ms)) (inlines_added ps e es)
+put_positional ps ns e (arguments es ms) = ap (λ xs. arguments xs (nameds_before ns ms)) (inlines_before-append ps e es)
 
 -- one more named argument
 pub put_named : (ps : List (InlineTree Span)) (ns : List (NamedTree Span)) (name : Span) (e : InlineTree Span)
     (a : ArgumentsTree Span) →
     put_arguments ps (ns ++ named_argument name e ∷ []) a ≡ put_arguments ps ns (add_named name e a)
 put_named ps ns name e (arguments es ms) =
-    ap (λ xs. arguments (inlines_before ps es) xs) (nameds_added ns (named_argument name e) ms)
+    ap (λ xs. arguments (inlines_before ps es) xs) (nameds_before-append ns (named_argument name e) ms)
 
-inlines_whole : (xs : List (InlineTree Span)) → inlines_before xs no_inlines ≡ inlines_of xs
-inlines_whole [] = refl
-inlines_whole (x ∷ xs) = ap (inlines x) (inlines_whole xs)
+inlines_before-end : (xs : List (InlineTree Span)) → inlines_before xs no_inlines ≡ inlines_of xs
+inlines_before-end [] = refl
+inlines_before-end (x ∷ xs) = ap (inlines x) (inlines_before-end xs)
 
-nameds_whole : (xs : List (NamedTree Span)) → nameds_before xs no_named ≡ nameds_of xs
-nameds_whole [] = refl
-nameds_whole (x ∷ xs) = ap (nameds x) (nameds_whole xs)
+nameds_before-end : (xs : List (NamedTree Span)) → nameds_before xs no_named ≡ nameds_of xs
+nameds_before-end [] = refl
+nameds_before-end (x ∷ xs) = ap (nameds x) (nameds_before-end xs)
 
 -- no others
 pub put_whole : (ps : List (InlineTree Span)) (ns : List (NamedTree Span)) →
     put_arguments ps ns (arguments no_inlines no_named) ≡ arguments (inlines_of ps) (nameds_of ns)
 put_whole ps ns =
-    ap (λ xs. arguments xs (nameds_before ns no_named)) (inlines_whole ps)
-    ∙ ap (λ xs. arguments (inlines_of ps) xs) (nameds_whole ns)
+    ap (λ xs. arguments xs (nameds_before ns no_named)) (inlines_before-end ps)
+    ∙ ap (λ xs. arguments (inlines_of ps) xs) (nameds_before-end ns)
 
 -- ---- with f of each text in its place
 

@@ -17,20 +17,20 @@ put_variants [] vs = vs
 put_variants (x ∷ xs) vs = variants x (put_variants xs vs)
 
 -- one more
-variants_added : (xs : List (VariantTree Span)) (x : VariantTree Span) (vs : VariantTrees Span) →
+put_variants-append : (xs : List (VariantTree Span)) (x : VariantTree Span) (vs : VariantTrees Span) →
     put_variants (xs ++ x ∷ []) vs ≡ put_variants xs (variants x vs)
-variants_added [] x vs = refl
-variants_added (y ∷ ys) x vs = ap (variants y) (variants_added ys x vs)
+put_variants-append [] x vs = refl
+put_variants-append (y ∷ ys) x vs = ap (variants y) (put_variants-append ys x vs)
 
 -- no others
-variants_whole : (xs : List (VariantTree Span)) → put_variants xs no_variants ≡ variants_of xs
-variants_whole [] = refl
-variants_whole (x ∷ xs) = ap (variants x) (variants_whole xs)
+put_variants-end : (xs : List (VariantTree Span)) → put_variants xs no_variants ≡ variants_of xs
+put_variants-end [] = refl
+put_variants-end (x ∷ xs) = ap (variants x) (put_variants-end xs)
 
-variants_mapped : {X : Type 0} (f : Span → X) (xs : List (VariantTree Span)) →
+variants_of-map : {X : Type 0} (f : Span → X) (xs : List (VariantTree Span)) →
     variants_of (map (variant_map f) xs) ≡ variants_map f (variants_of xs)
-variants_mapped f [] = refl
-variants_mapped f (x ∷ xs) = ap (variants (variant_map f x)) (variants_mapped f xs)
+variants_of-map f [] = refl
+variants_of-map f (x ∷ xs) = ap (variants (variant_map f x)) (variants_of-map f xs)
 
 -- What was gathered represents what was read, with f of each text in its place.
 pub record MadeVariants {S X : Type 0} (t : List ℕ) (next : Bool → Construct (More (VariantTree Span) Bool))
@@ -61,7 +61,7 @@ module _ {S X : Type 0} {t : List ℕ} {next : Bool → Construct (More (Variant
           ∙ ap (λ zs. zs ++ variant_view v x ∷ []) g.same
           ∙ ap (λ z. map (variant_map f) g.items ++ z ∷ []) same ∙ sym (map-append (variant_map f) g.items (a ∷ []));
       beyond =
-          one_after (put_variants (g.items ++ a ∷ [])) a later m g.beyond h (variants_added g.items a) read;
+          one_after (put_variants (g.items ++ a ∷ [])) a later m g.beyond h (put_variants-append g.items a) read;
     }
 
     -- the list ends
@@ -69,5 +69,5 @@ module _ {S X : Type 0} {t : List ℕ} {next : Bool → Construct (More (Variant
         next starred j (Read no_item m) →
         IsMade (variants_map f) (many next variants no_variants false) i (variants_view v xs) m
     variants_end xs g x =
-        made (whole_list_read (variants_of g.items) m g.beyond (variants_whole g.items) x)
-        (ap variants_of g.same ∙ variants_mapped f g.items)
+        made (whole_list_read (variants_of g.items) m g.beyond (put_variants-end g.items) x)
+        (ap variants_of g.same ∙ variants_of-map f g.items)

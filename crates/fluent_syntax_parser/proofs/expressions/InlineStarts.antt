@@ -80,12 +80,12 @@ module _ (t : List ℕ) (R : Family) (i : ℕ) where
       (refused_value s a b c))
 
 -- a name with its arguments, by the reference that these are
-pub referred : {S X : Type 0} (v : S → X) (t : List ℕ) (R : Family) (i : ℕ) (f : InlineTree Span → ExpressionTree X)
+pub Pushes-named : {S X : Type 0} (v : S → X) (t : List ℕ) (R : Family) (i : ℕ) (f : InlineTree Span → ExpressionTree X)
     (old new : List (PatternElement S)) {name : Span} {a : MaybeArguments Span} {m j : ℕ} (r : Result ℕ ReadFault) →
     Pushes v t f (named_reference t name a) old new j r → letter ≡ start t i → identifier t i (Read name m) →
     call_arguments t R m (Read a j) → IsFunctionalFamily R → Pushes v t f (inline_expression t R) old new i r
-referred v t R i f old new (Ok k) (e, read, added) s n c g =
+Pushes-named v t R i f old new (Ok k) (e, read, added) s n c g =
     (e, by_start t R i letter _ s (goes_on n (goes_on c read)), added)
-referred v t R i f old new (Err e) h s n c g =
+Pushes-named v t R i f old new (Err e) h s n c g =
     fails_seen (inline_of t R) letter s
     (fails_next (identifier_is_functional t) n (fails_next (call_is_functional t R g) c h))

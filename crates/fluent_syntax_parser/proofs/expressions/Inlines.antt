@@ -13,8 +13,8 @@ abbrev or : {X : Type 0} → InlineTree X → ExpressionTree X → InlineTree X
 or b (inline e) = e
 or b (select e vs) = b
 
-no_select : {X : Type 0} {e b : InlineTree X} {vs : VariantTrees X} → select e vs ≡ inline b → ⊥
-no_select h = cc
+select_differs : {X : Type 0} {e b : InlineTree X} {vs : VariantTrees X} → select e vs ≡ inline b → ⊥
+select_differs h = cc
 
 module _ {S X : Type 0} (v : S → X) where
   -- what was read as that expression
@@ -25,4 +25,4 @@ module _ {S X : Type 0} (v : S → X) where
   -- it is no select
   pub select_not_inline : {d : Expression S} {b : InlineTree X} (e : InlineExpression S)
       (vs : Vec (Variant S) Global) → d ≡ Select e vs → expression_view v d ≡ inline b → ⊥
-  select_not_inline e vs is read = no_select (sym (view-Select v e vs) ∙ ap (expression_view v) (sym is) ∙ read)
+  select_not_inline e vs is read = select_differs (sym (view-Select v e vs) ∙ ap (expression_view v) (sym is) ∙ read)

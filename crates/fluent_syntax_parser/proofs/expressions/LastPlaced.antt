@@ -10,27 +10,27 @@ use Rattle.fluent_syntax_tree.specs.declared.ast.InlineExpression.{InlineExpress
 use Rattle.fluent_syntax_tree.specs.declared.ast.PatternElement.{PatternElement, Placeable, TextElement}
 use Rattle.fluent_syntax_parser.specs.Last.{AddsPlaced}
 
-at_end : {A : Type 0} (xs : List A) (x : A) → slice_get (xs ++ x ∷ []) (length xs) ≡ Some x
-at_end [] x = refl
-at_end (y ∷ ys) x = at_end ys x
+item_is_last : {A : Type 0} (xs : List A) (x : A) → slice_get (xs ++ x ∷ []) (length xs) ≡ Some x
+item_is_last [] x = refl
+item_is_last (y ∷ ys) x = item_is_last ys x
 
 abbrev some_or : {A : Type 0} → A → Option A → A
 some_or a None = a
 some_or a (Some b) = b
 
 -- what is at the last place of a list is what was added last
-pub last_is : {A : Type 0} (all xs : List A) (x y : A) → all ≡ xs ++ x ∷ [] →
+pub last_is_appended_item : {A : Type 0} (all xs : List A) (x y : A) → all ≡ xs ++ x ∷ [] →
     Some y ≡ slice_get all (length all - 1) → y ≡ x
-last_is all xs x y pushed there =
+last_is_appended_item all xs x y pushed there =
     let before : length all - 1 ≡ length xs = omega (arith, length_push xs x, ap length pushed) in
-    ap (some_or y) (there ∙ ap (slice_get all) before ∙ ap (λ ys. slice_get ys (length xs)) pushed ∙ at_end xs x)
+    ap (some_or y) (there ∙ ap (slice_get all) before ∙ ap (λ ys. slice_get ys (length xs)) pushed ∙ item_is_last xs x)
 
 abbrev placed_or : {X : Type 0} → ExpressionTree X → ElementTree X → ExpressionTree X
 placed_or e (placeable d) = d
 placed_or e (text_element s) = e
 
-no_text : {X : Type 0} {s : X} {tree : ExpressionTree X} → text_element s ≡ placeable tree → ⊥
-no_text h = cc
+text_is_not_placeable : {X : Type 0} {s : X} {tree : ExpressionTree X} → text_element s ≡ placeable tree → ⊥
+text_is_not_placeable h = cc
 
 module _ {S X : Type 0} (v : S → X) where
   -- a placeable was added
@@ -61,4 +61,4 @@ module _ {S X : Type 0} (v : S → X) where
   -- it is no text
   pub text_not_placed : (s : S) {e : PatternElement S} {tree : ExpressionTree X} → TextElement s ≡ e →
       element_view v e ≡ placeable tree → ⊥
-  text_not_placed s is seen = no_text (sym (view-TextElement v s) ∙ ap (element_view v) is ∙ seen)
+  text_not_placed s is seen = text_is_not_placeable (sym (view-TextElement v s) ∙ ap (element_view v) is ∙ seen)

@@ -13,9 +13,9 @@ use Rattle.fluent_syntax_grammar.specs.NameKeys.{NotesAll, is_key}
 use Rattle.fluent_syntax_grammar.proofs.NameKeys.{any_key, notes_after}
 use Rattle.fluent_syntax_parser.specs.Noted.{Notes}
 
-not_new : (held used new : Bool) → new ≡ not held → held ≡ used → used ≡ not new
-not_new true used new e same = rw e (sym same)
-not_new false used new e same = rw e (sym same)
+used_is_not_new : (held used new : Bool) → new ≡ not held → held ≡ used → used ≡ not new
+used_is_not_new true used new e same = rw e (sym same)
+used_is_not_new false used new e same = rw e (sym same)
 
 module _ {K : Type 0} (text : K → List ℕ) where
   -- one name more, where they are many then
@@ -34,4 +34,4 @@ module _ {K : Type 0} (text : K → List ℕ) where
       new ≡ not (list_any (is_at (λ k. slice_cmp nat_cmp key (text k))) keys) → key ≡ n → NotesAll text keys names →
       is_used n names ≡ not new
   is_used-new keys names key n new e same all =
-      not_new _ _ _ e (any_key text key keys ∙ ap (λ name. is_key text keys name) same ∙ all n)
+      used_is_not_new _ _ _ e (any_key text key keys ∙ ap (λ name. is_key text keys name) same ∙ all n)

@@ -32,13 +32,13 @@ non_selector_refused t i fault kind is =
     subst (λ x. select_start t x i (Refused kind i (i + 1))) (sym is) (failed refl)
 
 -- what is one
-pub some_select_start : (t : List ℕ) {i : ℕ} (fault : Option Kind) (o : Outcome Unit) → fault ≡ None →
+pub select_start-no_fault : (t : List ℕ) {i : ℕ} (fault : Option Kind) (o : Outcome Unit) → fault ≡ None →
     select_start t None i o → select_start t fault i o
-some_select_start t {i = i} fault o is h = subst (λ x. select_start t x i o) (sym is) h
+select_start-no_fault t {i = i} fault o is h = subst (λ x. select_start t x i o) (sym is) h
 
-pub start_is_functional : (t : List ℕ) (fault : Option Kind) → IsFunctional (select_start t fault)
-start_is_functional t (Some kind) = fails_is_functional
-start_is_functional t None =
+pub select_start_is_functional : (t : List ℕ) (fault : Option Kind) → IsFunctional (select_start t fault)
+select_start_is_functional t (Some kind) = fails_is_functional
+select_start_is_functional t None =
     bind_is_functional steps_are_functional (λ u.
     bind_is_functional (inline_blank_is_functional t) (λ u.
     bind_is_functional (arrow_end_is_functional t) (λ u. blank_is_functional t)))
@@ -95,14 +95,14 @@ module _ (edition : Edition) (t : List ℕ) (R : Family) (e : InlineTree Span) (
     select_fails {f = f} h = subst (λ x. Fails t (select_with edition t R e x) i f) is (fails_from_arrow fault h)
 
 -- The rest of an expression after which there is an arrow, by its select.
-pub beyond_blank : {S X : Type 0} (v : S → X) (edition : Edition) (t : List ℕ) (R : Family)
+pub select_is_read_past_blank : {S X : Type 0} (v : S → X) (edition : Edition) (t : List ℕ) (R : Family)
     (f : ExpressionTree Span → ExpressionTree X) (old new : List (PatternElement S)) {i j k : ℕ} {e : InlineTree Span}
     (r : Result ℕ ReadFault) → inline_expression t R i (Read e j) → Blank t j k → has_arrow t k ≡ true →
     IsFunctionalFamily R → Pushes v t f (select_with edition t R e (selector_fault e)) old new k r →
     Pushes v t f (expression edition t R) old new i r
-beyond_blank v edition t R f old new (Ok x) read blank arrow g (b, there, added) =
+select_is_read_past_blank v edition t R f old new (Ok x) read blank arrow g (b, there, added) =
     (b, goes_on read (goes_on (passed blank) (goes_on (chosen given) (first arrow there))), added)
-beyond_blank v edition t R f old new (Err _) read blank arrow g h =
+select_is_read_past_blank v edition t R f old new (Err _) read blank arrow g h =
     fails_next (inline_is_functional t R g) read
     (fails_next (blank_is_functional t) (passed blank)
     (fails_next (look_is_functional (has_arrow t)) (chosen given)

@@ -16,32 +16,32 @@ use Rattle.fluent_syntax_grammar.specs.Grammar.{within}
 use Rattle.fluent_syntax_grammar.specs.Layout.{Line, crlf_at, lf_at}
 use Rattle.fluent_syntax_grammar.specs.Lines.{belongs, more_lines, more_pieces, own_line}
 use Rattle.fluent_syntax_grammar.specs.Places.{BlankBlock, InlineBlank, after_eol, has_byte, has_eol, line, no_line}
-use Rattle.fluent_syntax_grammar.proofs.Facts.{byte_found, equal}
-use Rattle.fluent_syntax_grammar.proofs.LineEnds.{eol_none}
+use Rattle.fluent_syntax_grammar.proofs.Facts.{byte_exists, equal}
+use Rattle.fluent_syntax_grammar.proofs.LineEnds.{no_bytes_no_eol}
 use Rattle.fluent_syntax_grammar.proofs.Tests.{neither_left}
 use Rattle.fluent_syntax_parser.proofs.patterns.LineEndings.{line_ending_read}
 use Rattle.fluent_syntax_parser.specs.OneLine.{EndsBlank}
 
 -- ---- line ends
 
-pub eol_there : (a b : Bool) (i k : ℕ) → (if a then Some (i + 1) else if b then Some (i + 2) else None) ≡ Some k →
+pub end_is_eol : (a b : Bool) (i k : ℕ) → (if a then Some (i + 1) else if b then Some (i + 2) else None) ≡ Some k →
     (a || b) ≡ true
-eol_there true b i k e = refl
-eol_there false true i k e = refl
-eol_there false false i k e = cc
+end_is_eol true b i k e = refl
+end_is_eol false true i k e = refl
+end_is_eol false false i k e = cc
 
-pub crlf_byte : (a b c : Bool) (i k : ℕ) →
+pub crlf_has_lf : (a b c : Bool) (i k : ℕ) →
     (if a then Some (i + 1) else if b && c then Some (i + 2) else None) ≡ Some k → (k ≡ i + 1 → ⊥) → c ≡ true
-crlf_byte true b c i k e other = let same : i + 1 ≡ k = cc in absurd (other (sym same))
-crlf_byte false true true i k e other = refl
-crlf_byte false true false i k e other = cc
-crlf_byte false false c i k e other = cc
+crlf_has_lf true b c i k e other = let same : i + 1 ≡ k = cc in absurd (other (sym same))
+crlf_has_lf false true true i k e other = refl
+crlf_has_lf false true false i k e other = cc
+crlf_has_lf false false c i k e other = cc
 
-lf_byte : (a b : Bool) (i k : ℕ) → (if a then Some (i + 1) else if b then Some (i + 2) else None) ≡ Some k →
+one_byte_eol_is_lf : (a b : Bool) (i k : ℕ) → (if a then Some (i + 1) else if b then Some (i + 2) else None) ≡ Some k →
     k ≡ i + 1 → a ≡ true
-lf_byte true b i k e same = refl
-lf_byte false true i k e same = let two : i + 2 ≡ k = cc in absurd (omega (arith, two, same))
-lf_byte false false i k e same = cc
+one_byte_eol_is_lf true b i k e same = refl
+one_byte_eol_is_lf false true i k e same = let two : i + 2 ≡ k = cc in absurd (omega (arith, two, same))
+one_byte_eol_is_lf false false i k e same = cc
 
 -- ---- texts that are blank
 
@@ -49,39 +49,39 @@ module _ (t : List ℕ) (i j : ℕ) (l : i < j) (within : j ≤ length t) where
   pub range_cons : (n : ℕ) → j - i ≡ suc n → slice_range t i j ≡ get_or t i 0 ∷ take n (drop (suc i) t)
   range_cons n e = rw (drop-cons t i 0 (omega arith), e) refl
 
-pub lf_blank : (t : List ℕ) (i j : ℕ) → j ≡ i + 1 → has_byte t lf i ≡ true → is_nonblank (slice_range t i j) ≡ false
-lf_blank t i j l e =
-    let f = byte_found (λ c. c == lf) (slice_get t i) e in
+pub lf_is_blank : (t : List ℕ) (i j : ℕ) → j ≡ i + 1 → has_byte t lf i ≡ true → is_nonblank (slice_range t i j) ≡ false
+lf_is_blank t i j l e =
+    let f = byte_exists (λ c. c == lf) (slice_get t i) e in
     let within = slice_get_within t i f.0 f.1 in
     let same : get_or t i 0 ≡ lf = let h = slice_get-get_or t i 0 within in let b : f.0 ≡ lf = equal f.0 lf f.2 in cc in
     let n : j - i ≡ suc 0 = omega arith in
     rw (range_cons t i j (omega arith) (omega arith) 0 n, same) refl
 
-space_first : (b : ℕ) (bs : List ℕ) → (b == space) ≡ true → is_nonblank (b ∷ bs) ≡ is_nonblank bs
-space_first b [] e =
+is_nonblank-space : (b : ℕ) (bs : List ℕ) → (b == space) ≡ true → is_nonblank (b ∷ bs) ≡ is_nonblank bs
+is_nonblank-space b [] e =
     let other : (b == lf) ≡ false = grind (arith, nat_tests) in
     rw (other, e) refl
-space_first b (c ∷ bs) e = rw e refl
+is_nonblank-space b (c ∷ bs) e = rw e refl
 
 module _ (t : List ℕ) (k : ℕ) (there : has_byte t lf k ≡ true) where
   inside : k < length t
-  inside = let f = byte_found (λ c. c == lf) (slice_get t k) there in slice_get_within t k f.0 f.1
+  inside = let f = byte_exists (λ c. c == lf) (slice_get t k) there in slice_get_within t k f.0 f.1
 
   -- spaces and an LF
   blank_text : (n i : ℕ) → n ≡ k - i → i ≤ k → ((j : ℕ) → i ≤ j → j < k → has_byte t space j ≡ true) →
       is_nonblank (slice_range t i (k + 1)) ≡ false
   blank_text zero i size l spaces =
       let same : k ≡ i = omega (arith, size, l) in
-      lf_blank t i (k + 1) (omega (arith, same)) (subst (λ p. has_byte t lf p ≡ true) same there)
+      lf_is_blank t i (k + 1) (omega (arith, same)) (subst (λ p. has_byte t lf p ≡ true) same there)
   blank_text (suc m) i size l spaces =
       let some : i < k = omega (arith, size) in
-      let f = byte_found (λ c. c == space) (slice_get t i) (spaces i (omega arith) some) in
+      let f = byte_exists (λ c. c == space) (slice_get t i) (spaces i (omega arith) some) in
       let same : get_or t i 0 ≡ f.0 = let h = slice_get-get_or t i 0 (omega (arith, inside, some)) in let e = f.1 in cc
       in
       rw (
         range_cons t i (k + 1) (omega (arith, some)) (omega (arith, inside)) (k + 1 - suc i) (omega (arith, some)),
         same,
-        space_first f.0 (slice_range t (suc i) (k + 1)) f.2,
+        is_nonblank-space f.0 (slice_range t (suc i) (k + 1)) f.2,
       )
       (blank_text m (suc i) (omega (arith, size)) (omega (arith, some)) (λ j a b. spaces j (omega (arith, a)) b))
 
@@ -97,13 +97,13 @@ module _ (edition : Edition) (t : List ℕ) (common : Option ℕ) (i k m : ℕ) 
   blank_line_items_cut : (c : Option ℕ) → m ≡ k + 1 →
       cut t (line_items edition c (record { start = i; spaces = k - i; pieces = []; ending = lf_at k }) ++ rest) ≡ []
   blank_line_items_cut None same =
-      let there = lf_byte (has_byte t lf k) _ k m eol same in
+      let there = one_byte_eol_is_lf (has_byte t lf k) _ k m eol same in
       let forward = blank.forward in
       let empty = blank_text t k there 0 (i + (k - i)) (omega (arith, forward)) (omega (arith, forward))
       (λ j a b. absurd (omega (arith, a, b, forward))) in
       rw (none, empty) refl
   blank_line_items_cut (Some c) same =
-      let there = lf_byte (has_byte t lf k) _ k m eol same in
+      let there = one_byte_eol_is_lf (has_byte t lf k) _ k m eol same in
       let forward = blank.forward in
       let empty = blank_text t k there (k - (i + min (k - i) c)) (i + min (k - i) c) refl (omega (arith, forward))
       (λ j a b. blank.each j (omega (arith, a)) b) in
@@ -119,8 +119,8 @@ module _ (edition : Edition) (t : List ℕ) (common : Option ℕ) (i k m : ℕ) 
   by_test true is = blank_line_items_cut common (equal m (k + 1) is)
   by_test false is =
       let other : m ≡ k + 1 → ⊥ = λ same. grind (arith, nat_tests) in
-      let empty = lf_blank t (k + 1) (k + 2) (omega arith)
-      (crlf_byte (has_byte t lf k) (has_byte t cr k) _ k m eol other) in
+      let empty = lf_is_blank t (k + 1) (k + 2) (omega arith)
+      (crlf_has_lf (has_byte t lf k) (has_byte t cr k) _ k m eol other) in
       rw (none, empty) refl
 
   blank_items : cut t (line_items edition common (blank_line i k m) ++ rest) ≡ []
@@ -150,7 +150,7 @@ module _ (edition : Edition) (t : List ℕ) where
   unfolding blanks
   blanks_read R i j end (no_line blank none) last = last
   blanks_read R i j end (line {k = k} {m = m} blank eol more) last =
-      let there = eol_there (has_byte t lf k) _ k m eol in
+      let there = end_is_eol (has_byte t lf k) _ k m eol in
       let byte = byte_there k (slice_get t k) refl there in
       item_and_more
       (own_line blank byte.1 (owned k (nat_lt i k) there)
@@ -197,11 +197,11 @@ module _ (t : List ℕ) {i k : ℕ} (blank : InlineBlank t i k) where
         longest = blank.longest;
       } in
       let no_eol : has_eol t k ≡ false = rw end refl in
-      no_line no_spaces (eol_none (has_byte t lf k) (has_byte t cr k && has_byte t lf (k + 1)) _ _ no_eol)
+      no_line no_spaces (no_bytes_no_eol (has_byte t lf k) (has_byte t cr k && has_byte t lf (k + 1)) _ _ no_eol)
 
   pub none_before_other : (indented : Bool) → belongs t indented k ≡ false → BlankBlock t i i
   none_before_other true other =
-      no_line blank (eol_none (has_byte t lf k) _ _ _ (neither_left (has_eol t k) _ other))
+      no_line blank (no_bytes_no_eol (has_byte t lf k) _ _ _ (neither_left (has_eol t k) _ other))
   none_before_other false other =
       let no_brace = neither_left (has_eol t k || has_byte t left_brace k) _ other in
-      no_line blank (eol_none (has_byte t lf k) _ _ _ (neither_left (has_eol t k) _ no_brace))
+      no_line blank (no_bytes_no_eol (has_byte t lf k) _ _ _ (neither_left (has_eol t k) _ no_brace))

@@ -20,40 +20,40 @@ use Rattle.fluent_syntax_grammar.specs.Layout.{crlf_at, text_end as text_end'}
 use Rattle.fluent_syntax_grammar.specs.Lines.{is_run_place, more_lines, more_pieces, next_piece, text_run, ending}
 use Rattle.fluent_syntax_grammar.specs.Patterns.{layout_at, layout, pattern}
 use Rattle.fluent_syntax_grammar.specs.Places.{BlankBlock, LongestRun, after_eol, has_byte, has_eol, InlineBlank}
-use Rattle.fluent_syntax_grammar.proofs.Facts.{left_true, byte_found}
-use Rattle.fluent_syntax_grammar.proofs.Tests.{without}
-use Rattle.fluent_syntax_grammar.proofs.LineEnds.{eol_none}
+use Rattle.fluent_syntax_grammar.proofs.Facts.{left_true, byte_exists}
+use Rattle.fluent_syntax_grammar.proofs.Tests.{negated_right_is_false}
+use Rattle.fluent_syntax_grammar.proofs.LineEnds.{no_bytes_no_eol}
 use Rattle.fluent_syntax_parser.proofs.patterns.LineEndings.{line_ending_read, ends_text}
-use Rattle.fluent_syntax_parser.proofs.patterns.BlankLines.{blank_rest, crlf_byte, eol_there, lf_blank, no_piece}
+use Rattle.fluent_syntax_parser.proofs.patterns.BlankLines.{blank_rest, crlf_has_lf, end_is_eol, lf_is_blank, no_piece}
 use Rattle.fluent_syntax_parser.proofs.patterns.BlankLines.{range_cons}
 use Rattle.fluent_syntax_parser.specs.OneLine.{EndsBlank, EndsLine, text_pattern, with_lf, with_crlf, with_text}
 
-starts_nonblank : (b : ℕ) (bs : List ℕ) → (b == space) ≡ false → (b == lf) ≡ false → is_nonblank (b ∷ bs) ≡ true
-starts_nonblank b [] space other = rw (other, space) refl
-starts_nonblank b (c ∷ bs) space other = rw space refl
+is_nonblank-other : (b : ℕ) (bs : List ℕ) → (b == space) ≡ false → (b == lf) ≡ false → is_nonblank (b ∷ bs) ≡ true
+is_nonblank-other b [] space other = rw (other, space) refl
+is_nonblank-other b (c ∷ bs) space other = rw space refl
 
 module _ (t : List ℕ) (i j : ℕ) (l : i < j) (within : j ≤ length t) where
   range_nonblank : (b : ℕ) → slice_get t i ≡ Some b → (b == space) ≡ false → (b == lf) ≡ false →
       is_nonblank (slice_range t i j) ≡ true
   range_nonblank b at space other =
       let same : get_or t i 0 ≡ b = let h = slice_get-get_or t i 0 (omega arith) in cc in
-      rw (range_cons t i j l within (j - i - 1) (omega arith), same) (starts_nonblank b _ space other)
+      rw (range_cons t i j l within (j - i - 1) (omega arith), same) (is_nonblank-other b _ space other)
 
 -- items none of which stays are cut off where they end the list
-cut_after : (t : List ℕ) (xs ys : List Item) → cut t ys ≡ [] → cut t (xs ++ ys) ≡ cut t xs
-cut_after t [] ys none = none
-cut_after t (x ∷ xs) ys none = ap (cut_before t x) (cut_after t xs ys none)
+cut_drops_blank_end : (t : List ℕ) (xs ys : List Item) → cut t ys ≡ [] → cut t (xs ++ ys) ≡ cut t xs
+cut_drops_blank_end t [] ys none = none
+cut_drops_blank_end t (x ∷ xs) ys none = ap (cut_before t x) (cut_drops_blank_end t xs ys none)
 
 module _ (t : List ℕ) where
   module _ (start to : ℕ) (w : LongestRun (is_run_place t) start to) (some : start < to) where
     first_byte : (b : ℕ) × (slice_get t start ≡ Some b) × (not (b == lf || b == left_brace || b == right_brace) ≡ true)
     first_byte =
-        byte_found (λ b. not (b == lf || b == left_brace || b == right_brace)) (slice_get t start)
+        byte_exists (λ b. not (b == lf || b == left_brace || b == right_brace)) (slice_get t start)
         (left_true _ _
         (w.each start (omega arith) some))
 
     start_eol : has_eol t start ≡ false
-    start_eol = without _ _ (w.each start (omega arith) some)
+    start_eol = negated_right_is_false _ _ (w.each start (omega arith) some)
 
     run_nonblank : (ptr stop : ℕ) → InlineBlank t ptr start → to ≤ stop → stop ≤ length t →
         is_nonblank (slice_range t start stop) ≡ true
@@ -64,7 +64,7 @@ module _ (t : List ℕ) where
         range_nonblank t start stop (omega arith) within f.0 f.1 space other
 
     opens_there : after_eol t start ≡ None
-    opens_there = eol_none (has_byte t lf start) _ _ _ (start_eol)
+    opens_there = no_bytes_no_eol (has_byte t lf start) _ _ _ (start_eol)
 
 module _ (t : List ℕ) (R : Family) where
   run_piece : (i j b : ℕ) → slice_get t i ≡ Some b → not (b == lf || b == left_brace || b == right_brace) ≡ true →
@@ -93,7 +93,7 @@ module _ (t : List ℕ) (R : Family) where
 
   line_ended : (to stop next : ℕ) → EndsLine t to stop next → EndedLine to stop next
   line_ended to stop next (with_lf eol e) =
-      let there = eol_there (has_byte t lf to) _ to stop eol in
+      let there = end_is_eol (has_byte t lf to) _ to stop eol in
       let test : (stop == to + 1) ≡ true = grind (arith, nat_tests) in
       record {
         ends_by = lf_at to;
@@ -104,10 +104,10 @@ module _ (t : List ℕ) (R : Family) where
             let same = subst (λ k. is_nonblank (slice_range t from k) ≡ true) e stays in rw (same, e) refl;
       }
   line_ended to stop next (with_crlf eol e) =
-      let there = eol_there (has_byte t lf to) _ to next eol in
+      let there = end_is_eol (has_byte t lf to) _ to next eol in
       let test : (next == to + 1) ≡ false = grind (arith, nat_tests) in
-      let blank = lf_blank t (to + 1) (to + 2) (omega arith)
-      (crlf_byte (has_byte t lf to) (has_byte t cr to) _ to next eol e) in
+      let blank = lf_is_blank t (to + 1) (to + 2) (omega arith)
+      (crlf_has_lf (has_byte t lf to) (has_byte t cr to) _ to next eol e) in
       record {
         ends_by = crlf_at to;
         ends = subst (λ b. ending t to (Read (if b then lf_at to else crlf_at to) next)) test
@@ -146,7 +146,7 @@ module _ (edition : Edition) (t : List ℕ) (n : ℕ) where
         (goes_on (beyond.read n) given))) in
         let whole : layout t R ptr (Read (opened beyond.lines) end) = goes_on (passed blank)
         (chosen (subst (λ o. layout_at t R o start (Read (opened beyond.lines) end)) (sym opens) laid)) in
-        let cut_off = cut_after t (with_ending ps e)
+        let cut_off = cut_drops_blank_end t (with_ending ps e)
         (flat_map (line_items edition (common_indent edition (opened beyond.lines))) beyond.lines) (beyond.blank _) in
         let same : pattern_of edition t (opened beyond.lines) ≡ if_any (spelled t (cut t (with_ending ps e))) =
         ap (λ is. if_any (spelled t is)) cut_off in

@@ -21,14 +21,14 @@ use Rattle.fluent_syntax_parser.specs.Layouts.{piece_of}
 use Rattle.fluent_syntax_parser.specs.Opened.{Settled, as_item, none, piece_element}
 use Rattle.fluent_syntax_parser.specs.Outcomes.{Fails}
 use Rattle.fluent_syntax_parser.specs.declared.fault.ReadFault.{ReadFault}
-use Rattle.fluent_syntax_parser.proofs.patterns.BlankLines.{crlf_byte, lf_blank}
+use Rattle.fluent_syntax_parser.proofs.patterns.BlankLines.{crlf_has_lf, lf_is_blank}
 use Rattle.fluent_syntax_grammar.proofs.FunctionalRules.{ending_is_functional}
 use Rattle.fluent_syntax_parser.proofs.patterns.LineEndings.{line_ending_read, ends_text}
 use Rattle.fluent_syntax_parser.proofs.patterns.OneLine.{run_item}
 use Rattle.fluent_syntax_parser.proofs.patterns.Pieces.{end_pieces, no_pieces, run_there}
 use Rattle.fluent_syntax_parser.proofs.patterns.Rest.{run_mapped}
 use Rattle.fluent_syntax_parser.proofs.patterns.Settled.{placed_after, run_and_placed_settled, settled_ending}
-use Rattle.fluent_syntax_parser.proofs.patterns.Settled.{settled_mapped}
+use Rattle.fluent_syntax_parser.proofs.patterns.Settled.{Settled-map}
 use Rattle.fluent_syntax_parser.proofs.readers.ContinuesFrom.{ContinuesFrom, item_fails, whole_list_read, one_after}
 
 -- The elements are those of pieces up to a placeable, and what there is at the place comes after them.
@@ -141,11 +141,11 @@ abbrev byte_or : Option ℕ → ℕ
 byte_or None = 0
 byte_or (Some b) = b
 
-pub other_byte : {o : Option ℕ} (b n : ℕ) → o ≡ Some b → (b ≡ n → ⊥) → o ≡ Some n → ⊥
-other_byte b n is other e = other (ap byte_or (sym is ∙ e))
+pub byte_differs : {o : Option ℕ} (b n : ℕ) → o ≡ Some b → (b ≡ n → ⊥) → o ≡ Some n → ⊥
+byte_differs b n is other e = other (ap byte_or (sym is ∙ e))
 
-pub no_byte_there : {o : Option ℕ} {n : ℕ} → o ≡ None → o ≡ Some n → ⊥
-no_byte_there is e = let f = sym is ∙ e in cc
+pub none_is_no_byte : {o : Option ℕ} {n : ℕ} → o ≡ None → o ≡ Some n → ⊥
+none_is_no_byte is e = let f = sym is ∙ e in cc
 
 -- what neither continues a run nor is a brace
 pub run_ends_line : (t : List ℕ) (R : Family) (place to : ℕ) → LongestRun (is_run_place t) place to →
@@ -164,15 +164,15 @@ abbrev ending_or : Ending → Outcome Ending → Ending
 ending_or e (Read d j) = d
 ending_or e (Refused k from to) = e
 
-pub ends_at : (t : List ℕ) (to : ℕ) (e : Ending) (next : ℕ) → ending t to (Read e next) → EndsAt t to e
-ends_at t to e next read = by (after_eol t to) refl
+pub EndsAt-ending_read : (t : List ℕ) (to : ℕ) (e : Ending) (next : ℕ) → ending t to (Read e next) → EndsAt t to e
+EndsAt-ending_read t to e next read = by (after_eol t to) refl
   where
     test : (k : ℕ) → after_eol t to ≡ Some k → (b : Bool) → (k == to + 1) ≡ b →
         EndsAt t to (if b then lf_at to else crlf_at to)
     test k eol true same = refl
     test k eol false other =
-        lf_blank t (to + 1) (to + 2) (omega arith)
-        (crlf_byte (has_byte t lf to) (has_byte t cr to) _ to k eol (grind (arith, nat_tests)))
+        lf_is_blank t (to + 1) (to + 2) (omega arith)
+        (crlf_has_lf (has_byte t lf to) (has_byte t cr to) _ to k eol (grind (arith, nat_tests)))
 
     same : (d : Ending) (j : ℕ) → ending t to (Read d j) → d ≡ e
     same d j other = ap (ending_or d) ((ending_is_functional t).same to (Read d j) (Read e next) other read)
@@ -192,7 +192,7 @@ module _ {X : Type 0} (f : Span → X) where
   as_elements (p ∷ ps) = ap (λ es. piece_element f p ∷ es) (as_elements ps)
 
   pub opening_settled : {ps : List Piece} → Settled ps → Settled (map (piece_of f) ps)
-  opening_settled s = settled_mapped (expression_map f) s
+  opening_settled s = Settled-map (expression_map f) s
 
   pub opening_ending : {ps : List Piece} → Settled ps → (s : Span) (end : Ending) →
       with_ending (map (piece_of f) (ps ++ run_of s)) end

@@ -15,15 +15,15 @@ use Rattle.fluent_syntax_grammar.specs.Lines.{belongs, line, more_pieces, next_l
 use Rattle.fluent_syntax_grammar.specs.Nesting.{TooDeep}
 use Rattle.fluent_syntax_grammar.specs.Expressions.{placeable}
 use Rattle.fluent_syntax_grammar.specs.Places.{LongestRun, holds, has_eol, InlineBlank}
-use Rattle.fluent_syntax_grammar.proofs.Functional.{longest_run_functional}
+use Rattle.fluent_syntax_grammar.proofs.Functional.{longest_run_is_functional}
 use Rattle.fluent_syntax_parser.specs.Outcomes.{Fails, no_memory, refused, too_deep}
 use Rattle.fluent_syntax_parser.specs.declared.fault.ReadFault.{ReadFault}
 use Rattle.fluent_syntax_parser.proofs.readers.Fails.{fails_no, fails_seen, fails_yes}
 
-run_test : (o : Option ℕ) (b : ℕ) (eol : Bool) → o ≡ Some b → eol ≡ false → (b ≡ right_brace → ⊥) →
+text_byte_passes_run_test : (o : Option ℕ) (b : ℕ) (eol : Bool) → o ≡ Some b → eol ≡ false → (b ≡ right_brace → ⊥) →
     (b ≡ left_brace → ⊥) → (b ≡ lf → ⊥) →
     (holds (λ b. not (b == lf || b == left_brace || b == right_brace)) o && not eol) ≡ true
-run_test o b eol e f close opening line = rw (e, f) (grind (arith, nat_tests))
+text_byte_passes_run_test o b eol e f close opening line = rw (e, f) (grind (arith, nat_tests))
 
 module _ (t : List ℕ) (R : Family) (i b : ℕ) (e : slice_get t i ≡ Some b) (eol : has_eol t i ≡ false) where
   by_piece : (o : Outcome (More Piece (Unit {0}))) → next_piece_at t R (Some b) i o → next_piece t R i o
@@ -59,7 +59,7 @@ module _ (t : List ℕ) (R : Family) (i b : ℕ) (e : slice_get t i ≡ Some b) 
     no_line is = let f = rw e at eol in cc
 
     pub run_there : is_run_place t i ≡ true
-    run_there = run_test (slice_get t i) b (has_eol t i) e eol close opening no_line
+    run_there = text_byte_passes_run_test (slice_get t i) b (has_eol t i) e eol close opening no_line
 
 -- a stretch that begins with what it is of
 pub further : (test : ℕ → Bool) (i j : ℕ) → LongestRun test i j → test i ≡ true → i < j
@@ -68,9 +68,9 @@ further test i j w here =
     omega (arith, w.forward, apart)
 
 -- a line is not empty where there is a byte in it
-pub line_onward : (t : List ℕ) (from end next : ℕ) → from < length t → from ≤ end → end ≤ next →
+pub line_takes_bytes : (t : List ℕ) (from end next : ℕ) → from < length t → from ≤ end → end ≤ next →
     (has_eol t end ≡ false → slice_get t end ≡ None) → (has_eol t end ≡ true → end < next) → from < next
-line_onward t from end next inside forward on stops further = by (has_eol t end) refl
+line_takes_bytes t from end next inside forward on stops further = by (has_eol t end) refl
   where
     by : (b : Bool) → has_eol t end ≡ b → from < next
     by true e = omega (arith, further e)

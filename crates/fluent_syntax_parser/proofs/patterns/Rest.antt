@@ -28,9 +28,9 @@ module _ {E F : Type 0} (h : E → F) where
       sym (ending_mapped h (run_of s) end) ∙ ap (λ ps. with_ending ps end) (run_mapped s)
 
 -- nothing is left where there is nothing
-pub nothing_left : {E : Type 0} (place : ℕ) →
+pub empty_run_at_text_end_has_no_items : {E : Type 0} (place : ℕ) →
     with_ending {E = E} (run_of (record { start = place; end = place })) text_end ≡ []
-nothing_left {E = E} place = by (nat_lt place place) refl
+empty_run_at_text_end_has_no_items {E = E} place = by (nat_lt place place) refl
   where
     by : (b : Bool) → nat_lt place place ≡ b →
         with_ending {E = E} (if b then run place place ∷ [] else []) text_end ≡ []

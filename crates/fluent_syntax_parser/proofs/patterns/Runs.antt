@@ -10,10 +10,10 @@ use Rattle.fluent_syntax_grammar.specs.Lines.{is_run_place}
 use Rattle.fluent_syntax_grammar.proofs.Tests.{and_right}
 use Rattle.fluent_syntax_grammar.specs.Lanes.{is_passed}
 
-passed_run : (o : Option ℕ) (eol : Bool) → holds is_passed o ≡ true → eol ≡ false →
+passed_byte_is_run_place : (o : Option ℕ) (eol : Bool) → holds is_passed o ≡ true → eol ≡ false →
     (holds (λ b. not (b == lf || b == left_brace || b == right_brace)) o && not (holds (λ c. c == lf) o || eol)) ≡ true
-passed_run None eol e f = absurd (false≢true e)
-passed_run (Some b) eol e f = grind (arith, nat_tests)
+passed_byte_is_run_place None eol e f = absurd (false≢true e)
+passed_byte_is_run_place (Some b) eol e f = grind (arith, nat_tests)
 
 passed_no_lf : (o : Option ℕ) → holds is_passed o ≡ true → holds (λ c. c == lf) o ≡ false
 passed_no_lf None e = refl
@@ -27,11 +27,11 @@ module _ (t : List ℕ) (i m : ℕ) (word : ByteRun t is_passed i m) where
   inside : (k : ℕ) → i ≤ k → k < m → (k + 1 ≡ m → (has_byte t cr k && has_byte t lf (k + 1)) ≡ false) →
       (k + 1 < m) ⊎ (k + 1 ≡ m) → is_run_place t k ≡ true
   inside k l r last (inl more) =
-      passed_run (slice_get t k) _ (word.each k l r)
+      passed_byte_is_run_place (slice_get t k) _ (word.each k l r)
       (and_right (has_byte t cr k) (has_byte t lf (k + 1))
       (passed_no_lf (slice_get t (k + 1))
       (word.each (k + 1) (omega arith) more)))
-  inside k l r last (inr end) = passed_run (slice_get t k) _ (word.each k l r) (last end)
+  inside k l r last (inr end) = passed_byte_is_run_place (slice_get t k) _ (word.each k l r) (last end)
 
   split : (k : ℕ) → k < m → (k + 1 < m) ⊎ (k + 1 ≡ m)
   split k l = grind arith

@@ -32,10 +32,10 @@ module _ {E : Type 0} where
   cut_filled t e [] = refl
   cut_filled t e (x ∷ xs) = refl
 
-pub settled_mapped : {E F : Type 0} (h : E → F) {ps : List (PieceOf E)} → Settled ps → Settled (map (piece_map h) ps)
-settled_mapped h none = none
-settled_mapped h (by_placeable s) = by_placeable (settled_mapped h s)
-settled_mapped h (by_run s) = by_run (settled_mapped h s)
+pub Settled-map : {E F : Type 0} (h : E → F) {ps : List (PieceOf E)} → Settled ps → Settled (map (piece_map h) ps)
+Settled-map h none = none
+Settled-map h (by_placeable s) = by_placeable (Settled-map h s)
+Settled-map h (by_run s) = by_run (Settled-map h s)
 
 -- they are elements, before those of what follows them
 module _ {X : Type 0} (f : Span → X) (t : List ℕ) where

@@ -21,10 +21,10 @@ use Rattle.fluent_syntax_parser.specs.Opened.{Settled, as_item}
 use Rattle.fluent_syntax_parser.proofs.patterns.Layouts.{common_mapped, cut_mapped, items_mapped}
 use Rattle.fluent_syntax_parser.proofs.patterns.Settled.{settled_spelled}
 
-some_of : {S X : Type 0} (v : S → X) (xs : List (PatternElement S)) → (xs ≡ [] → ⊥) →
+if_any-nonempty : {S X : Type 0} (v : S → X) (xs : List (PatternElement S)) → (xs ≡ [] → ⊥) →
     Some (elements_of (map (element_view v) xs)) ≡ if_any (map (element_view v) xs)
-some_of v [] some = absurd (some refl)
-some_of v (x ∷ xs) some = refl
+if_any-nonempty v [] some = absurd (some refl)
+if_any-nonempty v (x ∷ xs) some = refl
 
 module _ {X : Type 0} (f : Span → X) where
   elements_map : (es : List (ElementTree Span)) →
@@ -47,7 +47,7 @@ module _ {X : Type 0} (f : Span → X) where
     pub some_spelled : (p : Pattern S) → map (element_view v) p.elements.items ≡ map (element_map f) es →
         (p.elements.items ≡ [] → ⊥) → Some (pattern_view v p) ≡ option_map (pattern_map f) (if_any es)
     some_spelled p made some =
-        ap Some (view-Pattern v p) ∙ some_of v p.elements.items some ∙ ap if_any made ∙ sym (any_of es)
+        ap Some (view-Pattern v p) ∙ if_any-nonempty v p.elements.items some ∙ ap if_any made ∙ sym (any_of es)
 
 module _ {X : Type 0} (f : Span → X) (t : List ℕ) where
   spelled_of : (xs : List Item) →

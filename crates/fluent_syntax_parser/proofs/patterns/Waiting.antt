@@ -93,6 +93,6 @@ module _ {E : Type 0} where
     full_line xs some =
         full_from xs edition kept (l.start + l.spaces) l.pieces l.ending some ∙ ap (λ ys. xs ++ ys) kept_items
 
-pub none_mapped : {A B : Type 0} (f : A → B) (xs : List A) → map f xs ≡ [] → xs ≡ []
-none_mapped f [] e = refl
-none_mapped f (x ∷ xs) e = cc
+pub empty_map_comes_from_empty : {A B : Type 0} (f : A → B) (xs : List A) → map f xs ≡ [] → xs ≡ []
+empty_map_comes_from_empty f [] e = refl
+empty_map_comes_from_empty f (x ∷ xs) e = cc

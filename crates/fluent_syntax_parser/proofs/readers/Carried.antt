@@ -5,7 +5,7 @@ use Rattle.fluent_syntax_grammar.specs.Construct.{Outcome, Construct, Read, Refu
 use Rattle.fluent_syntax_parser.specs.declared.fault.Refusal.{Refusal}
 use Rattle.fluent_syntax_parser.specs.Outcomes.{ParsesEnd}
 
-pub end_as : (t : List ℕ) (c d : Construct (Unit {0})) (i i' : ℕ) (r : Result ℕ Refusal) →
+pub ParsesEnd-same_outcomes : (t : List ℕ) (c d : Construct (Unit {0})) (i i' : ℕ) (r : Result ℕ Refusal) →
     ((o : Outcome (Unit {0})) → c i o → d i' o) → ParsesEnd t c i r → ParsesEnd t d i' r
-end_as t c d i i' (Ok j) f h = f (Read tt j) h
-end_as t c d i i' (Err e) f h = λ k from to s. f (Refused k from to) (h k from to s)
+ParsesEnd-same_outcomes t c d i i' (Ok j) f h = f (Read tt j) h
+ParsesEnd-same_outcomes t c d i i' (Err e) f h = λ k from to s. f (Refused k from to) (h k from to s)

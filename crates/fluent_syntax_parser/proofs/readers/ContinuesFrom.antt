@@ -17,12 +17,12 @@ module _ {A S B : Type 0} (t : List ℕ) (next : S → Construct (More A S)) (ad
       pub fails : (f : ReadFault) → Fails t (many next add none r) j f → Fails t (many next add none s) i f
 
 -- where what comes after an item fails, so does the list
-beyond_item : {A S B : Type 0} (t : List ℕ) (next : S → Construct (More A S)) (add : A → B → B) (none : B) (r q : S)
+item_then_fails : {A S B : Type 0} (t : List ℕ) (next : S → Construct (More A S)) (add : A → B → B) (none : B) (r q : S)
     (j m : ℕ) (a : A) → IsFunctional (next r) → next r j (Read (item a q) m) → (f : ReadFault) →
     Fails t (many next add none q) m f → Fails t (many next add none r) j f
-beyond_item t next add none r q j m a h x f (refused n) = refused (λ k from to e. stops_later x (n k from to e))
-beyond_item t next add none r q j m a h x f (too_deep n) = too_deep (deeper_later h a q m x n)
-beyond_item t next add none r q j m a h x f no_memory = no_memory
+item_then_fails t next add none r q j m a h x f (refused n) = refused (λ k from to e. stops_later x (n k from to e))
+item_then_fails t next add none r q j m a h x f (too_deep n) = too_deep (deeper_later h a q m x n)
+item_then_fails t next add none r q j m a h x f no_memory = no_memory
 
 module _ {A S B : Type 0} {t : List ℕ} {next : S → Construct (More A S)} {add : A → B → B} {none : B} {s : S} {i : ℕ}
     {put : B → B} {r : S} {j : ℕ} where
@@ -40,7 +40,7 @@ module _ {A S B : Type 0} {t : List ℕ} {next : S → Construct (More A S)} {ad
   one_after more_put a q m g h same x = record {
     read = λ b end y.
         subst (λ b. many next add none s i (Read b end)) (sym (same b)) (g.read (add a b) end (item_and_more x y));
-    fails = λ f y. g.fails f (beyond_item t next add none r q j m a h x f y);
+    fails = λ f y. g.fails f (item_then_fails t next add none r q j m a h x f y);
   }
 
   -- the list ends

@@ -17,10 +17,10 @@ use Rattle.fluent_syntax_grammar.specs.Expressions.{arrow_line_end, expression, 
 use Rattle.fluent_syntax_grammar.specs.Places.{Blank, JumpsTo, Steps, after_eol}
 use Rattle.fluent_syntax_grammar.specs.Variants.{only_star}
 use Rattle.fluent_syntax_grammar.specs.Tokens.{optional, token}
-use Rattle.fluent_syntax_grammar.proofs.Deeper.{deeper_first, deeper_next, deeper_yes, deeper_no, deeper_peek}
+use Rattle.fluent_syntax_grammar.proofs.Deeper.{deeper_first, deeper_next, deeper_yes, deeper_no, peek_is_too_deep}
 use Rattle.fluent_syntax_grammar.proofs.Deeper.{none_inside, no_list_inside}
 use Rattle.fluent_syntax_grammar.proofs.Functional.{functional, peek_is_functional}
-use Rattle.fluent_syntax_grammar.proofs.FunctionalRules.{arrow_is_functional}
+use Rattle.fluent_syntax_grammar.proofs.FunctionalRules.{arrow_line_end_is_functional}
 use Rattle.fluent_syntax_grammar.proofs.FunctionalWords.{blank_is_functional, optional_is_functional}
 use Rattle.fluent_syntax_grammar.proofs.FunctionalWords.{token_is_functional}
 use Rattle.fluent_syntax_parser.specs.declared.fault.ReadFault.{ReadFault}
@@ -42,17 +42,17 @@ module _ {A B : Type 0} {t : List ℕ} {c : Construct A} {d : A → Construct B}
   fails_next x r no_memory = no_memory
 
 -- what a refusal shows
-pub shown : {A : Type 0} {t : List ℕ} {c : Construct A} {i : ℕ} {f : Fault} {from place : ℕ} →
+pub failure_refuses : {A : Type 0} {t : List ℕ} {c : Construct A} {i : ℕ} {f : Fault} {from place : ℕ} →
     Fails t c i (faults.Refused f from place) →
     c i (Refused (kind_at t f from place) (from_of f from place) (to_of f place))
-shown (refused h) = h _ _ _ (refl, refl, refl)
+failure_refuses (refused h) = h _ _ _ (refl, refl, refl)
 
-pub refuses_there : {A : Type 0} {t : List ℕ} {c : Construct A} {i : ℕ} {f : Fault} {from place : ℕ} →
+pub failure_is_refused_as : {A : Type 0} {t : List ℕ} {c : Construct A} {i : ℕ} {f : Fault} {from place : ℕ} →
     Fails t c i (faults.Refused f from place) → IsRefusedAs t c i (record { fault = f; from = from; place = place })
-refuses_there (refused h) = h
+failure_is_refused_as (refused h) = h
 
-pub too_deep_there : {A : Type 0} {t : List ℕ} {c : Construct A} {i : ℕ} → Fails t c i faults.TooDeep → TooDeep c i
-too_deep_there (too_deep h) = h
+pub failure_is_too_deep : {A : Type 0} {t : List ℕ} {c : Construct A} {i : ℕ} → Fails t c i faults.TooDeep → TooDeep c i
+failure_is_too_deep (too_deep h) = h
 
 -- the same of a construct with the same outcomes there
 pub fails_as : {A : Type 0} {t : List ℕ} {c d : Construct A} {i : ℕ} {f : ReadFault} →
@@ -62,8 +62,8 @@ fails_as into from (too_deep h) = too_deep (λ o x. h o (from o x))
 fails_as into from no_memory = no_memory
 
 -- the exit by `?` of what took no memory
-pub out_of_memory : {X : Type 0} (r : Result X ReadFault) → IsErrAnd r (λ f. f ≡ faults.Memory) → r ≡ Err faults.Memory
-out_of_memory r e = let p = err_from_is_err_and r e in rw (p.1, p.2)
+pub memory_is_err : {X : Type 0} (r : Result X ReadFault) → IsErrAnd r (λ f. f ≡ faults.Memory) → r ≡ Err faults.Memory
+memory_is_err r e = let p = err_from_is_err_and r e in rw (p.1, p.2)
 
 pub fails_yes : {A : Type 0} {t : List ℕ} {test : Bool} {c d : Construct A} {i : ℕ} {f : ReadFault} → test ≡ true →
     Fails t c i f → Fails t (branch_on test c d) i f
@@ -80,7 +80,7 @@ fails_no e no_memory = no_memory
 pub fails_peek : {A B : Type 0} {t : List ℕ} {look : ℕ → A} {part : A → Construct B} {i : ℕ} {f : ReadFault} →
     Fails t (part (look i)) i f → Fails t (peek look part) i f
 fails_peek (refused h) = refused (λ k from to s. chosen (h k from to s))
-fails_peek (too_deep h) = too_deep (deeper_peek h)
+fails_peek (too_deep h) = too_deep (peek_is_too_deep h)
 fails_peek no_memory = no_memory
 
 -- by what was seen at the place
@@ -103,7 +103,7 @@ pub star_is_functional : (starred star : Bool) → IsFunctional (only_star starr
 star_is_functional starred star = search functional depth 30
 
 pub arrow_end_is_functional : (t : List ℕ) → IsFunctional (peek (after_eol t) arrow_line_end)
-arrow_end_is_functional t = peek_is_functional arrow_is_functional
+arrow_end_is_functional t = peek_is_functional arrow_line_end_is_functional
 
 -- ---- what is inside, within one more
 

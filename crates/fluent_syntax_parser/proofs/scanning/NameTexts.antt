@@ -42,18 +42,18 @@ module _ (t : List ℕ) (p : ℕ → Bool) where
       grind (arith, last)
 
 -- an identifier
-pub identifier_text : (t : List ℕ) {i j : ℕ} {name : Span} → identifier t i (Read name j) →
+pub identifier_has_name_text : (t : List ℕ) {i j : ℕ} {name : Span} → identifier t i (Read name j) →
     bytes_at t name ≡ name_text t i
-identifier_text t {i = i} {j = j}
+identifier_has_name_text t {i = i} {j = j}
     (goes_on at_place (goes_on (chosen given) (first letter (goes_on (passed w) (goes_on at_place given))))) =
     let inside = has_inside is_letter t i letter in
     word_text t is_name_byte i j (omega (arith, inside)) (word_within t is_name_byte i j inside w) w
-identifier_text t
+identifier_has_name_text t
     (goes_on at_place (goes_on (chosen given) (second other h))) = elim h [ ]
 
 -- the place before the one after a mark
-pub mark_before : (t : List ℕ) {b i j : ℕ} → token t b i (Read tt j) → j - 1 ≡ i
-mark_before t (goes_on (chosen (first e (goes_on (passed w) given))) (first f given)) = omega (arith, w.by)
-mark_before t (goes_on (chosen (first e (goes_on (passed w) given))) (second f x)) = elim x [ ]
-mark_before t (goes_on (chosen (second e given)) (first f given)) = cc
-mark_before t (goes_on (chosen (second e given)) (second f x)) = elim x [ ]
+pub token_is_one_byte : (t : List ℕ) {b i j : ℕ} → token t b i (Read tt j) → j - 1 ≡ i
+token_is_one_byte t (goes_on (chosen (first e (goes_on (passed w) given))) (first f given)) = omega (arith, w.by)
+token_is_one_byte t (goes_on (chosen (first e (goes_on (passed w) given))) (second f x)) = elim x [ ]
+token_is_one_byte t (goes_on (chosen (second e given)) (first f given)) = cc
+token_is_one_byte t (goes_on (chosen (second e given)) (second f x)) = elim x [ ]

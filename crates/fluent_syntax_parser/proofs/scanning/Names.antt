@@ -50,11 +50,11 @@ module _ (t : List ℕ) where
   names_added xs x =
       ap reverse (map-append (bytes_at t) xs (x ∷ [])) ∙ reverse-append (names_in_order t xs) (bytes_at t x ∷ [])
 
-pub none_named : {A : Type 0} (xs : List A) → true ≡ (length xs == 0) → xs ≡ []
-none_named [] e = refl
-none_named (x ∷ xs) e = let zero : length (x ∷ xs) ≡ 0 = grind (arith, nat_tests) in absurd (omega arith)
+pub none_are_named : {A : Type 0} (xs : List A) → true ≡ (length xs == 0) → xs ≡ []
+none_are_named [] e = refl
+none_are_named (x ∷ xs) e = let zero : length (x ∷ xs) ≡ 0 = grind (arith, nat_tests) in absurd (omega arith)
 
-pub some_named : {A : Type 0} (xs : List A) → false ≡ (length xs == 0) → xs ≡ [] → ⊥
-some_named xs e is =
+pub some_are_named : {A : Type 0} (xs : List A) → false ≡ (length xs == 0) → xs ≡ [] → ⊥
+some_are_named xs e is =
     let bad : (length xs == 0) ≡ true = rw is refl in
     true≢false (sym bad ∙ sym e)

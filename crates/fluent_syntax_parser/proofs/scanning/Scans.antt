@@ -73,9 +73,9 @@ module _ (t : List ℕ) (test : ℕ → Bool) (i : ℕ) (within : i ≤ length t
   scanned (Some len) h = scanned_to len h.0 h.1
 
 -- A run that begins where all before passed begins with that.
-pub run_after_prefix : (t : List ℕ) (test : ℕ → Bool) (i j m : ℕ) → i ≤ j →
+pub passing_prefix_extends_run : (t : List ℕ) (test : ℕ → Bool) (i j m : ℕ) → i ≤ j →
     ((k : ℕ) → i ≤ k → k < j → has t test k ≡ true) → ByteRun t test j m → ByteRun t test i m
-run_after_prefix t test i j m ordered passed word = record {
+passing_prefix_extends_run t test i j m ordered passed word = record {
   forward = omega (arith, ordered, word.forward);
   each = λ k from to. elim (cases_lt k j) [
     | inl before ↦ passed k from before

@@ -14,18 +14,18 @@ use Rattle.fluent_syntax_parser.specs.Strings.{is_plain}
 pub decimal_32 : decimal 32 ≡ codes "32"
 decimal_32 = decimal_step 32 (omega arith) (omega arith) ∙ ap (λ ds. ds ++ (50 ∷ [])) (decimal_digit 3 (omega arith))
 
-pub simple : (b : ℕ) → (b ≡ double_quote) ⊎ ((b ≡ backslash) ⊎ (b ≡ left_brace)) →
+pub simple_passes : (b : ℕ) → (b ≡ double_quote) ⊎ ((b ≡ backslash) ⊎ (b ≡ left_brace)) →
     (b == backslash || b == double_quote || b == left_brace) ≡ true
-simple b (inl e) = rw e refl
-simple b (inr (inl e)) = rw e refl
-simple b (inr (inr e)) = rw e refl
+simple_passes b (inl e) = rw e refl
+simple_passes b (inr (inl e)) = rw e refl
+simple_passes b (inr (inr e)) = rw e refl
 
 pub unequal_by_test : (b n : ℕ) → (b ≡ n → ⊥) → (b == n) ≡ false
 unequal_by_test b n e = grind (arith, nat_tests)
 
-pub not_simple : (b : ℕ) → ((b ≡ double_quote) ⊎ ((b ≡ backslash) ⊎ (b ≡ left_brace)) → ⊥) →
+pub others_fail : (b : ℕ) → ((b ≡ double_quote) ⊎ ((b ≡ backslash) ⊎ (b ≡ left_brace)) → ⊥) →
     (b == backslash || b == double_quote || b == left_brace) ≡ false
-not_simple b none =
+others_fail b none =
     rw (
       unequal_by_test b backslash (λ e. none (inr (inl e))),
       unequal_by_test b double_quote (λ e. none (inl e)),

@@ -18,13 +18,13 @@ use Rattle.fluent_syntax_parser.specs.declared.fault.ParseFault.TheVariants.{Mem
 use Rattle.fluent_syntax_parser.specs.declared.options.Comments.{Comments}
 use Rattle.fluent_syntax_parser.proofs.readers.SameTrees.{same_body}
 
-no_answer : (fs : List Fault) → map Some fs ≡ [] → fs ≡ []
-no_answer [] e = refl
-no_answer (f ∷ fs) e = absurd (cc)
+no_errors_mean_no_faults : (fs : List Fault) → map Some fs ≡ [] → fs ≡ []
+no_errors_mean_no_faults [] e = refl
+no_errors_mean_no_faults (f ∷ fs) e = absurd (cc)
 
-some_answer : (error : ParserError) (errors : List ParserError) (fs : List Fault) →
+errors_mean_some_faults : (error : ParserError) (errors : List ParserError) (fs : List Fault) →
     map Some fs ≡ map fault_of (error ∷ errors) → fs ≢ []
-some_answer error errors fs stated none = let nothing : map Some fs ≡ [] = ap (λ gs. map Some gs) none in cc
+errors_mean_some_faults error errors fs stated none = let nothing : map Some fs ≡ [] = ap (λ gs. map Some gs) none in cc
 
 module _ {S X : Type 0} (text : S → X) (whole : BodyTree Span → BodyTree X) (tiles : List Tile)
     (entries : Vec (Entry S) Global) (errors : Vec ParserError Global) (result : Result (Resource S) (ParseFault S))
@@ -35,11 +35,11 @@ module _ {S X : Type 0} (text : S → X) (whole : BodyTree Span → BodyTree X) 
   answers_with : (found : List ParserError) → errors.items ≡ found → Answers text whole tiles result
   answers_with [] none =
       subst (Answers text whole tiles) (sym (clean none))
-      (same, no_answer (faults tiles) (stated ∙ ap (λ es. map fault_of es) none))
+      (same, no_errors_mean_no_faults (faults tiles) (stated ∙ ap (λ es. map fault_of es) none))
   answers_with (error ∷ others) some =
       let not_none : errors.items ≢ [] = λ none. cc in
       subst (Answers text whole tiles) (sym (syntax' not_none))
-      (same, sym stated, some_answer error others (faults tiles) (stated ∙ ap (λ es. map fault_of es) some))
+      (same, sym stated, errors_mean_some_faults error others (faults tiles) (stated ∙ ap (λ es. map fault_of es) some))
 
   pub answers_of : Answers text whole tiles result
   answers_of = answers_with errors.items refl
@@ -47,16 +47,16 @@ module _ {S X : Type 0} (text : S → X) (whole : BodyTree Span → BodyTree X) 
 -- ---- trees of spans
 
 -- the same where another map of the body gives the same
-answers_by : {S X : Type 0} (text : S → X) (whole other : BodyTree Span → BodyTree X) →
+Answers-equal_bodies : {S X : Type 0} (text : S → X) (whole other : BodyTree Span → BodyTree X) →
     ((b : BodyTree Span) → whole b ≡ other b) → (tiles : List Tile) (result : Result (Resource S) (ParseFault S)) →
     Answers text whole tiles result → Answers text other tiles result
-answers_by text whole other same tiles (Ok tree) (there, none) = (there ∙ same (body tiles), none)
-answers_by text whole other same tiles (Err (Syntax tree errors)) (there, stated, some) =
+Answers-equal_bodies text whole other same tiles (Ok tree) (there, none) = (there ∙ same (body tiles), none)
+Answers-equal_bodies text whole other same tiles (Err (Syntax tree errors)) (there, stated, some) =
     (there ∙ same (body tiles), stated, some)
-answers_by text whole other same tiles (Err Memory) there = tt
+Answers-equal_bodies text whole other same tiles (Err Memory) there = tt
 
-pub spans_answered : (comments : Comments) (edition : Edition) (t : List ℕ)
+pub answer_is_in_spans : (comments : Comments) (edition : Edition) (t : List ℕ)
     (result : Result (Resource Span) (ParseFault Span)) →
     AnswersIn (λ s. s) (body_map (λ s. s)) comments edition t result → AnswersSpansIn comments edition t result
-spans_answered comments edition t result (tiles, tiled, there) =
-    (tiles, tiled, answers_by (λ s. s) (body_map (λ s. s)) (λ b. b) same_body tiles result there)
+answer_is_in_spans comments edition t result (tiles, tiled, there) =
+    (tiles, tiled, Answers-equal_bodies (λ s. s) (body_map (λ s. s)) (λ b. b) same_body tiles result there)

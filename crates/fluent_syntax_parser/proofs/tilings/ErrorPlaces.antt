@@ -24,18 +24,18 @@ use Rattle.fluent_syntax_parser.specs.declared.options.Comments.TheVariants.{Kep
 use Rattle.fluent_syntax_parser.specs.declared.fault.ParseFault.{ParseFault}
 use Rattle.fluent_syntax_parser.specs.declared.fault.ParseFault.TheVariants.{Syntax, Memory}
 
-same_place : {R : Type 0} (junk : Option R) (pos : ℕ) (fault : R → Fault) (f : Fault) →
+junk_fault_starts_at : {R : Type 0} (junk : Option R) (pos : ℕ) (fault : R → Fault) (f : Fault) →
     ((r : R) → (fault r).pos.start ≡ pos) → option_map fault junk ≡ Some f → pos ≡ f.pos.start
-same_place None pos fault f same e = absurd (cc)
-same_place (Some r) pos fault f same e =
+junk_fault_starts_at None pos fault f same e = absurd (cc)
+junk_fault_starts_at (Some r) pos fault f same e =
     let stated : fault r ≡ f = cc in
     let here = ap (λ g. g.pos.start) stated in
     let there = same r in
     cc
 
 -- an error begins where the fault begins that it reports
-error_place : (e : ParserError) (f : Fault) → fault_of e ≡ Some f → e.pos.start ≡ f.pos.start
-error_place e f stated = same_place e.slice e.pos.start (λ slice. record {
+error_starts_at_its_fault : (e : ParserError) (f : Fault) → fault_of e ≡ Some f → e.pos.start ≡ f.pos.start
+error_starts_at_its_fault e f stated = junk_fault_starts_at e.slice e.pos.start (λ slice. record {
   kind = kind_of e.kind;
   pos = record { start = e.pos.start; end = e.pos.end };
   slice = record { start = slice.start; end = slice.end };
@@ -55,7 +55,7 @@ module _ (t : List ℕ) where
       let first : fault_of e ≡ Some f = cc in
       let others : map fault_of errors ≡ map Some fs = cc in
       let after = ascend_in_text f.slice.end fs up.4 in
-      let place = error_place e f first in
+      let place = error_starts_at_its_fault e f first in
       All-cons (λ e. e.pos.start ≤ length t) e errors (omega (arith, up.3))
       (fault_in_text f.slice.end errors fs others up.4)
 
@@ -68,7 +68,7 @@ module _ (t : List ℕ) where
   one_in_text [] error after from (g ∷ fs) stated up =
       let here : fault_of error ≡ Some g = cc in
       let later = ascend_in_text g.slice.end fs up.4 in
-      let place = error_place error g here in
+      let place = error_starts_at_its_fault error g here in
       omega (arith, up.3)
   one_in_text (f ∷ before) error after from (g ∷ fs) stated up =
       let others : map Some fs ≡ before ++ fault_of error ∷ after = cc in

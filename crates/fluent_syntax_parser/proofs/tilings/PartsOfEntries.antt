@@ -16,10 +16,10 @@ use Rattle.fluent_syntax_parser.specs.declared.options.Comments.{Comments}
 use Rattle.fluent_syntax_parser.specs.declared.options.Comments.TheVariants.{Kept, Dropped}
 
 -- the last of some entries, each of whose texts is a part
-beyond : (P : Span → Type 0) (before : BodyTree Span) (e : EntryTree Span) (after : BodyTree Span) →
+body_every_holds_for_entry : (P : Span → Type 0) (before : BodyTree Span) (e : EntryTree Span) (after : BodyTree Span) →
     body_every P (before ++ e ∷ after) → entry_every P e
-beyond P [] e after (here, others) = here
-beyond P (x ∷ before) e after (here, others) = beyond P before e after others
+body_every_holds_for_entry P [] e after (here, others) = here
+body_every_holds_for_entry P (x ∷ before) e after (here, others) = body_every_holds_for_entry P before e after others
 
 module _ (t : List ℕ) (edition : Edition) where
   -- from each place of a text on something is left
@@ -59,5 +59,5 @@ module _ (t : List ℕ) (edition : Edition) where
       (errors : List (Option Fault)) → IsUtf8 t → Rest comments edition t 0 (before ++ e ∷ after) errors →
       entry_every (IsTextRange t) e
   parts_of_entry comments before e after errors utf8 rest =
-      beyond (IsTextRange t) before e after
+      body_every_holds_for_entry (IsTextRange t) before e after
       (subst (body_every (IsTextRange t)) rest.yields (body_parts comments rest.tiles utf8 rest.tiled))

@@ -45,15 +45,15 @@ body_of_unattached : (x : Tile) (more : List Tile) (e : EntryTree Span) → alon
 body_of_unattached x [] e same other = same
 body_of_unattached x (y ∷ more) e same other = rw (attaches_none x y e same other, same) refl
 
-dropped_then : (more : List Tile) → body (dropped ∷ more) ≡ body more
-dropped_then [] = refl
-dropped_then (y ∷ more) = refl
+body-dropped : (more : List Tile) → body (dropped ∷ more) ≡ body more
+body-dropped [] = refl
+body-dropped (y ∷ more) = refl
 
-faults_then : (x : Tile) (more : List Tile) →
+faults-cons : (x : Tile) (more : List Tile) →
     map Some (faults (x ∷ more)) ≡ map Some (faults (x ∷ [])) ++ map Some (faults more)
-faults_then (entry s e) more = refl
-faults_then (refused f) more = refl
-faults_then dropped more = refl
+faults-cons (entry s e) more = refl
+faults-cons (refused f) more = refl
+faults-cons dropped more = refl
 
 -- ---- the rest from place to place
 
@@ -75,20 +75,20 @@ module _ (comments : Comments) (edition : Edition) (t : List ℕ) where
     errors_are = rest.errors_are;
   }
 
-pub in_mode : (comments : Comments) (edition : Edition) (t : List ℕ) (R : Family) (i j : ℕ) (tile : Tile) →
+pub mode_has_tile : (comments : Comments) (edition : Edition) (t : List ℕ) (R : Family) (i j : ℕ) (tile : Tile) →
     (are_dropped comments ≡ true → has_byte t hash i ≡ false) → tiling.TileIn edition t R i j tile →
     TileIn comments edition t R i j tile
-in_mode Kept edition t R i j tile none x = x
-in_mode Dropped edition t R i j tile none x = keeps_tile (none refl) x
+mode_has_tile Kept edition t R i j tile none x = x
+mode_has_tile Dropped edition t R i j tile none x = keeps_tile (none refl) x
 
 -- the tile at whatever depth
-pub at_any_depth : (edition : Edition) (t : List ℕ) (n i j : ℕ) (tile : Tile) →
+pub TileAt-within : (edition : Edition) (t : List ℕ) (n i j : ℕ) (tile : Tile) →
     tiling.TileIn edition t (within edition t n) i j tile → TileAt edition t i j tile
-at_any_depth edition t n = tile_part edition t (within edition t n) (family edition t) (within_family edition t n)
+TileAt-within edition t n = tile_part edition t (within edition t n) (family edition t) (within_family edition t n)
 
-pub at_any_depth_entry : (edition : Edition) (t : List ℕ) (n i : ℕ) {o : Outcome (EntryTree Span)} →
+pub entry_at-within : (edition : Edition) (t : List ℕ) (n i : ℕ) {o : Outcome (EntryTree Span)} →
     entry_in edition t (within edition t n) i o → entry_at edition t i o
-at_any_depth_entry edition t n i x =
+entry_at-within edition t n i x =
     (entry_is_included edition t (within edition t n) (family edition t) (within_family edition t n)).part i _ x
 
 module _ (edition : Edition) (t : List ℕ) (i j : ℕ) (inside : i < length t) where
@@ -99,7 +99,7 @@ module _ (edition : Edition) (t : List ℕ) (i j : ℕ) (inside : i < length t) 
   rest_dropped Dropped drop there line entries errors rest = record {
     tiles = dropped ∷ rest.tiles;
     tiled_here = at_tile inside (drops there line) rest.tiled;
-    yields = dropped_then rest.tiles ∙ rest.yields;
+    yields = body-dropped rest.tiles ∙ rest.yields;
     errors_are = rest.errors_are;
   }
 
@@ -110,10 +110,10 @@ module _ (edition : Edition) (t : List ℕ) (i j : ℕ) (inside : i < length t) 
         RestAt comments edition t i (e ∷ entries) (faults_of error ++ errors)
     rest_tile other entries errors rest = record {
       tiles = tile.tile ∷ rest.tiles;
-      tiled_here = at_tile inside (in_mode comments edition t (family edition t) i j tile.tile none
-          (at_any_depth edition t n i j tile.tile tile.in_place)) rest.tiled;
+      tiled_here = at_tile inside (mode_has_tile comments edition t (family edition t) i j tile.tile none
+          (TileAt-within edition t n i j tile.tile tile.in_place)) rest.tiled;
       yields = body_of_unattached tile.tile rest.tiles e tile.entry other ∙ ap (λ b. e ∷ b) rest.yields;
-      errors_are = rw (faults_then tile.tile rest.tiles, tile.errors, rest.errors_are) refl;
+      errors_are = rw (faults-cons tile.tile rest.tiles, tile.errors, rest.errors_are) refl;
     }
 
   module _ (comments : Comments) (none : are_dropped comments ≡ true → has_byte t hash i ≡ false) (e : EntryTree Span)
@@ -126,29 +126,29 @@ module _ (edition : Edition) (t : List ℕ) (i j : ℕ) (inside : i < length t) 
         record {
           tiles = tile ∷ rest.tiles;
           tiled_here = at_tile inside
-              (in_mode comments edition t (family edition t) i j tile none (reads read)) rest.tiled;
+              (mode_has_tile comments edition t (family edition t) i j tile none (reads read)) rest.tiled;
           yields = body_of_unattached tile rest.tiles e refl other ∙ ap (λ b. e ∷ b) rest.yields;
           errors_are = rest.errors_are;
         }
 
 -- ---- a comment that may be attached
 
-comment_tile : (edition : Edition) (t : List ℕ) (i j : ℕ) (tile : Tile) (content : List Span) →
+comment_tile_is_its_entry : (edition : Edition) (t : List ℕ) (i j : ℕ) (tile : Tile) (content : List Span) →
     TileAt edition t i j tile → alone tile ≡ comment regular content ∷ [] →
     tile ≡ entry (record { start = i; end = j }) (comment regular content)
-comment_tile edition t i j tile content (reads {e = e} read) same =
+comment_tile_is_its_entry edition t i j tile content (reads {e = e} read) same =
     let is_comment : e ≡ comment regular content = cc in
     ap (λ x. entry (record { start = i; end = j }) x) is_comment
-comment_tile edition t i j tile content (refuses read end) same = cc
+comment_tile_is_its_entry edition t i j tile content (refuses read end) same = cc
 
 module _ (edition : Edition) (t : List ℕ) (n i j : ℕ) (inside : i < length t) (e : EntryTree Span)
     (error : Option ParserError) (tile : GivesTile edition t n i j e error) (content : List Span)
     (same : e ≡ comment regular content) where
   tile_there : TileAt edition t i j tile.tile
-  tile_there = at_any_depth edition t n i j tile.tile tile.in_place
+  tile_there = TileAt-within edition t n i j tile.tile tile.in_place
 
   pub is_comment : tile.tile ≡ entry (record { start = i; end = j }) (comment regular content)
-  is_comment = comment_tile edition t i j tile.tile content tile_there (tile.entry ∙ ap (λ x. x ∷ []) same)
+  is_comment = comment_tile_is_its_entry edition t i j tile.tile content tile_there (tile.entry ∙ ap (λ x. x ∷ []) same)
 
   -- a comment begins with `#`
   pub is_no_bare_comment : has_byte t hash i ≡ false → ⊥
@@ -164,7 +164,7 @@ module _ (edition : Edition) (t : List ℕ) (n i j : ℕ) (inside : i < length t
         tiles = tile.tile ∷ beyond.0;
         tiled_here = at_tile inside tile_there beyond.1;
         yields = ap (λ x. body (x ∷ beyond.0)) is_comment ∙ beyond.2;
-        errors_are = rw (faults_then tile.tile beyond.0, tile.errors, beyond.3) refl;
+        errors_are = rw (faults-cons tile.tile beyond.0, tile.errors, beyond.3) refl;
       }
   rest_comment Dropped none with_comment k after entries errors rest = absurd (is_no_bare_comment (none refl))
 

@@ -20,10 +20,10 @@ use Rattle.fluent_syntax_parser.specs.declared.fault.Fault.TheVariants as fault
 use Rattle.fluent_syntax_parser.specs.declared.fault.Refusal.{Refusal}
 
 -- reading fails where the refusal says
-fails_there : (t : List ℕ) (f : Fault) (from place : ℕ) →
+fault_fails_at_its_place : (t : List ℕ) (f : Fault) (from place : ℕ) →
     failing_place (kind_at t f from place) (from_of f from place) (to_of f place) ≡ place
-fails_there t fault.MessageField from place = refl
-fails_there t f from place = refl
+fault_fails_at_its_place t fault.MessageField from place = refl
+fault_fails_at_its_place t f from place = refl
 
 module _ (edition : Edition) (t : List ℕ) (i j : ℕ) (inside : i < length t) where
   pub tile_within : (tile : Tile) → TileAt edition t i j tile → (i < j) × (j ≤ length t)
@@ -38,7 +38,7 @@ module _ (edition : Edition) (t : List ℕ) (i j : ℕ) (inside : i < length t) 
   module _ (n : ℕ) (r : Refusal) (refused : IsRefusedAs t (entry_in edition t (within edition t n)) i r) where
     pub refused_in_text : r.place ≤ length t
     refused_in_text =
-        let same = fails_there t r.fault r.from r.place in
+        let same = fault_fails_at_its_place t r.fault r.from r.place in
         let here = entry_refused edition t (InText t) (text_cuts t) i _ _ _ (omega (arith, inside))
         ((entry_is_included edition t (within edition t n) (family edition t) (within_family edition t n)).part i _
         (refused _ _ _ (refl, refl, refl))) in
@@ -48,7 +48,7 @@ module _ (edition : Edition) (t : List ℕ) (i j : ℕ) (inside : i < length t) 
         fault_of error ≡ Some (refused_as t r (record { start = i; end = j })) →
         GivesTile edition t n i j (junk (record { start = i; end = j })) (Some error)
     gives_junk error end stated =
-        let there = subst (λ place. JunkEnd t place j) (sym (fails_there t r.fault r.from r.place)) end in
+        let there = subst (λ place. JunkEnd t place j) (sym (fault_fails_at_its_place t r.fault r.from r.place)) end in
         record {
           tile = _;
           in_place = refuses (refused _ _ _ (refl, refl, refl)) there;

@@ -14,66 +14,66 @@ use Rattle.fluent_syntax_grammar.specs.Joined.{is_joined, joined_expression, joi
 use Rattle.fluent_syntax_grammar.specs.Written.{Text}
 use Rattle.fluent_syntax_writer.specs.Joining.{before_pattern, joined_from}
 
-before-append : (xs ys : List (ElementTree Text)) (p : PatternTree Text) →
+before_pattern-append : (xs ys : List (ElementTree Text)) (p : PatternTree Text) →
     before_pattern (xs ++ ys) p ≡ before_pattern xs (before_pattern ys p)
-before-append [] ys p = refl
-before-append (x ∷ xs) ys p = ap (elements x) (before-append xs ys p)
+before_pattern-append [] ys p = refl
+before_pattern-append (x ∷ xs) ys p = ap (elements x) (before_pattern-append xs ys p)
 
-before-none : (xs : List (ElementTree Text)) → before_pattern xs no_elements ≡ elements_of xs
-before-none [] = refl
-before-none (x ∷ xs) = ap (elements x) (before-none xs)
+before_pattern-none : (xs : List (ElementTree Text)) → before_pattern xs no_elements ≡ elements_of xs
+before_pattern-none [] = refl
+before_pattern-none (x ∷ xs) = ap (elements x) (before_pattern-none xs)
 
 -- ---- One element more
 
 -- a text that is joined to the last
-pub with_joined : (done : List (ElementTree Text)) (v w : Text) (rest : PatternTree Text) → is_joined v w ≡ true →
+pub text_is_joined : (done : List (ElementTree Text)) (v w : Text) (rest : PatternTree Text) → is_joined v w ≡ true →
     before_pattern (done ++ text_element (v ++ w) ∷ []) (joined_pattern rest)
     ≡ before_pattern done (joined_after v (elements (text_element w) rest))
-with_joined done v w rest h =
-    before-append done (text_element (v ++ w) ∷ []) (joined_pattern rest)
+text_is_joined done v w rest h =
+    before_pattern-append done (text_element (v ++ w) ∷ []) (joined_pattern rest)
     ∙ ap (before_pattern done) (sym (ap (λ b. if b then elements (text_element (v ++ w)) (joined_pattern rest)
     else elements (text_element v) (joined_after w rest)) h))
 
 -- a text that is not
-pub with_apart : (done : List (ElementTree Text)) (v w : Text) (rest : PatternTree Text) → is_joined v w ≡ false →
+pub text_stays_apart : (done : List (ElementTree Text)) (v w : Text) (rest : PatternTree Text) → is_joined v w ≡ false →
     before_pattern (done ++ text_element v ∷ []) (joined_after w rest)
     ≡ before_pattern done (joined_after v (elements (text_element w) rest))
-with_apart done v w rest h =
-    before-append done (text_element v ∷ []) (joined_after w rest)
+text_stays_apart done v w rest h =
+    before_pattern-append done (text_element v ∷ []) (joined_after w rest)
     ∙ ap (before_pattern done) (sym (ap (λ b. if b then elements (text_element (v ++ w)) (joined_pattern rest)
     else elements (text_element v) (joined_after w rest)) h))
 
-from-placeable : (last : Option Text) (e : ExpressionTree Text) (rest : PatternTree Text) →
+joined_from-placeable : (last : Option Text) (e : ExpressionTree Text) (rest : PatternTree Text) →
     before_pattern (map text_element (option_to_list last)) (elements (placeable (joined_expression e))
     (joined_pattern rest))
     ≡ joined_from last (elements (placeable e) rest)
-from-placeable None e rest = refl
-from-placeable (Some v) e rest = refl
+joined_from-placeable None e rest = refl
+joined_from-placeable (Some v) e rest = refl
 
 -- a placeable, after the last text
-pub with_placeable : (done : List (ElementTree Text)) (last : Option Text) (e : ExpressionTree Text)
+pub placeable_follows : (done : List (ElementTree Text)) (last : Option Text) (e : ExpressionTree Text)
     (rest : PatternTree Text) →
     before_pattern ((done ++ map text_element (option_to_list last)) ++ placeable (joined_expression e) ∷ [])
     (joined_pattern rest)
     ≡ before_pattern done (joined_from last (elements (placeable e) rest))
-with_placeable done last e rest =
-    before-append (done ++ map text_element (option_to_list last)) (placeable (joined_expression e) ∷ [])
+placeable_follows done last e rest =
+    before_pattern-append (done ++ map text_element (option_to_list last)) (placeable (joined_expression e) ∷ [])
     (joined_pattern rest)
-    ∙ before-append done (map text_element (option_to_list last)) _
-    ∙ ap (before_pattern done) (from-placeable last e rest)
+    ∙ before_pattern-append done (map text_element (option_to_list last)) _
+    ∙ ap (before_pattern done) (joined_from-placeable last e rest)
 
-from-end : (last : Option Text) →
+joined_from-end : (last : Option Text) →
     before_pattern (map text_element (option_to_list last)) no_elements ≡ joined_from last no_elements
-from-end None = refl
-from-end (Some v) = refl
+joined_from-end None = refl
+joined_from-end (Some v) = refl
 
 -- nothing, after the last text
-pub with_end : (done : List (ElementTree Text)) (last : Option Text) →
+pub pattern_ends : (done : List (ElementTree Text)) (last : Option Text) →
     elements_of (done ++ map text_element (option_to_list last)) ≡ before_pattern done (joined_from last no_elements)
-with_end done last =
-    sym (before-none (done ++ map text_element (option_to_list last)))
-    ∙ before-append done (map text_element (option_to_list last)) no_elements
-    ∙ ap (before_pattern done) (from-end last)
+pattern_ends done last =
+    sym (before_pattern-none (done ++ map text_element (option_to_list last)))
+    ∙ before_pattern-append done (map text_element (option_to_list last)) no_elements
+    ∙ ap (before_pattern done) (joined_from-end last)
 
 -- ---- What is left of the list of elements
 

@@ -18,65 +18,65 @@ abbrev pub has_crlf_after : Bool → Text → Bool
 has_crlf_after after_cr [] = false
 has_crlf_after after_cr (b ∷ bs) = after_cr && b == lf || has_crlf_after (b == cr) bs
 
-pub has_crlf-after : (bs : Text) → has_crlf_after false bs ≡ has_crlf bs
-has_crlf-after [] = refl
-has_crlf-after (b ∷ []) = refl
-has_crlf-after (b ∷ c ∷ bs) = ap (λ r. b == cr && c == lf || r) (has_crlf-after (c ∷ bs))
+pub has_crlf_after-false : (bs : Text) → has_crlf_after false bs ≡ has_crlf bs
+has_crlf_after-false [] = refl
+has_crlf_after-false (b ∷ []) = refl
+has_crlf_after-false (b ∷ c ∷ bs) = ap (λ r. b == cr && c == lf || r) (has_crlf_after-false (c ∷ bs))
 
 -- ---- A text by its line, which is what comes before the LF that ends it
 
 -- What is so of one LF, and of each other byte, is so of each byte.
-by_lf : (P : ℕ → Type 0) → P lf → ((b : ℕ) → (b == lf) ≡ false → P b) → (b : ℕ) → P b
-by_lf P one other b = at (b == lf) refl
+holds_by_lf_or_other : (P : ℕ → Type 0) → P lf → ((b : ℕ) → (b == lf) ≡ false → P b) → (b : ℕ) → P b
+holds_by_lf_or_other P one other b = at (b == lf) refl
   where
     at : (is : Bool) → (b == lf) ≡ is → P b
     at true e = subst P (sym (equal b lf e)) one
     at false e = other b e
 
-braces_in_line : (v : Text) → list_any is_brace (without_last_lf v) ≡ list_any is_brace v
-braces_in_line [] = refl
-braces_in_line (b ∷ []) =
-    by_lf (λ c. list_any is_brace (without_last_lf (c ∷ [])) ≡ list_any is_brace (c ∷ [])) refl
+without_last_lf_keeps_braces : (v : Text) → list_any is_brace (without_last_lf v) ≡ list_any is_brace v
+without_last_lf_keeps_braces [] = refl
+without_last_lf_keeps_braces (b ∷ []) =
+    holds_by_lf_or_other (λ c. list_any is_brace (without_last_lf (c ∷ [])) ≡ list_any is_brace (c ∷ [])) refl
     (λ c other. rw other refl) b
-braces_in_line (b ∷ c ∷ bs) = ap (λ r. is_brace b || r) (braces_in_line (c ∷ bs))
+without_last_lf_keeps_braces (b ∷ c ∷ bs) = ap (λ r. is_brace b || r) (without_last_lf_keeps_braces (c ∷ bs))
 
-passed_first : (l x y braces lfs : Bool)
+is_passed_splits_in_two : (l x y braces lfs : Bool)
     → (not (l || x || y) && (not braces && not lfs)) ≡ (not ((x || y) || braces) && not (l || lfs))
-passed_first true x y braces lfs = sym (and_false (not ((x || y) || braces)))
-passed_first false true y braces lfs = refl
-passed_first false false true braces lfs = refl
-passed_first false false false braces lfs = refl
+is_passed_splits_in_two true x y braces lfs = sym (and_false (not ((x || y) || braces)))
+is_passed_splits_in_two false true y braces lfs = refl
+is_passed_splits_in_two false false true braces lfs = refl
+is_passed_splits_in_two false false false braces lfs = refl
 
-all_passed : (u : Text) → list_all is_passed u ≡ (not (list_any is_brace u) && not (has_lf u))
-all_passed [] = refl
-all_passed (b ∷ bs) =
-    ap (λ r. is_passed b && r) (all_passed bs)
-    ∙ passed_first (b == lf) (b == left_brace) (b == right_brace) (list_any is_brace bs) (has_lf bs)
+passed_has_no_brace_or_lf : (u : Text) → list_all is_passed u ≡ (not (list_any is_brace u) && not (has_lf u))
+passed_has_no_brace_or_lf [] = refl
+passed_has_no_brace_or_lf (b ∷ bs) =
+    ap (λ r. is_passed b && r) (passed_has_no_brace_or_lf bs)
+    ∙ is_passed_splits_in_two (b == lf) (b == left_brace) (b == right_brace) (list_any is_brace bs) (has_lf bs)
 
-crlf_last : (r : Bool) → (r && true || false) ≡ (true && r)
-crlf_last true = refl
-crlf_last false = refl
+last_lf_makes_crlf : (r : Bool) → (r && true || false) ≡ (true && r)
+last_lf_makes_crlf true = refl
+last_lf_makes_crlf false = refl
 
-crlf_at_end : (v : Text) → has_lf (without_last_lf v) ≡ false → has_crlf v ≡ ends_in_crlf v
-crlf_at_end [] none = refl
-crlf_at_end (b ∷ []) none =
-    by_lf (λ c. has_crlf (c ∷ []) ≡ ends_in_crlf (c ∷ [])) refl (λ c other. rw other refl) b
-crlf_at_end (b ∷ c ∷ []) none =
-    by_lf (λ d. has_crlf (b ∷ d ∷ []) ≡ ends_in_crlf (b ∷ d ∷ [])) (crlf_last (b == cr))
+crlf_is_last : (v : Text) → has_lf (without_last_lf v) ≡ false → has_crlf v ≡ ends_in_crlf v
+crlf_is_last [] none = refl
+crlf_is_last (b ∷ []) none =
+    holds_by_lf_or_other (λ c. has_crlf (c ∷ []) ≡ ends_in_crlf (c ∷ [])) refl (λ c other. rw other refl) b
+crlf_is_last (b ∷ c ∷ []) none =
+    holds_by_lf_or_other (λ d. has_crlf (b ∷ d ∷ []) ≡ ends_in_crlf (b ∷ d ∷ [])) (last_lf_makes_crlf (b == cr))
     (λ d other. rw (other, and_false (b == cr)) refl) c
-crlf_at_end (b ∷ c ∷ d ∷ bs) none =
+crlf_is_last (b ∷ c ∷ d ∷ bs) none =
     let rest = neither_right (b == lf) _ none in
     let other = neither_left (c == lf) (has_lf (without_last_lf (d ∷ bs))) rest in
-    rw (other, and_false (b == cr)) (crlf_at_end (c ∷ d ∷ bs) rest)
+    rw (other, and_false (b == cr)) (crlf_is_last (c ∷ d ∷ bs) rest)
 
-by_parts : (placeable_item braces lfs crlf at_end : Bool) → (lfs ≡ false → crlf ≡ at_end)
+parts_agree : (placeable_item braces lfs crlf at_end : Bool) → (lfs ≡ false → crlf ≡ at_end)
     → (placeable_item && ((not braces && not lfs) && not at_end))
     ≡ (placeable_item && (not braces && (not crlf && not lfs)))
-by_parts false braces lfs crlf at_end same = refl
-by_parts true true lfs crlf at_end same = refl
-by_parts true false true crlf at_end same = sym (and_false (not crlf))
-by_parts true false false true at_end same = ap not (sym (same refl))
-by_parts true false false false at_end same = ap not (sym (same refl))
+parts_agree false braces lfs crlf at_end same = refl
+parts_agree true true lfs crlf at_end same = refl
+parts_agree true false true crlf at_end same = sym (and_false (not crlf))
+parts_agree true false false true at_end same = ap not (sym (same refl))
+parts_agree true false false false at_end same = ap not (sym (same refl))
 
 pub is_empty-length : (v : Text) → is_empty v ≡ (length v == 0)
 is_empty-length [] = refl
@@ -87,5 +87,5 @@ pub is_text-line : (v : Text)
 is_text-line v =
     let line = without_last_lf v in
     ap (λ passed. not (is_empty v) && (passed && not (ends_in_crlf v)))
-    (all_passed line ∙ ap (λ braces. not braces && not (has_lf line)) (braces_in_line v))
-    ∙ by_parts (not (is_empty v)) (list_any is_brace v) (has_lf line) (has_crlf v) (ends_in_crlf v) (crlf_at_end v)
+    (passed_has_no_brace_or_lf line ∙ ap (λ braces. not braces && not (has_lf line)) (without_last_lf_keeps_braces v))
+    ∙ parts_agree (not (is_empty v)) (list_any is_brace v) (has_lf line) (has_crlf v) (ends_in_crlf v) (crlf_is_last v)

@@ -29,7 +29,7 @@ use Rattle.fluent_syntax_writer.specs.SingleRule.{texts_keep, has_element, flush
 use Rattle.fluent_syntax_writer.specs.SingleRule.{expression_keeps, have_values, have_new_names, arguments_keep}
 use Rattle.fluent_syntax_writer.specs.declared.canonical.rules.Rule.{Rule}
 use Rattle.fluent_syntax_writer.specs.declared.canonical.rules.Rule.TheVariants as rule
-use Rattle.fluent_syntax_writer.proofs.rules.Named.{nameds_whole}
+use Rattle.fluent_syntax_writer.proofs.rules.Named.{are_named_well_by_parts}
 use Rattle.fluent_syntax_writer.proofs.rules.Sets.{and_assoc, and_true}
 use Rattle.fluent_syntax_grammar.proofs.RuleConjunction.{ArePartsOf, both_pass, none_asked, entry_obeys_each}
 
@@ -43,23 +43,23 @@ record Are (ks : List Rule) (keeps : Rule → Bool) (whole : Bool) : Type 0 wher
 abbrev asked : List Rule → Rule → Bool → Bool
 asked ks asker passes = not (list_any (λ k. number asker == number k) ks) || passes
 
-one_more : (here later passes : Bool)
+asked_now_or_later : (here later passes : Bool)
     → (not (here || later) || passes) ≡ ((if here then passes else true) && (not later || passes))
-one_more true true true = refl
-one_more true true false = refl
-one_more true false passes = sym (and_true passes)
-one_more false later passes = refl
+asked_now_or_later true true true = refl
+asked_now_or_later true true false = refl
+asked_now_or_later true false passes = sym (and_true passes)
+asked_now_or_later false later passes = refl
 
-each_asks : (ks : List Rule) (asker : Rule) (passes : Bool)
+asked_is_all_asks : (ks : List Rule) (asker : Rule) (passes : Bool)
     → asked ks asker passes ≡ list_all (λ k. asks asker k passes) ks
-each_asks [] asker passes = refl
-each_asks (k ∷ ks) asker passes =
-    one_more (number asker == number k) (list_any (λ k. number asker == number k) ks) passes
-    ∙ ap (λ b. asks asker k passes && b) (each_asks ks asker passes)
+asked_is_all_asks [] asker passes = refl
+asked_is_all_asks (k ∷ ks) asker passes =
+    asked_now_or_later (number asker == number k) (list_any (λ k. number asker == number k) ks) passes
+    ∙ ap (λ b. asks asker k passes && b) (asked_is_all_asks ks asker passes)
 
 module _ {ks : List Rule} where
   one : (asker : Rule) (passes : Bool) → Are ks (λ k. asks asker k passes) (asked ks asker passes)
-  one asker passes = record { each = each_asks ks asker passes }
+  one asker passes = record { each = asked_is_all_asks ks asker passes }
 
   none : Are ks (λ k. true) true
   none = record { each = none_asked ks }
@@ -71,8 +71,8 @@ module _ {ks : List Rule} where
   by : {a : Rule → Bool} {x y : Bool} → x ≡ y → Are ks a y → Are ks a x
   by same m = record { each = same ∙ m.each }
 
-and_four : (a b c d : Bool) → (a && (b && (c && d))) ≡ (((a && b) && c) && d)
-and_four a b c d = sym (and_assoc (a && b) c d ∙ and_assoc a b (c && d))
+and_of_four_is_associative : (a b c d : Bool) → (a && (b && (c && d))) ≡ (((a && b) && c) && d)
+and_of_four_is_associative a b c d = sym (and_assoc (a && b) c d ∙ and_assoc a b (c && d))
 
 or_false : (b : Bool) → b ≡ (b || false)
 or_false true = refl
@@ -97,7 +97,7 @@ module _ (more : List Rule) where
   spelling_each v =
       let brace = not (list_any is_brace v) in
       let lf = not (has_lf (without_last_lf v)) in
-      by (and_four (not (is_empty v)) brace (not (has_crlf v)) lf)
+      by (and_of_four_is_associative (not (is_empty v)) brace (not (has_crlf v)) lf)
       (both (both (both (one rule.EmptyText (not (is_empty v))) (one rule.BraceInText brace))
       (one rule.CrBeforeLf (not (has_crlf v)))) (one rule.LfWithinText lf))
 
@@ -121,7 +121,7 @@ module _ (more : List Rule) where
     texts_each multiline s no_elements = none
     texts_each multiline s (elements (placeable e) es) = texts_each multiline after_placeable es
     texts_each multiline s (elements (text_element v) es) =
-        by (and_four (is_text v) (may_occur_at edition multiline s v es) (may_precede v es)
+        by (and_of_four_is_associative (is_text v) (may_occur_at edition multiline s v es) (may_precede v es)
         (are_elements edition multiline (position_after v) es))
         (both (both (both (spelling_each v) (place_each multiline s v es)) (one rule.BlankEnd (may_precede v es)))
         (texts_each multiline (position_after v) es))
@@ -171,7 +171,7 @@ module _ (more : List Rule) where
 
   arguments_each : (a : ArgumentsTree Text) → Are ks (λ k. arguments_keep k a) (are_arguments a)
   arguments_each (arguments ps ns) =
-      by (nameds_whole [] ns)
+      by (are_named_well_by_parts [] ns)
       (both (one rule.ForbiddenArgument (have_values ns)) (one rule.RepeatedArgument (have_new_names [] ns)))
 
 -- ---- Readable trees
@@ -203,22 +203,22 @@ readable_comment content =
 
 readable_parts : (edition : Edition) → ArePartsOf readable (single_rule edition) (readable_rules edition)
 readable_parts edition = record {
-  junk_parts = each_asks readable rule.Junk false;
-  message_parts = λ m. each_asks readable rule.EmptyMessage (is_message m);
+  junk_parts = asked_is_all_asks readable rule.Junk false;
+  message_parts = λ m. asked_is_all_asks readable rule.EmptyMessage (is_message m);
   comment_parts = λ content. (readable_comment content).each;
   pattern_parts = λ p. (readable_pattern edition p).each;
   expression_parts = λ e. (readable_expression e).each;
-  callee_parts = λ v. each_asks readable rule.ForbiddenCallee (is_callee v);
+  callee_parts = λ v. asked_is_all_asks readable rule.ForbiddenCallee (is_callee v);
   arguments_parts = λ a. (arguments_each [] a).each;
-  string_parts = λ v. each_asks readable rule.MisspelledString (is_string v);
-  number_parts = λ v. each_asks readable rule.MisspelledNumber (is_number v);
-  name_parts = λ v. each_asks readable rule.MisspelledName (is_name v);
+  string_parts = λ v. asked_is_all_asks readable rule.MisspelledString (is_string v);
+  number_parts = λ v. asked_is_all_asks readable rule.MisspelledNumber (is_number v);
+  name_parts = λ v. asked_is_all_asks readable rule.MisspelledName (is_name v);
 }
 
 -- An entry is readable exactly where it keeps each of the first rules alone.
-pub keeps_readable : (edition : Edition) (e : EntryTree Text)
+pub readable_entry_keeps_each : (edition : Edition) (e : EntryTree Text)
     → entry_obeys (readable_rules edition) e ≡ list_all (λ k. entry_keeps edition k e) readable
-keeps_readable edition e =
+readable_entry_keeps_each edition e =
     entry_obeys_each readable (single_rule edition) (readable_rules edition) (readable_parts edition) e
 
 -- ---- Canonical trees
@@ -245,41 +245,41 @@ canonical_pattern edition p =
     by (ap (λ b. is_pattern edition p && (not (is_multiline p) || not (hides_mark p) && b))
     (canonical_flush edition number (first_position p) p)) (pattern_each further edition p)
 
-after_false : (a b c : Bool) → a ≡ false → (a && b) ≡ (a && c)
-after_false true b c is = cc
-after_false false b c is = refl
+false_absorbs : (a b c : Bool) → a ≡ false → (a && b) ≡ (a && c)
+false_absorbs true b c is = cc
+false_absorbs false b c is = refl
 
-one_default : (n : ℕ) → (nat_le n 1 && n == 1) ≡ (nat_le n 1 && nat_le 1 n)
-one_default zero = refl
-one_default (suc zero) = refl
-one_default (suc (suc n)) = after_false (nat_le (suc (suc n)) 1) _ _ (lt-leb (suc (suc n)) 1 (omega arith))
+one_default_is_bounded : (n : ℕ) → (nat_le n 1 && n == 1) ≡ (nat_le n 1 && nat_le 1 n)
+one_default_is_bounded zero = refl
+one_default_is_bounded (suc zero) = refl
+one_default_is_bounded (suc (suc n)) = false_absorbs (nat_le (suc (suc n)) 1) _ _ (lt-leb (suc (suc n)) 1 (omega arith))
 
 canonical_expression : (e : ExpressionTree Text)
     → Are every_rule (λ k. expression_keeps k e) (is_expression e && has_one_default e)
 canonical_expression (select e vs) =
     let allowed = is_none (selector_fault e) in
     let n = defaults vs in
-    by (and_assoc allowed (nat_le n 1) (n == 1) ∙ ap (λ b. allowed && b) (one_default n)
+    by (and_assoc allowed (nat_le n 1) (n == 1) ∙ ap (λ b. allowed && b) (one_default_is_bounded n)
     ∙ sym (and_assoc allowed (nat_le n 1) (nat_le 1 n))) (select_each further e vs)
 canonical_expression (inline e) =
     by (and_true (not (is_term_attribute e))) (one rule.TermAttribute (not (is_term_attribute e)))
 
 canonical_parts : (edition : Edition) → ArePartsOf every_rule (single_rule edition) (canonical_rules edition)
 canonical_parts edition = record {
-  junk_parts = each_asks every_rule rule.Junk false;
-  message_parts = λ m. each_asks every_rule rule.EmptyMessage (is_message m);
+  junk_parts = asked_is_all_asks every_rule rule.Junk false;
+  message_parts = λ m. asked_is_all_asks every_rule rule.EmptyMessage (is_message m);
   comment_parts = λ content. (canonical_comment content).each;
   pattern_parts = λ p. (canonical_pattern edition p).each;
   expression_parts = λ e. (canonical_expression e).each;
-  callee_parts = λ v. each_asks every_rule rule.ForbiddenCallee (is_callee v);
+  callee_parts = λ v. asked_is_all_asks every_rule rule.ForbiddenCallee (is_callee v);
   arguments_parts = λ a. (arguments_each further a).each;
-  string_parts = λ v. each_asks every_rule rule.MisspelledString (is_string v);
-  number_parts = λ v. each_asks every_rule rule.MisspelledNumber (is_number v);
-  name_parts = λ v. each_asks every_rule rule.MisspelledName (is_name v);
+  string_parts = λ v. asked_is_all_asks every_rule rule.MisspelledString (is_string v);
+  number_parts = λ v. asked_is_all_asks every_rule rule.MisspelledNumber (is_number v);
+  name_parts = λ v. asked_is_all_asks every_rule rule.MisspelledName (is_name v);
 }
 
 -- An entry is canonical exactly where it keeps each rule alone.
-pub keeps_every : (edition : Edition) (e : EntryTree Text)
+pub canonical_entry_keeps_each : (edition : Edition) (e : EntryTree Text)
     → entry_obeys (canonical_rules edition) e ≡ list_all (λ k. entry_keeps edition k e) every_rule
-keeps_every edition e =
+canonical_entry_keeps_each edition e =
     entry_obeys_each every_rule (single_rule edition) (canonical_rules edition) (canonical_parts edition) e

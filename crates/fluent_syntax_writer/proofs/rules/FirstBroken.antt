@@ -17,7 +17,7 @@ use Rattle.fluent_syntax_writer.specs.Uncanonical.{IsFirstBroken}
 use Rattle.fluent_syntax_writer.specs.declared.canonical.broken_rules.Uncanonical.{Uncanonical}
 use Rattle.fluent_syntax_writer.specs.declared.canonical.rule_set.RuleSet.{RuleSet}
 use Rattle.fluent_syntax_writer.specs.declared.canonical.rules.Rule.{Rule}
-use Rattle.fluent_syntax_writer.proofs.rules.EveryRule.{readable, keeps_readable, keeps_every}
+use Rattle.fluent_syntax_writer.proofs.rules.EveryRule.{readable, readable_entry_keeps_each, canonical_entry_keeps_each}
 
 -- ---- The first that a test refuses
 
@@ -79,39 +79,39 @@ nothing_found (Some x) false is = refl
 
 -- ---- The rule that an entry breaks
 
-pub first_in_set : (edition : Edition) (e : EntryTree Text) (broken : RuleSet)
+pub set_finds_first : (edition : Edition) (e : EntryTree Text) (broken : RuleSet)
     → HoldsBroken broken (λ rule. entry_keeps edition rule e) → (rules : List Rule)
     → find (λ rule. not (keeps broken rule)) rules ≡ first_of edition e rules
-first_in_set edition e broken are rules = refused_same (λ rule. entry_keeps edition rule e) (keeps broken) are rules
+set_finds_first edition e broken are rules = refused_same (λ rule. entry_keeps edition rule e) (keeps broken) are rules
 
 pub none_broken : (edition : Edition) (e : EntryTree Text)
     → is_none (broken_rule edition e) ≡ entry_obeys (canonical_rules edition) e
 none_broken edition e =
-    none_refused (λ rule. entry_keeps edition rule e) every_rule ∙ sym (keeps_every edition e)
+    none_refused (λ rule. entry_keeps edition rule e) every_rule ∙ sym (canonical_entry_keeps_each edition e)
 
-pub none_unreadable : (edition : Edition) (e : EntryTree Text)
+pub no_readable_rule_broken : (edition : Edition) (e : EntryTree Text)
     → is_none (first_of edition e readable) ≡ entry_obeys (readable_rules edition) e
-none_unreadable edition e =
-    none_refused (λ rule. entry_keeps edition rule e) readable ∙ sym (keeps_readable edition e)
+no_readable_rule_broken edition e =
+    none_refused (λ rule. entry_keeps edition rule e) readable ∙ sym (readable_entry_keeps_each edition e)
 
 -- ---- The entry that breaks one
 
-none_in_order : (n : ℕ) (o : Option Rule) (after : Option Uncanonical)
+or_after-none : (n : ℕ) (o : Option Rule) (after : Option Uncanonical)
     → is_none (or_after n o after) ≡ (is_none o && is_none after)
-none_in_order n None after = refl
-none_in_order n (Some rule) after = refl
+or_after-none n None after = refl
+or_after-none n (Some rule) after = refl
 
-none_from : (edition : Edition) (n : ℕ) (body : BodyTree Text)
+first_from-none : (edition : Edition) (n : ℕ) (body : BodyTree Text)
     → is_none (first_from edition n body) ≡ is_canonical edition body
-none_from edition n [] = refl
-none_from edition n (e ∷ es) =
-    none_in_order n (broken_rule edition e) (first_from edition (n + 1) es)
-    ∙ rw (none_broken edition e, none_from edition (n + 1) es)
+first_from-none edition n [] = refl
+first_from-none edition n (e ∷ es) =
+    or_after-none n (broken_rule edition e) (first_from edition (n + 1) es)
+    ∙ rw (none_broken edition e, first_from-none edition (n + 1) es)
 
 -- Nothing is found exactly where the tree is canonical.
-pub none_uncanonical : (edition : Edition) (body : BodyTree Text)
+pub no_entry_uncanonical : (edition : Edition) (body : BodyTree Text)
     → is_none (first_uncanonical edition body) ≡ is_canonical edition body
-none_uncanonical edition body = none_from edition 0 body
+no_entry_uncanonical edition body = first_from-none edition 0 body
 
 module _ (edition : Edition) where
   -- what was found among entries of which the first has the number n

@@ -16,28 +16,28 @@ least_of_two-assoc (Some a) (Some b) None = refl
 least_of_two-assoc (Some a) (Some b) (Some c) = let same : min a (min b c) ≡ min (min a b) c = omega arith in
     ap Some same
 
-least-before : (number : Option ℕ) (numbers : List ℕ)
+least-option_append : (number : Option ℕ) (numbers : List ℕ)
     → least (option_to_list number ++ numbers) ≡ least_of_two number (least numbers)
-least-before None numbers = refl
-least-before (Some n) numbers = by_rest (least numbers)
+least-option_append None numbers = refl
+least-option_append (Some n) numbers = by_rest (least numbers)
   where
     by_rest : (m : Option ℕ) → Some (least_with n m) ≡ least_of_two (Some n) m
     by_rest None = refl
     by_rest (Some m) = refl
 
-by_form : (edition : Edition) (s : ElementPosition) (e : ElementTree Text) (es : PatternTree Text)
+line_indents-elements : (edition : Edition) (s : ElementPosition) (e : ElementTree Text) (es : PatternTree Text)
     → line_indents edition s (elements e es) ≡ indents_at edition s e ++ line_indents edition (position_past e) es
-by_form edition s (text_element v) es = refl
-by_form edition s (placeable e) es = refl
+line_indents-elements edition s (text_element v) es = refl
+line_indents-elements edition s (placeable e) es = refl
 
 -- the least so far, and that of the lines that are left
-pub least-step : (edition : Edition) (s : ElementPosition) (e : ElementTree Text) (es : PatternTree Text)
+pub least-line_indents : (edition : Edition) (s : ElementPosition) (e : ElementTree Text) (es : PatternTree Text)
     (so_far number : Option ℕ) → option_to_list number ≡ indents_at edition s e
     → least_of_two so_far (least (line_indents edition s (elements e es)))
     ≡ least_of_two (least_of_two so_far number) (least (line_indents edition (position_past e) es))
-least-step edition s e es so_far number is =
+least-line_indents edition s e es so_far number is =
     let later = line_indents edition (position_past e) es in
-    ap (λ ns. least_of_two so_far (least ns)) (by_form edition s e es)
+    ap (λ ns. least_of_two so_far (least ns)) (line_indents-elements edition s e es)
     ∙ ap (λ ns. least_of_two so_far (least (ns ++ later))) (sym is)
-    ∙ ap (least_of_two so_far) (least-before number later)
+    ∙ ap (least_of_two so_far) (least-option_append number later)
     ∙ least_of_two-assoc so_far number (least later)

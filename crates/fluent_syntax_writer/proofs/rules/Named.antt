@@ -24,22 +24,22 @@ is_used-reversed : (name : Text) (names : List Text) → is_used name names ≡ 
 is_used-reversed name names =
     list_any-IsPermutation (pointwise nat_eq name) names (reverse names) (IsPermutation-reverse names)
 
-one_named : (fresh allowed values names : Bool)
+named_tests_regroup : (fresh allowed values names : Bool)
     → (fresh && (allowed && (values && names))) ≡ ((allowed && values) && (fresh && names))
-one_named true true values names = refl
-one_named true false values names = refl
-one_named false true true names = refl
-one_named false true false names = refl
-one_named false false values names = refl
+named_tests_regroup true true values names = refl
+named_tests_regroup true false values names = refl
+named_tests_regroup false true true names = refl
+named_tests_regroup false true false names = refl
+named_tests_regroup false false values names = refl
 
 -- Both are asked of each argument at once, or the one of all and then the other.
-pub nameds_whole : (used : List Text) (ns : NamedTrees Text)
+pub are_named_well_by_parts : (used : List Text) (ns : NamedTrees Text)
     → are_named_well used ns ≡ (have_values ns && have_new_names used ns)
-nameds_whole used no_named = refl
-nameds_whole used (nameds (named_argument name e) ns) =
+are_named_well_by_parts used no_named = refl
+are_named_well_by_parts used (nameds (named_argument name e) ns) =
     let fresh = not (is_used name used) in
-    ap (λ b. fresh && (is_argument_value e && b)) (nameds_whole (name ∷ used) ns)
-    ∙ one_named fresh (is_argument_value e) (have_values ns) (have_new_names (name ∷ used) ns)
+    ap (λ b. fresh && (is_argument_value e && b)) (are_named_well_by_parts (name ∷ used) ns)
+    ∙ named_tests_regroup fresh (is_argument_value e) (have_values ns) (have_new_names (name ∷ used) ns)
 
 module _ {S : Type 0} (text : S → Text) where
   -- the names so far, last first

@@ -104,6 +104,6 @@ defaults-next key value false vs before after is = omega arith
 
 -- ---- Patterns
 
-pub pattern_parts : (r : Rules) (p : PatternTree Text) → (r.pattern p && elements_obey r p) ≡ pattern_obeys r p
-pattern_parts r no_elements = and_true (r.pattern no_elements)
-pattern_parts r (elements e es) = refl
+pub pattern_obeys_by_parts : (r : Rules) (p : PatternTree Text) → (r.pattern p && elements_obey r p) ≡ pattern_obeys r p
+pattern_obeys_by_parts r no_elements = and_true (r.pattern no_elements)
+pattern_obeys_by_parts r (elements e es) = refl

@@ -25,33 +25,33 @@ record Ends (v : Text) : Type 0 where
   no_lf : without_last_lf v ≡ v
   shown : list_any (λ b. not (is_space b)) v ≡ true
 
-ends_by : (v : Text) → ends_plainly v ≡ true → Ends v
-ends_by [] ends = absurd cc
-ends_by (b ∷ []) ends =
+ends_plainly_has_ends : (v : Text) → ends_plainly v ≡ true → Ends v
+ends_plainly_has_ends [] ends = absurd cc
+ends_plainly_has_ends (b ∷ []) ends =
     let other = λ (c : ℕ). differ (λ c. not (is_trimmed c)) b c ends in
     record {
       no_lf = ap (λ t. if t then [] else b ∷ []) (other lf refl);
       shown = ap (λ t. not t || false) (other space refl);
     }
-ends_by (b ∷ c ∷ bs) ends =
-    let rest = ends_by (c ∷ bs) ends in
+ends_plainly_has_ends (b ∷ c ∷ bs) ends =
+    let rest = ends_plainly_has_ends (c ∷ bs) ends in
     record { no_lf = ap (λ t. b ∷ t) rest.no_lf; shown = true_by_right (not (is_space b)) _ rest.shown }
 
-if_true : (b : Bool) → (if b then true else true) ≡ true
-if_true true = refl
-if_true false = refl
+if_of_trues_is_true : (b : Bool) → (if b then true else true) ≡ true
+if_of_trues_is_true true = refl
+if_of_trues_is_true false = refl
 
-asked_true : (asker k : Rule) (passes : Bool) → passes ≡ true → asks asker k passes ≡ true
-asked_true asker k passes e = ap (asks asker k) e ∙ if_true (number asker == number k)
+asks_passes : (asker k : Rule) (passes : Bool) → passes ≡ true → asks asker k passes ≡ true
+asks_passes asker k passes e = ap (asks asker k) e ∙ if_of_trues_is_true (number asker == number k)
 
 pub text_spelled : (k : Rule) (v : Text) → is_text v ≡ true → spelling_keeps k v ≡ true
 text_spelled k v text =
     let later = right_true (not (is_empty v)) _ text in
     let no_crlf = right_true (not (list_any is_brace v)) _ later in
-    both_true (both_true (both_true (asked_true rule.EmptyText k _ (left_true (not (is_empty v)) _ text))
-    (asked_true rule.BraceInText k _ (left_true (not (list_any is_brace v)) _ later)))
-    (asked_true rule.CrBeforeLf k _ (left_true (not (has_crlf v)) _ no_crlf)))
-    (asked_true rule.LfWithinText k _ (right_true (not (has_crlf v)) _ no_crlf))
+    both_true (both_true (both_true (asks_passes rule.EmptyText k _ (left_true (not (is_empty v)) _ text))
+    (asks_passes rule.BraceInText k _ (left_true (not (list_any is_brace v)) _ later)))
+    (asks_passes rule.CrBeforeLf k _ (left_true (not (has_crlf v)) _ no_crlf)))
+    (asks_passes rule.LfWithinText k _ (right_true (not (has_crlf v)) _ no_crlf))
 
 plain_text_keeps : (edition : Edition) (k : Rule) (v : Text) → is_plain_text v ≡ true
     → pattern_keeps edition k (elements (text_element v) no_elements) ≡ true
@@ -61,20 +61,20 @@ plain_text_keeps edition k v plain =
     let at_ends = right_true (is_text v) _ plain in
     let tight = left_true (not (begins_with_space v)) _ at_ends in
     let plainly = right_true (not (begins_with_space v)) _ at_ends in
-    let ends = ends_by v plainly in
+    let ends = ends_plainly_has_ends v plainly in
     let later = right_true (not (is_empty v)) _ text in
     let no_crlf = right_true (not (list_any is_brace v)) _ later in
     let no_lf = not_true (has_lf (without_last_lf v)) (right_true (not (has_crlf v)) _ no_crlf) in
     let on_one_line : (has_lf v || false) ≡ false =
     ap (λ u. has_lf u || false) (sym ends.no_lf) ∙ ap (λ b. b || false) no_lf in
     let shown = ap (list_any (λ b. not (is_space b))) ends.no_lf ∙ ends.shown in
-    let place = both_true (asked_true rule.BlankFirstText k _ (ap (λ b. b || false) shown))
-    (asked_true rule.LeadingSpace k _ tight) in
-    let texts = both_true (both_true (both_true (text_spelled k v text) place) (asked_true rule.BlankEnd k _ plainly))
+    let place = both_true (asks_passes rule.BlankFirstText k _ (ap (λ b. b || false) shown))
+    (asks_passes rule.LeadingSpace k _ tight) in
+    let texts = both_true (both_true (both_true (text_spelled k v text) place) (asks_passes rule.BlankEnd k _ plainly))
     refl in
     ap (λ multiline. (asks rule.EmptyPattern k true && texts_keep edition k multiline opening p)
     && lines_keep edition k multiline p) on_one_line
-    ∙ both_true (both_true (asked_true rule.EmptyPattern k true refl) texts) refl
+    ∙ both_true (both_true (asks_passes rule.EmptyPattern k true refl) texts) refl
 
 -- A pattern that is one text on one line keeps each rule.
 pub plain_pattern_keeps : (edition : Edition) (k : Rule) (p : PatternTree Text) → is_plain_pattern p ≡ true
@@ -84,18 +84,18 @@ plain_pattern_keeps edition k (elements (text_element v) no_elements) plain = pl
 plain_pattern_keeps edition k (elements (text_element v) (elements x xs)) plain = absurd cc
 plain_pattern_keeps edition k (elements (placeable e) xs) plain = absurd cc
 
-pub one_element : {E : Type 0} (view : E → ElementTree Text) (es : List E) (e : E) → length es ≡ 1 → e ≡ get_or es 0 e
+pub one_decides : {E : Type 0} (view : E → ElementTree Text) (es : List E) (e : E) → length es ≡ 1 → e ≡ get_or es 0 e
     → is_plain_pattern (elements_of (map view es)) ≡ is_plain_pattern (elements (view e) no_elements)
-one_element view [] e one is = absurd (omega arith)
-one_element view (x ∷ []) e one is = ap (λ y. is_plain_pattern (elements (view y) no_elements)) (sym is)
-one_element view (x ∷ y ∷ es) e one is = absurd (omega arith)
+one_decides view [] e one is = absurd (omega arith)
+one_decides view (x ∷ []) e one is = ap (λ y. is_plain_pattern (elements (view y) no_elements)) (sym is)
+one_decides view (x ∷ y ∷ es) e one is = absurd (omega arith)
 
 -- a pattern of no elements, or of more than one, is not plain
-pub other_elements : {E : Type 0} (view : E → ElementTree Text) (es : List E) → (length es ≡ 1 → ⊥)
+pub others_are_not_plain : {E : Type 0} (view : E → ElementTree Text) (es : List E) → (length es ≡ 1 → ⊥)
     → is_plain_pattern (elements_of (map view es)) ≡ false
-other_elements view [] other = refl
-other_elements view (x ∷ []) other = absurd (omega (arith, other refl))
-other_elements view (x ∷ y ∷ es) other = two (view x) (view y) (elements_of (map view es))
+others_are_not_plain view [] other = refl
+others_are_not_plain view (x ∷ []) other = absurd (omega (arith, other refl))
+others_are_not_plain view (x ∷ y ∷ es) other = two (view x) (view y) (elements_of (map view es))
   where
     two : (a b : ElementTree Text) (rest : PatternTree Text) → is_plain_pattern (elements a (elements b rest)) ≡ false
     two (text_element v) b rest = refl

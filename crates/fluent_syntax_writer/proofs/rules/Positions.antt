@@ -22,18 +22,18 @@ is_multiline-list view (e ∷ es) = ap (λ b. spans_lines (view e) || b) (is_mul
 
 -- ---- Tests of the first element
 
-pub first_tested : {E : Type 0} (view : E → ElementTree Text) (test : PatternTree Text → Bool)
+pub first_is_tested : {E : Type 0} (view : E → ElementTree Text) (test : PatternTree Text → Bool)
     (one : ElementTree Text → Bool) → ((e : ElementTree Text) (es : PatternTree Text) → test (elements e es) ≡ one e)
     → (es : List E) (e : E) → slice_get es 0 ≡ Some e → test (elements_of (map view es)) ≡ one (view e)
-first_tested view test one same [] e is = cc
-first_tested view test one same (x ∷ es) e is =
+first_is_tested view test one same [] e is = cc
+first_is_tested view test one same (x ∷ es) e is =
     let first : x ≡ e = cc in
     same (view x) (elements_of (map view es)) ∙ ap (λ y. one (view y)) first
 
-pub none_tested : {E : Type 0} (view : E → ElementTree Text) (test : PatternTree Text → Bool)
+pub none_is_tested : {E : Type 0} (view : E → ElementTree Text) (test : PatternTree Text → Bool)
     → test no_elements ≡ false → (es : List E) → slice_get es 0 ≡ None → test (elements_of (map view es)) ≡ false
-none_tested view test none [] is = none
-none_tested view test none (x ∷ es) is = cc
+none_is_tested view test none [] is = none
+none_is_tested view test none (x ∷ es) is = cc
 
 pub begins_with_placeable-first : (e : ElementTree Text) (es : PatternTree Text)
     → begins_with_placeable (elements e es) ≡ is_placeable e

@@ -3,9 +3,9 @@ use Rattle.std.proofs.Common.{◌≡◌, ℕ, ◌+◌, ◌<◌, List, ◌∷◌,
 use Rattle.std.proofs.lemmas.List.{at_drop_more}
 use Rattle.fluent_syntax_writer.proofs.rules.Sets.{and_assoc}
 
-pub next_of : {X Y : Type 0} (F : List X → Y) (xs : List X) (i : ℕ) (x : X) → i < length xs → x ≡ get_or xs i x
+pub drop_is_cons : {X Y : Type 0} (F : List X → Y) (xs : List X) (i : ℕ) (x : X) → i < length xs → x ≡ get_or xs i x
     → F (drop i xs) ≡ F (x ∷ drop (i + 1) xs)
-next_of F xs i x within is = at_drop_more F xs i x within ∙ ap (λ y. F (y ∷ drop (i + 1) xs)) (sym is)
+drop_is_cons F xs i x within is = at_drop_more F xs i x within ∙ ap (λ y. F (y ∷ drop (i + 1) xs)) (sym is)
 
 -- A test of a list, in a state, that is a test of its first item and one of the others in the next state.
 module _ {S X : Type 0} (all : S → List X → Bool) (one : S → X → List X → Bool) (next : S → X → S)
@@ -15,7 +15,7 @@ module _ {S X : Type 0} (all : S → List X → Bool) (one : S → X → List X 
   item_passes s xs i x whole within is passes rest =
       let others = drop (i + 1) xs in
       let same : all s (drop i xs) ≡ all (next s x) others =
-      next_of (all s) xs i x within is ∙ step s x others ∙ ap (λ b. b && all (next s x) others) passes in
+      drop_is_cons (all s) xs i x within is ∙ step s x others ∙ ap (λ b. b && all (next s x) others) passes in
       sym same ∙ rest
 
   pub item_breaks : (s : S) (xs : List X) (i : ℕ) (x : X) (whole : Bool) → i < length xs → x ≡ get_or xs i x
@@ -23,7 +23,7 @@ module _ {S X : Type 0} (all : S → List X → Bool) (one : S → X → List X 
   item_breaks s xs i x whole within is fails rest =
       let others = drop (i + 1) xs in
       let same : all s (drop i xs) ≡ false =
-      next_of (all s) xs i x within is ∙ step s x others ∙ ap (λ b. b && all (next s x) others) fails in
+      drop_is_cons (all s) xs i x within is ∙ step s x others ∙ ap (λ b. b && all (next s x) others) fails in
       sym same ∙ rest
 
   -- What is kept so far and by what is left is kept by all, with an item more.
@@ -33,6 +33,6 @@ module _ {S X : Type 0} (all : S → List X → Bool) (one : S → X → List X 
   item_joins s xs i x before after whole within is joined rest =
       let others = drop (i + 1) xs in
       let same : all s (drop i xs) ≡ (one s x others && all (next s x) others) =
-      next_of (all s) xs i x within is ∙ step s x others in
+      drop_is_cons (all s) xs i x within is ∙ step s x others in
       ap (λ b. b && all (next s x) others) joined ∙ and_assoc before (one s x others) (all (next s x) others)
       ∙ ap (λ b. before && b) (sym same) ∙ rest

@@ -9,17 +9,17 @@ pub or_with_false : (b : Bool) → (b || false) ≡ b
 or_with_false true = refl
 or_with_false false = refl
 
-is_no_stop : (b : ℕ) → is_digit b ≡ true → (b == 46) ≡ false
-is_no_stop b digit = grind (arith, nat_tests)
+digit_is_not_full_stop : (b : ℕ) → is_digit b ≡ true → (b == 46) ≡ false
+digit_is_not_full_stop b digit = grind (arith, nat_tests)
 
 pub number_rest-digit : (b : ℕ) (bs : List ℕ) → is_digit b ≡ true → is_number_rest (b ∷ bs) ≡ is_number_rest bs
 number_rest-digit b bs digit =
-    let other = is_no_stop b digit in
+    let other = digit_is_not_full_stop b digit in
     rw (digit, other) (or_with_false (is_number_rest bs))
 
-pub units-digit : (n b : ℕ) (bs : List ℕ) → n ≢ 0 → is_ascii_hexdigit b ≡ true
+pub is_units-digit : (n b : ℕ) (bs : List ℕ) → n ≢ 0 → is_ascii_hexdigit b ≡ true
     → is_units n (b ∷ bs) ≡ is_units (n - 1) bs
-units-digit zero b bs some digit = absurd (some refl)
-units-digit (suc n) b bs some digit =
+is_units-digit zero b bs some digit = absurd (some refl)
+is_units-digit (suc n) b bs some digit =
     let less : n ≡ suc n - 1 = omega arith in
     rw digit (ap (λ k. is_units k bs) less)

@@ -5,8 +5,8 @@ use Rattle.fluent_syntax_tree.specs.View.{resource_view}
 use Rattle.fluent_syntax_tree.specs.declared.edition.Edition.TheVariants.{One}
 use Rattle.fluent_syntax_grammar.specs.Joined.{joined_body}
 use Rattle.fluent_syntax_grammar.specs.Written.{written}
-use Rattle.fluent_syntax_grammar.proofs.marks.Entries.{written_back}
-use Rattle.fluent_syntax_grammar.proofs.marks.JoinedTrees.{joined_back}
+use Rattle.fluent_syntax_grammar.proofs.marks.Entries.{written_is_read_back}
+use Rattle.fluent_syntax_grammar.proofs.marks.JoinedTrees.{joined_reads_back}
 use Rattle.fluent_syntax_parser.specs.Answers.{AnswersTiling}
 use Rattle.fluent_syntax.proofs.RoundTripLemmas.{nothing_written, tree_answered}
 use Rattle.fluent_syntax.proofs.laws.reparse.Goals as goal
@@ -23,11 +23,11 @@ returns-clause-answers g c =
 pub returns-clause-back : goal.returns-clause-back
 returns-clause-back g c = λ canonical.
     let tree = resource_view g.S.Slice.text c.args.r.now in
-    tree_answered string_bytes (written false tree) tree c.parse.result (written_back One tree false canonical)
+    tree_answered string_bytes (written false tree) tree c.parse.result (written_is_read_back One tree false canonical)
     (returns-clause-answers g c)
 
 pub returns-clause-joined : goal.returns-clause-joined
 returns-clause-joined g c = λ canonical.
     let tree = resource_view g.S.Slice.text c.args.r.now in
-    tree_answered string_bytes (written false tree) (joined_body tree) c.parse.result (joined_back tree canonical)
+    tree_answered string_bytes (written false tree) (joined_body tree) c.parse.result (joined_reads_back tree canonical)
     (returns-clause-answers g c)

@@ -2,21 +2,21 @@ use Rattle.std.proofs.Common.{◌∙◌}
 use Rattle.fluent_syntax_c.specs.Answer.{IsCommandAnswer}
 use Rattle.fluent_syntax_c.specs.declared.arguments.CommandKind.TheVariants.{Answer}
 use Rattle.fluent_syntax_c.specs.declared.status.Refusal.TheVariants.{Argument, Input, Depth, Tree}
-use Rattle.fluent_syntax_c.proofs.Commands.{is_of_text}
-use Rattle.fluent_syntax_c.proofs.Statuses.{leaves_answered, refused_deeper, status_where}
+use Rattle.fluent_syntax_c.proofs.Commands.{text_command_is_not_json}
+use Rattle.fluent_syntax_c.proofs.Statuses.{answered_is_left, refused_deeper, iff_is_transitive}
 use Rattle.fluent_syntax_c.proofs.answers.ftl_answer.Goals as goal
 
 pub returns-clause-leaves : goal.returns-clause-leaves
 returns-clause-leaves c =
-    leaves_answered (IsCommandAnswer c.args.command c.args.input.now) (λ given. given.0.items) (λ given. given.1)
+    answered_is_left (IsCommandAnswer c.args.command c.args.input.now) (λ given. given.0.items) (λ given. given.1)
     c.command_bytes.result c.args.out.now c.give.new.out c.give.new.count c.give.result c.command_bytes.ensures.text
     c.give.ensures.leaves
 
 pub returns-clause-argument : goal.returns-clause-argument
-returns-clause-argument c = status_where (c.give.ensures.refused Argument) c.command_bytes.ensures.argument
+returns-clause-argument c = iff_is_transitive (c.give.ensures.refused Argument) c.command_bytes.ensures.argument
 
 pub returns-clause-input : goal.returns-clause-input
-returns-clause-input c = λ known. status_where (c.give.ensures.refused Input) (c.command_bytes.ensures.input known)
+returns-clause-input c = λ known. iff_is_transitive (c.give.ensures.refused Input) (c.command_bytes.ensures.input known)
 
 pub returns-clause-deep : goal.returns-clause-deep
 returns-clause-deep c = λ stated. c.command_bytes.ensures.deep ((c.give.ensures.refused Depth).0 stated)
@@ -28,7 +28,7 @@ pub returns-clause-shallow : goal.returns-clause-shallow
 returns-clause-shallow c = λ deeper.
     refused_deeper c.command_bytes.result c.give.result _ c.give.ensures.refused c.command_bytes.ensures.shallow
     (λ e d. c.command_bytes.ensures.argument.0 e (Answer d.0) d.1)
-    (λ e d. is_of_text d.0 (d.1 ∙ (c.command_bytes.ensures.tree e).0)) deeper
+    (λ e d. text_command_is_not_json d.0 (d.1 ∙ (c.command_bytes.ensures.tree e).0)) deeper
 
 pub returns-clause-tree : goal.returns-clause-tree
 returns-clause-tree c = λ stated. c.command_bytes.ensures.tree ((c.give.ensures.refused Tree).0 stated)

@@ -1,6 +1,6 @@
 use Rattle.std.proofs.Common.{string_bytes, ◌∙◌}
 use Rattle.fluent_syntax_tree.specs.View.{resource_view}
-use Rattle.fluent_syntax_c.proofs.Tested.{none_by_test}
+use Rattle.fluent_syntax_c.proofs.Tested.{tested_none_is_none}
 use Rattle.fluent_syntax_c.proofs.canonical.is_canonical_json.Goals as goal
 
 pub returns-in-Ok-clause-canonical : goal.returns-in-Ok-clause-canonical
@@ -10,6 +10,6 @@ returns-in-Ok-clause-canonical c = record {
   tree = resource_view string_bytes c.in-Ok.tree;
   is_spelled = rw c.in_ok-json.ensures.text.0 at c.in-Ok.ensures.spelled;
   canonical =
-      none_by_test c.first_uncanonical_with.result c.is_none.result c.is_none.ensures
+      tested_none_is_none c.first_uncanonical_with.result c.is_none.result c.is_none.ensures
       ∙ c.first_uncanonical_with.ensures.none;
 }

@@ -1,24 +1,24 @@
 use Rattle.std.proofs.Common.{refl}
-use Rattle.fluent_syntax_c.proofs.PartsRead.{insert_spelled, insert_unspelled, none_from, replace_spelled}
+use Rattle.fluent_syntax_c.proofs.PartsRead.{insert_spelled, insert_unspelled, IfNone-none, replace_spelled}
 use Rattle.fluent_syntax_c.proofs.PartsRead.{replace_unspelled, value_spelled, value_unspelled}
 use Rattle.fluent_syntax_c.proofs.edited.edited_source.Goals as goal
 
 pub returns-in_err-one_value-in-SetValue-clause-none : goal.returns-in_err-one_value-in-SetValue-clause-none
 returns-in_err-one_value-in-SetValue-clause-none c = λ edition p is.
-    none_from c.from_residual.result c.from_residual.ensures
+    IfNone-none c.from_residual.result c.from_residual.ensures
     (value_unspelled c.args.action edition p c.args.part.now is c.in-SetValue.is
     c.in_err-one_value-in-SetValue.ensures.none)
 
 pub returns-in_err-one_entry-in-Replace-clause-none : goal.returns-in_err-one_entry-in-Replace-clause-none
 returns-in_err-one_entry-in-Replace-clause-none c = λ edition p is.
-    none_from c.from_residual-in_err-one_entry-in-Replace.result
+    IfNone-none c.from_residual-in_err-one_entry-in-Replace.result
     c.from_residual-in_err-one_entry-in-Replace.ensures
     (replace_unspelled c.args.action edition p c.args.part.now is c.in-Replace.is
     c.in_err-one_entry-in-Replace.ensures.none)
 
 pub returns-in_err-one_entry-in-Insert-clause-none : goal.returns-in_err-one_entry-in-Insert-clause-none
 returns-in_err-one_entry-in-Insert-clause-none c = λ edition p is.
-    none_from c.from_residual-in_err-one_entry-in-Insert.result c.from_residual-in_err-one_entry-in-Insert.ensures
+    IfNone-none c.from_residual-in_err-one_entry-in-Insert.result c.from_residual-in_err-one_entry-in-Insert.ensures
     (insert_unspelled c.args.action edition p c.args.part.now is c.in-Insert.is
     c.in_err-one_entry-in-Insert.ensures.none)
 

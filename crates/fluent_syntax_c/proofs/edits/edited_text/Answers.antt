@@ -1,7 +1,7 @@
 use Rattle.std.proofs.Common.{Some, None, ap, refl, subst, sym, ◌∙◌}
 use Rattle.fluent_syntax_edits.specs.Edits.{IsEditResult}
 use Rattle.fluent_syntax_c.specs.Edits.{not_found, not_one_entry, refused}
-use Rattle.fluent_syntax_c.proofs.PartsRead.{place_read}
+use Rattle.fluent_syntax_c.proofs.PartsRead.{edit_place_is_by_tree}
 use Rattle.fluent_syntax_c.proofs.edits.edited_text.Goals as goal
 
 pub returns-in-Some-Ok-clause-edited : goal.returns-in-Some-Ok-clause-edited
@@ -16,7 +16,7 @@ returns-in-Some-Ok-clause-edited c = λ edition t p read is.
         has_number = refl;
         has_tiles = read.has_tiles;
         place =
-            place_read edition t c.args.source.now read c.args.action c.args.name.now c.place_of.result
+            edit_place_is_by_tree edition t c.args.source.now read c.args.action c.args.name.now c.place_of.result
             (Some c.in-Some.index) c.place_of.ensures c.in-Some.is;
         spells = x.1;
       };
@@ -34,7 +34,7 @@ returns-in-Some-edit_refusal-clause-not_edited c = λ edition t p read is.
       has_number = refl;
       has_tiles = read.has_tiles;
       place =
-          place_read edition t c.args.source.now read c.args.action c.args.name.now c.place_of.result
+          edit_place_is_by_tree edition t c.args.source.now read c.args.action c.args.name.now c.place_of.result
           (Some c.in-Some.index) c.place_of.ensures c.in-Some.is;
       spells = x.1;
     })
@@ -48,5 +48,5 @@ returns-in-None-edited_source-clause-not_edited c = λ edition t p read is.
 pub returns-in-None-clause-not_edited : goal.returns-in-None-clause-not_edited
 returns-in-None-clause-not_edited c = λ edition t p read is.
     not_found edition read.tiles refl read.has_tiles
-    (place_read edition t c.args.source.now read c.args.action c.args.name.now c.place_of.result None
+    (edit_place_is_by_tree edition t c.args.source.now read c.args.action c.args.name.now c.place_of.result None
     c.place_of.ensures c.in-None.is)

@@ -3,7 +3,7 @@ use Rattle.std.proofs.lemmas.List.{take_all}
 use Rattle.std.proofs.lemmas.List.Elements.{All-more, All-nil, All-push, All-same}
 use Rattle.fluent_syntax_c.specs.Depth.{EditionReadsDeeper}
 use Rattle.fluent_syntax_c.specs.NameIndexes.{AreNameIndexes, IsShort, no_name_indexes}
-use Rattle.fluent_syntax_c.proofs.NameIndexes.{none_of_any, name_indexes_on}
+use Rattle.fluent_syntax_c.proofs.NameIndexes.{none_refutes_any, AreNameIndexes-more}
 use Rattle.fluent_syntax_c.proofs.name_indexes.name_indexes.Goals as goal
 
 pub loop-text-init : goal.loop-text-init
@@ -22,7 +22,7 @@ loop-text-preserved c =
     let added = c.in-Ok.ensures in
     record {
       so_far =
-          name_indexes_on c.args.edition texts i _ c.loop-text.name_indexes.items
+          AreNameIndexes-more c.args.edition texts i _ c.loop-text.name_indexes.items
           c.add_name_index.new.name_indexes.items here.name_index
           c.loop-text.outcome here.found c.either_outcome-outcome.result inv.so_far here.ensures.name_index
           c.loop-text-test.true added c.either_outcome-outcome.ensures;
@@ -41,6 +41,6 @@ pub returns-clause-shallow : goal.returns-clause-shallow
 returns-clause-shallow c =
     let texts = c.args.texts.now in
     let all = sym (take_all c.loop-text.text-index texts c.loop-text-test.false) in
-    none_of_any (λ text. EditionReadsDeeper c.args.edition text.text.now c.args.nesting) texts
+    none_refutes_any (λ text. EditionReadsDeeper c.args.edition text.text.now c.args.nesting) texts
     (All-same (λ text. EditionReadsDeeper c.args.edition text.text.now c.args.nesting → ⊥) texts _ all
     c.loop-text.invariant.shallow)

@@ -6,8 +6,8 @@ use Rattle.fluent_syntax_names.specs.MissingParts.{Other, used_in, other_of}
 use Rattle.fluent_syntax_names.specs.FirstPlaces.{place_of}
 use Rattle.fluent_syntax_names.specs.Rows.{reachable_of, row_of}
 use Rattle.fluent_syntax_names.specs.Tables.{has_name}
-use Rattle.fluent_syntax_names.proofs.ReachableWithin.{reachable_same}
-use Rattle.fluent_syntax_names.proofs.Gathering.{noted_alone}
+use Rattle.fluent_syntax_names.proofs.ReachableWithin.{reachable_by_equal_lists}
+use Rattle.fluent_syntax_names.proofs.Gathering.{noted_names_are_all}
 use Rattle.fluent_syntax_names.proofs.MissingParts.{missing_parts_same}
 use Rattle.fluent_syntax_names.proofs.ReachableMessages.{reachable_decides}
 use Rattle.fluent_syntax_names.proofs.comparison.missing_parts.Goals as goal
@@ -20,16 +20,16 @@ returns-clause-missing_parts c =
     let used = place_of c.note_uses.new.table.table in
     let message_references = c.in_ok-message_references.message_references in
     let defines =
-    noted_alone (place_of c.new-defined.result.table) defined c.new-defined.ensures
+    noted_names_are_all (place_of c.new-defined.result.table) defined c.new-defined.ensures
     (defined_in other.text.now nameless other.mentions.items)
     (rw c.deref.ensures.value at c.in_ok-note_definitions.ensures) in
     let uses =
-    noted_alone (place_of c.new-used.result.table) used c.new-used.ensures
+    noted_names_are_all (place_of c.new-used.result.table) used c.new-used.ensures
     (used_in other.text.now nameless other.mentions.items)
     (rw c.deref-2.ensures.value at c.in_ok-note_uses.ensures) in
     let adds_references = rw c.deref-3.ensures.value at c.in_ok-message_references.ensures in
     let reachable =
-    λ (name : Text). reachable_same (row_of message_references)
+    λ (name : Text). reachable_by_equal_lists (row_of message_references)
     (messages_of (references_of other)) adds_references.has_messages name in
     let places = rw c.deref-4.ensures.value at c.in_ok-places.ensures in
     let tables : Other = record {

@@ -5,7 +5,7 @@ use Rattle.fluent_syntax_names.specs.NamedLists.{numbers_of}
 use Rattle.fluent_syntax_names.specs.Rows.{HasReferences, rows_of, texts_of}
 use Rattle.fluent_syntax_names.specs.declared.mention.Mention.{Mention}
 use Rattle.fluent_syntax_names.specs.declared.mention.Mention.TheVariants as says
-use Rattle.fluent_syntax_names.proofs.MessageReferences.{no_references, references_next, references_none}
+use Rattle.fluent_syntax_names.proofs.MessageReferences.{HasReferences-none, references_next, references_none}
 use Rattle.fluent_syntax_names.proofs.message_references.message_references_of.Goals as goal
 
 pub loop-mention-init : goal.loop-mention-init
@@ -13,7 +13,7 @@ loop-mention-init c =
     let number = numbers_of c.new.result in
     let empty : HasReferences [] number (rows_of c.new.result) =
     subst (λ (l : List (List (Vec ℕ Global))). HasReferences [] number (map texts_of l)) (sym c.new.ensures.lists)
-    (no_references number c.new.ensures.numbers) in
+    (HasReferences-none number c.new.ensures.numbers) in
     record { left = ([], empty, refl) }
 
 pub add_mention-requires : goal.add_mention-requires

@@ -2,14 +2,14 @@ use Rattle.std.proofs.Common.{[], refl, sym, subst}
 use Rattle.fluent_syntax_names.specs.Graph.{Graph}
 use Rattle.fluent_syntax_names.specs.ReferenceGraphs.{HasEdges}
 use Rattle.fluent_syntax_names.specs.NamedLists.{lists_of, numbers_of}
-use Rattle.fluent_syntax_names.proofs.Linking.{link_files_next, link_files_none, no_links}
+use Rattle.fluent_syntax_names.proofs.Linking.{link_files_next, link_files_none, HasEdges-none}
 use Rattle.fluent_syntax_names.proofs.reference_graph.reference_graph_of.Goals as goal
 
 pub loop-file-init : goal.loop-file-init
 loop-file-init c =
     let node = numbers_of c.new.result in
     let empty : HasEdges [] node (lists_of c.new.result) =
-    subst (λ (g : Graph). HasEdges [] node g) (sym c.new.ensures.lists) (no_links node c.new.ensures.numbers) in
+    subst (λ (g : Graph). HasEdges [] node g) (sym c.new.ensures.lists) (HasEdges-none node c.new.ensures.numbers) in
     record { left = ([], empty, refl) }
 
 pub add_file-requires : goal.add_file-requires

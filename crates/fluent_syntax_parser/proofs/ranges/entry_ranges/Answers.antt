@@ -3,8 +3,8 @@ use Rattle.fluent_syntax_grammar.specs.Grammar.{within}
 use Rattle.fluent_syntax_grammar.proofs.TotalEntries.{too_deep_left}
 use Rattle.fluent_syntax_parser.specs.PartRanges.{FindsEntry}
 use Rattle.fluent_syntax_parser.proofs.entry_forms.ExtentForms.{has_ranges, none_is_read}
-use Rattle.fluent_syntax_parser.proofs.entry_forms.ExtentRanges.{ranges_in_text}
-use Rattle.fluent_syntax_parser.proofs.readers.Fails.{shown, too_deep_there}
+use Rattle.fluent_syntax_parser.proofs.entry_forms.ExtentRanges.{found_ranges_lie_in_text}
+use Rattle.fluent_syntax_parser.proofs.readers.Fails.{failure_refuses, failure_is_too_deep}
 use Rattle.fluent_syntax_parser.proofs.ranges.entry_ranges.Goals as goal
 
 pub returns-in-Ok-clause-ranges : goal.returns-in-Ok-clause-ranges
@@ -17,18 +17,18 @@ returns-in-Ok-clause-ranges c =
 
 pub returns-in-Ok-clause-parts : goal.returns-in-Ok-clause-parts
 returns-in-Ok-clause-parts c =
-    ranges_in_text c.args.edition c.args.text.now c.utf8.text c.args.start _ (returns-in-Ok-clause-ranges c)
+    found_ranges_lie_in_text c.args.edition c.args.text.now c.utf8.text c.args.start _ (returns-in-Ok-clause-ranges c)
 
 pub returns-in-Err-Refused-clause-ranges : goal.returns-in-Err-Refused-clause-ranges
 returns-in-Err-Refused-clause-ranges c = λ e end read.
     none_is_read c.args.text.now c.args.start end e c.args.edition c.args.nesting _ _ _
-    (shown (rw (c.as_bytes.ensures.value, c.in-Err-Refused.field-0-is) at c.in-Err-Refused.ensures)) read
+    (failure_refuses (rw (c.as_bytes.ensures.value, c.in-Err-Refused.field-0-is) at c.in-Err-Refused.ensures)) read
 
 pub returns-in-Err-TooDeep-clause-nests : goal.returns-in-Err-TooDeep-clause-nests
 returns-in-Err-TooDeep-clause-nests c = λ e.
     too_deep_left c.args.edition c.args.text.now _ _ (omega (arith, c.requires))
-    (too_deep_there (rw (c.as_bytes.ensures.value, c.in-Err-TooDeep.field-0-is) at c.in-Err-TooDeep.ensures))
+    (failure_is_too_deep (rw (c.as_bytes.ensures.value, c.in-Err-TooDeep.field-0-is) at c.in-Err-TooDeep.ensures))
 
 pub returns-in-Err-TooDeep-clause-deeper : goal.returns-in-Err-TooDeep-clause-deeper
 returns-in-Err-TooDeep-clause-deeper c = λ e.
-    too_deep_there (rw (c.as_bytes.ensures.value, c.in-Err-TooDeep.field-0-is) at c.in-Err-TooDeep.ensures)
+    failure_is_too_deep (rw (c.as_bytes.ensures.value, c.in-Err-TooDeep.field-0-is) at c.in-Err-TooDeep.ensures)

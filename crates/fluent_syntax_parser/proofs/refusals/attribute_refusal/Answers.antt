@@ -7,7 +7,7 @@ use Rattle.fluent_syntax_grammar.proofs.TotalEntries.{attribute_too_deep_left}
 use Rattle.fluent_syntax_parser.proofs.entry_forms.AttributeRefusals.{attribute_refused, refusal_place_in_text}
 use Rattle.fluent_syntax_parser.proofs.entry_forms.AttributeRefusals.{refusal_starts_in_text}
 use Rattle.fluent_syntax_parser.proofs.entry_forms.ExtentForms.{attribute_is_included}
-use Rattle.fluent_syntax_parser.proofs.readers.Fails.{too_deep_there}
+use Rattle.fluent_syntax_parser.proofs.readers.Fails.{failure_is_too_deep}
 use Rattle.fluent_syntax_parser.proofs.refusals.attribute_refusal.Goals as goal
 use Rattle.fluent_syntax_parser.proofs.refusals.attribute_refusal.Goals.{in-Err-Memory, in-Err-TooDeep, in-Ok}
 use Rattle.fluent_syntax_parser.proofs.refusals.attribute_refusal.Goals.{in-Err-Refused+in_ok-kind-in-Err-Refused}
@@ -69,7 +69,7 @@ returns-clause-nests c =
       | in-Err-TooDeep w ↦
           let found = rw (c.as_bytes.ensures.value, w.in-Err-TooDeep.field-0-is) at w.in-Err-TooDeep.ensures.finds in
           rw w.result-is (λ e. attribute_too_deep_left c.args.edition c.args.text.now c.args.nesting c.args.start
-          c.requires (too_deep_there found))
+          c.requires (failure_is_too_deep found))
       | in-Err-Memory w ↦ rw w.result-is (λ e. cc)
     ]
 
@@ -80,6 +80,6 @@ returns-clause-deeper c =
       | in-Err-Refused+in_ok-kind-in-Err-Refused w ↦ rw w.result-is tt
       | in-Err-TooDeep w ↦
           let found = rw (c.as_bytes.ensures.value, w.in-Err-TooDeep.field-0-is) at w.in-Err-TooDeep.ensures.finds in
-          rw w.result-is (λ e. too_deep_there found)
+          rw w.result-is (λ e. failure_is_too_deep found)
       | in-Err-Memory w ↦ rw w.result-is (λ e. cc)
     ]

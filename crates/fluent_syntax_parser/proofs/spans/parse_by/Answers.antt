@@ -2,7 +2,7 @@ use Rattle.std.proofs.lemmas.Result.{IfOk-weaker}
 use Rattle.fluent_syntax_tree.specs.Entry.{body_map}
 use Rattle.fluent_syntax_parser.specs.Rest.{AnswersIn, AnswersSpansIn}
 use Rattle.fluent_syntax_parser.specs.Parts.{HasParts}
-use Rattle.fluent_syntax_parser.proofs.tilings.AnswerOf.{spans_answered}
+use Rattle.fluent_syntax_parser.proofs.tilings.AnswerOf.{answer_is_in_spans}
 use Rattle.fluent_syntax_parser.proofs.tilings.PartsOfTiling.{parts_answered}
 use Rattle.fluent_syntax_parser.proofs.spans.parse_by.Goals as goal
 
@@ -12,7 +12,7 @@ returns-clause-tiling c =
     let options = c.args.options in
     IfOk-weaker c.parse_texts.result (AnswersIn (λ s. s) (body_map (λ s. s)) options.comments options.edition t)
     (AnswersSpansIn options.comments options.edition t)
-    (λ answer there. spans_answered options.comments options.edition t answer there) c.parse_texts.ensures.tiling
+    (λ answer there. answer_is_in_spans options.comments options.edition t answer there) c.parse_texts.ensures.tiling
 
 pub returns-clause-spans : goal.returns-clause-spans
 returns-clause-spans c =

@@ -8,8 +8,8 @@ use Rattle.fluent_syntax_tree.proofs.Views.{view-CallArguments}
 use Rattle.fluent_syntax_grammar.proofs.MarksWritten.{writing, Writes-cons, Writes-append}
 use Rattle.fluent_syntax_writer.proofs.Splits.{Writes-split}
 use Rattle.fluent_syntax_grammar.proofs.Remaining.{RemainingMarks-start, RemainingMarks-more, RemainingMarks-end}
-use Rattle.fluent_syntax_grammar.proofs.Remaining.{RemainingMarks-last, drop_at}
-use Rattle.fluent_syntax_writer.proofs.Arguments.{argument_at, none_left}
+use Rattle.fluent_syntax_grammar.proofs.Remaining.{RemainingMarks-last, drop_gives_item}
+use Rattle.fluent_syntax_writer.proofs.Arguments.{arguments_left-cons, arguments_left-none}
 use Rattle.fluent_syntax_writer.proofs.Placeables.{in_braces}
 use Rattle.fluent_syntax_writer.proofs.serializer.+serialized.Goals as goal
 
@@ -65,7 +65,7 @@ expressions::serialize_expression-returns-in-Inline g t c = rw (c.in-Inline.is, 
 pub expressions::serialize_expression-loop-variant-preserved :
     goal.expressions::serialize_expression-loop-variant-preserved
 expressions::serialize_expression-loop-variant-preserved g t c =
-    let next = drop_at c.deref-variant-items.result.now _ _ c.loop-variant-test.true c.variant-item.is in
+    let next = drop_gives_item c.deref-variant-items.result.now _ _ c.loop-variant-test.true c.variant-item.is in
     let after = RemainingMarks-more (rw next at c.loop-variant.invariant.rest) c.serialize_variant.ensures.written in
     record { rest = RemainingMarks-more after c.newline-in-loop-variant.ensures.written }
 
@@ -87,8 +87,8 @@ expressions::serialize_call_arguments-loop-argument-init g t c =
 pub expressions::serialize_call_arguments-loop-argument-preserved :
     goal.expressions::serialize_call_arguments-loop-argument-preserved
 expressions::serialize_call_arguments-loop-argument-preserved g t c =
-    let next = drop_at c.deref-argument-items.result.now _ _ c.loop-argument-test.true c.argument-item.is in
-    let rest = rw (next, argument_at) at c.loop-argument.invariant.rest in
+    let next = drop_gives_item c.deref-argument-items.result.now _ _ c.loop-argument-test.true c.argument-item.is in
+    let rest = rw (next, arguments_left-cons) at c.loop-argument.invariant.rest in
     let after = RemainingMarks-more rest c.serialize_separator.ensures.written in
     record { rest = RemainingMarks-more after c.serialize_inline_expression.ensures.written }
 
@@ -96,8 +96,8 @@ pub expressions::serialize_call_arguments-loop-argument-2-preserved :
     goal.expressions::serialize_call_arguments-loop-argument-2-preserved
 expressions::serialize_call_arguments-loop-argument-2-preserved g t c =
     let item = c.argument-item-in-loop-argument-2 in
-    let next = drop_at c.deref-argument-items-2.result.now _ _ c.loop-argument-2-test.true item.is in
-    let rest = rw (next, argument_at) at c.loop-argument-2.invariant.rest in
+    let next = drop_gives_item c.deref-argument-items-2.result.now _ _ c.loop-argument-2-test.true item.is in
+    let rest = rw (next, arguments_left-cons) at c.loop-argument-2.invariant.rest in
     let after = RemainingMarks-more rest c.serialize_separator-in-loop-argument-2.ensures.written in
     record { rest = RemainingMarks-more after c.serialize_named_argument.ensures.written }
 
@@ -110,12 +110,12 @@ expressions::serialize_call_arguments-loop-argument-2-init g t c =
 pub expressions::serialize_call_arguments-returns : goal.expressions::serialize_call_arguments-returns
 expressions::serialize_call_arguments-returns g t c =
     let none = drop_all _ c.deref-argument-items-2.result.now c.loop-argument-2-test.false in
-    let rest = rw (none, none_left) at c.loop-argument-2.invariant.rest in
+    let rest = rw (none, arguments_left-none) at c.loop-argument-2.invariant.rest in
     record { written = RemainingMarks-last rest c.write_literal-2.ensures.written }
 
 pub patterns::serialize_elements-loop-element-preserved : goal.patterns::serialize_elements-loop-element-preserved
 patterns::serialize_elements-loop-element-preserved g t c =
-    let next = drop_at c.args.elements.now _ _ c.loop-element-test.true c.element-item.is in
+    let next = drop_gives_item c.args.elements.now _ _ c.loop-element-test.true c.element-item.is in
     record { rest = RemainingMarks-more (rw next at c.loop-element.invariant.rest) c.serialize_element.ensures.written }
 
 pub patterns::serialize_elements-returns : goal.patterns::serialize_elements-returns

@@ -7,16 +7,16 @@ use Rattle.ftl.specs.Run.{AppendsBeginning, IsRunAnswer}
 use Rattle.ftl.specs.Watched.{inner_of}
 use Rattle.ftl.proofs.runs.run_within.Goals as goal
 
-is_text : (bytes : Option (List ℕ)) (read text : List ℕ) → text ≡ read → IfSome bytes (λ known. read ≡ known) →
+known_is_utf8 : (bytes : Option (List ℕ)) (read text : List ℕ) → text ≡ read → IfSome bytes (λ known. read ≡ known) →
     (¬ (IsUtf8 text) → ⊥) → IfSome bytes (λ known. ¬ (IsUtf8 known) → ⊥)
-is_text None read text same is reads = tt
-is_text (Some known) read text same is reads = λ none. reads (λ utf8. none (subst IsUtf8 (same ∙ is) utf8))
+known_is_utf8 None read text same is reads = tt
+known_is_utf8 (Some known) read text same is reads = λ none. reads (λ utf8. none (subst IsUtf8 (same ∙ is) utf8))
 
 -- of bytes that are no text nothing nests
 pub returns-in_err-text-clause-no_text : goal.returns-in_err-text-clause-no_text
 returns-in_err-text-clause-no_text g c =
     let p = err_from_is_err_and c.from_residual.result c.from_residual.ensures.1 in
-    rw p.1 (is_text (g.R.Read.remaining (inner_of c.args.reader.now)) c.in-Ok.input.items c.as_slice.result.now
+    rw p.1 (known_is_utf8 (g.R.Read.remaining (inner_of c.args.reader.now)) c.in-Ok.input.items c.as_slice.result.now
     c.as_slice.ensures.value c.in-Ok.ensures.all (λ none. let input = c.in_err-text.ensures.input.1 none in cc))
 
 pub returns-in-Ok-2-clause-text : goal.returns-in-Ok-2-clause-text

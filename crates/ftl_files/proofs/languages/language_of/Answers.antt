@@ -1,7 +1,7 @@
 use Rattle.std.proofs.Common.{None, arith}
 use Rattle.std.proofs.lemmas.Str.Pattern.{split_after, strip_suffix_char}
-use Rattle.ftl_files.proofs.LanguageLemmas.{cut_at_slash, found_is, found_some, is_language, language_relative}
-use Rattle.ftl_files.proofs.LanguageLemmas.{whole_path}
+use Rattle.ftl_files.proofs.LanguageLemmas.{cut_at_slash, found_is, found_exists, is_language, language_relative}
+use Rattle.ftl_files.proofs.LanguageLemmas.{path_is_joined}
 use Rattle.ftl_files.proofs.languages.language_of.Goals as goal
 
 pub returns-clause-some : goal.returns-clause-some
@@ -24,7 +24,7 @@ returns-in_err-strip_suffix-clause-none c none language l =
     let name = c.in_ok-rest.field-0-0 in
     let rest = c.in_ok-rest.rest in
     let parts = cut_at_slash _ name rest c.in_ok-rest.ensures.cases in
-    c.in_err-strip_suffix.ensures.cases _ (whole_path _ name.now rest.now _ _ c.in_ok-relative_path.ensures parts.0)
+    c.in_err-strip_suffix.ensures.cases _ (path_is_joined _ name.now rest.now _ _ c.in_ok-relative_path.ensures parts.0)
 
 pub returns-clause-none : goal.returns-clause-none
 returns-clause-none c none language l =
@@ -33,5 +33,5 @@ returns-clause-none c none language l =
     let parts = cut_at_slash _ name rest c.in_ok-rest.ensures.cases in
     let (k, found, front, size) = c.in_ok-strip_suffix.ensures.cases in
     let slash = strip_suffix_char 47 _ c.strip_suffix-2.result c.strip_suffix-2.ensures.cases (omega arith) in
-    found_some _ _ _ (is_language c.args.languages.now name.now rest.now _ c.args.path.now _ k c.strip_suffix-2.result
+    found_exists _ _ _ (is_language c.args.languages.now name.now rest.now _ c.args.path.now _ k c.strip_suffix-2.result
     c.in_ok-relative_path.ensures parts.0 parts.1 found.1 front slash) none

@@ -3,7 +3,7 @@ use Rattle.std.proofs.lemmas.List.Elements.{All-push}
 use Rattle.ftl_files.specs.Reading.{IsOf}
 use Rattle.ftl_files.specs.declared.limits.TheConstants.{FILES_LIMIT}
 use Rattle.ftl_files.specs.declared.reading.SourceFile.{SourceFile}
-use Rattle.ftl_files.proofs.ReadingLemmas.{total_more}
+use Rattle.ftl_files.proofs.ReadingLemmas.{total-append}
 use Rattle.ftl_files.proofs.reading.read_files.Goals as goal
 
 pub loop-path-preserved-in_ok-push : goal.loop-path-preserved-in_ok-push
@@ -16,5 +16,5 @@ loop-path-preserved-in_ok-push g c =
     record {
       files = rw (c.in_ok-push.ensures.items) (All-push Is had file c.loop-path.invariant.files is_of);
       few = few;
-      bytes = rw (c.in_ok-push.ensures.items, total_more had file) (search rules);
+      bytes = rw (c.in_ok-push.ensures.items, total-append had file) (search rules);
     }

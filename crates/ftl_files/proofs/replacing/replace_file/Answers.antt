@@ -1,6 +1,6 @@
 use Rattle.std.proofs.Common.{◌≡◌, [], IfSome, Some, subst, sym}
 use Rattle.ftl_files.specs.Files.{GoesOn, at_path, filled, nowhere}
-use Rattle.ftl_files.proofs.Replaced.{durable, on_ok, removed_part, replacing}
+use Rattle.ftl_files.proofs.Replaced.{makes_durable, OnOk-weaker, removal_is_part_of_replaced, replacing}
 use Rattle.ftl_files.proofs.replacing.replace_file.Goals as goal
 
 pub returns-in-Ok-clause-any_moment : goal.returns-in-Ok-clause-any_moment
@@ -28,7 +28,7 @@ returns-clause-any_moment g c =
     (λ b. GoesOn (files c.fill_and_rename.new.system) (files c.remove.new.self) (at_path b))
     c.as_str-in-Err.ensures.value c.remove.ensures.changes in
     replacing _ _ _ _ _ path text _ c.create_temporary.ensures.any_moment fill remove
-    (removed_part (files c.args.system.now) _ path text c.in_ok-temporary.ensures.free)
+    (removal_is_part_of_replaced (files c.args.system.now) _ path text c.in_ok-temporary.ensures.free)
     c.in_ok-temporary.ensures.free c.in_ok-temporary.ensures.empty
 
 pub returns-in-Ok-clause-durable : goal.returns-in-Ok-clause-durable
@@ -38,7 +38,7 @@ returns-in-Ok-clause-durable g c =
     (λ b. IfSome ((files c.args.system.now).bytes_at c.args.path.now)
     (λ _. (files c.create_temporary.new.system).bytes_at b ≡ Some []))
     (sym c.as_str.ensures.value) c.in_ok-temporary.ensures.empty in
-    on_ok _ _ _ c.sync_name.ensures.named
-    (durable (files c.args.system.now) (files c.create_temporary.new.system) (files c.fill_and_rename.new.system)
+    OnOk-weaker _ _ _ c.sync_name.ensures.named
+    (makes_durable (files c.args.system.now) (files c.create_temporary.new.system) (files c.fill_and_rename.new.system)
     (files c.sync_name.new.self) c.as_str.result.now c.args.path.now c.args.text.now empty c.in-Ok.ensures.synced
     c.sync_name.ensures.same)

@@ -2,12 +2,12 @@ use Rattle.std.proofs.Common.{ap, refl}
 use Rattle.serde_json.specs.View.{view}
 use Rattle.ftl_lsp.specs.Served.{is_unpublished, has_no_memory_to_publish}
 use Rattle.ftl_lsp.specs.Sessions.{session_of}
-use Rattle.ftl_lsp.proofs.ServedLemmas.{takes_then, unasked_then, stops_then, not_published}
+use Rattle.ftl_lsp.proofs.ServedLemmas.{step_then_goes_on, unasked_value_goes_on, same_session_stops, not_published}
 use Rattle.ftl_lsp.proofs.sessions.go_on.Goals as goal
 
 pub returns-in-Ok-Some-clause-step : goal.returns-in-Ok-Some-clause-step
 returns-in-Ok-Some-clause-step g c =
-    unasked_then c.send.result _ _ _ _ _ (view c.in-Ok-Some.value) c.in-Ok-Some.ensures.same
+    unasked_value_goes_on c.send.result _ _ _ _ _ (view c.in-Ok-Some.value) c.in-Ok-Some.ensures.same
     (rw c.in-Ok-Some.field-0-is at c.in-Ok-Some.ensures.unasked) c.send.ensures.sent
 
 pub returns-in-Ok-Some-clause-stops : goal.returns-in-Ok-Some-clause-stops
@@ -18,12 +18,12 @@ returns-in-Ok-Some-clause-stops g c =
 
 pub returns-in-Ok-None-clause-step : goal.returns-in-Ok-None-clause-step
 returns-in-Ok-None-clause-step g c =
-    takes_then c.answer_next.result (session_of c.args.server.now) (session_of c.next_unasked.new.self) _ _ _ _ _
+    step_then_goes_on c.answer_next.result (session_of c.args.server.now) (session_of c.next_unasked.new.self) _ _ _ _ _
     c.in-Ok-None.ensures.same c.answer_next.ensures.step
 
 pub returns-in-Ok-None-clause-stops : goal.returns-in-Ok-None-clause-stops
 returns-in-Ok-None-clause-stops g c =
-    stops_then c.answer_next.result (session_of c.args.server.now) (session_of c.next_unasked.new.self) _ _ _
+    same_session_stops c.answer_next.result (session_of c.args.server.now) (session_of c.next_unasked.new.self) _ _ _
     c.in-Ok-None.ensures.same c.answer_next.ensures.stops
 
 pub returns-in-Err-clause-stops : goal.returns-in-Err-clause-stops

@@ -2,16 +2,16 @@ use Rattle.std.proofs.Common.{Err, Some, ap, refl, rules, sym, ◌∙◌}
 use Rattle.ftl_lsp.specs.Phases.{ending_of}
 use Rattle.ftl_lsp.specs.Served.{exits, goes_on, has_no_frame, stops}
 use Rattle.ftl_lsp.specs.Sessions.{session_of}
-use Rattle.ftl_lsp.proofs.ServedLemmas.{begins_with_all, ends_before_all, ends_by_no_input, keeps_room}
+use Rattle.ftl_lsp.proofs.ServedLemmas.{begins_with_all_input, ends_before_first_message, ends_by_no_input, keeps_room}
 use Rattle.ftl_lsp.proofs.sessions.serve.Goals as goal
 
 pub returns-in_default-clause-ends : goal.returns-in_default-clause-ends
-returns-in_default-clause-ends g c = ends_before_all _ _
+returns-in_default-clause-ends g c = ends_before_first_message _ _
 
 pub loop-init : goal.loop-init
 loop-init g c = record {
   room = search rules;
-  serves = begins_with_all _ _ (session_of c.new-server.result) c.new-pending.result.items
+  serves = begins_with_all_input _ _ (session_of c.new-server.result) c.new-pending.result.items
       (record { phase = c.new-server.ensures.phase; none = c.new-server.ensures.none }) c.new-pending.ensures.items;
   goes_on = ap ending_of c.new-server.ensures.phase;
 }

@@ -1,7 +1,7 @@
 use Rattle.std.proofs.Common.{◌∙◌, arith, refl, subst}
 use Rattle.ftl.specs.Watched.{inner_of}
 use Rattle.ftl_project.specs.Comparing.{Compares, no_pairs}
-use Rattle.ftl_project.proofs.Comparisons.{same_files}
+use Rattle.ftl_project.proofs.Comparisons.{files_are_same}
 use Rattle.ftl_project.proofs.InOrder.{ComparesEach-more}
 use Rattle.ftl_project.proofs.comparing.compare_files.Goals as goal
 
@@ -16,7 +16,7 @@ loop-pair-preserved g c =
     let compares = subst (λ files. Compares g.S.Store.fails c.args.reading c.args.options files c.pair-item.result
     c.loop-pair.tally
     c.report_pair.new.tally c.loop-pair.share c.report_pair.new.share (written (inner_of c.loop-pair.streams.out.now))
-    (written (inner_of c.report_pair.new.streams.out.now))) (same_files start (at c.loop-pair.store)
+    (written (inner_of c.report_pair.new.streams.out.now))) (files_are_same start (at c.loop-pair.store)
     c.loop-pair.invariant.untouched)
     c.in_ok-report_pair.ensures.counted in
     record {

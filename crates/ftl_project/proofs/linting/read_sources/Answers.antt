@@ -1,5 +1,5 @@
 use Rattle.std.proofs.Common.{◌∙◌, arith, refl, subst}
-use Rattle.ftl_project.proofs.Comparisons.{same_files}
+use Rattle.ftl_project.proofs.Comparisons.{files_are_same}
 use Rattle.ftl_project.proofs.InOrder.{Reads-more}
 use Rattle.ftl_project.specs.Linting.{ReadsSource, no_files}
 use Rattle.ftl_project.proofs.linting.read_sources.Goals as goal
@@ -19,7 +19,7 @@ loop-file-preserved g c =
     let all = c.read_source.new.sources.items in
     let one = subst (λ files. ReadsSource g.S.Store.fails files c.file-item.result sources all c.loop-file.tally
     c.read_source.new.tally)
-    (same_files start (at c.loop-file.store) c.loop-file.invariant.untouched) c.in_ok-read_source.ensures.source in
+    (files_are_same start (at c.loop-file.store) c.loop-file.invariant.untouched) c.in_ok-read_source.ensures.source in
     record {
       untouched = λ other. c.read_source.ensures.untouched other ∙ c.loop-file.invariant.untouched other;
       sources = Reads-more g.S.Store.fails start c.args.files.now c.loop-file.file-index c.file-item.result

@@ -1,6 +1,6 @@
 use Rattle.std.proofs.Common.{arith, ◌≡◌, ◌≤◌, ◌<◌, ◌+◌, ◌-◌, length, ap, subst}
 use Rattle.fluent_syntax.specs.Lines.{column_at}
-use Rattle.fluent_syntax.proofs.Columns.{column_is}
+use Rattle.fluent_syntax.proofs.Columns.{column_counts_from_line_start}
 use Rattle.fluent_syntax.proofs.lines.Lines.line_column.Goals as goal
 use Rattle.fluent_syntax.proofs.lines.Lines.line_column.Goals.{then-place-self, else-place-self}
 
@@ -17,6 +17,6 @@ returns-clause-column c =
     let source = c.self.inside.text.now in
     let within : c.args.place ≤ length source = rw c.self.view_is c.requires in
     let column : 1 + c.args.place - c.loop-at.start ≡ column_at source c.args.place =
-    column_is source c.args.place c.loop-at.start within before c.loop-at.invariant.starts
+    column_counts_from_line_start source c.args.place c.loop-at.start within before c.loop-at.invariant.starts
     (λ k f l. let inside : k < c.loop-at.at = omega (arith, at_place) in c.loop-at.invariant.same_line k f inside) in
     subst (λ t. 1 + c.args.place - c.loop-at.start ≡ column_at t c.args.place) c.self.view_is column

@@ -3,7 +3,7 @@ use Rattle.std.proofs.lemmas.Result.{err_from_is_err_and}
 use Rattle.serde_json.specs.Find.{as_str}
 use Rattle.serde_json.specs.View.{view}
 use Rattle.fluent_syntax_json.proofs.Items.{handed, pushed, stopped}
-use Rattle.fluent_syntax_json.proofs.Lines.{list_of_lines}
+use Rattle.fluent_syntax_json.proofs.Lines.{non_text_is_list_of_lines}
 use Rattle.fluent_syntax_json.proofs.reading.names.comment.Goals as goal
 
 pub returns-in_err-text-2 : goal.returns-in_err-text-2
@@ -12,7 +12,7 @@ returns-in_err-text-2 c =
     handed _ _ _ _ _ _ p.1 p.2
     (λ q. rw (
       c.in_ok-content.ensures,
-      list_of_lines (view c.in_ok-content.content.now) (sym c.is_string.ensures ∙ c.if-is_string.false),
+      non_text_is_list_of_lines (view c.in_ok-content.content.now) (sym c.is_string.ensures ∙ c.if-is_string.false),
       c.in_ok-list.ensures,
       stopped as_str c.in_ok-list.field-0.now.items c.deref-line-items.result.now c.loop-line.line-index
           c.line-item.result c.loop-line-test.true c.line-item.is c.deref-line-items.ensures.value q,

@@ -8,7 +8,7 @@ use Rattle.fluent_syntax_tree.proofs.Views.{view-VariableReference, view-InlineP
 use Rattle.fluent_syntax_tree.proofs.Views.{view-Placeable, view-Pattern, view-Variant, view-NamedArgument}
 use Rattle.fluent_syntax_tree.proofs.Views.{view-roll-CallArguments}
 use Rattle.fluent_syntax_json.specs.Reading.{inline_in, element_in, named_in, variant_in}
-use Rattle.fluent_syntax_json.proofs.Depth.{get_depth, present_there, item_depth}
+use Rattle.fluent_syntax_json.proofs.Depth.{get_depth, present_value_is_got, item_at_key_is_less_deep}
 use Rattle.fluent_syntax_json.proofs.Items.{handed, pushed, finished, stopped}
 use Rattle.fluent_syntax_json.proofs.Spelled.{pattern-is, element-is, expression-is, inline-is, arguments-is, named-is}
 use Rattle.fluent_syntax_json.proofs.Spelled.{variant-is}
@@ -537,7 +537,7 @@ inline-returns-in-None t c =
 pub inline-arguments-requires-in-Some : goal.inline-arguments-requires-in-Some
 inline-arguments-requires-in-Some t c =
     let there =
-    present_there (codes "arguments") (view c.args.v.now) (view c.in-Some.given.now) (sym c.in-Some.ensures) in
+    present_value_is_got (codes "arguments") (view c.args.v.now) (view c.in-Some.given.now) (sym c.in-Some.ensures) in
     let below = get_depth (codes "arguments") (view c.args.v.now) (view c.in-Some.given.now) there in
     (omega (arith, below), tt)
 
@@ -547,7 +547,7 @@ inline-returns-in_err-arguments-in-Some t c =
     err_from_is_err_and c.from_residual-in_err-arguments-in-Some.result
     c.from_residual-in_err-arguments-in-Some.ensures.1 in
     let there =
-    present_there (codes "arguments") (view c.args.v.now) (view c.in-Some.given.now) (sym c.in-Some.ensures) in
+    present_value_is_got (codes "arguments") (view c.args.v.now) (view c.in-Some.given.now) (sym c.in-Some.ensures) in
     handed _ _ _ _ _ _ p.1 p.2
     (λ q. rw (
       inline-is (view c.args.v.now),
@@ -565,7 +565,7 @@ inline-returns-in_err-arguments-in-Some t c =
 pub inline-returns-in_ok-arguments-in-Some : goal.inline-returns-in_ok-arguments-in-Some
 inline-returns-in_ok-arguments-in-Some t c =
     let there =
-    present_there (codes "arguments") (view c.args.v.now) (view c.in-Some.given.now) (sym c.in-Some.ensures) in
+    present_value_is_got (codes "arguments") (view c.args.v.now) (view c.in-Some.given.now) (sym c.in-Some.ensures) in
     rw (
       inline-is (view c.args.v.now),
       c.in_ok-type_name.ensures,
@@ -611,7 +611,7 @@ pattern-returns-in_err-list t c =
 pub pattern-element-requires : goal.pattern-element-requires
 pattern-element-requires t c =
     let below =
-    item_depth (codes "elements") (view c.args.v.now) (view c.in_ok-field.field-0.now)
+    item_at_key_is_less_deep (codes "elements") (view c.args.v.now) (view c.in_ok-field.field-0.now)
     c.in_ok-list.field-0.now.items c.deref-item-items.result.now c.loop-item.item-index c.item-item.result
     c.in_ok-field.ensures c.in_ok-list.ensures c.deref-item-items.ensures.value c.loop-item-test.true
     c.item-item.is in
@@ -692,7 +692,7 @@ expression-returns-in_err-list-in-Some t c =
 pub expression-variant-requires : goal.expression-variant-requires
 expression-variant-requires t c =
     let below =
-    item_depth (codes "variants") (view c.args.v.now) (view c.in_ok-field-in-Some.field-0.now)
+    item_at_key_is_less_deep (codes "variants") (view c.args.v.now) (view c.in_ok-field-in-Some.field-0.now)
     c.in_ok-list-in-Some.field-0.now.items c.deref-item-items.result.now c.loop-item.item-index c.item-item.result
     c.in_ok-field-in-Some.ensures c.in_ok-list-in-Some.ensures c.deref-item-items.ensures.value
     c.loop-item-test.true c.item-item.is in
@@ -755,7 +755,7 @@ arguments-returns-in_err-list t c =
 pub arguments-inline-requires : goal.arguments-inline-requires
 arguments-inline-requires t c =
     let below =
-    item_depth (codes "positional") (view c.args.v.now) (view c.in_ok-field.field-0.now)
+    item_at_key_is_less_deep (codes "positional") (view c.args.v.now) (view c.in_ok-field.field-0.now)
     c.in_ok-list.field-0.now.items c.deref-item-items.result.now c.loop-item.item-index c.item-item.result
     c.in_ok-field.ensures c.in_ok-list.ensures c.deref-item-items.ensures.value c.loop-item-test.true
     c.item-item.is in
@@ -810,7 +810,7 @@ arguments-returns-in_err-list-2 t c =
 pub arguments-named_argument-requires : goal.arguments-named_argument-requires
 arguments-named_argument-requires t c =
     let below =
-    item_depth (codes "named") (view c.args.v.now) (view c.in_ok-field-2.field-0.now)
+    item_at_key_is_less_deep (codes "named") (view c.args.v.now) (view c.in_ok-field-2.field-0.now)
     c.in_ok-list-2.field-0.now.items c.deref-item-items-2.result.now c.loop-item-2.item-index
     c.item-item-in-loop-item-2.result c.in_ok-field-2.ensures c.in_ok-list-2.ensures
     c.deref-item-items-2.ensures.value c.loop-item-2-test.true c.item-item-in-loop-item-2.is in

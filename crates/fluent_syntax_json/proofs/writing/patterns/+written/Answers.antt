@@ -6,7 +6,7 @@ use Rattle.fluent_syntax_tree.proofs.Views.{view-VariableReference, view-InlineP
 use Rattle.fluent_syntax_tree.proofs.Views.{view-Placeable, view-Pattern, view-Variant, view-NamedArgument}
 use Rattle.fluent_syntax_tree.proofs.Views.{view-CallArguments}
 use Rattle.fluent_syntax_grammar.proofs.Bytes.{Appends-append}
-use Rattle.fluent_syntax_grammar.proofs.Remaining.{RemainingBytes-more, RemainingBytes-last, drop_at}
+use Rattle.fluent_syntax_grammar.proofs.Remaining.{RemainingBytes-more, RemainingBytes-last, drop_gives_item}
 use Rattle.fluent_syntax_json.proofs.writing.patterns.+written.Goals as goal
 
 pub write_pattern-returns : goal.write_pattern-returns
@@ -188,7 +188,7 @@ write_named-returns g t c =
 
 pub write_elements-loop-element-preserved : goal.write_elements-loop-element-preserved
 write_elements-loop-element-preserved g t c =
-    let next = drop_at c.args.elements.now _ _ c.loop-element-test.true c.element-item.is in
+    let next = drop_gives_item c.args.elements.now _ _ c.loop-element-test.true c.element-item.is in
     let item_left = RemainingBytes-more (rw next at c.loop-element.invariant.rest) c.write_comma.ensures.written in
     record { rest = RemainingBytes-more item_left c.write_element.ensures.written }
 
@@ -199,7 +199,7 @@ write_elements-returns g t c =
 
 pub write_variants-loop-variant-preserved : goal.write_variants-loop-variant-preserved
 write_variants-loop-variant-preserved g t c =
-    let next = drop_at c.args.variants.now _ _ c.loop-variant-test.true c.variant-item.is in
+    let next = drop_gives_item c.args.variants.now _ _ c.loop-variant-test.true c.variant-item.is in
     let item_left = RemainingBytes-more (rw next at c.loop-variant.invariant.rest) c.write_comma.ensures.written in
     record { rest = RemainingBytes-more item_left c.write_variant.ensures.written }
 
@@ -210,7 +210,7 @@ write_variants-returns g t c =
 
 pub write_positional-loop-inline-preserved : goal.write_positional-loop-inline-preserved
 write_positional-loop-inline-preserved g t c =
-    let next = drop_at c.args.inlines.now _ _ c.loop-inline-test.true c.inline-item.is in
+    let next = drop_gives_item c.args.inlines.now _ _ c.loop-inline-test.true c.inline-item.is in
     let item_left = RemainingBytes-more (rw next at c.loop-inline.invariant.rest) c.write_comma.ensures.written in
     record { rest = RemainingBytes-more item_left c.write_inline.ensures.written }
 
@@ -221,7 +221,7 @@ write_positional-returns g t c =
 
 pub write_named_arguments-loop-named-preserved : goal.write_named_arguments-loop-named-preserved
 write_named_arguments-loop-named-preserved g t c =
-    let next = drop_at c.args.nameds.now _ _ c.loop-named-test.true c.named-item.is in
+    let next = drop_gives_item c.args.nameds.now _ _ c.loop-named-test.true c.named-item.is in
     let item_left = RemainingBytes-more (rw next at c.loop-named.invariant.rest) c.write_comma.ensures.written in
     record { rest = RemainingBytes-more item_left c.write_named.ensures.written }
 

@@ -6,7 +6,7 @@ use Rattle.fluent_syntax_names.specs.Rows.{reachable_of, row_of, texts_at}
 use Rattle.fluent_syntax_names.specs.QualifiedNames.{Text}
 use Rattle.fluent_syntax_names.proofs.ReachableWithin.{FollowedTo, followed_next, followed_none, followed_all}
 use Rattle.fluent_syntax_names.proofs.ReachableWithin.{followed_too_many}
-use Rattle.fluent_syntax_names.proofs.MessageReferences.{both_lengths, message_read, length-texts_at, length-texts_of}
+use Rattle.fluent_syntax_names.proofs.MessageReferences.{lengths_add_up, name_is_read, length-texts_at, length-texts_of}
 use Rattle.fluent_syntax_names.proofs.message_references.MessageReferences.reachable_messages.Goals as goal
 
 pub returns-then-not-branch : goal.returns-then-not-branch
@@ -25,9 +25,9 @@ returns-then-not-branch-2 c =
     let messages = c.loop-index.messages.items in
     let i = c.loop-index.index in
     let x = c.index.result.now.now in
-    let read = message_read messages i c.index.result.now (omega arith) (omega arith) c.index.ensures in
+    let read = name_is_read messages i c.index.result.now (omega arith) (omega arith) c.index.ensures in
     let fits = c.in_ok-add_followed-2.ensures.fits in
-    let sizes = both_lengths messages c.targets_of-targets.result.now (row_of self x) c.targets_of-targets.ensures in
+    let sizes = lengths_add_up messages c.targets_of-targets.result.now (row_of self x) c.targets_of-targets.ensures in
     let long : followed_limit < length (texts_at messages) + length (row_of self x) =
     grind (arith, common_steps, fits, sizes) in
     sym (followed_none (row_of self) followed_limit (reachable_of self c.args.name.now) (texts_at messages) i read.few
@@ -40,9 +40,9 @@ loop-index-preserved c =
     let new = c.add_followed-in-loop-index.new.names.items in
     let i = c.loop-index.index in
     let x = c.index.result.now.now in
-    let read = message_read messages i c.index.result.now (omega arith) (omega arith) c.index.ensures in
+    let read = name_is_read messages i c.index.result.now (omega arith) (omega arith) c.index.ensures in
     let fits = c.in_ok-add_followed-2.ensures.fits in
-    let sizes = both_lengths messages c.targets_of-targets.result.now (row_of self x) c.targets_of-targets.ensures in
+    let sizes = lengths_add_up messages c.targets_of-targets.result.now (row_of self x) c.targets_of-targets.ensures in
     let enough : length (texts_at messages) + length (row_of self x) ≤ followed_limit =
     grind (arith, common_steps, fits, sizes) in
     let longer : texts_at messages ++ row_of self x ≡ texts_at new =

@@ -2,7 +2,7 @@ use Rattle.std.proofs.Common.{◌≡◌, ◌<◌, List, Some, Vec, ℕ, length, 
 use Rattle.std.specs.declared.alloc.Global.{Global}
 use Rattle.fluent_syntax_names.specs.NamedLists.{numbers_of}
 use Rattle.fluent_syntax_names.specs.Rows.{row_at, rows_of, texts_of}
-use Rattle.fluent_syntax_names.proofs.MessageReferences.{row_read}
+use Rattle.fluent_syntax_names.proofs.MessageReferences.{row_is_its_texts}
 use Rattle.fluent_syntax_names.proofs.message_references.MessageReferences.targets_of.Goals as goal
 
 pub returns-in-Some-get : goal.returns-in-Some-get
@@ -16,5 +16,5 @@ returns-in-Some-get c =
     (lookup.3.0, lookup.1) in
     let number : numbers_of names c.args.name.now ≡ Some u = sym c.place_of.ensures ∙ c.in-Some.is in
     ap texts_of c.deref-in-Some-get.ensures.value
-    ∙ sym (row_read names u row read.0 read.1)
+    ∙ sym (row_is_its_texts names u row read.0 read.1)
     ∙ sym (ap (row_at (rows_of names)) number)

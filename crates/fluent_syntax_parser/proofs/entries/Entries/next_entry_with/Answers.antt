@@ -1,7 +1,7 @@
 use Rattle.std.proofs.Common.{◌∷◌, ◌++◌, [], Some, ap, arith, length, sym, ◌∙◌}
 use Rattle.std.specs.Prelude.{option_to_list}
 use Rattle.fluent_syntax_parser.proofs.tilings.ErrorPlaces.{error_after}
-use Rattle.fluent_syntax_parser.proofs.entry_forms.MadeEntries.{same_some}
+use Rattle.fluent_syntax_parser.proofs.entry_forms.MadeEntries.{some_cancels}
 use Rattle.fluent_syntax_parser.proofs.tilings.Rests.{entry_to}
 use Rattle.fluent_syntax_parser.proofs.entries.Entries.next_entry_with.Goals as goal
 
@@ -25,7 +25,7 @@ returns-clause-next g c =
     let stated =
     c.only_item-2.ensures put.error
     (put.errors_are ∙ ap (λ xs. xs ++ option_to_list put.error) c.new-errors.ensures.items) in
-    rw (same_some c.in-Some-only_item.entry put.entry same, stated) (put.tree, rw in_place at put.in_place, put.same)
+    rw (some_cancels c.in-Some-only_item.entry put.entry same, stated) (put.tree, rw in_place at put.in_place, put.same)
 
 pub returns-clause-places : goal.returns-clause-places
 returns-clause-places g c =

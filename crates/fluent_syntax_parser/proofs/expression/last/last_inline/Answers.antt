@@ -2,7 +2,7 @@ use Rattle.std.proofs.Common.{◌∙◌, ap, refl, sym}
 use Rattle.fluent_syntax_tree.specs.View.{expression_view}
 use Rattle.fluent_syntax_tree.proofs.Views.{view-Inline}
 use Rattle.fluent_syntax_parser.proofs.expressions.Inlines.{inline_seen, select_not_inline}
-use Rattle.fluent_syntax_parser.proofs.expressions.LastPlaced.{last_is, placed_is, text_not_placed}
+use Rattle.fluent_syntax_parser.proofs.expressions.LastPlaced.{last_is_appended_item, placed_is, text_not_placed}
 use Rattle.fluent_syntax_parser.proofs.expression.last.last_inline.Goals as goal
 
 pub unreachable-requires : goal.unreachable-requires
@@ -11,7 +11,7 @@ unreachable-requires g c =
     let (old, tree, added) = c.requires in
     let (e, pushed, seen) = added in
     let found = c.in-Some-Placeable in
-    let is = last_is c.args.elements.now old e found.field-0.now pushed found.ensures.value in
+    let is = last_is_appended_item c.args.elements.now old e found.field-0.now pushed found.ensures.value in
     select_not_inline v c.in-Select.selector c.in-Select.variants c.in-Select.is
     (placed_is v found.expression (sym found.field-0-is ∙ is) seen)
 
@@ -20,13 +20,13 @@ unreachable-requires-in-Some-TextElement g c =
     let (old, tree, added) = c.requires in
     let (e, pushed, seen) = added in
     let found = c.in-Some-TextElement in
-    let is = last_is c.args.elements.now old e found.field-0.now pushed found.ensures.value in
+    let is = last_is_appended_item c.args.elements.now old e found.field-0.now pushed found.ensures.value in
     text_not_placed g.M.MakeTexts.made found.field-0-0 (sym found.field-0-is ∙ is) seen
 
 pub returns : goal.returns
 returns g c = λ old tree (e, pushed, seen).
     let v = g.M.MakeTexts.made in
     let found = c.in-Some-Placeable in
-    let is = last_is c.args.elements.now old e found.field-0.now pushed found.ensures.value in
+    let is = last_is_appended_item c.args.elements.now old e found.field-0.now pushed found.ensures.value in
     inline_seen v c.in-Inline.inline refl (ap (expression_view v) c.in-Inline.is ∙ view-Inline v c.in-Inline.inline)
     (placed_is v found.expression (sym found.field-0-is ∙ is) seen)

@@ -2,7 +2,7 @@ use Rattle.std.proofs.Common.{◌≡◌, [], ◌∷◌, ◌++◌, map, ap, refl,
 use Rattle.std.specs.Vec.Iter.{into_iter_items}
 use Rattle.std.proofs.lemmas.List.{nil_from_length}
 use Rattle.std.proofs.lemmas.Result.{IfOk-equal}
-use Rattle.fluent_syntax_tree.proofs.Lists.{map_added}
+use Rattle.fluent_syntax_tree.proofs.Lists.{map-push}
 use Rattle.fluent_syntax_parser.specs.Elements.{flushed, item_shape, leading, pending_run}
 use Rattle.fluent_syntax_grammar.specs.Elements.{placeable_item, with_ending}
 use Rattle.fluent_syntax_grammar.specs.Layout.{placed, run}
@@ -38,7 +38,7 @@ loop-piece-preserved g c =
     let found : map piece_shape (into_iter_items old.piece-iterator) ≡ placed e ∷ rest =
     ap (map piece_shape) c.in-Some.ensures.steps.0 ∙ ap (λ p. piece_shape p ∷ rest) c.in-Placed.is in
     let added : map item_shape c.push.new.self.items ≡ flushed xs old.pending ++ placeable_item e ∷ [] =
-    map_added item_shape _ _ _ (placeable_item e) c.in_ok-push-in-Placed.ensures.items refl
+    map-push item_shape _ _ _ (placeable_item e) c.in_ok-push-in-Placed.ensures.items refl
     ∙ ap (λ ys. ys ++ placeable_item e ∷ []) c.in_ok-add_pending_run.ensures in
     record {
       whole =

@@ -5,7 +5,7 @@ use Rattle.fluent_syntax_grammar.specs.Entries.{attribute_of}
 use Rattle.fluent_syntax_grammar.specs.Grammar.{within}
 use Rattle.fluent_syntax_parser.specs.Made.{made}
 use Rattle.fluent_syntax_parser.specs.Outcomes.{no_memory}
-use Rattle.fluent_syntax_parser.proofs.readers.Fails.{out_of_memory}
+use Rattle.fluent_syntax_parser.proofs.readers.Fails.{memory_is_err}
 use Rattle.fluent_syntax_parser.proofs.reader.Reader.add_attribute.Goals as goal
 
 pub returns-in_err-ranges-clause-adds : goal.returns-in_err-ranges-clause-adds
@@ -15,11 +15,11 @@ returns-in_err-ranges-clause-adds g c =
 
 pub returns-in_err-id-clause-adds : goal.returns-in_err-id-clause-adds
 returns-in_err-id-clause-adds g c =
-    rw (out_of_memory c.from_residual-in_err-id.result c.from_residual-in_err-id.ensures.1) (no_memory, refl)
+    rw (memory_is_err c.from_residual-in_err-id.result c.from_residual-in_err-id.ensures.1) (no_memory, refl)
 
 pub returns-in_err-add-clause-adds : goal.returns-in_err-add-clause-adds
 returns-in_err-add-clause-adds g c =
-    rw (out_of_memory c.from_residual-in_err-add.result c.from_residual-in_err-add.ensures.1)
+    rw (memory_is_err c.from_residual-in_err-add.result c.from_residual-in_err-add.ensures.1)
     (no_memory, c.in_err-add.ensures.stays)
 
 pub returns-clause-adds : goal.returns-clause-adds

@@ -3,7 +3,7 @@ use Rattle.std.proofs.Common.{sym}
 use Rattle.fluent_syntax_tree.specs.Entry.{entry_map}
 use Rattle.fluent_syntax_tree.specs.View.{entry_view}
 use Rattle.fluent_syntax_parser.proofs.entry_forms.EntryForms.{comment_fails, comment_there, message_fails}
-use Rattle.fluent_syntax_parser.proofs.entry_forms.EntryForms.{message_there, adds_as, term_fails, term_there}
+use Rattle.fluent_syntax_parser.proofs.entry_forms.EntryForms.{message_there, adds_alike, term_fails, term_there}
 use Rattle.fluent_syntax_parser.proofs.reader.Reader.add_entry.Goals as goal
 
 pub returns-then-is_byte_at-clause-adds : goal.returns-then-is_byte_at-clause-adds
@@ -11,7 +11,7 @@ returns-then-is_byte_at-clause-adds g c =
     let t = c.args.self.now.source.bytes.now in
     let edition = c.args.self.now.edition in
     let R = within edition t c.args.nesting in
-    adds_as (entry_map (g.M.MakeTexts.source c.args.self.now.texts.now)) (entry_view g.M.MakeTexts.made)
+    adds_alike (entry_map (g.M.MakeTexts.source c.args.self.now.texts.now)) (entry_view g.M.MakeTexts.made)
     (λ o h. comment_there edition t R _ o (sym c.if-is_byte_at.ensures) h)
     (λ f h. comment_fails edition t R _ (sym c.if-is_byte_at.ensures) h) _ _ _ c.add_comment.ensures.adds
 
@@ -20,7 +20,7 @@ returns-then-is_byte_at-2-clause-adds g c =
     let t = c.args.self.now.source.bytes.now in
     let edition = c.args.self.now.edition in
     let R = within edition t c.args.nesting in
-    adds_as (entry_map (g.M.MakeTexts.source c.args.self.now.texts.now)) (entry_view g.M.MakeTexts.made)
+    adds_alike (entry_map (g.M.MakeTexts.source c.args.self.now.texts.now)) (entry_view g.M.MakeTexts.made)
     (λ o h. term_there edition t R _ o (sym c.if-is_byte_at.ensures) (sym c.if-is_byte_at-2.ensures) h)
     (λ f h. term_fails edition t R _ (sym c.if-is_byte_at.ensures) (sym c.if-is_byte_at-2.ensures) h) _ _ _
     c.add_term.ensures.adds
@@ -30,7 +30,7 @@ returns-else-is_byte_at-2-clause-adds g c =
     let t = c.args.self.now.source.bytes.now in
     let edition = c.args.self.now.edition in
     let R = within edition t c.args.nesting in
-    adds_as (entry_map (g.M.MakeTexts.source c.args.self.now.texts.now)) (entry_view g.M.MakeTexts.made)
+    adds_alike (entry_map (g.M.MakeTexts.source c.args.self.now.texts.now)) (entry_view g.M.MakeTexts.made)
     (λ o h. message_there edition t R _ o (sym c.if-is_byte_at.ensures) (sym c.if-is_byte_at-2.ensures) h)
     (λ f h. message_fails edition t R _ (sym c.if-is_byte_at.ensures) (sym c.if-is_byte_at-2.ensures) h) _ _ _
     c.add_message.ensures.adds

@@ -5,9 +5,9 @@ use Rattle.fluent_syntax_tree.specs.Kind.{ExpectedMessageField}
 use Rattle.fluent_syntax_tree.specs.declared.spans.Span.{Span}
 use Rattle.fluent_syntax_grammar.specs.Construct.{stops, goes_on, at_place}
 use Rattle.fluent_syntax_grammar.specs.Entries.{message_with}
-use Rattle.fluent_syntax_parser.proofs.entry_forms.FieldForms.{fields_fail, fields_go_on, is_some_of}
+use Rattle.fluent_syntax_parser.proofs.entry_forms.FieldForms.{fields_fail, fields_go_on, equals_are_both_some}
 use Rattle.fluent_syntax_parser.proofs.entry_forms.FieldForms.{message_form_of_attributes, message_form_of_value}
-use Rattle.fluent_syntax_parser.proofs.entry_forms.FieldForms.{message_without, empty_by_length, none_of, some_items}
+use Rattle.fluent_syntax_parser.proofs.entry_forms.FieldForms.{message_without, zero_count_is_empty, none_of, has_items}
 use Rattle.fluent_syntax_parser.proofs.reader.Reader.add_message.Goals.{else-is_none-via-then-is_none+else-is_empty}
 use Rattle.fluent_syntax_parser.proofs.reader.Reader.add_message.Goals.{else-is_none-via-else-is_none}
 use Rattle.fluent_syntax_grammar.proofs.FunctionalWords.{identifier_is_functional}
@@ -16,8 +16,8 @@ use Rattle.fluent_syntax_parser.specs.declared.fault.Fault.TheVariants as fault
 use Rattle.fluent_syntax_parser.specs.Made.{made}
 use Rattle.fluent_syntax_parser.proofs.readers.Made.{on_made}
 use Rattle.fluent_syntax_grammar.proofs.Functional.{here_is_functional}
-use Rattle.fluent_syntax_parser.proofs.readers.Fails.{fails_next, out_of_memory}
-use Rattle.fluent_syntax_parser.proofs.scanning.NameTexts.{identifier_text}
+use Rattle.fluent_syntax_parser.proofs.readers.Fails.{fails_next, memory_is_err}
+use Rattle.fluent_syntax_parser.proofs.scanning.NameTexts.{identifier_has_name_text}
 use Rattle.fluent_syntax_parser.proofs.reader.Reader.add_message.Goals as goal
 
 pub returns-in_err-end-clause-adds : goal.returns-in_err-end-clause-adds
@@ -43,8 +43,8 @@ returns-then-is_empty-clause-adds g c =
     let name : Span = record { start = c.args.start; end = c.in_ok-end.end } in
     let found = c.in_ok-fields.fields in
     let size : length found.attributes.items ≡ vec_len found.attributes = omega (arith, found.attributes.ok.0) in
-    let none = empty_by_length found.attributes.items _ size c.if-is_empty.ensures in
-    let text = sym (identifier_text t c.in_ok-end.ensures.parses) in
+    let none = zero_count_is_empty found.attributes.items _ size c.if-is_empty.ensures in
+    let text = sym (identifier_has_name_text t c.in_ok-end.ensures.parses) in
     on_made c.in_ok-fields.ensures.parses (λ x read same. (
       refused {f = fault.MessageField} {from = c.args.start} {place = c.in_ok-fields.place} (λ k from to (a, b, d).
           rw (a ∙ ap ExpectedMessageField text, b, d)
@@ -52,18 +52,18 @@ returns-then-is_empty-clause-adds g c =
           (goes_on c.in_ok-end.ensures.parses
           (fields_go_on c.args.self.now.edition t _ (message_with t c.args.start name) _ _ x _ read
           (message_without t c.args.start _ name x.0 x.1
-          (is_some_of _ _ found.value x.0 (ap (λ y. y.0) same) ∙ c.if-is_none.ensures)
+          (equals_are_both_some _ _ found.value x.0 (ap (λ y. y.0) same) ∙ c.if-is_none.ensures)
           (none_of _ _ found.attributes.items x.1 (ap (λ y. y.1) same) none)))))),
       refl,
     ))
 
 pub returns-in_err-id-clause-adds : goal.returns-in_err-id-clause-adds
 returns-in_err-id-clause-adds g c =
-    rw (out_of_memory c.from_residual-in_err-id.result c.from_residual-in_err-id.ensures.1) (no_memory, refl)
+    rw (memory_is_err c.from_residual-in_err-id.result c.from_residual-in_err-id.ensures.1) (no_memory, refl)
 
 pub returns-in_err-add-clause-adds : goal.returns-in_err-add-clause-adds
 returns-in_err-add-clause-adds g c =
-    rw (out_of_memory c.from_residual-in_err-add.result c.from_residual-in_err-add.ensures.1)
+    rw (memory_is_err c.from_residual-in_err-add.result c.from_residual-in_err-add.ensures.1)
     (no_memory, c.in_err-add.ensures.stays)
 
 pub returns-clause-adds : goal.returns-clause-adds
@@ -84,11 +84,11 @@ returns-clause-adds g c =
           (elim c.else-is_none.branch [
             | else-is_none-via-then-is_none+else-is_empty w ↦
                 message_form_of_attributes t c.args.start place name x.0 x.1
-                (λ none. some_items rest _ size w.if-is_empty.ensures
+                (λ none. has_items rest _ size w.if-is_empty.ensures
                 (none_of _ _ x.1 rest (sym (ap (λ y. y.1) same)) none))
             | else-is_none-via-else-is_none w ↦
                 message_form_of_value t c.args.start place name x.0 x.1
-                (is_some_of _ _ found.value x.0 (ap (λ y. y.0) same) ∙ w.if-is_none.ensures)
+                (equals_are_both_some _ _ found.value x.0 (ap (λ y. y.0) same) ∙ w.if-is_none.ensures)
           ]))))
           (rw (c.in_ok-id.ensures, ap (λ y. y.0) same, ap (λ y. y.1) same) refl),
     ))

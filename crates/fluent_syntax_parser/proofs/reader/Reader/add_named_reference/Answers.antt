@@ -8,7 +8,7 @@ use Rattle.fluent_syntax_parser.specs.Gathered.{maybe_view}
 use Rattle.fluent_syntax_parser.specs.Outcomes.{no_memory, refused}
 use Rattle.fluent_syntax_parser.specs.declared.fault.Fault.TheVariants as fault
 use Rattle.fluent_syntax_parser.proofs.expressions.LastPlaced.{inline_added}
-use Rattle.fluent_syntax_parser.proofs.readers.Fails.{out_of_memory}
+use Rattle.fluent_syntax_parser.proofs.readers.Fails.{memory_is_err}
 use Rattle.fluent_syntax_parser.proofs.expressions.Given.{none_given, some_given}
 use Rattle.fluent_syntax_parser.proofs.reader.Reader.add_named_reference.Goals as goal
 
@@ -21,11 +21,11 @@ returns-then-not-is_callee-clause-parses g c = λ a same.
 
 pub returns-in_err-id-in-Some-clause-parses : goal.returns-in_err-id-in-Some-clause-parses
 returns-in_err-id-in-Some-clause-parses g c = λ a same.
-    rw (out_of_memory c.from_residual.result c.from_residual.ensures.1) no_memory
+    rw (memory_is_err c.from_residual.result c.from_residual.ensures.1) no_memory
 
 pub returns-in_err-add_inline-in-Some-clause-parses : goal.returns-in_err-add_inline-in-Some-clause-parses
 returns-in_err-add_inline-in-Some-clause-parses g c = λ a same.
-    rw (out_of_memory c.from_residual-in_err-add_inline-in-Some.result
+    rw (memory_is_err c.from_residual-in_err-add_inline-in-Some.result
     c.from_residual-in_err-add_inline-in-Some.ensures.1) no_memory
 
 pub returns-in_ok-add_inline-in-Some-clause-parses : goal.returns-in_ok-add_inline-in-Some-clause-parses
@@ -50,16 +50,16 @@ returns-in_err-attribute-in-None-clause-parses g c = λ a same.
 
 pub returns-in_err-id-in-None-clause-parses : goal.returns-in_err-id-in-None-clause-parses
 returns-in_err-id-in-None-clause-parses g c = λ a same.
-    rw (out_of_memory c.from_residual-in_err-id-in-None.result c.from_residual-in_err-id-in-None.ensures.1) no_memory
+    rw (memory_is_err c.from_residual-in_err-id-in-None.result c.from_residual-in_err-id-in-None.ensures.1) no_memory
 
 pub returns-in_err-attribute-in-None-2-clause-parses : goal.returns-in_err-attribute-in-None-2-clause-parses
 returns-in_err-attribute-in-None-2-clause-parses g c = λ a same.
-    rw (out_of_memory c.from_residual-in_err-attribute-in-None-2.result
+    rw (memory_is_err c.from_residual-in_err-attribute-in-None-2.result
     c.from_residual-in_err-attribute-in-None-2.ensures.1) no_memory
 
 pub returns-in_err-add_inline-in-None-clause-parses : goal.returns-in_err-add_inline-in-None-clause-parses
 returns-in_err-add_inline-in-None-clause-parses g c = λ a same.
-    rw (out_of_memory c.from_residual-in_err-add_inline-in-None.result
+    rw (memory_is_err c.from_residual-in_err-add_inline-in-None.result
     c.from_residual-in_err-add_inline-in-None.ensures.1) no_memory
 
 pub returns-in_ok-add_inline-in-None-clause-parses : goal.returns-in_ok-add_inline-in-None-clause-parses

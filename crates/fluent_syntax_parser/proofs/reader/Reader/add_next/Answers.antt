@@ -4,7 +4,7 @@ use Rattle.fluent_syntax_parser.proofs.tilings.DeeperTiles.{after_comment, after
 use Rattle.fluent_syntax_parser.proofs.tilings.DeeperTiles.{attached_led, one_led, tile_at_end}
 use Rattle.fluent_syntax_parser.proofs.entry_forms.MadeEntries.{comment_added, other_added}
 use Rattle.fluent_syntax_parser.specs.MadeEntries.{ends_with_comment}
-use Rattle.fluent_syntax_parser.proofs.tilings.Rests.{in_mode, text_ends, rest_comment, rest_tile}
+use Rattle.fluent_syntax_parser.proofs.tilings.Rests.{mode_has_tile, text_ends, rest_comment, rest_tile}
 use Rattle.fluent_syntax_parser.proofs.reader.Reader.add_next.Goals as goal
 
 -- ---- what is added
@@ -147,7 +147,7 @@ returns-then-not-ends_with_comment-clause-shallow g c =
     let start = c.tile_start-start in
     let read = c.in_ok-end.ensures in
     let inside : start.result < length t = omega (arith, read.within.0, read.within.1) in
-    let tile = in_mode c.args.comments edition t _ _ _ _ start.ensures.dropped read.adds.tile.yields.in_place in (
+    let tile = mode_has_tile c.args.comments edition t _ _ _ _ start.ensures.dropped read.adds.tile.yields.in_place in (
       λ h. one_led edition t n c.args.comments _ _ inside _ tile (start.ensures.shallow edition n h),
       λ h. start.ensures.deeper edition n (after_one edition t n c.args.comments _ _ inside _ tile h),
     )

@@ -7,7 +7,7 @@ use Rattle.fluent_syntax_grammar.specs.Starts as starts
 use Rattle.fluent_syntax_parser.specs.Outcomes.{no_memory, refused}
 use Rattle.fluent_syntax_parser.proofs.expressions.InlineStarts.{by_start}
 use Rattle.fluent_syntax_parser.proofs.expressions.LastPlaced.{inline_added}
-use Rattle.fluent_syntax_parser.proofs.readers.Fails.{out_of_memory}
+use Rattle.fluent_syntax_parser.proofs.readers.Fails.{memory_is_err}
 use Rattle.fluent_syntax_parser.proofs.reader.Reader.add_string.Goals as goal
 
 pub returns-in_err-value-clause-parses : goal.returns-in_err-value-clause-parses
@@ -19,11 +19,11 @@ returns-in_err-value-clause-parses g c = λ n.
 
 pub returns-in_err-value-2-clause-parses : goal.returns-in_err-value-2-clause-parses
 returns-in_err-value-2-clause-parses g c = λ n.
-    rw (out_of_memory c.from_residual-in_err-value-2.result c.from_residual-in_err-value-2.ensures.1) no_memory
+    rw (memory_is_err c.from_residual-in_err-value-2.result c.from_residual-in_err-value-2.ensures.1) no_memory
 
 pub returns-in_err-add_inline-clause-parses : goal.returns-in_err-add_inline-clause-parses
 returns-in_err-add_inline-clause-parses g c = λ n.
-    rw (out_of_memory c.from_residual-in_err-add_inline.result c.from_residual-in_err-add_inline.ensures.1) no_memory
+    rw (memory_is_err c.from_residual-in_err-add_inline.result c.from_residual-in_err-add_inline.ensures.1) no_memory
 
 pub returns-clause-parses : goal.returns-clause-parses
 returns-clause-parses g c = λ n.

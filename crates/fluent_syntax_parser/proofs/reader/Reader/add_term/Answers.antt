@@ -15,8 +15,8 @@ use Rattle.fluent_syntax_parser.specs.declared.fault.Fault.TheVariants as fault
 use Rattle.fluent_syntax_parser.specs.Made.{made}
 use Rattle.fluent_syntax_parser.proofs.readers.Made.{on_made}
 use Rattle.fluent_syntax_grammar.proofs.Functional.{here_is_functional}
-use Rattle.fluent_syntax_parser.proofs.readers.Fails.{fails_next, out_of_memory}
-use Rattle.fluent_syntax_parser.proofs.scanning.NameTexts.{identifier_text, mark_before}
+use Rattle.fluent_syntax_parser.proofs.readers.Fails.{fails_next, memory_is_err}
+use Rattle.fluent_syntax_parser.proofs.scanning.NameTexts.{identifier_has_name_text, token_is_one_byte}
 use Rattle.fluent_syntax_parser.proofs.reader.Reader.add_term.Goals as goal
 
 pub returns-in_err-letter-clause-adds : goal.returns-in_err-letter-clause-adds
@@ -50,12 +50,12 @@ returns-in_err-fields-clause-adds g c =
 
 pub returns-in_err-id-in-Some-clause-adds : goal.returns-in_err-id-in-Some-clause-adds
 returns-in_err-id-in-Some-clause-adds g c =
-    rw (out_of_memory c.from_residual-in_err-id-in-Some.result c.from_residual-in_err-id-in-Some.ensures.1)
+    rw (memory_is_err c.from_residual-in_err-id-in-Some.result c.from_residual-in_err-id-in-Some.ensures.1)
     (no_memory, refl)
 
 pub returns-in_err-add-in-Some-clause-adds : goal.returns-in_err-add-in-Some-clause-adds
 returns-in_err-add-in-Some-clause-adds g c =
-    rw (out_of_memory c.from_residual-in_err-add-in-Some.result c.from_residual-in_err-add-in-Some.ensures.1)
+    rw (memory_is_err c.from_residual-in_err-add-in-Some.result c.from_residual-in_err-add-in-Some.ensures.1)
     (no_memory, c.in_err-add-in-Some.ensures.stays)
 
 pub returns-in_ok-add-in-Some-clause-adds : goal.returns-in_ok-add-in-Some-clause-adds
@@ -83,8 +83,8 @@ returns-in-None-clause-adds g c =
     let name : Span = record { start = c.in_ok-letter.letter; end = c.in_ok-end.end } in
     let edition = c.args.self.now.edition in
     let found = rw c.in-None.is at c.in_ok-fields.ensures.parses in
-    let text = sym (identifier_text t c.in_ok-end.ensures.parses) in
-    let before = mark_before t c.in_ok-letter.ensures.parses in
+    let text = sym (identifier_has_name_text t c.in_ok-end.ensures.parses) in
+    let before = token_is_one_byte t c.in_ok-letter.ensures.parses in
     let letter = c.in_ok-letter.letter in
     on_made found (λ x read same. (
       refused {f = fault.TermField} {from = letter} {place = c.in_ok-fields.place} (λ k from to (a, b, d).

@@ -1,9 +1,9 @@
 use Rattle.std.proofs.Common.{◌∷◌, ◌++◌, [], None, Some, ap, arith, sym, ◌∙◌}
 use Rattle.std.proofs.lemmas.List.{append-nil}
 use Rattle.fluent_syntax_grammar.proofs.TotalEntries.{too_deep_left}
-use Rattle.fluent_syntax_parser.proofs.readers.Fails.{refuses_there, too_deep_there}
+use Rattle.fluent_syntax_parser.proofs.readers.Fails.{failure_is_refused_as, failure_is_too_deep}
 use Rattle.fluent_syntax_parser.proofs.readers.Made.{on_made}
-use Rattle.fluent_syntax_parser.proofs.tilings.Rests.{at_any_depth}
+use Rattle.fluent_syntax_parser.proofs.tilings.Rests.{TileAt-within}
 use Rattle.fluent_syntax_parser.proofs.tilings.TileForms.{gives_entry, gives_junk, refused_in_text, tile_within}
 use Rattle.fluent_syntax_parser.proofs.reader.Reader.add_tile.Goals as goal
 
@@ -11,7 +11,7 @@ pub add_junk-requires : goal.add_junk-requires
 add_junk-requires g c =
     let found = rw c.in-Err-Refused.field-0-is at c.in-Err-Refused.ensures.adds in
     refused_in_text c.args.self.now.edition c.args.self.now.source.bytes.now c.args.start 0 c.requires c.args.nesting _
-    (refuses_there found.0)
+    (failure_is_refused_as found.0)
 
 pub returns-in-Ok-clause-adds : goal.returns-in-Ok-clause-adds
 returns-in-Ok-clause-adds g c =
@@ -42,7 +42,7 @@ returns-in_ok-end-in-Err-Refused-clause-adds g c =
       tile = record {
         tree = _;
         yields = gives_junk c.args.self.now.edition c.args.self.now.source.bytes.now c.args.start _ c.requires _ _
-            (refuses_there found.0) _ read.ends put.fault;
+            (failure_is_refused_as found.0) _ read.ends put.fault;
         same = put.same;
       };
     }
@@ -52,13 +52,13 @@ returns-in_ok-end-in-Err-Refused-clause-within g c =
     let t = c.args.self.now.source.bytes.now in
     let made = (returns-in_ok-end-in-Err-Refused-clause-adds g c).tile in
     tile_within c.args.self.now.edition t c.args.start _ c.requires made.yields.tile
-    (at_any_depth c.args.self.now.edition t _ _ _ made.yields.tile made.yields.in_place)
+    (TileAt-within c.args.self.now.edition t _ _ _ made.yields.tile made.yields.in_place)
 
 pub returns-in-Err-TooDeep-clause-deeper : goal.returns-in-Err-TooDeep-clause-deeper
 returns-in-Err-TooDeep-clause-deeper g c = λ e.
-    too_deep_there (rw c.in-Err-TooDeep.field-0-is at c.in-Err-TooDeep.ensures.adds).0
+    failure_is_too_deep (rw c.in-Err-TooDeep.field-0-is at c.in-Err-TooDeep.ensures.adds).0
 
 pub returns-in-Err-TooDeep-clause-nests : goal.returns-in-Err-TooDeep-clause-nests
 returns-in-Err-TooDeep-clause-nests g c = λ e.
     too_deep_left c.args.self.now.edition c.args.self.now.source.bytes.now _ _ (omega (arith, c.requires))
-    (too_deep_there (rw c.in-Err-TooDeep.field-0-is at c.in-Err-TooDeep.ensures.adds).0)
+    (failure_is_too_deep (rw c.in-Err-TooDeep.field-0-is at c.in-Err-TooDeep.ensures.adds).0)

@@ -7,7 +7,7 @@ use Rattle.fluent_syntax_grammar.specs.Starts as starts
 use Rattle.fluent_syntax_parser.specs.Outcomes.{no_memory, refused}
 use Rattle.fluent_syntax_parser.proofs.expressions.InlineStarts.{by_start}
 use Rattle.fluent_syntax_parser.proofs.expressions.LastPlaced.{inline_added}
-use Rattle.fluent_syntax_parser.proofs.readers.Fails.{out_of_memory}
+use Rattle.fluent_syntax_parser.proofs.readers.Fails.{memory_is_err}
 use Rattle.fluent_syntax_parser.proofs.reader.Reader.add_variable.Goals as goal
 
 pub returns-in_err-start-clause-parses : goal.returns-in_err-start-clause-parses
@@ -27,11 +27,11 @@ returns-in_err-end-clause-parses g c = λ n.
 
 pub returns-in_err-id-clause-parses : goal.returns-in_err-id-clause-parses
 returns-in_err-id-clause-parses g c = λ n.
-    rw (out_of_memory c.from_residual-in_err-id.result c.from_residual-in_err-id.ensures.1) no_memory
+    rw (memory_is_err c.from_residual-in_err-id.result c.from_residual-in_err-id.ensures.1) no_memory
 
 pub returns-in_err-add_inline-clause-parses : goal.returns-in_err-add_inline-clause-parses
 returns-in_err-add_inline-clause-parses g c = λ n.
-    rw (out_of_memory c.from_residual-in_err-add_inline.result c.from_residual-in_err-add_inline.ensures.1) no_memory
+    rw (memory_is_err c.from_residual-in_err-add_inline.result c.from_residual-in_err-add_inline.ensures.1) no_memory
 
 pub returns-clause-parses : goal.returns-clause-parses
 returns-clause-parses g c = λ n.

@@ -7,10 +7,10 @@ use Rattle.fluent_syntax_parser.proofs.entry_forms.AttachesOn.{attaches_not_afte
 use Rattle.fluent_syntax_parser.proofs.entry_forms.AttachesOn.{no_entry, other_entry}
 use Rattle.fluent_syntax_grammar.proofs.TotalEntries.{too_deep_left}
 use Rattle.fluent_syntax_parser.proofs.tilings.DeeperTiles.{after_one, entry_deeper, one_led, text_deeper, tile_deeper}
-use Rattle.fluent_syntax_parser.proofs.readers.Fails.{refuses_there, too_deep_there}
+use Rattle.fluent_syntax_parser.proofs.readers.Fails.{failure_is_refused_as, failure_is_too_deep}
 use Rattle.fluent_syntax_parser.proofs.readers.Made.{on_made}
 use Rattle.fluent_syntax_parser.proofs.entry_forms.MadeEntries.{attached_made, attached_not}
-use Rattle.fluent_syntax_parser.proofs.tilings.Rests.{at_any_depth_entry}
+use Rattle.fluent_syntax_parser.proofs.tilings.Rests.{entry_at-within}
 use Rattle.fluent_syntax_parser.specs.declared.options.Comments.TheVariants.{Kept}
 use Rattle.fluent_syntax_parser.proofs.reader.Reader.attach_comment.Goals as goal
 use Rattle.fluent_syntax_parser.proofs.reader.Reader.attach_comment.Goals.{then-is_byte_at-via-then-is_byte_at}
@@ -54,7 +54,7 @@ returns-then-attaches-clause-attaches g c = λ before comm last.
           let made = attached_made f g.M.MakeTexts.made comm e content tree lines same _ attaches.1 in (
             made.0,
             attaches_to edition t content c.args.ptr tree made.0 _ block inside
-                (at_any_depth_entry edition t c.args.nesting c.args.ptr read) made.1,
+                (entry_at-within edition t c.args.nesting c.args.ptr read) made.1,
             made.2,
           ))),
     )
@@ -74,7 +74,7 @@ returns-else-attaches-clause-attaches g c = λ before comm last.
         comment regular content,
         attaches_not edition t content c.args.ptr (comment regular content) refl
             (other_entry edition t content c.args.ptr tree _
-            (at_any_depth_entry edition t c.args.nesting c.args.ptr read)
+            (entry_at-within edition t c.args.nesting c.args.ptr read)
             (attached_not f g.M.MakeTexts.made comm e content tree lines same other.0)),
         ap (comment regular) lines,
       ))),
@@ -91,8 +91,8 @@ returns-in-Err-Refused-clause-attaches g c = λ before comm last.
         comment regular content,
         attaches_not edition t content c.args.ptr (comment regular content) refl
             (no_entry edition t content c.args.ptr _
-            (λ k from to shows. at_any_depth_entry edition t c.args.nesting c.args.ptr
-            (refuses_there found.0 k from to shows))),
+            (λ k from to shows. entry_at-within edition t c.args.nesting c.args.ptr
+            (failure_is_refused_as found.0 k from to shows))),
         ap (comment regular) lines,
       )),
     )
@@ -112,7 +112,7 @@ pub returns-in-Err-TooDeep-clause-deeper : goal.returns-in-Err-TooDeep-clause-de
 returns-in-Err-TooDeep-clause-deeper g c =
     let t = c.args.self.now.source.bytes.now in
     let block = rw c.if-skip_blank_block-ptr.false at c.skip_blank_block.ensures.blank in
-    let deep = too_deep_there (rw c.in-Err-TooDeep.field-0-is at c.in-Err-TooDeep.ensures.adds).0 in
+    let deep = failure_is_too_deep (rw c.in-Err-TooDeep.field-0-is at c.in-Err-TooDeep.ensures.adds).0 in
     let left = too_deep_left c.args.self.now.edition t c.args.nesting c.args.ptr c.requires deep in
     λ e. text_deeper c.args.self.now.edition t c.args.nesting Kept _ _ block
     (entry_deeper c.args.self.now.edition t c.args.nesting Kept _ (λ f. cc) (omega (arith, left)) deep)
@@ -120,7 +120,7 @@ returns-in-Err-TooDeep-clause-deeper g c =
 pub returns-in-Err-TooDeep-clause-nests : goal.returns-in-Err-TooDeep-clause-nests
 returns-in-Err-TooDeep-clause-nests g c = λ e.
     too_deep_left c.args.self.now.edition c.args.self.now.source.bytes.now _ _ c.requires
-    (too_deep_there (rw c.in-Err-TooDeep.field-0-is at c.in-Err-TooDeep.ensures.adds).0)
+    (failure_is_too_deep (rw c.in-Err-TooDeep.field-0-is at c.in-Err-TooDeep.ensures.adds).0)
 
 pub returns-then-attaches-clause-shallow : goal.returns-then-attaches-clause-shallow
 returns-then-attaches-clause-shallow g c =

@@ -6,7 +6,7 @@ use Rattle.fluent_syntax_grammar.proofs.DeeperEntries.{deeper_attribute, deeper_
 use Rattle.fluent_syntax_grammar.proofs.Nesting.{within_is_functional}
 use Rattle.fluent_syntax_parser.specs.Outcomes.{no_memory, too_deep}
 use Rattle.fluent_syntax_parser.proofs.entry_forms.ExtentForms.{all_ranges, no_ranges, one_extent}
-use Rattle.fluent_syntax_parser.proofs.readers.Fails.{out_of_memory, shown, too_deep_there}
+use Rattle.fluent_syntax_parser.proofs.readers.Fails.{memory_is_err, failure_refuses, failure_is_too_deep}
 use Rattle.fluent_syntax_parser.proofs.reader.Reader.attribute_list_parts.Goals as goal
 
 pub loop-ranges-preserved-in_ok-add-in-Ok : goal.loop-ranges-preserved-in_ok-add-in-Ok
@@ -32,7 +32,7 @@ returns-in-Err-Refused-clause-finds g c =
     let t = c.args.self.now.source.bytes.now in
     let R = within c.args.self.now.edition t c.args.nesting in
     let found = rw c.in-Err-Refused.field-0-is at c.in-Err-Refused.ensures.finds in
-    (_, all_ranges c.args.self.now.edition t R c.args.ptr _ _ c.loop-ranges.invariant.gathered (shown found))
+    (_, all_ranges c.args.self.now.edition t R c.args.ptr _ _ c.loop-ranges.invariant.gathered (failure_refuses found))
 
 pub returns-in-Err-TooDeep-clause-finds : goal.returns-in-Err-TooDeep-clause-finds
 returns-in-Err-TooDeep-clause-finds g c =
@@ -40,11 +40,11 @@ returns-in-Err-TooDeep-clause-finds g c =
     let found = rw c.in-Err-TooDeep.field-0-is at c.in-Err-TooDeep.ensures.finds in
     too_deep (c.loop-ranges.invariant.deeper
     (deeper_attribute c.args.self.now.edition t (within c.args.self.now.edition t c.args.nesting)
-    (too_deep_there found)))
+    (failure_is_too_deep found)))
 
 pub returns-in_err-add-in-Ok-clause-finds : goal.returns-in_err-add-in-Ok-clause-finds
 returns-in_err-add-in-Ok-clause-finds g c =
-    rw (out_of_memory c.from_residual.result c.from_residual.ensures.1) no_memory
+    rw (memory_is_err c.from_residual.result c.from_residual.ensures.1) no_memory
 
 pub returns-in-Err-Memory-clause-finds : goal.returns-in-Err-Memory-clause-finds
 returns-in-Err-Memory-clause-finds g c = no_memory

@@ -7,7 +7,7 @@ use Rattle.fluent_syntax_tree.specs.Tree.{text_element}
 use Rattle.fluent_syntax_tree.specs.View.{element_view}
 use Rattle.fluent_syntax_parser.specs.Elements.{rest_end}
 use Rattle.fluent_syntax_parser.specs.Lines.{ending_view}
-use Rattle.fluent_syntax_parser.proofs.entry_forms.FieldForms.{empty_by_length}
+use Rattle.fluent_syntax_parser.proofs.entry_forms.FieldForms.{zero_count_is_empty}
 use Rattle.fluent_syntax_parser.proofs.patterns.Rest.{one_spelled}
 use Rattle.fluent_syntax_parser.proofs.reader.Reader.end_elements.Goals as goal
 
@@ -19,7 +19,7 @@ returns-then-not-is_nonblank g c =
     let old = map (element_view g.M.MakeTexts.made) c.args.elements.now.items in
     let lines = c.args.lines in
     let size : length lines.items ≡ vec_len lines = omega (arith, lines.ok.0) in
-    let none = empty_by_length lines.items _ size c.if-not-is_empty.ensures in
+    let none = zero_count_is_empty lines.items _ size c.if-not-is_empty.ensures in
     let stays : is_nonblank (slice_range t run.start (rest_end run.end (ending_view c.args.opening.ending))) ≡ false =
     ap (λ end. is_nonblank (slice_range t run.start end)) (sym c.text_end-end.ensures)
     ∙ sym c.if-not-is_nonblank.ensures in
@@ -36,7 +36,7 @@ returns g c =
     let old = map (element_view g.M.MakeTexts.made) c.args.elements.now.items in
     let lines = c.args.lines in
     let size : length lines.items ≡ vec_len lines = omega (arith, lines.ok.0) in
-    let none = empty_by_length lines.items _ size c.if-not-is_empty.ensures in
+    let none = zero_count_is_empty lines.items _ size c.if-not-is_empty.ensures in
     let stays : is_nonblank (slice_range t run.start (rest_end run.end (ending_view c.args.opening.ending))) ≡ true =
     ap (λ end. is_nonblank (slice_range t run.start end)) (sym c.text_end-end.ensures)
     ∙ sym c.if-not-is_nonblank.ensures in

@@ -10,7 +10,7 @@ use Rattle.fluent_syntax_grammar.proofs.FunctionalWords.{blank_block_is_function
 use Rattle.fluent_syntax_grammar.proofs.FunctionalWords.{token_is_functional}
 use Rattle.fluent_syntax_grammar.proofs.Nesting.{within_is_functional}
 use Rattle.fluent_syntax_parser.specs.Outcomes.{refused}
-use Rattle.fluent_syntax_parser.proofs.entry_forms.ExtentForms.{same_place}
+use Rattle.fluent_syntax_parser.proofs.entry_forms.ExtentForms.{equal_options_same_place}
 use Rattle.fluent_syntax_parser.proofs.readers.Made.{on_made}
 use Rattle.fluent_syntax_parser.proofs.readers.Fails.{fails_first, fails_next}
 use Rattle.fluent_syntax_parser.proofs.reader.Reader.field_parts.Goals as goal
@@ -59,7 +59,7 @@ returns g c =
         place = place;
         sign = c.in_ok-start.ensures.parses;
         value = read;
-        there = c.place_if.ensures ∙ same_place view (pattern_map f) place c.in_ok-value.value value same;
+        there = c.place_if.ensures ∙ equal_options_same_place view (pattern_map f) place c.in_ok-value.value value same;
         line = _;
         blank = c.in_ok-value.ensures.beyond;
         attributes = attributes;

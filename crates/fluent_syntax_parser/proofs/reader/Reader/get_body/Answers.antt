@@ -1,6 +1,6 @@
 use Rattle.std.proofs.Common.{rules}
 use Rattle.fluent_syntax_parser.specs.Rest.{faults_of}
-use Rattle.fluent_syntax_parser.proofs.entry_forms.MadeEntries.{whole_body_made, none_read, body_read_on, error_faults}
+use Rattle.fluent_syntax_parser.proofs.entry_forms.MadeEntries.{whole_body_made, none_read, body_read_on, faults_append}
 use Rattle.fluent_syntax_parser.proofs.tilings.Rests.{entry_to}
 use Rattle.fluent_syntax_parser.proofs.reader.Reader.get_body.Goals as goal
 
@@ -29,7 +29,7 @@ loop-errors-preserved g c =
       read = body_read_on f g.M.MakeTexts.made c.args.comments c.args.self.now.edition c.args.self.now.source.bytes.now
           _ _ _
           old.invariant.read _ next.entry next.tree (faults_of next.error) in_place next.same _ next.added _
-          (error_faults _ _ next.error next.errors_are);
+          (faults_append _ _ next.error next.errors_are);
       deeper = λ h. old.invariant.deeper (nested.1 h);
       shallow = λ h. nested.0 (old.invariant.shallow h);
       blank = search rules;

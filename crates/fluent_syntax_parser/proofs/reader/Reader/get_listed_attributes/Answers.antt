@@ -8,7 +8,7 @@ use Rattle.fluent_syntax_grammar.proofs.DeeperEntries.{deeper_attribute, deeper_
 use Rattle.fluent_syntax_grammar.proofs.Nesting.{within_is_functional}
 use Rattle.fluent_syntax_parser.specs.Outcomes.{no_memory, too_deep}
 use Rattle.fluent_syntax_parser.proofs.readers.Made.{on_made}
-use Rattle.fluent_syntax_parser.proofs.readers.Fails.{out_of_memory, shown, too_deep_there}
+use Rattle.fluent_syntax_parser.proofs.readers.Fails.{memory_is_err, failure_refuses, failure_is_too_deep}
 use Rattle.fluent_syntax_parser.proofs.reader.Reader.get_listed_attributes.Goals as goal
 
 pub loop-next-preserved : goal.loop-next-preserved
@@ -35,7 +35,7 @@ returns-in-Err-Refused-clause-parses g c =
     let found = rw c.in-Err-Refused.field-0-is at c.in-Err-Refused.ensures.adds in
     rw found.1
     (gathers.list_made (attributes_of c.args.self.now.edition t R) _ (attribute_view g.M.MakeTexts.made) c.args.ptr _ _
-    _ c.loop-next.invariant.gathered (no_more (shown found.0)))
+    _ c.loop-next.invariant.gathered (no_more (failure_refuses found.0)))
 
 pub returns-in-Err-TooDeep-clause-parses : goal.returns-in-Err-TooDeep-clause-parses
 returns-in-Err-TooDeep-clause-parses g c =
@@ -43,14 +43,14 @@ returns-in-Err-TooDeep-clause-parses g c =
     let found = rw c.in-Err-TooDeep.field-0-is at c.in-Err-TooDeep.ensures.adds in
     too_deep (c.loop-next.invariant.deeper
     (deeper_attribute c.args.self.now.edition t (within c.args.self.now.edition t c.args.nesting)
-    (too_deep_there found.0)))
+    (failure_is_too_deep found.0)))
 
 pub returns-in-Err-Memory-clause-parses : goal.returns-in-Err-Memory-clause-parses
 returns-in-Err-Memory-clause-parses g c = no_memory
 
 pub returns-in_err-attributes-clause-parses : goal.returns-in_err-attributes-clause-parses
 returns-in_err-attributes-clause-parses g c =
-    rw (out_of_memory c.from_residual.result c.from_residual.ensures.1) no_memory
+    rw (memory_is_err c.from_residual.result c.from_residual.ensures.1) no_memory
 
 pub loop-next-init : goal.loop-next-init
 loop-next-init g c = record {

@@ -16,10 +16,10 @@ use Rattle.fluent_syntax_grammar.proofs.Functional.{here_is_functional}
 use Rattle.fluent_syntax_parser.proofs.readers.Fails.{fails_next}
 use Rattle.fluent_syntax_parser.proofs.entry_forms.FieldForms.{fields_fail, fields_go_on}
 use Rattle.fluent_syntax_parser.proofs.entry_forms.FieldForms.{message_form_of_attributes, message_form_of_value}
-use Rattle.fluent_syntax_parser.proofs.entry_forms.FieldForms.{message_without, empty_by_length, some_items}
+use Rattle.fluent_syntax_parser.proofs.entry_forms.FieldForms.{message_without, zero_count_is_empty, has_items}
 use Rattle.fluent_syntax_parser.proofs.reader.Reader.message_parts.Goals.{else-is_none-via-else-is_none}
 use Rattle.fluent_syntax_parser.proofs.reader.Reader.message_parts.Goals.{else-is_none-via-then-is_none+else-is_empty}
-use Rattle.fluent_syntax_parser.proofs.scanning.NameTexts.{identifier_text}
+use Rattle.fluent_syntax_parser.proofs.scanning.NameTexts.{identifier_has_name_text}
 use Rattle.fluent_syntax_parser.proofs.reader.Reader.message_parts.Goals as goal
 
 pub returns-in_err-end : goal.returns-in_err-end
@@ -45,8 +45,8 @@ returns-then-is_empty g c =
     let name : Span = record { start = c.args.start; end = c.in_ok-end.end } in
     let found = c.in_ok-value in
     let size : length found.attributes.items ≡ vec_len found.attributes = omega (arith, found.attributes.ok.0) in
-    let none = empty_by_length found.attributes.items _ size c.if-is_empty.ensures in
-    let text = sym (identifier_text t c.in_ok-end.ensures.parses) in
+    let none = zero_count_is_empty found.attributes.items _ size c.if-is_empty.ensures in
+    let text = sym (identifier_has_name_text t c.in_ok-end.ensures.parses) in
     let (f, parts_hold) = found.ensures in
     refused {f = fault.MessageField} {from = c.args.start} {place = found.place} (λ k from to (a, b, d).
     rw (a ∙ ap ExpectedMessageField text, b, d)
@@ -76,7 +76,7 @@ returns g c =
           (elim c.else-is_none.branch [
             | else-is_none-via-then-is_none+else-is_empty w ↦
                 message_form_of_attributes t c.args.start found.place name f.0 f.1
-                (λ none. some_items found.attributes.items _ size w.if-is_empty.ensures
+                (λ none. has_items found.attributes.items _ size w.if-is_empty.ensures
                 (no_attribute_ranges edition t R parts_hold.attributes none))
             | else-is_none-via-else-is_none w ↦
                 message_form_of_value t c.args.start found.place name f.0 f.1

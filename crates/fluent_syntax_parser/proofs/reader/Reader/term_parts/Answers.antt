@@ -14,7 +14,7 @@ use Rattle.fluent_syntax_parser.proofs.entry_forms.ExtentForms.{fields_there, wi
 use Rattle.fluent_syntax_grammar.proofs.Functional.{here_is_functional}
 use Rattle.fluent_syntax_parser.proofs.readers.Fails.{fails_next}
 use Rattle.fluent_syntax_parser.proofs.entry_forms.FieldForms.{fields_fail, fields_go_on}
-use Rattle.fluent_syntax_parser.proofs.scanning.NameTexts.{identifier_text, mark_before}
+use Rattle.fluent_syntax_parser.proofs.scanning.NameTexts.{identifier_has_name_text, token_is_one_byte}
 use Rattle.fluent_syntax_parser.proofs.reader.Reader.term_parts.Goals as goal
 
 pub returns-in_err-letter : goal.returns-in_err-letter
@@ -49,8 +49,8 @@ returns-then-is_none g c =
     let name : Span = record { start = c.in_ok-letter.letter; end = c.in_ok-end.end } in
     let found = c.in_ok-value in
     let (f, parts_hold) = found.ensures in
-    let text = sym (identifier_text t c.in_ok-end.ensures.parses) in
-    let before = mark_before t c.in_ok-letter.ensures.parses in
+    let text = sym (identifier_has_name_text t c.in_ok-end.ensures.parses) in
+    let before = token_is_one_byte t c.in_ok-letter.ensures.parses in
     refused {f = fault.TermField} {from = c.in_ok-letter.letter} {place = found.place} (λ k from to (a, b, d).
     rw (a ∙ ap ExpectedTermField text, b ∙ before, d)
     (goes_on at_place

@@ -2,7 +2,7 @@ use Rattle.std.proofs.Common.{length, ◌+◌, ◌<◌, refl, arith}
 use Rattle.std.proofs.lemmas.Option.{slice_get-get_or, slice_get_past}
 use Rattle.std.proofs.lemmas.Result.{err_from_is_err_and}
 use Rattle.fluent_syntax_grammar.specs.Construct.{Read, Refused, stops, goes_on, given, at_place, passed, chosen}
-use Rattle.fluent_syntax_parser.proofs.scanning.LineEnds.{line_rest}
+use Rattle.fluent_syntax_parser.proofs.scanning.LineEnds.{rest_of_line_is_read}
 use Rattle.fluent_syntax_parser.proofs.source.Source.get_comment_line.Goals as goal
 
 pub returns-then-ptr-self-clause-parses : goal.returns-then-ptr-self-clause-parses
@@ -46,6 +46,6 @@ returns-clause-parses c =
     (goes_on (chosen {i = start} {o = Read (record { start = c.in_ok-start.start; end = end }) end}
     (rw (← c.if-is_eol_at.ensures)
     (goes_on c.in_ok-start.ensures.parses
-    (line_rest t _ _ c.line_end-end.ensures.line))))
+    (rest_of_line_is_read t _ _ c.line_end-end.ensures.line))))
     (goes_on c.skip_eol-2.ensures.parses
     given))))

@@ -4,8 +4,8 @@ use Rattle.fluent_syntax_grammar.specs.Bytes.{capital_u, small_u}
 use Rattle.fluent_syntax_grammar.specs.Construct.{Refused, goes_on, failed, passed, chosen, first, second}
 use Rattle.fluent_syntax_grammar.specs.Strings.{hex_digits}
 use Rattle.fluent_syntax_parser.specs.Strings.{escape}
-use Rattle.fluent_syntax_parser.proofs.readers.Carried.{end_as}
-use Rattle.fluent_syntax_parser.proofs.scanning.StringBytes.{decimal_32, simple, not_simple, unequal_by_test}
+use Rattle.fluent_syntax_parser.proofs.readers.Carried.{ParsesEnd-same_outcomes}
+use Rattle.fluent_syntax_parser.proofs.scanning.StringBytes.{decimal_32, simple_passes, others_fail, unequal_by_test}
 use Rattle.fluent_syntax_parser.proofs.source.Source.skip_escape.Goals as goal
 
 pub returns-in-None-clause-parses : goal.returns-in-None-clause-parses
@@ -16,7 +16,7 @@ pub returns-in-Some-eq92-clause-parses : goal.returns-in-Some-eq92-clause-parses
 returns-in-Some-eq92-clause-parses c =
     chosen
     (rw (← c.in-Some-eq92.ensures)
-    (first (simple _ c.in-Some-eq92.field-0-test)
+    (first (simple_passes _ c.in-Some-eq92.field-0-test)
     (passed
     (record { by = refl }))))
 
@@ -27,7 +27,7 @@ pub returns-in-Some-eq117-clause-parses : goal.returns-in-Some-eq117-clause-pars
 returns-in-Some-eq117-clause-parses c =
     let t = c.args.self.now.bytes.now in
     let found = rw c.in-Some-eq117.field-0-test at c.in-Some-eq117.ensures in
-    end_as t (hex_digits t 4) (escape t) _ _ _
+    ParsesEnd-same_outcomes t (hex_digits t 4) (escape t) _ _ _
     (λ o h. chosen {o = o} (rw (← found)
     (second refl
     (first refl
@@ -38,7 +38,7 @@ pub returns-in-Some-eq85-clause-parses : goal.returns-in-Some-eq85-clause-parses
 returns-in-Some-eq85-clause-parses c =
     let t = c.args.self.now.bytes.now in
     let found = rw c.in-Some-eq85.field-0-test at c.in-Some-eq85.ensures in
-    end_as t (hex_digits t 6) (escape t) _ _ _
+    ParsesEnd-same_outcomes t (hex_digits t 6) (escape t) _ _ _
     (λ o h. chosen {o = o} (rw (← found)
     (second refl
     (second refl
@@ -51,7 +51,7 @@ returns-in-Some-clause-parses c =
     let test = c.in-Some.byte-test in
     λ k from to (a, b, d). chosen {o = Refused k from to}
     (rw (a, b, d, ← c.in-Some.ensures)
-    (second (not_simple _ test.0.0.1)
+    (second (others_fail _ test.0.0.1)
     (second (unequal_by_test _ small_u test.0.1)
     (second (unequal_by_test _ capital_u test.1)
     (failed refl)))))

@@ -1,13 +1,13 @@
 use Rattle.memchr.specs.Find.{is_byte3}
 use Rattle.fluent_syntax_grammar.specs.Bytes.{lf, left_brace, right_brace}
 use Rattle.fluent_syntax_grammar.specs.Lanes.{is_passed}
-use Rattle.fluent_syntax_parser.proofs.scanning.Scans.{run_after_prefix, scanned}
+use Rattle.fluent_syntax_parser.proofs.scanning.Scans.{passing_prefix_extends_run, scanned}
 use Rattle.fluent_syntax_parser.proofs.source.Source.text_end.Goals as goal
 
 pub returns-clause-text : goal.returns-clause-text
 returns-clause-text c =
     let t = c.args.self.now.bytes.now in
     let inv = c.loop-looks.invariant in
-    run_after_prefix t is_passed c.args.ptr c.loop-looks.end _ inv.forward inv.each
+    passing_prefix_extends_run t is_passed c.args.ptr c.loop-looks.end _ inv.forward inv.each
     (rw c.unwrap_or.ensures
     (scanned t (is_byte3 lf left_brace right_brace) c.loop-looks.end inv.within c.memchr3.result c.memchr3.ensures))

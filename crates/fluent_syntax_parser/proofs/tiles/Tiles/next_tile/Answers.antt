@@ -2,11 +2,11 @@ use Rattle.std.proofs.Common.{arith, refl, ap, sym, ◌∙◌, ◌∷◌, ◌++�
 use Rattle.std.proofs.lemmas.Result.{err_from_is_err_and}
 use Rattle.std.specs.Prelude.{option_to_list}
 use Rattle.fluent_syntax_parser.specs.Rest.{faults_of, tree_of}
-use Rattle.fluent_syntax_parser.proofs.entry_forms.MadeEntries.{same_some}
+use Rattle.fluent_syntax_parser.proofs.entry_forms.MadeEntries.{some_cancels}
 use Rattle.fluent_syntax_parser.specs.declared.options.Comments.TheVariants.{Kept}
 use Rattle.fluent_syntax_parser.proofs.tilings.DeeperTiles.{after_one, entry_deeper, one_led, text_deeper, tile_at_end}
 use Rattle.fluent_syntax_parser.proofs.tilings.DeeperTiles.{tile_deeper}
-use Rattle.fluent_syntax_parser.proofs.tilings.Rests.{at_any_depth}
+use Rattle.fluent_syntax_parser.proofs.tilings.Rests.{TileAt-within}
 use Rattle.fluent_syntax_parser.proofs.readers.SameTrees.{same_entry}
 use Rattle.fluent_syntax_parser.proofs.tiles.Tiles.next_tile.Goals as goal
 
@@ -35,12 +35,12 @@ returns-clause-next c =
       tile = found.tile;
       blank = c.skip_blank_block-start.ensures.blank;
       inside = omega (arith, c.in_ok-end.ensures.within.0, c.in_ok-end.ensures.within.1);
-      in_place = at_any_depth c.args.self.now.edition c.args.self.now.source.bytes.now c.args.self.now.nesting _ _
+      in_place = TileAt-within c.args.self.now.edition c.args.self.now.source.bytes.now c.args.self.now.nesting _ _
           found.tile found.in_place;
       yields = record {
         entry =
             found.entry ∙ ap (λ e. e ∷ []) (sym (made.same ∙ same_entry made.tree))
-            ∙ ap (λ e. tree_of e ∷ []) (sym (same_some c.in-Some.entry put.entry same));
+            ∙ ap (λ e. tree_of e ∷ []) (sym (some_cancels c.in-Some.entry put.entry same));
         errors = found.errors ∙ ap faults_of (sym stated);
       };
       ends = refl;

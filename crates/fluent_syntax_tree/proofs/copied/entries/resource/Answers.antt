@@ -1,7 +1,7 @@
 use Rattle.fluent_syntax_tree.specs.Every.{entry_every}
 use Rattle.fluent_syntax_tree.specs.View.{entry_view}
 use Rattle.fluent_syntax_tree.proofs.Every.{every_item}
-use Rattle.fluent_syntax_tree.proofs.Lists.{map_pushed}
+use Rattle.fluent_syntax_tree.proofs.Lists.{maps_agree_on_push}
 use Rattle.fluent_syntax_tree.proofs.copied.entries.resource.Goals as goal
 
 pub entry-requires : goal.entry-requires
@@ -14,6 +14,6 @@ entry-requires g c = record {
 
 pub loop-item-preserved : goal.loop-item-preserved
 loop-item-preserved g c =
-    map_pushed (entry_view g.C.CopyTexts.made) (entry_view (g.C.CopyTexts.source c.args.by.now)) _ _
+    maps_agree_on_push (entry_view g.C.CopyTexts.made) (entry_view (g.C.CopyTexts.source c.args.by.now)) _ _
     c.in_ok-entry.field-0 _ c.loop-item.item-index c.item-item.result c.loop-item.invariant
     c.in_ok-push.ensures.items c.loop-item-test.true c.item-item.is c.in_ok-entry.ensures

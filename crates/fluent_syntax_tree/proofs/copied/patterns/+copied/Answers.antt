@@ -5,7 +5,7 @@ use Rattle.fluent_syntax_tree.specs.Tree.{arguments_of}
 use Rattle.fluent_syntax_tree.proofs.Every.{every_item, every-Select, every-Inline, every-FunctionReference}
 use Rattle.fluent_syntax_tree.proofs.Every.{every-TermReference, every-InlinePlaceable, every-Placeable, every-Variant}
 use Rattle.fluent_syntax_tree.proofs.Every.{every-NamedArgument, every-Pattern, every-CallArguments}
-use Rattle.fluent_syntax_tree.proofs.Lists.{map_pushed, map_finished}
+use Rattle.fluent_syntax_tree.proofs.Lists.{maps_agree_on_push, maps_agree}
 use Rattle.fluent_syntax_tree.proofs.Views.{view-Pattern, view-Select, same-CallArguments, same-TermReference}
 use Rattle.fluent_syntax_tree.specs.Tree.{elements_of}
 use Rattle.fluent_syntax_tree.specs.View.{inline_view, element_view, arguments_view, named_view, variant_view}
@@ -110,27 +110,27 @@ inline-expression-requires g t c =
 
 pub arguments-loop-item-preserved : goal.arguments-loop-item-preserved
 arguments-loop-item-preserved g t c =
-    map_pushed (inline_view g.C.CopyTexts.made) (inline_view (g.C.CopyTexts.source c.args.by.now)) _ _
+    maps_agree_on_push (inline_view g.C.CopyTexts.made) (inline_view (g.C.CopyTexts.source c.args.by.now)) _ _
     c.in_ok-inline.field-0 _ c.loop-item.item-index c.item-item.result c.loop-item.invariant
     c.in_ok-push.ensures.items c.loop-item-test.true c.item-item.is c.in_ok-inline.ensures
 
 pub pattern-loop-item-preserved : goal.pattern-loop-item-preserved
 pattern-loop-item-preserved g t c =
-    map_pushed (element_view g.C.CopyTexts.made) (element_view (g.C.CopyTexts.source c.args.by.now)) _ _
+    maps_agree_on_push (element_view g.C.CopyTexts.made) (element_view (g.C.CopyTexts.source c.args.by.now)) _ _
     c.in_ok-element.field-0 _ c.loop-item.item-index c.item-item.result c.loop-item.invariant
     c.in_ok-push.ensures.items c.loop-item-test.true c.item-item.is c.in_ok-element.ensures
 
 pub pattern-returns : goal.pattern-returns
 pattern-returns g t c =
     view-Pattern _ _
-    ∙ ap elements_of (map_finished (element_view g.C.CopyTexts.made) (element_view (g.C.CopyTexts.source c.args.by.now))
+    ∙ ap elements_of (maps_agree (element_view g.C.CopyTexts.made) (element_view (g.C.CopyTexts.source c.args.by.now))
     _ _ _ c.loop-item.item-index c.loop-item.invariant c.loop-item-test.false c.deref-item-items.ensures.value)
     ∙ sym (view-Pattern _ _)
 
 pub arguments-loop-item-2-preserved : goal.arguments-loop-item-2-preserved
 arguments-loop-item-2-preserved g t c = (
   c.loop-item-2.invariant.0,
-  map_pushed (named_view g.C.CopyTexts.made) (named_view (g.C.CopyTexts.source c.args.by.now))
+  maps_agree_on_push (named_view g.C.CopyTexts.made) (named_view (g.C.CopyTexts.source c.args.by.now))
       _ _ c.in_ok-named_argument.field-0
       _ c.loop-item-2.item-index c.item-item-in-loop-item-2.result c.loop-item-2.invariant.1
       c.in_ok-push-2.ensures.items c.loop-item-2-test.true c.item-item-in-loop-item-2.is c.in_ok-named_argument.ensures,
@@ -138,14 +138,14 @@ arguments-loop-item-2-preserved g t c = (
 
 pub expression-loop-item-preserved : goal.expression-loop-item-preserved
 expression-loop-item-preserved g t c =
-    map_pushed (variant_view g.C.CopyTexts.made) (variant_view (g.C.CopyTexts.source c.args.by.now)) _ _
+    maps_agree_on_push (variant_view g.C.CopyTexts.made) (variant_view (g.C.CopyTexts.source c.args.by.now)) _ _
     c.in_ok-variant-in-Select.field-0 _ c.loop-item.item-index c.item-item.result c.loop-item.invariant
     c.in_ok-push-in-Select.ensures.items c.loop-item-test.true c.item-item.is c.in_ok-variant-in-Select.ensures
 
 pub arguments-returns : goal.arguments-returns
 arguments-returns g t c =
     same-CallArguments g.C.CopyTexts.made (g.C.CopyTexts.source c.args.by.now) _ c.args.arguments.now
-    c.loop-item-2.invariant.0 (map_finished (named_view g.C.CopyTexts.made)
+    c.loop-item-2.invariant.0 (maps_agree (named_view g.C.CopyTexts.made)
     (named_view (g.C.CopyTexts.source c.args.by.now)) _ _ _ c.loop-item-2.item-index c.loop-item-2.invariant.1
     c.loop-item-2-test.false c.deref-item-items-2.ensures.value)
 
@@ -154,7 +154,7 @@ expression-returns-in_ok-inline-in-Select g t c =
     let f = g.C.CopyTexts.made in
     let h = g.C.CopyTexts.source c.args.by.now in
     let vs =
-    map_finished (variant_view f) (variant_view h) _ _ _ c.loop-item.item-index c.loop-item.invariant
+    maps_agree (variant_view f) (variant_view h) _ _ _ c.loop-item.item-index c.loop-item.invariant
     c.loop-item-test.false c.deref-item-items.ensures.value in
     cc (
       view-Select f c.in_ok-inline-in-Select.field-0 c.loop-item.copies,

@@ -2,7 +2,7 @@ use Rattle.std.proofs.Common.{ap, ◌∙◌}
 use Rattle.std.specs.Prelude.{is_none}
 use Rattle.fluent_syntax_tree.specs.View.{entry_view}
 use Rattle.fluent_syntax_writer.proofs.rules.EveryRule.{readable}
-use Rattle.fluent_syntax_writer.proofs.rules.FirstBroken.{nothing_found, first_in_set, none_unreadable}
+use Rattle.fluent_syntax_writer.proofs.rules.FirstBroken.{nothing_found, set_finds_first, no_readable_rule_broken}
 use Rattle.fluent_syntax_writer.proofs.canonical.broken_rules.is_readable.Goals as goal
 
 pub returns : goal.returns
@@ -11,5 +11,5 @@ returns g c =
     let entry = entry_view g.T.ReadTexts.text c.args.entry.now in
     let broken = c.entry_breaks-broken in
     nothing_found c.first_of.result c.is_none.result c.is_none.ensures
-    ∙ ap is_none (c.first_of.ensures ∙ first_in_set edition entry broken.result broken.ensures readable)
-    ∙ none_unreadable edition entry
+    ∙ ap is_none (c.first_of.ensures ∙ set_finds_first edition entry broken.result broken.ensures readable)
+    ∙ no_readable_rule_broken edition entry

@@ -5,7 +5,7 @@ use Rattle.fluent_syntax_tree.specs.View.{key_view, pattern_view, variant_view}
 use Rattle.fluent_syntax_tree.proofs.Views.{view-Variant}
 use Rattle.fluent_syntax_grammar.specs.Readable.{defaults}
 use Rattle.fluent_syntax_writer.proofs.rules.Nodes.{defaults-next}
-use Rattle.fluent_syntax_writer.proofs.rules.Steps.{next_of}
+use Rattle.fluent_syntax_writer.proofs.rules.Steps.{drop_is_cons}
 use Rattle.fluent_syntax_writer.proofs.canonical.expressions.defaults.Goals as goal
 use Rattle.fluent_syntax_writer.proofs.canonical.expressions.defaults.Goals.{then-variant, else-variant}
 
@@ -15,7 +15,7 @@ loop-variant-preserved g c =
     let items = c.args.variants.now in
     let place = c.loop-variant.variant-index in
     let tree = λ (vs : List (Variant g.row.X.Denot)). variants_of (map (variant_view f) vs) in
-    let next = next_of (λ vs. defaults (tree vs)) items place _ c.loop-variant-test.true c.variant-item.is in
+    let next = drop_is_cons (λ vs. defaults (tree vs)) items place _ c.loop-variant-test.true c.variant-item.is in
     let seen = ap (λ v. defaults (variants v (tree (drop (place + 1) items)))) (view-Variant f c.variant-item.result) in
     let count = c.loop-variant.count in
     let counted : c.if-variant.count ≡ (if c.variant-item.result.default then count + 1 else count) =

@@ -4,7 +4,7 @@ use Rattle.std.specs.Option.{option_copied}
 use Rattle.fluent_syntax_tree.specs.View.{element_view}
 use Rattle.fluent_syntax_tree.proofs.Views.{view-Pattern}
 use Rattle.fluent_syntax_grammar.specs.Written.{has_leading_mark, element_begins_with_mark}
-use Rattle.fluent_syntax_writer.proofs.rules.Positions.{first_tested, none_tested}
+use Rattle.fluent_syntax_writer.proofs.rules.Positions.{first_is_tested, none_is_tested}
 use Rattle.fluent_syntax_writer.proofs.canonical.patterns.has_leading_mark.Goals as goal
 
 pub returns-in-Some : goal.returns-in-Some
@@ -12,11 +12,11 @@ returns-in-Some g c =
     let view = element_view g.T.ReadTexts.text in
     let first = sym c.first.ensures.value ∙ ap option_copied c.in-Some.is in
     let is = ap (λ es. slice_get es 0) (sym c.deref.ensures.value) ∙ first in
-    let tested = first_tested view has_leading_mark element_begins_with_mark (λ e es. refl) _ _ is in
+    let tested = first_is_tested view has_leading_mark element_begins_with_mark (λ e es. refl) _ _ is in
     rw (view-Pattern, tested) c.is_leading_mark.ensures
 
 pub returns-in-None : goal.returns-in-None
 returns-in-None g c =
     let first = sym c.first.ensures.value ∙ ap option_copied c.in-None.is in
     let is = ap (λ es. slice_get es 0) (sym c.deref.ensures.value) ∙ first in
-    rw view-Pattern (sym (none_tested (element_view g.T.ReadTexts.text) has_leading_mark refl _ is))
+    rw view-Pattern (sym (none_is_tested (element_view g.T.ReadTexts.text) has_leading_mark refl _ is))

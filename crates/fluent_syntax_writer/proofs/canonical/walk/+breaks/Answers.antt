@@ -12,7 +12,7 @@ use Rattle.fluent_syntax_grammar.specs.Rules.{variants_obey}
 use Rattle.fluent_syntax_writer.specs.RuleSets.{keeps}
 use Rattle.fluent_syntax_writer.specs.SingleRule.{single_rule, expression_keeps, arguments_keep, callee_keeps}
 use Rattle.fluent_syntax_writer.specs.SingleRule.{name_keeps}
-use Rattle.fluent_syntax_writer.proofs.rules.Nodes.{pattern_parts}
+use Rattle.fluent_syntax_writer.proofs.rules.Nodes.{pattern_obeys_by_parts}
 use Rattle.fluent_syntax_writer.proofs.rules.Sets.{and_assoc}
 use Rattle.fluent_syntax_writer.proofs.rules.Steps.{item_joins}
 use Rattle.fluent_syntax_writer.proofs.canonical.walk.+breaks.Goals as goal
@@ -27,7 +27,7 @@ pattern_breaks-returns g t c = λ k.
       c.elements_break.ensures k,
       c.deref.ensures.value,
       ← view-Pattern f pattern,
-    ) (pattern_parts (single_rule c.args.check.edition k) (pattern_view f pattern))
+    ) (pattern_obeys_by_parts (single_rule c.args.check.edition k) (pattern_view f pattern))
 
 pub elements_break-loop-element-preserved : goal.elements_break-loop-element-preserved
 elements_break-loop-element-preserved g t c =

@@ -1,11 +1,11 @@
 use Rattle.std.proofs.Common.{◌+◌, None, Some, map, option_map, drop, string_bytes, sym, ap, ◌∙◌}
 use Rattle.fluent_syntax_tree.specs.Tree.{arguments_of, some_arguments, elements, elements_of}
 use Rattle.fluent_syntax_tree.specs.View.{expression_view, element_view, arguments_view, named_view, variant_view}
-use Rattle.fluent_syntax_tree.proofs.Lists.{map_finished}
+use Rattle.fluent_syntax_tree.proofs.Lists.{maps_agree}
 use Rattle.fluent_syntax_tree.proofs.Views.{view-Pattern, view-Placeable}
 use Rattle.fluent_syntax_grammar.specs.Joined.{joined_maybe, joined_named, joined_pattern, joined_variant}
 use Rattle.fluent_syntax_writer.specs.Joining.{before_pattern, joined_from}
-use Rattle.fluent_syntax_writer.proofs.joining.Elements.{with_placeable, with_end, left_more, left_none}
+use Rattle.fluent_syntax_writer.proofs.joining.Elements.{placeable_follows, pattern_ends, left_more, left_none}
 use Rattle.fluent_syntax_writer.proofs.joining.Elements.{placeable_pushed}
 use Rattle.fluent_syntax_writer.proofs.joining.Trees.{joined-CallArguments, joined-Select, joined-TermReference}
 use Rattle.fluent_syntax_writer.proofs.joined.patterns.+joined.Goals as goal
@@ -14,7 +14,7 @@ pub arguments-returns : goal.arguments-returns
 arguments-returns g t c =
     let text = g.T.ReadTexts.text in
     joined-CallArguments string_bytes text _ c.args.arguments.now c.loop-item-2.invariant.0
-    (map_finished (named_view string_bytes) (λ n. joined_named (named_view text n)) _ _ _ c.loop-item-2.item-index
+    (maps_agree (named_view string_bytes) (λ n. joined_named (named_view text n)) _ _ _ c.loop-item-2.item-index
     c.loop-item-2.invariant.1 c.loop-item-2-test.false c.deref-item-items-2.ensures.value)
 
 pub expression-returns-in_ok-inline-in-Select : goal.expression-returns-in_ok-inline-in-Select
@@ -22,7 +22,7 @@ expression-returns-in_ok-inline-in-Select g t c =
     let text = g.T.ReadTexts.text in
     joined-Select string_bytes text c.in_ok-inline-in-Select.field-0 c.in-Select.selector c.loop-item.copies
     c.in-Select.variants c.args.expression.now c.in-Select.is c.in_ok-inline-in-Select.ensures
-    (map_finished (variant_view string_bytes) (λ v. joined_variant (variant_view text v)) _ _ _ c.loop-item.item-index
+    (maps_agree (variant_view string_bytes) (λ v. joined_variant (variant_view text v)) _ _ _ c.loop-item.item-index
     c.loop-item.invariant c.loop-item-test.false c.deref-item-items.ensures.value)
 
 pub inline-returns-in-None : goal.inline-returns-in-None
@@ -62,7 +62,7 @@ push_element-returns-in_ok-push-in-Placeable g t c = λ rest.
     ap (λ l. before_pattern l (joined_pattern rest))
     (placeable_pushed string_bytes _ _ _ _ _ c.in_ok-push-in-Placeable.ensures.items
     c.in_ok-push_last-in-Placeable.ensures c.in_ok-expression-in-Placeable.ensures)
-    ∙ with_placeable done last (expression_view text c.in-Placeable.inner) rest
+    ∙ placeable_follows done last (expression_view text c.in-Placeable.inner) rest
     ∙ ap (λ x. before_pattern done (joined_from last (elements x rest)))
     (sym (ap (element_view text) c.in-Placeable.is ∙ view-Placeable text c.in-Placeable.inner))
 
@@ -74,7 +74,7 @@ pattern-returns g t c =
     let last = option_map string_bytes c.loop-item.last in
     view-Pattern string_bytes _
     ∙ ap elements_of c.in_ok-push_last.ensures
-    ∙ with_end done last
+    ∙ pattern_ends done last
     ∙ sym (c.loop-item.invariant ∙ ap (λ p. before_pattern done (joined_from last p))
     (left_none view items c.loop-item.item-index c.loop-item-test.false))
     ∙ ap (λ xs. joined_pattern (elements_of (map view xs))) c.deref-item-items.ensures.value

@@ -1,10 +1,10 @@
 use Rattle.std.proofs.lemmas.List.{drop_all}
-use Rattle.fluent_syntax_grammar.proofs.Remaining.{RemainingMarks-more, RemainingMarks-end, drop_at}
+use Rattle.fluent_syntax_grammar.proofs.Remaining.{RemainingMarks-more, RemainingMarks-end, drop_gives_item}
 use Rattle.fluent_syntax_writer.proofs.serializer.entries.serialize_entries.Goals as goal
 
 pub loop-entry-preserved : goal.loop-entry-preserved
 loop-entry-preserved g c =
-    let next = drop_at c.args.entries.now _ _ c.loop-entry-test.true c.entry-item.is in
+    let next = drop_gives_item c.args.entries.now _ _ c.loop-entry-test.true c.entry-item.is in
     let after = RemainingMarks-more (rw next at c.loop-entry.invariant.rest) c.serialize_next-follows.ensures.written in
     record { rest = rw c.serialize_next-follows.ensures.follows after }
 

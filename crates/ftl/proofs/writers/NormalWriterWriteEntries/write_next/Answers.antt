@@ -3,7 +3,7 @@ use Rattle.std.specs.Prelude.{◌≡◌, ◌&&◌}
 use Rattle.fluent_syntax_grammar.specs.Canonical.{canonical_rules}
 use Rattle.fluent_syntax_grammar.specs.Rules.{entry_obeys}
 use Rattle.fluent_syntax_tree.specs.View.{entry_view}
-use Rattle.ftl.proofs.WroteEntries.{asked_with}
+use Rattle.ftl.proofs.WroteEntries.{asked_rules_hold_after}
 use Rattle.ftl.proofs.writers.NormalWriterWriteEntries.write_next.Goals as goal
 
 pub returns : goal.returns
@@ -20,7 +20,7 @@ returns c = record {
           let e = entry_view (λ s. s.now) c.args.entry.now in
           c.are_canonical_with-self.ensures
           ∙ ap (λ edition. all && entry_obeys (canonical_rules edition) e) has.by_edition
-          ∙ asked_with asks (canonical_rules edition) tree e all has.canonical;
+          ∙ asked_rules_hold_after asks (canonical_rules edition) tree e all has.canonical;
     };
   };
 }

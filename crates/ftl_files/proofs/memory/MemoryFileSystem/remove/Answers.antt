@@ -1,9 +1,9 @@
 use Rattle.std.proofs.Common.{◌∙◌}
 use Rattle.ftl_files.specs.Files.{at_path}
-use Rattle.ftl_files.proofs.Changed.{to_changed}
+use Rattle.ftl_files.proofs.Changed.{goes_on_to_change}
 use Rattle.ftl_files.proofs.memory.MemoryFileSystem.remove.Goals as goal
 
 pub returns-clause-changes : goal.returns-clause-changes
 returns-clause-changes c =
     let made = c.in_ok-change.ensures.changed in
-    to_changed _ _ made.0 (at_path c.args.path.now) made.3 (λ path left is was. is ∙ made.1)
+    goes_on_to_change _ _ made.0 (at_path c.args.path.now) made.3 (λ path left is was. is ∙ made.1)

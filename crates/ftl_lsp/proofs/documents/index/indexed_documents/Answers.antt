@@ -6,7 +6,7 @@ use Rattle.std.specs.Prelude.{option_map}
 use Rattle.std.specs.String.{string_cmp_total}
 use Rattle.ftl_lsp.specs.Contexts.{IsIndexed}
 use Rattle.ftl_lsp.specs.OpenDocuments.{open_text, texts_of}
-use Rattle.ftl_lsp.proofs.RenamingLemmas.{not_found}
+use Rattle.ftl_lsp.proofs.RenamingLemmas.{absent_is_none}
 use Rattle.ftl_lsp.proofs.documents.index.indexed_documents.Goals as goal
 
 pub loop-uri-preserved-in_ok-push : goal.loop-uri-preserved-in_ok-push
@@ -27,4 +27,4 @@ loop-path-preserved-then-has-2 c =
     let named = c.indexed_file.ensures.uri ∙ sym c.as_str-then-not-is_open.ensures.value in
     rw c.in_ok-push-2.ensures.items
     (All-push (IsIndexed texts) _ _ c.loop-path.invariant
-    (inr (ap texts named ∙ not_found open_text _ c.if-not-contains_key.ensures, c.indexed_file.ensures.version)))
+    (inr (ap texts named ∙ absent_is_none open_text _ c.if-not-contains_key.ensures, c.indexed_file.ensures.version)))

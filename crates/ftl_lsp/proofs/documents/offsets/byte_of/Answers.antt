@@ -1,7 +1,7 @@
 use Rattle.std.proofs.Common.{◌≡◌, ◌≤◌, ◌∙◌, sym, ap, subst, arith, length, slice_index, refl, true, false}
 use Rattle.ftl_lsp.specs.Positions.{character_at, position_at}
 use Rattle.ftl_lsp.specs.Offsets.{is_reached, IsByteOf}
-use Rattle.ftl_lsp.proofs.ByteLemmas.{IsAhead, ahead_of_line, at_the_end, starts_at, still_ahead, there}
+use Rattle.ftl_lsp.proofs.ByteLemmas.{IsAhead, line_is_ahead, is_at_text_end, line_start_is_place, still_ahead, there}
 use Rattle.ftl_lsp.proofs.PositionLemmas.{character_at-le}
 use Rattle.ftl_lsp.proofs.documents.offsets.byte_of.Goals as goal
 
@@ -10,8 +10,8 @@ loop-at-init c =
     let t = c.as_bytes-bytes.result.now in
     let begins = rw c.in-Some.is at c.line_start.ensures.begins in
     record {
-      here = starts_at t c.args.position.line c.in-Some.start begins;
-      ahead = ahead_of_line t c.args.position c.in-Some.start begins;
+      here = line_start_is_place t c.args.position.line c.in-Some.start begins;
+      ahead = line_is_ahead t c.args.position c.in-Some.start begins;
     }
 
 pub is_reached-requires : goal.is_reached-requires
@@ -51,4 +51,4 @@ returns c =
     let low : c.loop-at.at ≤ length t = c.loop-at.auto.at-end begins.within in
     let end : c.loop-at.at ≡ length t = omega (arith, low, c.loop-at-test.false) in
     subst (λ u. IsByteOf u c.args.position (length t)) c.as_bytes-bytes.ensures.value
-    (at_the_end t c.args.position (subst (IsAhead t c.args.position) end c.loop-at.invariant.ahead))
+    (is_at_text_end t c.args.position (subst (IsAhead t c.args.position) end c.loop-at.invariant.ahead))

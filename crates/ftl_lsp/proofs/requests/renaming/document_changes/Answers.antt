@@ -5,7 +5,7 @@ use Rattle.serde_json.specs.declared.value.Value.{Value}
 use Rattle.ftl_lsp.specs.Contexts.{IsIndexed}
 use Rattle.ftl_lsp.specs.Occurrences.{shown_of}
 use Rattle.ftl_lsp.specs.Renaming.{RenamesIn, renames_in}
-use Rattle.ftl_lsp.proofs.RenamingLemmas.{one_more}
+use Rattle.ftl_lsp.proofs.RenamingLemmas.{All-append_value}
 use Rattle.ftl_lsp.proofs.requests.renaming.document_changes.Goals as goal
 use Rattle.ftl_lsp.proofs.requests.renaming.document_changes.Goals.{then-not-is_empty+in_ok-edits_of_document+in_ok-push}
 use Rattle.ftl_lsp.proofs.requests.renaming.document_changes.Goals.{else-not-is_empty}
@@ -20,7 +20,7 @@ loop-document-preserved c = λ texts d context named.
     subst (IsIndexed texts) (sym c.document-item.is) (each c.loop-document.document-index _ (search rules)) in
     elim c.if-not-is_empty.branch [
       | then-not-is_empty+in_ok-edits_of_document+in_ok-push w ↦
-          one_more renames _ _ _ (ap (λ v. v.items) w.changes-is ∙ w.in_ok-push.ensures.items) before
+          All-append_value renames _ _ _ (ap (λ v. v.items) w.changes-is ∙ w.in_ok-push.ensures.items) before
           (subst renames (sym w.in_ok-edits_of_document.ensures)
           (renames_in _ _ _ _ here (c.in_ok-edits.ensures named)))
       | else-not-is_empty w ↦

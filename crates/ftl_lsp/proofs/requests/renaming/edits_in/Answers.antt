@@ -2,7 +2,7 @@ use Rattle.std.proofs.Common.{rules, ◌∙◌}
 use Rattle.std.proofs.lemmas.List.Elements.{All-same}
 use Rattle.ftl_lsp.specs.Occurrences.{IsCut, shown_of}
 use Rattle.ftl_lsp.specs.Renaming.{RenamesAt}
-use Rattle.ftl_lsp.proofs.RenamingLemmas.{one_more, renamed_at}
+use Rattle.ftl_lsp.proofs.RenamingLemmas.{All-append_value, edit_renames}
 use Rattle.ftl_lsp.proofs.requests.renaming.edits_in.Goals as goal
 
 pub loop-span-preserved : goal.loop-span-preserved
@@ -13,8 +13,8 @@ loop-span-preserved c =
     c.deref-span-items.ensures.value c.in_ok-ranges_of.ensures in
     record {
       positions = c.edit_form.ensures.text ∙ c.loop-span.invariant.positions;
-      edits = λ named. one_more (RenamesAt t old c.args.text.now) _ _ _ c.in_ok-push.ensures.items
+      edits = λ named. All-append_value (RenamesAt t old c.args.text.now) _ _ _ c.in_ok-push.ensures.items
           (c.loop-span.invariant.edits named)
-          (renamed_at t old c.args.text.now _ _ _ c.in_ok-edit_form.ensures.form c.loop-span.invariant.positions named
+          (edit_renames t old c.args.text.now _ _ _ c.in_ok-edit_form.ensures.form c.loop-span.invariant.positions named
           (cuts c.loop-span.span-index _ (search rules)));
     }

@@ -1,6 +1,6 @@
 use Rattle.std.proofs.Common.{◌≡◌, false, rules, string_bytes, subst, true}
 use Rattle.std.proofs.lemmas.Result.{IfOk-weaker}
-use Rattle.ftl_project.proofs.Comparisons.{alone, with_other, of_text}
+use Rattle.ftl_project.proofs.Comparisons.{alone, with_other, IsRead-as}
 use Rattle.ftl_project.specs.Faults.{IsRead}
 use Rattle.ftl_project.proofs.comparing.Comparing.compare_pair.Goals as goal
 
@@ -11,7 +11,7 @@ returns-then-not-pair-clause-compared g c =
     let pair = c.args.pair.now in
     let text = c.as_str-then-not-pair.result.now in
     let gone : pair.is_there ≡ false = search (rules, c.if-not-pair.true) in
-    let read = of_text at c.as_str.result.now (string_bytes pair.reference) text
+    let read = IsRead-as at c.as_str.result.now (string_bytes pair.reference) text
     (string_bytes c.in_ok-reference.reference) c.as_str.ensures.value c.as_str-then-not-pair.ensures.value
     c.in_ok-reference.ensures.text in
     IfOk-weaker c.comparison_without_file.result _ _ (λ compared that. alone g.S.Store.fails self.reading self.options
@@ -27,12 +27,12 @@ returns-clause-compared g c =
     let text = c.as_str-3.result.now in
     let more = c.as_str-4.result.now in
     let there : pair.is_there ≡ true = search (rules, c.if-not-pair.false) in
-    let read = of_text at c.as_str.result.now (string_bytes pair.reference) text
+    let read = IsRead-as at c.as_str.result.now (string_bytes pair.reference) text
     (string_bytes c.in_ok-reference.reference) c.as_str.ensures.value c.as_str-3.ensures.value
     c.in_ok-reference.ensures.text in
     let in_place = subst (λ bytes. IsRead bytes (string_bytes c.in_ok-other.other))
     (c.side_text.ensures.untouched c.as_str-2.result.now) c.in_ok-other.ensures.text in
-    let other = of_text at c.as_str-2.result.now (string_bytes pair.other) more
+    let other = IsRead-as at c.as_str-2.result.now (string_bytes pair.other) more
     (string_bytes c.in_ok-other.other) c.as_str-2.ensures.value c.as_str-4.ensures.value in_place in
     IfOk-weaker c.comparison_of_texts.result _ _ (λ compared that. with_other g.S.Store.fails self.reading self.options
     at pair text more

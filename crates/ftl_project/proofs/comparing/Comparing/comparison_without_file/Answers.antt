@@ -3,9 +3,9 @@ use Rattle.std.specs.Int.{from_bool}
 use Rattle.ftl_project.specs.Comparing.{IsFileReport}
 use Rattle.ftl_project.proofs.comparing.Comparing.comparison_without_file.Goals as goal
 
-one_if : (b : Bool) → from_bool b ≡ (if b then 1 else 0)
-one_if false = refl
-one_if true = refl
+from_bool_is_one_or_zero : (b : Bool) → from_bool b ≡ (if b then 1 else 0)
+from_bool_is_one_or_zero false = refl
+from_bool_is_one_or_zero true = refl
 
 pub returns-clause-compared : goal.returns-clause-compared
 returns-clause-compared c =
@@ -16,7 +16,7 @@ returns-clause-compared c =
       record {
         report_is = subst (λ stated. IsFileReport self.options.form c.args.pair.now stated report_text)
             c.is_reported-is_reported.ensures c.in_ok-report_text.ensures;
-        errors_are = rw (c.from.ensures, c.is_reported-is_reported.ensures) (one_if _);
+        errors_are = rw (c.from.ensures, c.is_reported-is_reported.ensures) (from_bool_is_one_or_zero _);
         no_warnings = refl;
         share_is = rw c.entry_count-wanted.ensures refl;
       },

@@ -2,7 +2,7 @@ use Rattle.std.proofs.Common.{◌≡◌, ◌++◌, ◌∷◌, ◌∙◌, [], ℕ
 use Rattle.std.specs.Fmt.{decimal}
 use Rattle.ftl_project.specs.Excerpt.{shown_text}
 use Rattle.ftl_project.specs.Summaries.{placed_note, lossy_entry_line_of}
-use Rattle.ftl_project.proofs.NoteTexts.{said_with}
+use Rattle.ftl_project.proofs.NoteTexts.{line_says_some_text}
 use Rattle.ftl_project.proofs.formatting.lossy_entry.lossy_entry_line.Goals as goal
 
 grouped : (path : List ℕ) (line column : ℕ) (note rule : List ℕ) →
@@ -17,7 +17,7 @@ returns c =
     let entry = c.args.entry in
     let note = c.args.note.now in
     let rule = string_bytes c.in_ok-rule.rule in
-    said_with c.format-2.result _ (lossy_entry_line_of c.args.path.now entry note) rule
+    line_says_some_text c.format-2.result _ (lossy_entry_line_of c.args.path.now entry note) rule
     (grouped _ entry.line entry.column note rule ∙ ap (λ front. placed_note front entry.line entry.column note rule)
     shown)
     c.format-2.ensures.ok

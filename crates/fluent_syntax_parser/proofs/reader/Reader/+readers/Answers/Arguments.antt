@@ -8,7 +8,7 @@ use Rattle.fluent_syntax_tree.specs.Spans.{bytes_at}
 use Rattle.fluent_syntax_tree.specs.Tree.{some_arguments}
 use Rattle.fluent_syntax_tree.proofs.Views.{view-roll-CallArguments}
 use Rattle.fluent_syntax_parser.specs.Gathered.{names_in}
-use Rattle.fluent_syntax_parser.proofs.scanning.Names.{none_named, some_named, some_names, used_in_order}
+use Rattle.fluent_syntax_parser.proofs.scanning.Names.{none_are_named, some_are_named, some_names, used_in_order}
 use Rattle.fluent_syntax_grammar.specs.Arguments.{argument_name}
 use Rattle.fluent_syntax_grammar.specs.Bytes.{colon, left_parenthesis}
 use Rattle.fluent_syntax_grammar.specs.Construct.{goes_on, given, failed, passed, first, second}
@@ -23,10 +23,10 @@ use Rattle.fluent_syntax_parser.specs.declared.fault.Fault.TheVariants as fault
 use Rattle.fluent_syntax_parser.proofs.expressions.ArgumentNames.{argument_text}
 use Rattle.fluent_syntax_parser.proofs.expressions.ArgumentLists.{all_arguments, inline_fails, late, list_closed}
 use Rattle.fluent_syntax_parser.proofs.expressions.ArgumentLists.{list_open, named, no_arguments_yet, named_fails}
-use Rattle.fluent_syntax_parser.proofs.expressions.ArgumentLists.{one_named, one_positional, positional, token_there}
+use Rattle.fluent_syntax_parser.proofs.expressions.ArgumentLists.{one_named, one_positional, positional, byte_is_token}
 use Rattle.fluent_syntax_parser.proofs.readers.ContinuesFrom.{item_fails}
 use Rattle.fluent_syntax_parser.proofs.readers.Fails.{fails_first, fails_list, fails_next, fails_no, fails_yes, list}
-use Rattle.fluent_syntax_parser.proofs.readers.Fails.{no_call, out_of_memory}
+use Rattle.fluent_syntax_parser.proofs.readers.Fails.{no_call, memory_is_err}
 use Rattle.fluent_syntax_parser.proofs.expressions.LastPlaced.{placed_in}
 use Rattle.fluent_syntax_parser.proofs.expressions.InlineStarts.{by_value, no_value, value_fails}
 use Rattle.fluent_syntax_parser.proofs.readers.Made.{on_made}
@@ -169,7 +169,7 @@ get_arguments-returns-in_err-end-in-Some-clause-parses g m c =
     read (within_is_functional c.args.self.now.edition t _) c.in-Some.name
     (sym (c.in-Some.ensures c.args.nesting _ e read there)) mark
     (fails_no new
-    (fails_next (token_is_functional t colon) (token_there t colon _ mark)
+    (fails_next (token_is_functional t colon) (byte_is_token t colon _ mark)
     (fails_next (blank_is_functional t) (passed c.skip_blank-start.ensures.blank)
     (fails_first c.in_err-end-in-Some.ensures.parses))))))
 
@@ -221,7 +221,7 @@ pub get_arguments-returns-then-not-is_empty-clause-parses : goal.get_arguments-r
 get_arguments-returns-then-not-is_empty-clause-parses g m c =
     let t = c.args.self.now.source.bytes.now in
     let old = c.loop-noted in
-    let some = some_named old.noted.names.items c.if-not-is_empty.ensures in
+    let some = some_are_named old.noted.names.items c.if-not-is_empty.ensures in
     let (e, read, added) = c.in_ok-next.ensures.parses in
     let there = c.last_inline.ensures _ _ (placed_in g.M.MakeTexts.made _ _ c.deref.ensures.value added) in
     let is : (argument_name e ≡ None) ⊎ (has_byte t colon c.in_ok-next.next ≡ false) =
@@ -240,7 +240,7 @@ pub get_arguments-loop-noted-preserved : goal.get_arguments-loop-noted-preserved
 get_arguments-loop-noted-preserved g m c =
     let t = c.args.self.now.source.bytes.now in
     let old = c.loop-noted in
-    let none = none_named old.noted.names.items c.if-not-is_empty.ensures in
+    let none = none_are_named old.noted.names.items c.if-not-is_empty.ensures in
     let argument = c.in_ok-add_positional-in_default.ensures in
     let (e, read, added) = c.in_ok-next.ensures.parses in
     let there = c.last_inline.ensures _ _ (placed_in g.M.MakeTexts.made _ _ c.deref.ensures.value added) in
@@ -273,19 +273,19 @@ get_arguments-returns-clause-within g m c = grind (arith, gets)
 pub get_arguments-returns-in_err-add_named-in-Some-clause-parses :
     goal.get_arguments-returns-in_err-add_named-in-Some-clause-parses
 get_arguments-returns-in_err-add_named-in-Some-clause-parses g m c =
-    rw (out_of_memory c.from_residual-in_err-add_named-in-Some.result
+    rw (memory_is_err c.from_residual-in_err-add_named-in-Some.result
     c.from_residual-in_err-add_named-in-Some.ensures.1) no_memory
 
 pub get_arguments-returns-in_err-add_positional-in_default-clause-parses :
     goal.get_arguments-returns-in_err-add_positional-in_default-clause-parses
 get_arguments-returns-in_err-add_positional-in_default-clause-parses g m c =
-    rw (out_of_memory c.from_residual-in_err-add_positional-in_default.result
+    rw (memory_is_err c.from_residual-in_err-add_positional-in_default.result
     c.from_residual-in_err-add_positional-in_default.ensures.1) no_memory
 
 pub get_arguments-returns-in_err-is_new-in-Some-clause-parses :
     goal.get_arguments-returns-in_err-is_new-in-Some-clause-parses
 get_arguments-returns-in_err-is_new-in-Some-clause-parses g m c =
-    rw (out_of_memory c.from_residual-in_err-is_new-in-Some.result
+    rw (memory_is_err c.from_residual-in_err-is_new-in-Some.result
     c.from_residual-in_err-is_new-in-Some.ensures.1) no_memory
 
 pub get_arguments-loop-noted-init : goal.get_arguments-loop-noted-init

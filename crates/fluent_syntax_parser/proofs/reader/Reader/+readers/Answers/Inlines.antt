@@ -10,8 +10,8 @@ use Rattle.fluent_syntax_grammar.proofs.FunctionalRules.{accessor_is_functional}
 use Rattle.fluent_syntax_grammar.proofs.FunctionalWords.{identifier_is_functional, token_is_functional}
 use Rattle.fluent_syntax_grammar.proofs.Nesting.{within_is_functional}
 use Rattle.fluent_syntax_parser.specs.Outcomes.{no_memory, refused}
-use Rattle.fluent_syntax_parser.proofs.readers.Fails.{fails_first, fails_next, fails_seen, out_of_memory}
-use Rattle.fluent_syntax_parser.proofs.expressions.InlineStarts.{by_start, number_starts, referred}
+use Rattle.fluent_syntax_parser.proofs.readers.Fails.{fails_first, fails_next, fails_seen, memory_is_err}
+use Rattle.fluent_syntax_parser.proofs.expressions.InlineStarts.{by_start, number_starts, Pushes-named}
 use Rattle.fluent_syntax_parser.proofs.expressions.LastPlaced.{placed_as}
 use Rattle.fluent_syntax_parser.proofs.readers.Made.{on_made}
 use Rattle.fluent_syntax_parser.proofs.reader.Reader.+readers.Goals as goal
@@ -80,7 +80,7 @@ add_term_reference-returns-clause-parses g m c =
 pub add_term_reference-returns-in_err-add_term_named-clause-parses :
     goal.add_term_reference-returns-in_err-add_term_named-clause-parses
 add_term_reference-returns-in_err-add_term_named-clause-parses g m c =
-    rw (out_of_memory c.from_residual-in_err-add_term_named.result
+    rw (memory_is_err c.from_residual-in_err-add_term_named.result
     c.from_residual-in_err-add_term_named.ensures.1) no_memory
 
 pub add_reference-returns-in_err-end-clause-parses :
@@ -106,7 +106,7 @@ pub add_reference-returns-clause-parses : goal.add_reference-returns-clause-pars
 add_reference-returns-clause-parses g m c =
     let t = c.args.self.now.source.bytes.now in
     on_made c.in_ok-arguments.ensures.parses (λ a read same.
-    referred g.M.MakeTexts.made t _ _ _ _ _ _ (c.add_named_reference.ensures.parses a same) c.requires.starts
+    Pushes-named g.M.MakeTexts.made t _ _ _ _ _ _ (c.add_named_reference.ensures.parses a same) c.requires.starts
     c.in_ok-end.ensures.parses read (within_is_functional c.args.self.now.edition t _))
 
 pub add_inner_placeable-wrap_last-requires : goal.add_inner_placeable-wrap_last-requires
@@ -123,7 +123,7 @@ add_inner_placeable-returns-in_err-end-clause-parses g m c =
 pub add_inner_placeable-returns-in_err-wrap_last-clause-parses :
     goal.add_inner_placeable-returns-in_err-wrap_last-clause-parses
 add_inner_placeable-returns-in_err-wrap_last-clause-parses g m c =
-    rw (out_of_memory c.from_residual-in_err-wrap_last.result
+    rw (memory_is_err c.from_residual-in_err-wrap_last.result
     c.from_residual-in_err-wrap_last.ensures.1) no_memory
 
 pub add_inner_placeable-returns-clause-parses : goal.add_inner_placeable-returns-clause-parses

@@ -18,27 +18,27 @@ use Rattle.fluent_syntax_parser.specs.Lines.{ending_view, line_view, piece_view}
 use Rattle.fluent_syntax_parser.specs.Made.{made}
 use Rattle.fluent_syntax_parser.specs.Opened.{none}
 use Rattle.fluent_syntax_parser.specs.Outcomes.{no_memory, refused}
-use Rattle.fluent_syntax_parser.proofs.entry_forms.FieldForms.{empty_by_length as no_elements, some_items}
+use Rattle.fluent_syntax_parser.proofs.entry_forms.FieldForms.{empty_by_length as no_elements, has_items}
 use Rattle.fluent_syntax_parser.proofs.readers.ContinuesFrom.{all_made, item_fails, item_made, no_items}
 use Rattle.fluent_syntax_grammar.proofs.Functional.{here_is_functional}
 use Rattle.fluent_syntax_parser.proofs.readers.Fails.{fails_first, fails_next, fails_seen}
-use Rattle.fluent_syntax_parser.proofs.readers.Fails.{jump_is_functional, out_of_memory}
+use Rattle.fluent_syntax_parser.proofs.readers.Fails.{jump_is_functional, memory_is_err}
 use Rattle.fluent_syntax_parser.proofs.readers.Made.{on_made}
 use Rattle.fluent_syntax_parser.proofs.patterns.BlankLines.{none_at_end, none_before_other}
-use Rattle.fluent_syntax_parser.proofs.patterns.Opening.{as_elements, ends_at, run_ends_line, no_opening}
-use Rattle.fluent_syntax_parser.proofs.patterns.Opening.{opening_ending, no_byte_there, other_byte, opening_fails}
+use Rattle.fluent_syntax_parser.proofs.patterns.Opening.{as_elements, EndsAt-ending_read, run_ends_line, no_opening}
+use Rattle.fluent_syntax_parser.proofs.patterns.Opening.{opening_ending, none_is_no_byte, byte_differs, opening_fails}
 use Rattle.fluent_syntax_parser.proofs.patterns.Opening.{opening_placed, opening_read, opening_settled}
-use Rattle.fluent_syntax_parser.proofs.patterns.Rest.{nothing_left}
+use Rattle.fluent_syntax_parser.proofs.patterns.Rest.{empty_run_at_text_end_has_no_items}
 use Rattle.fluent_syntax_parser.proofs.patterns.Spelled.{layout_spelled, none_spelled, some_spelled}
-use Rattle.fluent_syntax_parser.proofs.patterns.Pieces.{bare_brace, end_pieces, line_read, no_pieces, line_onward}
+use Rattle.fluent_syntax_parser.proofs.patterns.Pieces.{bare_brace, end_pieces, line_read, no_pieces, line_takes_bytes}
 use Rattle.fluent_syntax_parser.proofs.patterns.Pieces.{own_line_fails, further, placed_fails, placed_piece, run_piece}
 use Rattle.fluent_syntax_parser.proofs.patterns.Pieces.{run_there}
 use Rattle.fluent_syntax_parser.proofs.reader.Reader.+readers.Goals as goal
 
 -- what is added to a list that is known
-added_as : {A : Type 0} {new old seen all : List A} (rest : List A) → new ≡ old ++ rest → old ≡ seen →
+append_to_equal_is_all : {A : Type 0} {new old seen all : List A} (rest : List A) → new ≡ old ++ rest → old ≡ seen →
     seen ++ rest ≡ all → new ≡ all
-added_as rest added same is = added ∙ ap (λ xs. xs ++ rest) same ∙ is
+append_to_equal_is_all rest added same is = added ∙ ap (λ xs. xs ++ rest) same ∙ is
 
 pub add_opening-returns-in-Some-clause-opens : goal.add_opening-returns-in-Some-clause-opens
 add_opening-returns-in-Some-clause-opens g m c =
@@ -49,7 +49,7 @@ add_opening-returns-in-Some-clause-opens g m c =
       pieces = [];
       settled = none;
       made = rw c.requires.empty refl;
-      same = sym (nothing_left c.args.ptr);
+      same = sym (empty_run_at_text_end_has_no_items c.args.ptr);
       read = λ ls end h. by_eol t _ _ _ _ c.in-Some.ensures.eol
           (goes_on (passed (record { there = refl })) (goes_on (passed blank) (goes_on h given)));
       fails = λ e h.
@@ -126,7 +126,7 @@ add_opening-returns-in_err-place-in-Some-eq123-clause-opens g m c =
 pub add_opening-returns-in_err-add_text_run-in-Some-eq123-clause-opens :
     goal.add_opening-returns-in_err-add_text_run-in-Some-eq123-clause-opens
 add_opening-returns-in_err-add_text_run-in-Some-eq123-clause-opens g m c =
-    rw (out_of_memory c.from_residual.result c.from_residual.ensures.1) no_memory
+    rw (memory_is_err c.from_residual.result c.from_residual.ensures.1) no_memory
 
 pub add_opening-returns-in_default-byte_at-clause-opens : goal.add_opening-returns-in_default-byte_at-clause-opens
 add_opening-returns-in_default-byte_at-clause-opens g m c =
@@ -142,9 +142,9 @@ add_opening-returns-in_default-byte_at-clause-opens g m c =
     elim c.in_default-byte_at.branch [
       | goal.add_opening-in_default-byte_at-via-in-Some+in_default w ↦
           let test = w.in_default-byte_at.field-0-test in
-          let is = sym w.in_default-byte_at.ensures in (other_byte _ _ is test.0.1, other_byte _ _ is test.1)
+          let is = sym w.in_default-byte_at.ensures in (byte_differs _ _ is test.0.1, byte_differs _ _ is test.1)
       | goal.add_opening-in_default-byte_at-via-in_default w ↦
-          let none = sym c.byte_at.ensures ∙ w.in_default-byte_at.is in (no_byte_there none, no_byte_there none)
+          let none = sym c.byte_at.ensures ∙ w.in_default-byte_at.is in (none_is_no_byte none, none_is_no_byte none)
     ] in
     let there = opening_read t R f g.M.MakeTexts.made _ (next_piece_is_functional t R functional) _ _ run _
     old.gathered.beyond (run_ends_line t R _ _ run apart.0 apart.1) in
@@ -173,7 +173,7 @@ add_opening-returns-in_default-byte_at-clause-opens g m c =
 pub add_opening-returns-in_default-byte_at-clause-rest : goal.add_opening-returns-in_default-byte_at-clause-rest
 add_opening-returns-in_default-byte_at-clause-rest g m c = (
   c.run_end-to.ensures.run.forward,
-  ends_at c.args.self.now.source.bytes.now _ _ _ c.get_ending-ending.ensures.parses,
+  EndsAt-ending_read c.args.self.now.source.bytes.now _ _ _ c.get_ending-ending.ensures.parses,
 )
 
 pub get_long_pattern-returns-in_err-opening-clause-parses : goal.get_long_pattern-returns-in_err-opening-clause-parses
@@ -194,7 +194,7 @@ get_long_pattern-returns-in_err-end-clause-parses g m c =
 pub get_long_pattern-returns-in_err-end_elements-clause-parses :
     goal.get_long_pattern-returns-in_err-end_elements-clause-parses
 get_long_pattern-returns-in_err-end_elements-clause-parses g m c =
-    rw (out_of_memory c.from_residual-in_err-end_elements.result
+    rw (memory_is_err c.from_residual-in_err-end_elements.result
     c.from_residual-in_err-end_elements.ensures.1) no_memory
 
 pub get_long_pattern-returns-then-is_empty-clause-parses : goal.get_long_pattern-returns-then-is_empty-clause-parses
@@ -206,7 +206,7 @@ get_long_pattern-returns-then-is_empty-clause-parses g m c =
     let size : length elements.items ≡ vec_len elements = omega (arith, elements.ok.0) in
     let none = no_elements elements.items _ size c.if-is_empty.ensures in
     on_made c.in_ok-end.ensures.parses (λ ls there same.
-    let made_of = added_as _ c.in_ok-end_elements.ensures opened.made
+    let made_of = append_to_equal_is_all _ c.in_ok-end_elements.ensures opened.made
     (layout_spelled f t c.args.self.now.edition (record { opening = opened.opening; lines = ls }) opened.settled _
     opened.same _ same) in
     made (goes_on (goes_on (passed c.requires.blank) (opened.read ls _ there)) given)
@@ -220,12 +220,12 @@ get_long_pattern-returns-else-is_empty-clause-parses g m c =
     let elements = c.end_elements.new.elements in
     let size : length elements.items ≡ vec_len elements = omega (arith, elements.ok.0) in
     on_made c.in_ok-end.ensures.parses (λ ls there same.
-    let made_of = added_as _ c.in_ok-end_elements.ensures opened.made
+    let made_of = append_to_equal_is_all _ c.in_ok-end_elements.ensures opened.made
     (layout_spelled f t c.args.self.now.edition (record { opening = opened.opening; lines = ls }) opened.settled _
     opened.same _ same) in
     made (goes_on (goes_on (passed c.requires.blank) (opened.read ls _ there)) given)
     (some_spelled f g.M.MakeTexts.made _ (record { elements = elements }) made_of
-    (some_items elements.items _ size c.if-is_empty.ensures)))
+    (has_items elements.items _ size c.if-is_empty.ensures)))
 
 pub get_pattern-returns-in_ok-pattern-in-Some-clause-parses :
     goal.get_pattern-returns-in_ok-pattern-in-Some-clause-parses
@@ -239,7 +239,7 @@ get_pattern-returns-in-None-clause-parses g m c = c.get_long_pattern.ensures.par
 pub get_pattern-returns-in_err-pattern-in-Some-clause-parses :
     goal.get_pattern-returns-in_err-pattern-in-Some-clause-parses
 get_pattern-returns-in_err-pattern-in-Some-clause-parses g m c =
-    rw (out_of_memory c.from_residual.result c.from_residual.ensures.1) no_memory
+    rw (memory_is_err c.from_residual.result c.from_residual.ensures.1) no_memory
 
 pub gather_pieces-returns-in-None-clause-parses : goal.gather_pieces-returns-in-None-clause-parses
 gather_pieces-returns-in-None-clause-parses g m c =
@@ -316,13 +316,13 @@ gather_pieces-loop-elements-preserved g m c =
 pub gather_pieces-returns-in_err-add_placed-in-Some-clause-parses :
     goal.gather_pieces-returns-in_err-add_placed-in-Some-clause-parses
 gather_pieces-returns-in_err-add_placed-in-Some-clause-parses g m c =
-    rw (out_of_memory c.from_residual-in_err-add_placed-in-Some.result
+    rw (memory_is_err c.from_residual-in_err-add_placed-in-Some.result
     c.from_residual-in_err-add_placed-in-Some.ensures.1) no_memory
 
 pub gather_pieces-returns-in_err-add_run-in-Some-clause-parses :
     goal.gather_pieces-returns-in_err-add_run-in-Some-clause-parses
 gather_pieces-returns-in_err-add_run-in-Some-clause-parses g m c =
-    rw (out_of_memory c.from_residual-in_err-add_run-in-Some.result
+    rw (memory_is_err c.from_residual-in_err-add_run-in-Some.result
     c.from_residual-in_err-add_run-in-Some.ensures.1) no_memory
 
 pub gather_pieces-loop-elements-init : goal.gather_pieces-loop-elements-init
@@ -355,7 +355,7 @@ gather_line-returns-in_err-end-clause-adds g m c =
 
 pub gather_line-returns-in_err-next-clause-adds : goal.gather_line-returns-in_err-next-clause-adds
 gather_line-returns-in_err-next-clause-adds g m c =
-    rw (out_of_memory c.from_residual-in_err-next.result c.from_residual-in_err-next.ensures.1)
+    rw (memory_is_err c.from_residual-in_err-next.result c.from_residual-in_err-next.ensures.1)
     (no_memory, c.in_err-next.ensures.stays)
 
 pub gather_line-returns-clause-adds : goal.gather_line-returns-clause-adds
@@ -374,7 +374,7 @@ gather_line-returns-clause-within g m c =
     let pieces = c.in_ok-end.ensures in
     let next = c.in_ok-next.ensures in
     let onward =
-    line_onward c.args.self.now.source.bytes.now _ _ _ c.requires.within pieces.within.0 next.within.0 pieces.stops
+    line_takes_bytes c.args.self.now.source.bytes.now _ _ _ c.requires.within pieces.within.0 next.within.0 pieces.stops
     next.further in
     (omega (arith, onward, c.requires.blank.forward), next.within.1)
 

@@ -10,7 +10,7 @@ use Rattle.fluent_syntax_parser.specs.Outcomes.{refused, too_deep}
 use Rattle.fluent_syntax_parser.proofs.readers.Fails.{braces, fails_braces, fails_first, fails_next, no_placeable}
 use Rattle.fluent_syntax_parser.proofs.expressions.LastPlaced.{placed_in}
 use Rattle.fluent_syntax_parser.proofs.readers.Made.{same_term_attribute}
-use Rattle.fluent_syntax_parser.proofs.expressions.Selects.{beyond_blank}
+use Rattle.fluent_syntax_parser.proofs.expressions.Selects.{select_is_read_past_blank}
 use Rattle.fluent_syntax_parser.proofs.reader.Reader.+readers.Goals as goal
 
 pub add_placeable-returns-in_err-start-clause-parses : goal.add_placeable-returns-in_err-start-clause-parses
@@ -65,7 +65,7 @@ pub add_expression-returns-then-is_arrow-clause-parses : goal.add_expression-ret
 add_expression-returns-then-is_arrow-clause-parses g m c =
     let t = c.args.self.now.source.bytes.now in
     let (e, read, added) = c.in_ok-ptr.ensures.parses in
-    beyond_blank g.M.MakeTexts.made c.args.self.now.edition t _ _ _ _ _ read c.skip_blank-ptr.ensures.blank
+    select_is_read_past_blank g.M.MakeTexts.made c.args.self.now.edition t _ _ _ _ _ read c.skip_blank-ptr.ensures.blank
     (sym c.if-is_arrow.ensures) (within_is_functional c.args.self.now.edition t _)
     (c.end_select.ensures.parses _ e added)
 

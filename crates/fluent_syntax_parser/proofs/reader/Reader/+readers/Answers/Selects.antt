@@ -4,7 +4,7 @@ use Rattle.std.proofs.lemmas.Result.{err_from_is_err_and}
 use Rattle.fluent_syntax_tree.specs.Tree.{inline_map, pattern_map, select, variant}
 use Rattle.fluent_syntax_tree.specs.View.{key_view}
 use Rattle.fluent_syntax_grammar.proofs.Tests.{both_true}
-use Rattle.fluent_syntax_parser.proofs.expressions.Stars.{one_false}
+use Rattle.fluent_syntax_parser.proofs.expressions.Stars.{and_with_a_false_is_false}
 use Rattle.fluent_syntax_grammar.specs.Bytes.{asterisk, left_bracket, right_bracket}
 use Rattle.fluent_syntax_grammar.specs.Construct.{stops, goes_on, given, failed, passed, first, second}
 use Rattle.fluent_syntax_grammar.specs.Grammar.{within}
@@ -16,11 +16,11 @@ use Rattle.fluent_syntax_grammar.proofs.Nesting.{within_is_functional}
 use Rattle.fluent_syntax_parser.specs.Outcomes.{no_memory, refused}
 use Rattle.fluent_syntax_parser.proofs.readers.ContinuesFrom.{item_fails}
 use Rattle.fluent_syntax_parser.proofs.readers.Fails.{fails_first, fails_next, fails_yes, star_is_functional}
-use Rattle.fluent_syntax_parser.proofs.readers.Fails.{out_of_memory}
+use Rattle.fluent_syntax_parser.proofs.readers.Fails.{memory_is_err}
 use Rattle.fluent_syntax_parser.proofs.expressions.GatheredVariants.{variants_end, no_variant, variant_made}
 use Rattle.fluent_syntax_parser.proofs.expressions.LastPlaced.{placed_as, placed_in}
 use Rattle.fluent_syntax_parser.proofs.readers.Made.{no_value_read, on_made, on_value}
-use Rattle.fluent_syntax_parser.proofs.expressions.Selects.{start_is_functional, same_selector_fault_of_tree}
+use Rattle.fluent_syntax_parser.proofs.expressions.Selects.{select_start_is_functional, same_selector_fault_of_tree}
 use Rattle.fluent_syntax_parser.proofs.expressions.Selects.{select_fails, select_read}
 use Rattle.fluent_syntax_parser.proofs.reader.Reader.+readers.Goals as goal
 
@@ -45,11 +45,11 @@ end_select-returns-in_err-end-clause-parses g m c = λ old e added.
     let p = err_from_is_err_and c.from_residual-in_err-end.result c.from_residual-in_err-end.ensures.1 in
     rw (p.1, p.2)
     (select_fails c.args.self.now.edition t _ e _ (same_selector_fault_of_tree _ _ e there)
-    (fails_next (start_is_functional t _) c.in_ok-start.ensures.parses c.in_err-end.ensures.parses))
+    (fails_next (select_start_is_functional t _) c.in_ok-start.ensures.parses c.in_err-end.ensures.parses))
 
 pub end_select-returns-in_err-add_variants-clause-parses : goal.end_select-returns-in_err-add_variants-clause-parses
 end_select-returns-in_err-add_variants-clause-parses g m c = λ old e added.
-    rw (out_of_memory c.from_residual-in_err-add_variants.result
+    rw (memory_is_err c.from_residual-in_err-add_variants.result
     c.from_residual-in_err-add_variants.ensures.1) no_memory
 
 pub end_select-returns-clause-parses : goal.end_select-returns-clause-parses
@@ -77,7 +77,7 @@ pub gather_variants-returns-then-has_default-clause-parses : goal.gather_variant
 gather_variants-returns-then-has_default-clause-parses g m c =
     variants_end g.M.MakeTexts.made _ c.loop-starred.invariant.gathered
     (goes_on c.take_byte_if-star.ensures.parses
-    (goes_on (second (one_false _ _ c.else-starred.either) given)
+    (goes_on (second (and_with_a_false_is_false _ _ c.else-starred.either) given)
     (goes_on c.take_byte_if-bracket.ensures.parses
     (second c.if-not-bracket.true
     (first (sym c.if-has_default.ensures)
@@ -87,7 +87,7 @@ pub gather_variants-returns-then-not-bracket-clause-parses : goal.gather_variant
 gather_variants-returns-then-not-bracket-clause-parses g m c =
     item_fails c.loop-starred.invariant.gathered.beyond (refused (λ k from to (a, b, d). rw (a, b, d)
     (goes_on c.take_byte_if-star.ensures.parses
-    (goes_on (second (one_false _ _ c.else-starred.either) given)
+    (goes_on (second (and_with_a_false_is_false _ _ c.else-starred.either) given)
     (goes_on c.take_byte_if-bracket.ensures.parses
     (second c.if-not-bracket.true
     (second (sym c.if-has_default.ensures)
@@ -98,7 +98,7 @@ gather_variants-returns-in_err-key-clause-parses g m c =
     let p = err_from_is_err_and c.from_residual.result c.from_residual.ensures.1 in
     rw (p.1, p.2) (item_fails c.loop-starred.invariant.gathered.beyond (refused (λ k from to h.
     (goes_on c.take_byte_if-star.ensures.parses
-    (goes_on (second (one_false _ _ c.else-starred.either) given)
+    (goes_on (second (and_with_a_false_is_false _ _ c.else-starred.either) given)
     (goes_on c.take_byte_if-bracket.ensures.parses
     (first c.if-not-bracket.false
     (goes_on (passed c.skip_blank-start.ensures.blank)
@@ -109,7 +109,7 @@ gather_variants-returns-in_err-next-clause-parses g m c =
     let p = err_from_is_err_and c.from_residual-in_err-next.result c.from_residual-in_err-next.ensures.1 in
     rw (p.1, p.2) (item_fails c.loop-starred.invariant.gathered.beyond (refused (λ k from to h.
     (goes_on c.take_byte_if-star.ensures.parses
-    (goes_on (second (one_false _ _ c.else-starred.either) given)
+    (goes_on (second (and_with_a_false_is_false _ _ c.else-starred.either) given)
     (goes_on c.take_byte_if-bracket.ensures.parses
     (first c.if-not-bracket.false
     (goes_on (passed c.skip_blank-start.ensures.blank)
@@ -126,7 +126,7 @@ gather_variants-returns-in_err-value-clause-parses g m c =
     (item_fails c.loop-starred.invariant.gathered.beyond
     (fails_next (optional_is_functional t asterisk) c.take_byte_if-star.ensures.parses
     (fails_next (star_is_functional c.loop-starred.starred c.take_byte_if-star.result.0)
-    (second (one_false _ _ c.else-starred.either) given)
+    (second (and_with_a_false_is_false _ _ c.else-starred.either) given)
     (fails_next (optional_is_functional t left_bracket) c.take_byte_if-bracket.ensures.parses
     (fails_yes c.if-not-bracket.false
     (fails_next (blank_is_functional t) (passed c.skip_blank-start.ensures.blank)
@@ -144,7 +144,7 @@ gather_variants-returns-in_default-clause-parses g m c =
     let none = no_value_read (pattern_map (g.M.MakeTexts.source c.args.self.now.texts.now)) value_read o read same in
     item_fails c.loop-starred.invariant.gathered.beyond (refused (λ k from to (a, b, d). rw (a, b, d)
     (goes_on c.take_byte_if-star.ensures.parses
-    (goes_on (second (one_false _ _ c.else-starred.either) given)
+    (goes_on (second (and_with_a_false_is_false _ _ c.else-starred.either) given)
     (goes_on c.take_byte_if-bracket.ensures.parses
     (first c.if-not-bracket.false
     (goes_on (passed c.skip_blank-start.ensures.blank)
@@ -184,7 +184,7 @@ gather_variants-loop-starred-preserved g m c =
           old.starred)
           (variant (key_view (λ s. s) c.in_ok-key.key) value c.take_byte_if-star.result.0) _
           (goes_on c.take_byte_if-star.ensures.parses
-          (goes_on (second (one_false _ _ c.else-starred.either) given)
+          (goes_on (second (and_with_a_false_is_false _ _ c.else-starred.either) given)
           (goes_on c.take_byte_if-bracket.ensures.parses
           (first c.if-not-bracket.false
           (goes_on (passed c.skip_blank-start.ensures.blank)
@@ -200,7 +200,7 @@ gather_variants-loop-starred-preserved g m c =
 pub gather_variants-returns-in_err-add_variant-clause-parses :
     goal.gather_variants-returns-in_err-add_variant-clause-parses
 gather_variants-returns-in_err-add_variant-clause-parses g m c =
-    rw (out_of_memory c.from_residual-in_err-add_variant.result c.from_residual-in_err-add_variant.ensures.1) no_memory
+    rw (memory_is_err c.from_residual-in_err-add_variant.result c.from_residual-in_err-add_variant.ensures.1) no_memory
 
 pub gather_variants-loop-starred-init : goal.gather_variants-loop-starred-init
 gather_variants-loop-starred-init g m c = record {

@@ -1,6 +1,6 @@
 use Rattle.std.proofs.Common.{◌≡◌, ◌≤◌, ◌∙◌, ap, sym, subst, arith}
 use Rattle.ftl_lsp.specs.Positions.{position_at, IsPosition}
-use Rattle.ftl_lsp.proofs.PositionLemmas.{is_position}
+use Rattle.ftl_lsp.proofs.PositionLemmas.{position_at_is_position}
 use Rattle.ftl_lsp.proofs.documents.positions.Positions.position.Goals as goal
 use Rattle.ftl_lsp.proofs.documents.positions.Positions.position.Goals.{then-byte-self, else-byte-self}
 
@@ -16,4 +16,4 @@ returns-clause-meaning c =
     let there : c.loop-at.at ≡ c.args.byte = omega (arith, end) in
     let here : c.loop-at.here ≡ position_at s c.args.byte =
     c.loop-at.invariant ∙ ap (λ t. position_at t c.loop-at.at) c.self.view_is ∙ ap (position_at s) there in
-    subst (IsPosition s c.args.byte) (sym here) (is_position s c.args.byte c.requires)
+    subst (IsPosition s c.args.byte) (sym here) (position_at_is_position s c.args.byte c.requires)

@@ -9,8 +9,8 @@ use Rattle.ftl_lsp.specs.Replies.{silence, sends_none}
 use Rattle.ftl_lsp.specs.Sessions.{passes, session_of}
 use Rattle.ftl_lsp.specs.declared.documents.changes.Change.{Change}
 use Rattle.ftl_lsp.specs.declared.sessions.methods.Method.TheVariants.{DidChange}
-use Rattle.ftl_lsp.proofs.SessionLemmas.{edits_of_changes, named_open, not_named, publishes_changed}
-use Rattle.ftl_lsp.proofs.SessionLemmas.{unless_open, unreadable}
+use Rattle.ftl_lsp.proofs.SessionLemmas.{edits_of_changes, named_document_is_open, unnamed_is_closed, publishes_changed}
+use Rattle.ftl_lsp.proofs.SessionLemmas.{changing_needs_open, change_needs_edit}
 use Rattle.ftl_lsp.proofs.sessions.server.Server.change.Goals as goal
 
 pub returns-in_default-clause-follows : goal.returns-in_default-clause-follows
@@ -19,7 +19,7 @@ returns-in_default-clause-follows c =
     let d = view c.args.message.now in (
       silence,
       sends_none,
-      passes (Some DidChange) old (unless_open old d (not_named old d (sym c.in_default.ensures))) refl,
+      passes (Some DidChange) old (changing_needs_open old d (unnamed_is_closed old d (sym c.in_default.ensures))) refl,
     )
 
 pub returns-in_default-changes_in-clause-follows : goal.returns-in_default-changes_in-clause-follows
@@ -29,17 +29,17 @@ returns-in_default-changes_in-clause-follows c =
       silence,
       sends_none,
       passes (Some DidChange) old
-          (unreadable old d (ap (option_and_then edits_in) (sym c.in_default-changes_in.ensures))) refl,
+          (change_needs_edit old d (ap (option_and_then edits_in) (sym c.in_default-changes_in.ensures))) refl,
     )
 
 pub returns-then-not-contains-clause-follows : goal.returns-then-not-contains-clause-follows
 returns-then-not-contains-clause-follows c =
     let old = texts c.args.self.now.documents in
     let d = view c.args.message.now in
-    let named = named_open old d c.in-Some.uri.now (sym c.in-Some.ensures) in (
+    let named = named_document_is_open old d c.in-Some.uri.now (sym c.in-Some.ensures) in (
       silence,
       sends_none,
-      passes (Some DidChange) old (unless_open old d (named ∙ sym c.if-not-contains.ensures)) refl,
+      passes (Some DidChange) old (changing_needs_open old d (named ∙ sym c.if-not-contains.ensures)) refl,
     )
 
 pub returns-in_default-2-clause-follows : goal.returns-in_default-2-clause-follows
@@ -52,7 +52,7 @@ returns-in_default-2-clause-follows c =
       silence,
       sends_none,
       passes (Some DidChange) old
-          (unreadable old d
+          (change_needs_edit old d
           (edits_of_changes d c.deref.result.now values _ (sym c.in-Some-changes_in.ensures)
           c.deref.ensures.value none))
           refl,

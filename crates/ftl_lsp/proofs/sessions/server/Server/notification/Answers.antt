@@ -3,7 +3,7 @@ use Rattle.serde_json.specs.View.{view}
 use Rattle.std.specs.Prelude.{option_map}
 use Rattle.ftl_lsp.specs.Replies.{silence, sends_none}
 use Rattle.ftl_lsp.specs.Sessions.{rests, session_of}
-use Rattle.ftl_lsp.proofs.SessionLemmas.{in_phase, notified_running}
+use Rattle.ftl_lsp.proofs.SessionLemmas.{in_phase, running_notice_is_taken}
 use Rattle.ftl_lsp.proofs.sessions.server.Server.notification.Goals as goal
 
 pub returns-in_default : goal.returns-in_default
@@ -16,7 +16,7 @@ returns-in_default g c = (
 
 pub returns : goal.returns
 returns g c =
-    notified_running (session_of c.args.self.now) (session_of c.read_files.new.self)
+    running_notice_is_taken (session_of c.args.self.now) (session_of c.read_files.new.self)
     (session_of c.handle_notification.new.self)
     (session_of c.mark_stale.new.self) (view c.args.message.now) c.args.method (option_map view c.in_ok-sent.sent)
     c.after_notification-self-2.result c.in-Running.is c.in_ok-read_files.ensures c.in_ok-sent.ensures.phase

@@ -6,13 +6,13 @@ use Rattle.ftl_lsp.specs.OpenDocuments.{texts}
 use Rattle.ftl_lsp.specs.Replies.{silence, sends_none}
 use Rattle.ftl_lsp.specs.Sessions.{passes, session_of}
 use Rattle.ftl_lsp.specs.declared.sessions.methods.Method.TheVariants.{DidOpen}
-use Rattle.ftl_lsp.proofs.SessionLemmas.{no_name, no_text, publishes_opened}
+use Rattle.ftl_lsp.proofs.SessionLemmas.{opening_needs_name, open_needs_text, publishes_opened}
 use Rattle.ftl_lsp.proofs.sessions.server.Server.open.Goals as goal
 
 pub returns-in_default-clause-follows : goal.returns-in_default-clause-follows
 returns-in_default-clause-follows c =
     let old = texts c.args.self.now.documents in
-    (silence, sends_none, passes (Some DidOpen) old (no_name old _ (sym c.in_default.ensures)) refl)
+    (silence, sends_none, passes (Some DidOpen) old (opening_needs_name old _ (sym c.in_default.ensures)) refl)
 
 pub returns-in_default-opened_text-clause-follows : goal.returns-in_default-opened_text-clause-follows
 returns-in_default-opened_text-clause-follows c =
@@ -20,7 +20,7 @@ returns-in_default-opened_text-clause-follows c =
       silence,
       sends_none,
       passes (Some DidOpen) old
-          (no_text old _ c.in-Some.uri.now (sym c.in-Some.ensures) (sym c.in_default-opened_text.ensures)) refl,
+          (open_needs_text old _ c.in-Some.uri.now (sym c.in-Some.ensures) (sym c.in_default-opened_text.ensures)) refl,
     )
 
 pub returns-clause-phase : goal.returns-clause-phase

@@ -1,15 +1,15 @@
 use Rattle.ftl_lsp.specs.Sessions.{session_of}
-use Rattle.ftl_lsp.proofs.SessionLemmas.{is_published, publishes_document, unpublished}
+use Rattle.ftl_lsp.proofs.SessionLemmas.{open_text_is_published, publishes_document, unopened_document_is_unpublished}
 use Rattle.ftl_lsp.proofs.sessions.server.Server.publish.Goals as goal
 
 pub returns-in_default-clause-sent : goal.returns-in_default-clause-sent
 returns-in_default-clause-sent c =
-    unpublished (session_of c.args.self.now) (session_of c.look_up_names.new.self) c.args.uri.now
+    unopened_document_is_unpublished (session_of c.args.self.now) (session_of c.look_up_names.new.self) c.args.uri.now
     c.in_ok-look_up_names.ensures.same c.in_default.ensures
 
 pub returns-clause-sent : goal.returns-clause-sent
 returns-clause-sent c =
-    is_published (session_of c.args.self.now) (session_of c.look_up_names.new.self) c.args.uri.now _ _ _
+    open_text_is_published (session_of c.args.self.now) (session_of c.look_up_names.new.self) c.args.uri.now _ _ _
     c.in_ok-look_up_names.ensures.same c.in-Some.ensures c.in_ok-diagnostics_notification.ensures
     (publishes_document _ _ c.look_up_names.new.self.related c.diagnostics-errors.result.now
     c.in_ok-list.list.items c.in_ok-others.others.items c.append.new.self.items c.diagnostics-errors.ensures

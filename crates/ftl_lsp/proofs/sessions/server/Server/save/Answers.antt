@@ -4,7 +4,7 @@ use Rattle.serde_json.specs.View.{view}
 use Rattle.ftl_lsp.specs.Replies.{silence, sends_none}
 use Rattle.ftl_lsp.specs.Sessions.{passes, session_of}
 use Rattle.ftl_lsp.specs.declared.sessions.methods.Method.TheVariants.{DidSave}
-use Rattle.ftl_lsp.proofs.SessionLemmas.{not_named, publishes_saved}
+use Rattle.ftl_lsp.proofs.SessionLemmas.{unnamed_is_closed, publishes_saved}
 use Rattle.std.proofs.Common.{Some}
 use Rattle.ftl_lsp.proofs.sessions.server.Server.save.Goals as goal
 
@@ -18,4 +18,4 @@ returns-in-Some-clause-follows c =
 
 pub returns-in-None-clause-follows : goal.returns-in-None-clause-follows
 returns-in-None-clause-follows c =
-    (silence, sends_none, passes (Some DidSave) _ (not_named _ _ (sym c.in-None.ensures)) refl)
+    (silence, sends_none, passes (Some DidSave) _ (unnamed_is_closed _ _ (sym c.in-None.ensures)) refl)
