@@ -1,6 +1,6 @@
 //! Files of a reference language are compared with those of another.
 ghost use Rattle.std.specs.Prelude.{◌≡◌, ◌≢◌, ◌⊎◌, Some, Err, IfErr, IfOk, OnOk, string_bytes, true};
-ghost use Rattle.fluent_syntax_names.specs.declared.comparing.differences.Side.TheVariants.{Other, Reference};
+ghost use Rattle.fluent_syntax_names.specs.declared.differences.Side.TheVariants.{Other, Reference};
 ghost use Rattle.fluent_syntax_names.specs.declared.name_index.NameIndex.{NameIndex};
 ghost use Rattle.ftl_files.specs.Store.{AllUnchanged};
 ghost use Rattle.ftl_project.specs.Comparing.{Compares, ComparesEach, IsFileMissing, IsPairCompared, IsComparison};
@@ -96,7 +96,7 @@ struct PairFault {
 
 impl From<AllocError> for PairFault {
     ghost use Rattle.std.specs.Prelude.{◌≡◌};
-    ghost use Rattle.fluent_syntax_names.specs.declared.comparing.differences.Side.TheVariants.{Reference};
+    ghost use Rattle.fluent_syntax_names.specs.declared.differences.Side.TheVariants.{Reference};
     ghost use Rattle.ftl_project.specs.declared.fault.Fault.TheVariants.{Memory};
 
     ghost from_gives = { λ _ fault. fault ≡ record { side = Reference; fault = Memory } };
