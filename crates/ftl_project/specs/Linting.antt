@@ -1,7 +1,7 @@
 -- How files are searched, and what is counted and reported.
 use Rattle.std.specs.Io.KnownBytes.{Appends}
 use Rattle.std.specs.Prelude.{◌≡◌, ◌≤◌, ◌⊎◌, ◌+◌, ◌-◌, ◌^◌, ◌++◌, ◌&&◌, ℕ, min, Bool, not, List, [], ◌∷◌}
-use Rattle.std.specs.Prelude.{length, nat_eq}
+use Rattle.std.specs.Prelude.{false, length, nat_eq}
 use Rattle.std.specs.Prelude.{Option, None, Some, IfSome, String, count_by, filter, if◌then◌else◌, slice_get}
 use Rattle.std.specs.Prelude.{string_bytes}
 use Rattle.std.specs.Global.{Global}
