@@ -127,8 +127,9 @@ fn add_source(
         × (string_bytes source.text ≡ string_bytes text) × (source.is_asked ≡ file.now.is_asked)
         × (sources.new.items ≡ sources.old.items ++ source ∷ [])) }
 {
+    let path = String::from_str(alloc, file.path.as_str())?;
     sources.push(Source {
-        path: String::from_str(alloc, file.path.as_str())?,
+        path,
         text,
         is_asked: file.is_asked,
     })?;
