@@ -3,8 +3,8 @@
 use crate::paths::absolute_path;
 use std::alloc::{AllocError, Global};
 
-/// What is passed over where a folder is listed: folders whose names begin with a `.`, and what it names. In a name a `*`
-/// means any characters but `/`.
+/// What is passed over where a folder is listed: folders whose names begin with a `.`, and what it names. In a name a
+/// `*` means any characters but `/`.
 #[derive(Debug, Drop)]
 pub struct Excluded {
     /// Names of files and folders, wherever they are.

@@ -63,8 +63,8 @@ struct Found {
 }
 
 /// The path itself, if it names no folder; else each file below the folder whose name ends in `.ftl`, without what is
-/// excluded. Below the folder no symlink is followed. An entry that vanishes meanwhile is passed over, and so is one whose
-/// name is not UTF-8. A path that doesn't begin at the root begins in the current folder.
+/// excluded. Below the folder no symlink is followed. An entry that vanishes meanwhile is passed over, and so is one
+/// whose name is not UTF-8. A path that doesn't begin at the root begins in the current folder.
 pub fn list<R: Files + AllocGlobal + Clone + Drop>(
     rt: &R,
     current: &str,

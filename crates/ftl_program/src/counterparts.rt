@@ -16,8 +16,8 @@ pub(crate) struct Counterparts {
     pub(crate) is_named: bool,
 }
 
-/// What is compared with what, by the paths and the project's reference, if it names one; else the first of the paths is
-/// the reference. Empty where there is nothing to compare.
+/// What is compared with what, by the paths and the project's reference, if it names one; else the first of the paths
+/// is the reference. Empty where there is nothing to compare.
 pub(crate) fn counterparts_of(
     rt: &HostRuntime,
     project: &Project,

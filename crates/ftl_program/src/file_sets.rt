@@ -71,7 +71,7 @@ fn folder_from(alloc: Global, current: &str, language: &str) -> Result<String, A
 }
 
 /// Adds each file, which is asked for, to the set of its language, which is the folder that it is in directly below the
-/// folder of languages. All files that are in none are a set of their own, and so are all where there is no such folder.
+/// folder of languages. All files that are in none are a set of their own, and so are all without such a folder.
 pub(crate) fn add_files(
     alloc: Global,
     sets: &mut Vec<FileSet>,

@@ -13,8 +13,8 @@ use ftl_project::{Fault, LintOptions, Streams, Tally, check_summary, lint_files}
 use std::alloc::{AllocError, Global};
 use std::{fs, io};
 
-/// Searches the files that the paths name, each language as a set of its own, which all its files are in; the exit status.
-/// Kinds that the project ignores are not reported.
+/// Searches the files that the paths name, each language as a set of its own, which all its files are in; the exit
+/// status. Kinds that the project ignores are not reported.
 pub(crate) fn lint_paths(rt: &HostRuntime, lint: &Lint<'_>) -> u8 {
     if lint.paths.contains(&"-") {
         return refuse_input(rt, "lint");

@@ -50,8 +50,8 @@ fn run_args(rt: &HostRuntime, words: &[String]) -> u8 {
     }
 }
 
-/// Answers standard input, or the paths that are named, those of each project by themselves. A project speaks for paths,
-/// and not for a tree as JSON.
+/// Answers standard input, or the paths that are named, those of each project by themselves. A project speaks for
+/// paths, and not for a tree as JSON.
 fn answer(rt: &HostRuntime, work: Work<'_>) -> u8 {
     let on_input = work.paths.is_empty();
     match work.task {

@@ -11,7 +11,8 @@ line_with_cr_is_stripped l x e =
     let front : take (length l - 1) l ≡ x = grind (arith, common_steps) in
     sym (ap (λ t. cond t (take (length l - 1) l) l) (eq-eqb _ 13 last) ∙ front)
 
-pub line_ends_in_cr : (l : List ℕ) → 0 < length l → get_or l (length l - 1) 0 ≡ 13 → l ≡ take (length l - 1) l ++ 13 ∷ []
+pub line_ends_in_cr : (l : List ℕ) → 0 < length l → get_or l (length l - 1) 0 ≡ 13 →
+    l ≡ take (length l - 1) l ++ 13 ∷ []
 line_ends_in_cr l some last = grind (arith, common_steps)
 
 pub line_without_cr_stays : (l : List ℕ) → ((front : List ℕ) → l ≢ front ++ 13 ∷ []) → l ≡ strip_carriage_return l

@@ -76,19 +76,19 @@ suffix_len-append p xs ys =
 last_line_near : (x t : List ℕ) →
     ((last_line (x ++ t) ≡ last_line x ++ t) × (last_line t ≡ t)) ⊎ (last_line (x ++ t) ≡ last_line t)
 last_line_near x t =
-    let line_ends_in_cr = suffix_len-append is_in_line x t in
+    let ends = suffix_len-append is_in_line x t in
     let within = suffix_len-le-length is_in_line t in
     let before = suffix_len-le-length is_in_line x in
     ⊎_elim (λ whole.
     let sum : suffix_len is_in_line (x ++ t) ≡ length t + suffix_len is_in_line x =
-    line_ends_in_cr ∙ ap (λ b. cond b (length t + suffix_len is_in_line x) (suffix_len is_in_line t)) whole.0 in
+    ends ∙ ap (λ b. cond b (length t + suffix_len is_in_line x) (suffix_len is_in_line t)) whole.0 in
     let start : length (x ++ t) - suffix_len is_in_line (x ++ t) ≡ length x - suffix_len is_in_line x =
     omega (arith, length-append x t) in
     let none : length t - suffix_len is_in_line t ≡ 0 = omega (arith, whole.1) in
     inl (ap (λ n. drop n (x ++ t)) start ∙ drop-append-le _ x t (omega arith), ap (λ n. drop n t) none))
     (λ part.
     let same : suffix_len is_in_line (x ++ t) ≡ suffix_len is_in_line t =
-    line_ends_in_cr ∙ ap (λ b. cond b (length t + suffix_len is_in_line x) (suffix_len is_in_line t)) part.0 in
+    ends ∙ ap (λ b. cond b (length t + suffix_len is_in_line x) (suffix_len is_in_line t)) part.0 in
     let start : length (x ++ t) - suffix_len is_in_line (x ++ t) ≡ length x + (length t - suffix_len is_in_line t) =
     omega (arith, length-append x t) in
     inr (ap (λ n. drop n (x ++ t)) start ∙ drop-append-add x t _))
@@ -99,16 +99,16 @@ first_line_near : (t y : List ℕ) →
     ((before_first is_line_feed (t ++ y) ≡ t ++ before_first is_line_feed y) × (before_first is_line_feed t ≡ t))
     ⊎ (before_first is_line_feed (t ++ y) ≡ before_first is_line_feed t)
 first_line_near t y =
-    let line_ends_in_cr = prefix_len-append (λ b. not (is_line_feed b)) t y in
+    let ends = prefix_len-append (λ b. not (is_line_feed b)) t y in
     let within = prefix_len-le-length (λ b. not (is_line_feed b)) t in
     ⊎_elim (λ whole.
     let sum : position_or_len is_line_feed (t ++ y) ≡ length t + position_or_len is_line_feed y =
-    line_ends_in_cr ∙ ap (λ b. cond b (length t + position_or_len is_line_feed y) (position_or_len is_line_feed t)) whole.0 in
+    ends ∙ ap (λ b. cond b (length t + position_or_len is_line_feed y) (position_or_len is_line_feed t)) whole.0 in
     let le : length t ≤ length t = omega arith in
     inl (ap (λ n. take n (t ++ y)) sum ∙ take-append-add t y _, ap (λ n. take n t) whole.1 ∙ take_all (length t) t le))
     (λ part.
     let same : position_or_len is_line_feed (t ++ y) ≡ position_or_len is_line_feed t =
-    line_ends_in_cr ∙ ap (λ b. cond b (length t + position_or_len is_line_feed y) (position_or_len is_line_feed t)) part.0 in
+    ends ∙ ap (λ b. cond b (length t + position_or_len is_line_feed y) (position_or_len is_line_feed t)) part.0 in
     inr (ap (λ n. take n (t ++ y)) same ∙ take-append-le _ t y within))
     (eqb_tells (position_or_len is_line_feed t) (length t))
 

@@ -326,8 +326,8 @@ const KINDS: [Kind; 8] = [
     Kind::CyclicReference,
 ];
 
-/// Which files begin with a byte order mark; and how many findings there are of each kind that has some, in the set of that
-/// name. All on lines.
+/// Which files begin with a byte order mark; and how many findings there are of each kind that has some, in the set of
+/// that name. All on lines.
 fn notes(
     alloc: Global,
     sources: &[Source],

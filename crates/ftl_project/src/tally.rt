@@ -48,8 +48,8 @@ impl Tally {
         }
     }
 
-    /// One file more was answered, with so many errors and warnings. It has problems if it has errors, or is not as it is
-    /// to be.
+    /// One file more was answered, with so many errors and warnings. It has problems if it has errors, or is not as it
+    /// is to be.
     pub fn count(&mut self, errors: usize, warnings: usize, has_problems: bool)
         ensures { self.new ≡ counted self.old (answered errors warnings has_problems) }
     {
