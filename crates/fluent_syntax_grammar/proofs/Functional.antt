@@ -151,10 +151,10 @@ jumps_to_is_functional {n = n} = record { same = jumps_to_unique n }
 
 block_unique : (t : List ℕ) (i j k : ℕ) → BlankBlock t i j → BlankBlock t i k → j ≡ k
 block_unique t i j k (no_line a b) (no_line c d) = refl
-block_unique t i j k (no_line a b) (line c d e) = let h = longest_run_functional.same i _ _ a c in cc
-block_unique t i j k (line a b c) (no_line d e) = let h = longest_run_functional.same i _ _ a d in cc
+block_unique t i j k (no_line a b) (line c d e) = let h = longest_run_is_functional.same i _ _ a c in cc
+block_unique t i j k (line a b c) (no_line d e) = let h = longest_run_is_functional.same i _ _ a d in cc
 block_unique t i j k (line {m = m} a b c) (line {m = n} d e f) =
-    let h = longest_run_functional.same i _ _ a d in
+    let h = longest_run_is_functional.same i _ _ a d in
     let same_m : m ≡ n = cc in
     block_unique t m j k c (subst (λ n. BlankBlock t n k) (sym same_m) f)
 

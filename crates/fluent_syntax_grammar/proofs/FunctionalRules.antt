@@ -140,16 +140,16 @@ module _ (t : List ℕ) (R : Family) (h : IsFunctionalFamily R) where
   own_unique = search (words, line_is_functional) depth 30
 
   line_unique : (i : ℕ) (o p : Outcome (More Line (Unit {0}))) → next_line t R i o → next_line t R i p → o ≡ p
-  line_unique i o p (no_byte a b) (no_byte c d) = let h = longest_run_functional.same i _ _ a c in cc
-  line_unique i o p (no_byte a b) (other_line c d e) = let h = longest_run_functional.same i _ _ a c in cc
-  line_unique i o p (no_byte a b) (own_line c d e f) = let h = longest_run_functional.same i _ _ a c in cc
-  line_unique i o p (other_line a b c) (no_byte d e) = let h = longest_run_functional.same i _ _ a d in cc
+  line_unique i o p (no_byte a b) (no_byte c d) = let h = longest_run_is_functional.same i _ _ a c in cc
+  line_unique i o p (no_byte a b) (other_line c d e) = let h = longest_run_is_functional.same i _ _ a c in cc
+  line_unique i o p (no_byte a b) (own_line c d e f) = let h = longest_run_is_functional.same i _ _ a c in cc
+  line_unique i o p (other_line a b c) (no_byte d e) = let h = longest_run_is_functional.same i _ _ a d in cc
   line_unique i o p (other_line a b c) (other_line d e f) = refl
   line_unique i o p (other_line {k = k} a b c) (own_line {k = m} d e f g) =
-      let h : k ≡ m = longest_run_functional.same i _ _ a d in cc
-  line_unique i o p (own_line a b c d) (no_byte e f) = let h = longest_run_functional.same i _ _ a e in cc
+      let h : k ≡ m = longest_run_is_functional.same i _ _ a d in cc
+  line_unique i o p (own_line a b c d) (no_byte e f) = let h = longest_run_is_functional.same i _ _ a e in cc
   line_unique i o p (own_line {k = k} a b c d) (other_line {k = m} e f g) =
-      let h : k ≡ m = longest_run_functional.same i _ _ a e in cc
+      let h : k ≡ m = longest_run_is_functional.same i _ _ a e in cc
   line_unique i o p (own_line a b c d) (own_line e f g x) = own_unique.same i o p d x
 
   pub next_line_is_functional : IsFunctional (next_line t R)

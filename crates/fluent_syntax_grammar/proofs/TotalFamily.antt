@@ -57,7 +57,7 @@ module _ (edition : Edition) (t : List ℕ) (R : Family) (low : ℕ) (h : (s : �
       (goes_on at_place
       (goes_on (passed {j = f} v) (goes_on at_place (goes_on {j = m} {a = ps} y (goes_on {j = n} {a = end} z g))))) =
       let late = p.late in
-      let same : k ≡ f = longest_run_functional.same i k f w v in
+      let same : k ≡ f = longest_run_is_functional.same i k f w v in
       let forward = v.forward in
       let at_f : slice_get t f ≡ Some b = subst (λ k. slice_get t k ≡ Some b) same e in
       let inside = (word_of t is_space).in_text i f p.in_text v in

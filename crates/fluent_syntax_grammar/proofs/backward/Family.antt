@@ -197,7 +197,7 @@ module _ (t : List ℕ) (bare : HasNoBareCr t) (Joins : Type 0) (crs : (i : ℕ)
       belongs t (nat_lt i k) k ≡ true → InlineBlank t i start → PiecesAt t Joins start ps m → EndingAt t Joins m e' n →
       LineAt t Joins i (record { start = i; spaces = start - i; pieces = ps; ending = e' }) n
   line_made i k b start m n ps e' w e f v p q =
-      let same : k ≡ start = longest_run_functional.same i k start w v in
+      let same : k ≡ start = longest_run_is_functional.same i k start w v in
       record {
         first = start;
         byte = b;

@@ -382,7 +382,7 @@ module _ (t : List ℕ) (bare : HasNoBareCr t) (Joins : Type 0) (crs : (i : ℕ)
       keeps first e (inr f) = inr (f ∙ e)
 
       same_word : (i j k : ℕ) → InlineBlank t i j → InlineBlank t i k → j ≡ k
-      same_word i j k w v = longest_run_functional.same i j k w v
+      same_word i j k w v = longest_run_is_functional.same i j k w v
 
   pub layout_shape : (y : Layout) → LayoutAt t Joins y → IsSpare y → Shape t Joins m opening (items One y)
   layout_shape y (on_line {i = i} {m = n} {j = j} {ps = ps} {e = e} {ls = ls} f g x z h) s =

@@ -96,10 +96,10 @@ module _ (t : List ℕ) (R : Family) where
   own_too_deep : {i k : ℕ} → InlineBlank t i k → belongs t (nat_lt i k) k ≡ true → {b : ℕ} → slice_get t k ≡ Some b →
       TooDeep (line t R >>= λ l. yields {A = More Line (Unit {0})} (item l tt)) i → TooDeep (next_line t R) i
   own_too_deep {i = i} {k = k} w own e h o (no_byte {k = m} v none) =
-      let same : m ≡ k = longest_run_functional.same i m k v w in
+      let same : m ≡ k = longest_run_is_functional.same i m k v w in
       let f = rw same at none in cc
   own_too_deep {i = i} {k = k} w own e h o (other_line {k = m} v there other) =
-      let same : m ≡ k = longest_run_functional.same i m k v w in
+      let same : m ≡ k = longest_run_is_functional.same i m k v w in
       let f = rw same at other in cc
   own_too_deep w own e h o (own_line v there is x) = h o x
 
