@@ -18,7 +18,7 @@ use Rattle.fluent_syntax_parser.specs.Lines.{ending_view, line_view, piece_view}
 use Rattle.fluent_syntax_parser.specs.Made.{made}
 use Rattle.fluent_syntax_parser.specs.Opened.{none}
 use Rattle.fluent_syntax_parser.specs.Outcomes.{no_memory, refused}
-use Rattle.fluent_syntax_parser.proofs.entry_forms.FieldForms.{empty_by_length as no_elements, has_items}
+use Rattle.fluent_syntax_parser.proofs.entry_forms.FieldForms.{zero_count_is_empty as no_elements, has_items}
 use Rattle.fluent_syntax_parser.proofs.readers.ContinuesFrom.{all_made, item_fails, item_made, no_items}
 use Rattle.fluent_syntax_grammar.proofs.Functional.{here_is_functional}
 use Rattle.fluent_syntax_parser.proofs.readers.Fails.{fails_first, fails_next, fails_seen}
