@@ -110,13 +110,16 @@ module _ (edition : Edition) where
     -- what is kept could only be that
     pub keeps_none : (HasPlaces edition made there places → ReadsAlike edition made normal → ⊥) →
         IsKept edition t normal normal
-    keeps_none not = inr (refl, λ other a.
-        let same = same_places t normal other there places a gaps_are places_are in
-        let same_text = a.is_made ∙ (ap (with_line_ends 0 normal) same.1 ∙ sym is_made) in
-        let settled = subst (λ g. HasPlaces edition other g a.places) same.0 a.settled in
-        not (subst (λ u. HasPlaces edition u there places) same_text
-        (subst (HasPlaces edition other there) same.1 settled))
-        (subst (λ u. ReadsAlike edition u normal) same_text a.reads))
+    keeps_none not = inr (
+      refl,
+      λ other a.
+          let same = same_places t normal other there places a gaps_are places_are in
+          let same_text = a.is_made ∙ (ap (with_line_ends 0 normal) same.1 ∙ sym is_made) in
+          let settled = subst (λ g. HasPlaces edition other g a.places) same.0 a.settled in
+          not (subst (λ u. HasPlaces edition u there places) same_text
+          (subst (HasPlaces edition other there) same.1 settled))
+          (subst (λ u. ReadsAlike edition u normal) same_text a.reads),
+    )
 
     -- other places in what was made
     pub not_settled : (now : List ℕ) → HasPlaces edition made there now → now ≢ places → IsKept edition t normal normal
