@@ -1,7 +1,7 @@
 -- The gaps of what was read up to a place.
 use Rattle.std.proofs.Common.{◌≡◌, ℕ, List, [], ◌∷◌, ◌++◌, length, Option, None, refl, sym, ◌∙◌, ap, subst}
 use Rattle.std.proofs.lemmas.List.{append-nil}
-use Rattle.fluent_syntax_tree.specs.Entry.{junk}
+use Rattle.fluent_syntax_tree.specs.Entry.{EntryTree, junk}
 use Rattle.fluent_syntax_tree.specs.declared.ast.Entry.{Entry}
 use Rattle.fluent_syntax_tree.specs.declared.edition.Edition.{Edition}
 use Rattle.fluent_syntax_tree.specs.declared.errors.ParserError.{ParserError}
@@ -11,8 +11,9 @@ use Rattle.fluent_syntax_grammar.specs.Tiling.{Tile, Tiled, TileAt, Tiling, done
 use Rattle.fluent_syntax_parser.specs.Rest.{tree_of}
 use Rattle.fluent_syntax_parser.specs.Tiles.{Gives, TileTo}
 use Rattle.fluent_syntax_parser.specs.declared.tiles.SpannedTile.{SpannedTile}
-use Rattle.ftl.specs.BlankLines.{HasGaps, gaps, gaps_after, is_field, is_field_tile, span_of}
+use Rattle.ftl.specs.BlankLines.{HasGaps, gaps, gaps_after, is_field, tile_place_of}
 use Rattle.ftl.specs.declared.blank_lines.Gap.{Gap}
+use Rattle.ftl.specs.declared.blank_lines.TilePlace.{TilePlace}
 
 module _ (edition : Edition) (t : List ℕ) where
   -- Whatever the tiles from the place on are: these gaps, and those after the last one, are the text's.
@@ -23,26 +24,28 @@ module _ (edition : Edition) (t : List ℕ) where
   pub nothing_read : GapsReadTo 0 [] None
   nothing_read = record { whole = λ more tiled. (more, tiled, refl) }
 
-  tile_given : (s : Span) (tile : Tile) (e : Entry Span) (error : Option ParserError) →
-      TileAt edition t s.start s.end tile → Gives tile e error →
-      (span_of tile ≡ s) × (is_field_tile tile ≡ is_field (tree_of e))
-  tile_given s tile e error (reads {e = v} r) g =
-      let same : v ≡ tree_of e = let given = g.entry in cc in (refl, ap is_field same)
-  tile_given s tile e error (refuses r j) g =
-      let same : junk s ≡ tree_of e = let given = g.entry in cc in (refl, ap is_field same)
+  -- where an entry is
+  abbrev place_at : Span → EntryTree Span → TilePlace
+  place_at s e = record { span = s; is_field = is_field e }
+
+  place_given : (s : Span) (tile : Tile) (e : Entry Span) (error : Option ParserError) →
+      TileAt edition t s.start s.end tile → Gives tile e error → tile_place_of tile ≡ place_at s (tree_of e)
+  place_given s tile e error (reads {e = v} r) g =
+      let same : v ≡ tree_of e = let given = g.entry in cc in ap (place_at s) same
+  place_given s tile e error (refuses r j) g =
+      let same : junk s ≡ tree_of e = let given = g.entry in cc in ap (place_at s) same
 
   -- one tile more
   pub gaps_read_on : (i j : ℕ) (before now : List Gap) (last next_last : Option Gap) (found : SpannedTile)
       → GapsReadTo i before last → TileTo edition t i j found →
-      ((tile : Tile) (more : List Tile) → span_of tile ≡ found.span →
-      is_field_tile tile ≡ is_field (tree_of found.entry) →
+      ((tile : Tile) (more : List Tile) → tile_place_of tile ≡ place_at found.span (tree_of found.entry) →
       now ++ gaps_after t next_last more ≡ before ++ gaps_after t last (tile ∷ more)) → GapsReadTo j now next_last
   gaps_read_on i j before now last next_last found read to add = record {
     whole = λ more a.
         let beyond = subst (λ k. Tiled t (TileAt edition t) k more) to.ends a in
         let (tiles, tiling, same) = read.whole (to.tile ∷ more) (next to.blank to.inside to.in_place beyond) in
-        let given = tile_given found.span to.tile found.entry found.error to.in_place to.yields in
-        (tiles, tiling, add to.tile more given.0 given.1 ∙ same);
+        let given = place_given found.span to.tile found.entry found.error to.in_place to.yields in
+        (tiles, tiling, add to.tile more given ∙ same);
   }
 
   -- no tile more

@@ -13,6 +13,7 @@ use Rattle.fluent_syntax_grammar.specs.Written.{Text}
 use Rattle.ftl.specs.Answer.{normal_text}
 use Rattle.ftl.specs.Lossless.{is_lossless, reread_tree}
 use Rattle.ftl.specs.declared.blank_lines.Gap.{Gap}
+use Rattle.ftl.specs.declared.blank_lines.TilePlace.{TilePlace}
 
 -- ---- blank lines
 
@@ -32,22 +33,17 @@ ends_blank_line t (suc k) = has_byte t lf k && is_blank_to t k
 
 -- ---- gaps
 
+-- whether the entry is a message or a term
 abbrev pub is_field : EntryTree Span → Bool
 is_field (message m) = true
 is_field (term m) = true
 is_field e = false
 
--- whether the tile is a message or a term
-abbrev pub is_field_tile : Tile → Bool
-is_field_tile (entry s e) = is_field e
-is_field_tile (refused f) = false
-is_field_tile dropped = false
-
 -- where a tile is; one that was dropped has no place
-abbrev pub span_of : Tile → Span
-span_of (entry s e) = s
-span_of (refused f) = f.slice
-span_of dropped = record { start = 0; end = 0 }
+abbrev pub tile_place_of : Tile → TilePlace
+tile_place_of (entry s e) = record { span = s; is_field = is_field e }
+tile_place_of (refused f) = record { span = f.slice; is_field = false }
+tile_place_of dropped = record { span = record { start = 0; end = 0 }; is_field = false }
 
 abbrev pub in_list : Option Gap → List Gap
 in_list None = []
@@ -63,9 +59,10 @@ module _ (t : Text) where
   abbrev pub gaps_after : (last : Option Gap) → List Tile → List Gap
   gaps_after last [] = []
   gaps_after last (x ∷ tiles) =
-      let now = option_map (seen_at (span_of x).start) last in
-      if is_field_tile x
-      then in_list now ++ gaps_after (Some (record { place = (span_of x).end; is_blank = false })) tiles
+      let place = tile_place_of x in
+      let now = option_map (seen_at place.span.start) last in
+      if place.is_field
+      then in_list now ++ gaps_after (Some (record { place = place.span.end; is_blank = false })) tiles
       else gaps_after now tiles
 
   -- one for each message and each term but the first: between it and the one before it

@@ -14,13 +14,13 @@ ghost use Rattle.fluent_syntax_parser.specs.Halts.{HaltsWithin, OnHalt};
 ghost use Rattle.fluent_syntax_parser.specs.Rest as rest;
 ghost use Rattle.ftl.specs.Answer.{normal_text, outcome_of};
 ghost use Rattle.ftl.specs.BlankLines.{HasGaps, HasPlaces, IsKept, ReadsAlike, ends_blank_line, gaps_after, is_field};
-ghost use Rattle.ftl.specs.BlankLines.{is_field_tile, place_in, places_of, seen_at, span_of, with_line_ends};
+ghost use Rattle.ftl.specs.BlankLines.{place_in, places_of, seen_at, tile_place_of, with_line_ends};
 
 use crate::answers::{Formatted, formatted_within};
 use fluent_syntax::ast::{Entry, Resource};
 use fluent_syntax::laws::same_texts;
 use fluent_syntax::parser::{Edition, ParseFault, parse_within};
-use fluent_syntax::spans::{Halt, Span, Tiles};
+use fluent_syntax::spans::{Halt, Span, SpannedTile, Tiles};
 use std::alloc::{AllocError, Global};
 
 /// What is between a message or a term and the next one.
@@ -116,21 +116,37 @@ fn ends_blank_line(text: &[u8], place: usize) -> bool
     at == 0 || text[at - 1] == b'\n'
 }
 
+/// Where a tile is, and whether it is a message or a term.
+#[derive(Clone, Copy, Debug, Drop)]
+struct TilePlace {
+    span: Span,
+    is_field: bool,
+}
+
 fn is_field(entry: &Entry<Span>) -> bool
     ensures { result ≡ is_field (rest.tree_of entry.now) }
 {
     matches!(entry, Entry::Message(_) | Entry::Term(_))
 }
 
+fn tile_place(found: SpannedTile) -> TilePlace
+    ensures { result ≡ record { span = found.span; is_field = is_field (rest.tree_of found.entry) } }
+{
+    TilePlace {
+        span: found.span,
+        is_field: is_field(&found.entry),
+    }
+}
+
 /// The last gap, if there is one, once something begins at the place.
-fn seen_at(text: &[u8], place: usize, last: Option<Gap>) -> Option<Gap>
+fn seen_at(text: &str, place: usize, last: Option<Gap>) -> Option<Gap>
     requires { place ≤ length text.now }
     ensures { result ≡ option_map (seen_at text.now place) last }
 {
     match last {
         Some(gap) => Some(Gap {
             place: gap.place,
-            is_blank: gap.is_blank || ends_blank_line(text, place),
+            is_blank: gap.is_blank || ends_blank_line(text.as_bytes(), place),
         }),
         None => None,
     }
@@ -139,26 +155,24 @@ fn seen_at(text: &[u8], place: usize, last: Option<Gap>) -> Option<Gap>
 /// Adds the last gap, if there is one, where a message or a term ends it. What is the last one after the tile.
 fn add_gap(
     gaps: &mut Vec<Gap>,
-    text: &[u8],
+    text: &str,
     last: Option<Gap>,
-    span: Span,
-    at_field: bool,
+    place: TilePlace,
 ) -> Result<Option<Gap>, AllocError>
-    requires { span.start ≤ length text.now }
-    ensures { IfOk result (λ now. (tile : Tile) (more : List Tile) → span_of tile ≡ span →
-        is_field_tile tile ≡ at_field →
+    requires { place.span.start ≤ length text.now }
+    ensures { IfOk result (λ now. (tile : Tile) (more : List Tile) → tile_place_of tile ≡ place →
         gaps.new.items ++ gaps_after text.now now more
         ≡ gaps.old.items ++ gaps_after text.now last (tile ∷ more)) }
 {
-    let seen = seen_at(text, span.start, last);
-    if !at_field {
+    let seen = seen_at(text, place.span.start, last);
+    if !place.is_field {
         return Ok(seen);
     }
     if let Some(gap) = seen {
         gaps.push(gap)?;
     }
     Ok(Some(Gap {
-        place: span.end,
+        place: place.span.end,
         is_blank: false,
     }))
 }
@@ -172,10 +186,7 @@ fn gaps(alloc: Global, text: &str, edition: Edition, nesting: usize) -> Result<V
     let mut last = None;
     loop {
         match tiles.next_tile(alloc) {
-            Ok(Some(found)) => {
-                let at_field = is_field(&found.entry);
-                last = add_gap(&mut gaps, text.as_bytes(), last, found.span, at_field)?;
-            }
+            Ok(Some(found)) => last = add_gap(&mut gaps, text, last, tile_place(found))?,
             Ok(None) => return Ok(gaps),
             // a normal form nests no deeper than its text
             Err(Halt::TooDeep | Halt::Memory) => return Err(AllocError),

@@ -1,7 +1,9 @@
 //! Files are answered on standard output.
-ghost use Rattle.std.specs.Prelude.{ℕ, IfErr, IfOk, List, string_bytes};
+ghost use Rattle.std.specs.Prelude.{◌≡◌, ℕ, IfErr, IfOk, List, string_bytes};
 ghost use Rattle.fluent_syntax_grammar.specs.Nesting.{NestsDeeper};
-ghost use Rattle.ftl.specs.Answer.{IsAnswer, ReadsDeeper};
+ghost use Rattle.fluent_syntax_grammar.specs.Tiling.{Tile, Tiling};
+ghost use Rattle.fluent_syntax_parser.specs.Halts.{OnHalt};
+ghost use Rattle.ftl.specs.Answer.{IsAnswer, ReadsDeeper, normal_text, outcome_of};
 ghost use Rattle.ftl_project.specs.Answered.{IsPrinted, IsPrintedOf};
 ghost use Rattle.ftl_project.specs.Faults.{IsUnparsed};
 ghost use Rattle.ftl_project.specs.Lossless.{IsWritten, format_of};
@@ -12,7 +14,7 @@ use crate::formatting::lossy_entry::lossy_note;
 use crate::streams::{byte_order_mark_note, note_line};
 use fluent_syntax::parser::Edition;
 use fluent_syntax::spans::Halt;
-use ftl::{Command, Outcome, answer_within, formatted_keeping, formatted_within};
+use ftl::{Command, Formatted, Outcome, answer_within, formatted_keeping, formatted_within};
 use ftl_files::{BlankLines, Reading};
 use std::alloc::{AllocError, Global};
 
@@ -74,11 +76,7 @@ impl PrintTask {
             × IsWritten self.now.blank_lines edition text.now normal (string_bytes formatted.text)) }
         ensures fault { IfErr result (IsUnparsed (NestsDeeper edition text.now self.now.nesting)) }
     {
-        let formatted = match self.blank_lines {
-            BlankLines::Normal => formatted_within(alloc, text, edition, self.nesting),
-            BlankLines::Keep => formatted_keeping(alloc, text, edition, self.nesting),
-        };
-        match formatted {
+        match self.normal_form(alloc, text, edition) {
             Ok(formatted) => Ok(Printed {
                 text: formatted.text,
                 outcome: formatted.outcome,
@@ -89,6 +87,18 @@ impl PrintTask {
             }),
             Err(Halt::Memory) => Err(Fault::Memory),
             Err(Halt::TooDeep) => Err(Fault::TooDeep),
+        }
+    }
+
+    fn normal_form(&self, alloc: Global, text: &str, edition: Edition) -> Result<Formatted, Halt>
+        ensures text { let t = text.now in IfOk result (λ given. (tiles : List Tile) × Tiling edition t tiles
+            × IsWritten self.now.blank_lines edition t (normal_text t tiles) (string_bytes given.text)
+            × (given.outcome ≡ outcome_of tiles)) }
+        ensures deeper { IfErr result (OnHalt (NestsDeeper edition text.now self.now.nesting)) }
+    {
+        match self.blank_lines {
+            BlankLines::Normal => formatted_within(alloc, text, edition, self.nesting),
+            BlankLines::Keep => formatted_keeping(alloc, text, edition, self.nesting),
         }
     }
 

@@ -1,22 +1,35 @@
-use Rattle.std.proofs.Common.{◌≡◌, ◌∙◌, ap, string_bytes, sym}
-use Rattle.ftl.specs.BlankLines.{with_line_ends}
+use Rattle.std.proofs.Common.{string_bytes, subst}
+use Rattle.ftl.specs.BlankLines.{HasPlaces}
 use Rattle.ftl.proofs.KeptAgain.{keeps_made, keeps_none, not_settled}
 use Rattle.ftl.proofs.blank_lines.with_blank_lines.Goals as goal
 
 pub returns-then-not-is_same : goal.returns-then-not-is_same
 returns-then-not-is_same c =
-    let normal = string_bytes c.args.normal in
-    let made = string_bytes c.in_ok-made.made in
-    let there = c.as_slice-there.result.now in
-    let gaps_are = rw c.as_str.ensures.value at c.in_ok-there.ensures in
-    not_settled c.args.edition c.args.text.now normal made there c.in_ok-places.places.items
-    (rw (← c.as_slice-there.ensures.value) at gaps_are) c.in_ok-places.ensures
-    (rw (c.as_str-2.ensures.value, c.as_slice.ensures.value) at c.in_ok-made.ensures) c.in_ok-places_now.places_now.items
-    (rw c.as_str-3.ensures.value at c.in_ok-places_now.ensures)
-    (λ same. ?)
+    let gaps_are = rw (c.as_str.ensures.value, ← c.as_slice-there.ensures.value) at c.in_ok-there.ensures in
+    let is_made = rw (c.as_str-2.ensures.value, c.as_slice.ensures.value) at c.in_ok-made.ensures in
+    let now_are = rw c.as_str-3.ensures.value at c.in_ok-places_now.ensures in
+    let same = rw (c.as_slice-2.ensures.value, c.as_slice-3.ensures.value) at c.is_same.ensures in
+    not_settled c.args.edition c.args.text.now (string_bytes c.args.normal) (string_bytes c.in_ok-made.made)
+    c.as_slice-there.result.now c.in_ok-places.places.items gaps_are c.in_ok-places.ensures is_made
+    c.in_ok-places_now.places_now.items now_are (λ e. let so = same.1 e in let not = c.if-not-is_same.true in cc)
 
 pub returns-then-branch : goal.returns-then-branch
-returns-then-branch c = ?
+returns-then-branch c =
+    let gaps_are = rw (c.as_str.ensures.value, ← c.as_slice-there.ensures.value) at c.in_ok-there.ensures in
+    let is_made = rw (c.as_str-2.ensures.value, c.as_slice.ensures.value) at c.in_ok-made.ensures in
+    let now_are = rw c.as_str-3.ensures.value at c.in_ok-places_now.ensures in
+    let same = rw (c.as_slice-2.ensures.value, c.as_slice-3.ensures.value) at c.is_same.ensures in
+    let alike = rw (c.as_str-4.ensures.value, c.as_str-5.ensures.value) at c.in_ok-reads_alike.ensures in
+    keeps_made c.args.edition c.args.text.now (string_bytes c.args.normal) (string_bytes c.in_ok-made.made)
+    c.as_slice-there.result.now c.in_ok-places.places.items gaps_are c.in_ok-places.ensures is_made
+    (subst (λ ps. HasPlaces c.args.edition (string_bytes c.in_ok-made.made) c.as_slice-there.result.now ps)
+    (same.0 c.if-not-is_same.false) now_are) (alike.0 c.if-branch.true)
 
 pub returns-else-branch : goal.returns-else-branch
-returns-else-branch c = ?
+returns-else-branch c =
+    let gaps_are = rw (c.as_str.ensures.value, ← c.as_slice-there.ensures.value) at c.in_ok-there.ensures in
+    let is_made = rw (c.as_str-2.ensures.value, c.as_slice.ensures.value) at c.in_ok-made.ensures in
+    let alike = rw (c.as_str-4.ensures.value, c.as_str-5.ensures.value) at c.in_ok-reads_alike.ensures in
+    keeps_none c.args.edition c.args.text.now (string_bytes c.args.normal) (string_bytes c.in_ok-made.made)
+    c.as_slice-there.result.now c.in_ok-places.places.items gaps_are c.in_ok-places.ensures is_made
+    (λ settled reads. let so = alike.1 reads in let not = c.if-branch.false in cc)
