@@ -9,8 +9,9 @@ use ftl::{RunFault, Watched};
 use ftl_args::{Change, Task, Work};
 use ftl_files::{Disk, Memory, Store};
 use ftl_project::{
-    CheckTask, ConvertTask, DiffTask, FormatOptions, NameTask, PrintTask, RewriteCounts, Streams,
-    Tally, answer_files, check_summary, format_summary, write_files, write_summary,
+    CheckTask, ConvertTask, DiffTask, FormatOptions, FormatTask, NameTask, PrintTask,
+    RewriteCounts, Streams, Tally, answer_files, check_summary, format_summary, write_files,
+    write_summary,
 };
 use std::alloc::AllocError;
 use std::io;
@@ -120,10 +121,9 @@ fn run_task<S: Store>(
     let alloc = rt.alloc();
     let Met { tally, counts } = met;
     let reading = work.options.reading();
-    let blank_lines = work.options.blank_lines();
     let options = FormatOptions {
         reading,
-        blank_lines,
+        blank_lines: work.options.blank_lines(),
     };
     let mut streams = Streams {
         out: &mut Watched::new(io::writer(rt)),
@@ -146,12 +146,13 @@ fn run_task<S: Store>(
             let task = DiffTask { options };
             answer_files(alloc, &task, store, files, tally, &mut streams)
         }
+        (Task::Format(Change::Print), _) => {
+            let task = FormatTask { options };
+            answer_files(alloc, &task, store, files, tally, &mut streams)
+        }
         (_, Some(command)) => {
-            let task = PrintTask {
-                command,
-                nesting: reading.nesting,
-                blank_lines,
-            };
+            let nesting = reading.nesting;
+            let task = PrintTask { command, nesting };
             answer_files(alloc, &task, store, files, tally, &mut streams)
         }
         (_, None) => answer_files(alloc, &ConvertTask, store, files, tally, &mut streams),
