@@ -12,8 +12,8 @@ use Rattle.fluent_syntax_grammar.proofs.OneTiling.{same_tilings}
 use Rattle.fluent_syntax_grammar.proofs.marks.Again.{written_again}
 use Rattle.fluent_syntax_grammar.proofs.marks.Entries.{written_is_read_back}
 use Rattle.ftl.specs.Answer.{normal_text}
-use Rattle.ftl.specs.BlankLines.{HasGaps, HasPlaces, IsKept, IsKeptAgain, Keeps, KeepsAgain, gaps}
-use Rattle.ftl.specs.BlankLines.{ReadsAlike, place_in, places_of, with_line_ends}
+use Rattle.ftl.specs.BlankLines.{HasGaps, HasPlaces, IsKept, Keeps, KeepsAgain, ReadsAlike, gaps, places_of}
+use Rattle.ftl.specs.BlankLines.{with_line_ends}
 use Rattle.ftl.specs.Lossless.{is_lossless, reread_tree}
 use Rattle.ftl.specs.declared.blank_lines.Gap.{Gap}
 

@@ -36,8 +36,8 @@ struct Gap {
 /// terms.
 ///
 /// Where the text has blank lines between two of them, and the normal form has none, it gets one. The kept text is
-/// the normal form with these LFs put in, and reads as the normal form does; in a text that would read otherwise
-/// none is put in. By the law `keeping_is_idempotent`, keeping again changes nothing.
+/// the normal form with these LFs put in, and reads as the normal form does; where it would read otherwise, none is
+/// put in. The law `keeping_is_idempotent` says when keeping again changes nothing.
 ///
 /// `Memory`: a growth was refused. `TooDeep` where the text nests deeper than `nesting`.
 pub fn formatted_keeping(

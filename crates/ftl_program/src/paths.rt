@@ -9,8 +9,9 @@ use ftl::{RunFault, Watched};
 use ftl_args::{Change, Options, Task, Work};
 use ftl_files::{Disk, Memory, Store};
 use ftl_project::{
-    CheckTask, ConvertTask, DiffTask, FormatOptions, NameTask, PrintTask, RewriteCounts, Streams,
-    Tally, answer_files, check_summary, format_summary, write_files, write_summary,
+    CheckTask, ConvertTask, DiffTask, FormatOptions, FormatTask, NameTask, PrintTask,
+    RewriteCounts, Streams, Tally, answer_files, check_summary, format_summary, write_files,
+    write_summary,
 };
 use std::alloc::AllocError;
 use std::io;
@@ -164,12 +165,15 @@ fn run_task<S: Store>(
             };
             answer_files(alloc, &task, store, files, tally, &mut streams)
         }
-        (_, Some(command)) => {
-            let task = PrintTask {
-                command,
-                nesting: reading.nesting,
-                blank_lines: format_options.blank_lines,
+        (Task::Format(Change::Print), _) => {
+            let task = FormatTask {
+                options: format_options,
             };
+            answer_files(alloc, &task, store, files, tally, &mut streams)
+        }
+        (_, Some(command)) => {
+            let nesting = reading.nesting;
+            let task = PrintTask { command, nesting };
             answer_files(alloc, &task, store, files, tally, &mut streams)
         }
         (_, None) => answer_files(alloc, &ConvertTask, store, files, tally, &mut streams),

@@ -1,18 +1,14 @@
 -- What runs that change no file say of each text.
 use Rattle.std.specs.Prelude.{◌≡◌, ◌==◌, List, Bool, true, false, not, length}
-use Rattle.fluent_syntax_tree.specs.declared.edition.Edition.TheVariants.{One, Two}
 use Rattle.fluent_syntax_tree.specs.declared.errors.ParserError.{ParserError}
 use Rattle.ftl.specs.Answer.{IsAnswer}
 use Rattle.ftl.specs.Errors.{HasErrors}
 use Rattle.ftl.specs.FromJson.{IsTextOf}
 use Rattle.ftl.specs.declared.command.Command.{Command}
-use Rattle.ftl.specs.declared.command.Command.TheVariants.{Format, FormatTwo}
 use Rattle.ftl.specs.declared.outcome.Outcome.{Outcome}
 use Rattle.ftl.specs.declared.outcome.Outcome.TheVariants.{Clean, SyntaxErrors}
-use Rattle.ftl_project.specs.Lossless.{IsWritten}
 use Rattle.ftl_project.specs.Reports.{Reports}
 use Rattle.ftl_project.specs.Runs.{TaskAnswers}
-use Rattle.ftl_files.specs.declared.options.BlankLines.{BlankLines}
 use Rattle.ftl_files.specs.declared.options.Form.{Form}
 use Rattle.ftl_files.specs.declared.options.Reading.{Reading}
 
@@ -27,20 +23,10 @@ abbrev pub has_errors : Outcome → Bool
 has_errors Clean = false
 has_errors SyntaxErrors = true
 
--- What is printed, if that is the command's text: where it formats, with the blank lines that are kept.
-abbrev pub PrintsFor : BlankLines → Command → (text answer printed : List ℕ) → Type 0
-PrintsFor blank_lines Format text answer printed = IsWritten blank_lines One text answer printed
-PrintsFor blank_lines FormatTwo text answer printed = IsWritten blank_lines Two text answer printed
-PrintsFor blank_lines command text answer printed = printed ≡ answer
-
 -- of one that a command answers: the command's text
-abbrev pub IsPrintedOf : BlankLines → Command → (text printed : List ℕ) → Outcome → Type 0
-IsPrintedOf blank_lines command text printed outcome =
-    (answer : List ℕ) × IsAnswer command text answer outcome × PrintsFor blank_lines command text answer printed
-
-abbrev pub IsPrinted : BlankLines → Command → TaskAnswers
-IsPrinted blank_lines command path text errors has_problems printed =
-    (outcome : Outcome) × IsPrintedOf blank_lines command text printed outcome × (errors ≡ 0)
+abbrev pub IsPrinted : Command → TaskAnswers
+IsPrinted command path text errors has_problems printed =
+    (outcome : Outcome) × IsAnswer command text printed outcome × (errors ≡ 0)
     × (has_problems ≡ has_errors outcome)
 
 -- of one that spells a tree as JSON: the tree's text

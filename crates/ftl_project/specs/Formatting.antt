@@ -2,12 +2,15 @@
 use Rattle.std.specs.Prelude.{◌≡◌, ◌++◌, ℕ, List, [], ◌∷◌, All, length, Bool, true, false, Option, None, Some}
 use Rattle.std.specs.Prelude.{Result, Ok, Err, String, codes, string_bytes}
 use Rattle.std.specs.Global.{Global}
+use Rattle.ftl.specs.Answer.{IsAnswer}
+use Rattle.ftl.specs.declared.outcome.Outcome.{Outcome}
 use Rattle.ftl_files.specs.Store.{AllUnchanged}
 use Rattle.ftl_project.specs.Excerpt.{shown_text}
 use Rattle.ftl_project.specs.Faults.{Failing, HasStatus}
 use Rattle.ftl_project.specs.Rewriting.{IsReplacement, Rewrites}
 use Rattle.ftl_project.specs.Runs.{TaskAnswers}
-use Rattle.ftl_project.specs.Lossless.{IsRewriting}
+use Rattle.ftl_project.specs.Answered.{has_errors}
+use Rattle.ftl_project.specs.Lossless.{IsRewriting, IsWritten, format_of}
 use Rattle.ftl_project.specs.Tally.{Processed, answered, counted, failed}
 use Rattle.ftl_project.specs.declared.fault.Fault.{Fault}
 use Rattle.ftl_project.specs.declared.formatting.replacement.FormatOptions.{FormatOptions}
@@ -80,3 +83,16 @@ abbrev pub IsNamed : FormatOptions → TaskAnswers
 IsNamed options path text errors has_problems named = (replacement : Replacement)
     × IsReplacement options text replacement × (errors ≡ errors_in replacement)
     × (has_problems ≡ is_not_normal replacement) × (named ≡ name_of path replacement)
+
+-- ---- on standard output
+
+-- The text is printed as its normal text, with the blank lines that are kept, and with that outcome.
+abbrev pub IsPrintedAs : FormatOptions → (text printed : List ℕ) → Outcome → Type 0
+IsPrintedAs options text printed outcome = (normal : List ℕ)
+    × IsAnswer (format_of options.reading.edition) text normal outcome
+    × IsWritten options.blank_lines options.reading.edition text normal printed
+
+-- of a text that is so printed
+abbrev pub IsFormatted : FormatOptions → TaskAnswers
+IsFormatted options path text errors has_problems printed =
+    (outcome : Outcome) × IsPrintedAs options text printed outcome × (errors ≡ 0) × (has_problems ≡ has_errors outcome)

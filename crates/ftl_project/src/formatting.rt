@@ -7,6 +7,7 @@ ghost use Rattle.ftl_project.specs.Formatting.{is_not_normal, name_of};
 ghost use Rattle.ftl_project.specs.Rewriting.{AllReach};
 
 pub mod diffing;
+pub mod format_task;
 pub mod line_diff;
 pub mod lossy_entry;
 pub mod replacement;

@@ -19,6 +19,7 @@ pub use answering::{Answer, FileTask, answer_files};
 pub use comparing::{CompareOptions, Pair, Share, compare_files, share_line};
 pub use fault::Fault;
 pub use formatting::diffing::DiffTask;
+pub use formatting::format_task::FormatTask;
 pub use formatting::lossy_entry::{LossyEntry, lossy_entry_in, lossy_entry_line, lossy_note};
 pub use formatting::replacement::{FormatOptions, Replacement, replacement_for};
 pub use formatting::rewrite_counts::{RewriteCounts, write_summary};
