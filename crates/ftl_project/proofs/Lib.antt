@@ -9,3 +9,4 @@ pub mod ReadBack
 pub mod DiagnosticTexts
 pub mod NoteTexts
 pub mod Statuses
+pub mod Windows

@@ -11,7 +11,7 @@ stripped l x e =
     let front : take (length l - 1) l ≡ x = grind (arith, common_steps) in
     sym (ap (λ t. cond t (take (length l - 1) l) l) (eq-eqb _ 13 last) ∙ front)
 
-ends : (l : List ℕ) → 0 < length l → get_or l (length l - 1) 0 ≡ 13 → l ≡ take (length l - 1) l ++ 13 ∷ []
+pub ends : (l : List ℕ) → 0 < length l → get_or l (length l - 1) 0 ≡ 13 → l ≡ take (length l - 1) l ++ 13 ∷ []
 ends l some last = grind (arith, common_steps)
 
 pub unstripped : (l : List ℕ) → ((front : List ℕ) → l ≢ front ++ 13 ∷ []) → l ≡ strip_carriage_return l

@@ -7,6 +7,10 @@ use crate::reporting::line::{back, front};
 use crate::reporting::terminal_text::{WINDOW, push_below, push_shown, window_start};
 use std::alloc::AllocError;
 
+/// So many bytes on either side of a place are enough for what is shown of its line: `WINDOW` characters, one more, and
+/// a CR.
+const NEAR: usize = 4 * (WINDOW + 2);
+
 /// Adds two lines: the text's line that has the place, and the caret below the character of that place.
 ///
 /// The place is a byte of the text, counted from 0. One after the line's last character has its caret there. Of a line
@@ -27,8 +31,18 @@ pub fn push_excerpt(
     push_cut_line(out, text, text.floor_char_boundary(place), caret)
 }
 
-/// The same of a place where a character begins.
+/// The same of a place where a character begins. Only what is near the place is read: lines may be long.
 fn push_cut_line(out: &mut String, text: &str, cut: usize, caret: &str) -> Result<(), AllocError>
+    requires { IsCharBoundary text.now cut }
+    ensures { OnOk result (string_bytes out.new ≡ string_bytes out.old ++ excerpt caret.now text.now cut) }
+{
+    let start = text.floor_char_boundary(cut.saturating_sub(NEAR));
+    let end = text.floor_char_boundary(cut.saturating_add(NEAR));
+    push_line(out, &text[start..end], cut - start, caret)
+}
+
+/// The same, where all of the line is read.
+fn push_line(out: &mut String, text: &str, cut: usize, caret: &str) -> Result<(), AllocError>
     requires { IsCharBoundary text.now cut }
     ensures { OnOk result (string_bytes out.new ≡ string_bytes out.old ++ excerpt caret.now text.now cut) }
 {
