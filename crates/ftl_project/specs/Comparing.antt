@@ -8,6 +8,7 @@ use Rattle.fluent_syntax_names.specs.declared.missing_part.MissingPart.{MissingP
 use Rattle.fluent_syntax_names.specs.declared.name_index.NameIndex.{NameIndex}
 use Rattle.fluent_syntax_names.specs.Differences.{difference_name, side_difference}
 use Rattle.fluent_syntax_names.specs.Sentences.{part_sentence}
+use Rattle.fluent_syntax_names.specs.ShownNames.{shown_name}
 use Rattle.ftl_project.specs.Differences.{counts_as_error, is_reported, reported_parts}
 use Rattle.ftl_project.specs.Faults.{Failing, Fails, IsFault, IsRead, IsTooDeep, IsUnparsed}
 use Rattle.ftl_project.specs.NameIndexes.{IsNameIndex, entry_count}
@@ -41,22 +42,26 @@ part_message side pair text missing difference reference =
 abbrev pub junk_location : MissingPart → Option SourceLocation → Option SourceLocation
 junk_location missing entry = if is_junk missing then entry else None
 
+-- where the other text has the entry, or has it as junk
+abbrev pub entry_in : (other : List ℕ) → MissingPart → Option SourceLocation
+entry_in other missing = option_map (location_at other) missing.in_other
+
 -- where the other text has the part as junk
 abbrev pub junk_in : (other : List ℕ) → MissingPart → Option SourceLocation
-junk_in other missing = junk_location missing (option_map (location_at other) missing.in_other)
+junk_in other missing = junk_location missing (entry_in other missing)
 
 -- This is reported of a difference in the file; of no difference nothing is.
-abbrev pub IsDifferenceReport : Form → (path : List ℕ) → Option SourceLocation → (message : Difference → List ℕ) →
-    Option Difference → (report_text : List ℕ) → Type 0
-IsDifferenceReport form path place message None report_text = report_text ≡ []
-IsDifferenceReport form path place message (Some difference) report_text =
-    IsDiagnostic form path place (difference_name difference) (message difference) report_text
+abbrev pub IsDifferenceReport : Form → (path : List ℕ) → Option SourceLocation → (name : List ℕ) →
+    (message : Difference → List ℕ) → Option Difference → (report_text : List ℕ) → Type 0
+IsDifferenceReport form path place name message None report_text = report_text ≡ []
+IsDifferenceReport form path place name message (Some difference) report_text =
+    IsDiagnostic form path place (difference_name difference) (Some name) (message difference) report_text
 
--- This is reported of what the reference's text has and the other one lacks: where that has the entry as junk, at the
--- first such junk.
+-- This is reported of what the reference's text has and the other one lacks: at the entry there, or at the first such
+-- junk.
 abbrev pub IsMissingReport : Form → Pair → (text other : List ℕ) → MissingPart → (report_text : List ℕ) → Type 0
 IsMissingReport form pair text other missing report_text =
-    IsDifferenceReport form (string_bytes pair.other) (junk_in other missing)
+    IsDifferenceReport form (string_bytes pair.other) (entry_in other missing) (shown_name text missing.name)
     (λ difference. part_message Reference pair text missing difference (Some (location_at text missing.name)))
     (side_difference Reference missing.part) report_text
 
@@ -64,6 +69,7 @@ IsMissingReport form pair text other missing report_text =
 abbrev pub IsExtraReport : Form → Pair → (text other : List ℕ) → MissingPart → (report_text : List ℕ) → Type 0
 IsExtraReport form pair text other missing report_text =
     IsDifferenceReport form (string_bytes pair.other) (Some (location_at text missing.name))
+    (shown_name text missing.name)
     (λ difference. part_message Other pair text missing difference (junk_in other missing))
     (side_difference Other missing.part) report_text
 
@@ -97,7 +103,7 @@ with_share share (Some part) = record {
 abbrev pub IsFileReport : Form → Pair → (is_reported : Bool) → (report_text : List ℕ) → Type 0
 IsFileReport form pair false report_text = report_text ≡ []
 IsFileReport form pair true report_text =
-    IsDiagnostic form (string_bytes pair.other) None (codes "missing-file")
+    IsDiagnostic form (string_bytes pair.other) None (codes "missing-file") None
     (codes "there is no such file; the reference has " ++ string_bytes pair.reference) report_text
 
 -- The other file is not there: that is the one error, if it is reported, and all of the reference is missing.

@@ -39,15 +39,23 @@ abbrev pub message_part : Option SourceLocation → (message : List ℕ) → Lis
 message_part None message = codes ": " ++ shown_text message
 message_part (Some location) message = []
 
+-- the name that it is about, where there is one
+abbrev pub name_part : Option (List ℕ) → List ℕ
+name_part None = []
+name_part (Some name) = codes " " ++ shown_text name
+
 -- the line of a diagnostic
-abbrev pub diagnostic_line : (path : List ℕ) → Option SourceLocation → (kind message : List ℕ) → List ℕ
-diagnostic_line path place kind message =
-    place_or_path path place ++ (codes ": " ++ (kind ++ (message_part place message ++ codes "\n")))
+abbrev pub diagnostic_line : (path : List ℕ) → Option SourceLocation → (kind : List ℕ) → (name : Option (List ℕ)) →
+    (message : List ℕ) → List ℕ
+diagnostic_line path place kind name message =
+    place_or_path path place
+    ++ (codes ": " ++ (kind ++ (name_part name ++ (message_part place message ++ codes "\n"))))
 
 -- This is reported of what was found in a file, in the form of lines. The other forms are for people or other tools.
-abbrev pub IsDiagnostic : Form → (path : List ℕ) → Option SourceLocation → (kind message report_text : List ℕ) → Type 0
-IsDiagnostic Lines path place kind message report_text = report_text ≡ diagnostic_line path place kind message
-IsDiagnostic _ path place kind message report_text = Unit {0}
+abbrev pub IsDiagnostic : Form → (path : List ℕ) → Option SourceLocation → (kind : List ℕ) → (name : Option (List ℕ)) →
+    (message report_text : List ℕ) → Type 0
+IsDiagnostic Lines path place kind name message report_text = report_text ≡ diagnostic_line path place kind name message
+IsDiagnostic _ path place kind name message report_text = Unit {0}
 
 -- Of each this is reported, one after another.
 pub data ReportsEach {A : Type 0} (Is : A → List ℕ → Type 0) : List A → (report_text : List ℕ) → Type 0 where

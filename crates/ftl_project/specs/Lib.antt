@@ -13,5 +13,6 @@ pub mod Reports
 pub mod Rewriting
 pub mod Runs
 pub mod Lossless
+pub mod Subjects
 pub mod Summaries
 pub mod Tally

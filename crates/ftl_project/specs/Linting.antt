@@ -2,13 +2,14 @@
 use Rattle.std.specs.Io.KnownBytes.{Appends}
 use Rattle.std.specs.Prelude.{◌≡◌, ◌≤◌, ◌⊎◌, ◌+◌, ◌-◌, ◌^◌, ◌++◌, ◌&&◌, ℕ, min, Bool, not, List, [], ◌∷◌}
 use Rattle.std.specs.Prelude.{length, nat_eq}
-use Rattle.std.specs.Prelude.{Option, None, Some, IfSome, String, count_by, filter, if◌then◌else◌, slice_get}
+use Rattle.std.specs.Prelude.{Option, None, Some, IfSome, String, count_by, filter, if◌then◌else◌, option_map, slice_get}
 use Rattle.std.specs.Prelude.{string_bytes}
 use Rattle.std.specs.Global.{Global}
 use Rattle.std.specs.List.{list_any}
 use Rattle.std.specs.Option.{option_eq}
 use Rattle.std.specs.Str.{bytes_eq}
 use Rattle.fluent_syntax_names.specs.Findings.{all_findings}
+use Rattle.fluent_syntax_names.specs.ShownNames.{shown_name}
 use Rattle.fluent_syntax_names.specs.Severities.{name_of, severity_of}
 use Rattle.fluent_syntax_names.specs.declared.finding.Finding.{Finding}
 use Rattle.fluent_syntax_names.specs.declared.finding.Kind.{Kind}
@@ -142,12 +143,16 @@ abbrev pub location_in : (text : List ℕ) → Option Span → Option SourceLoca
 location_in text None = None
 location_in text (Some name) = Some (location_at text name)
 
+-- the name as it is shown
+abbrev pub name_in : (text : List ℕ) → Option Span → Option (List ℕ)
+name_in text place = option_map (shown_name text) place
+
 -- This is reported of the finding, in its file.
 abbrev pub IsFindingReport : Form → List Source → List NameIndex → Finding → (report_text : List ℕ) → Type 0
 IsFindingReport form sources name_indexes finding report_text =
     (message : List ℕ) × IsDiagnostic form (path_of (slice_get sources finding.file))
     (location_in (text_of (slice_get name_indexes finding.file)) finding.place)
-    (name_of finding.kind) message report_text
+    (name_of finding.kind) (name_in (text_of (slice_get name_indexes finding.file)) finding.place) message report_text
 
 -- The texts were searched as one set: what is found in what they say was reported, in order, after what was written
 -- before, and counted.

@@ -1,6 +1,7 @@
 //! What is reported of what one file of a pair has and the other one lacks.
 ghost use Rattle.std.specs.Prelude.{◌≡◌, ◌+◌, ◌<◌, ◌^◌, IfOk, Some, length, option_map, string_bytes};
 ghost use Rattle.fluent_syntax_names.specs.Differences.{difference_name};
+ghost use Rattle.fluent_syntax_names.specs.ShownNames.{shown_name};
 ghost use Rattle.fluent_syntax_names.specs.declared.differences.Side.TheVariants.{Other, Reference};
 ghost use Rattle.ftl_project.specs.Comparing.{IsMissingPartReport, IsMissingReport, IsExtraReport, junk_location};
 ghost use Rattle.ftl_project.specs.Comparing.{part_message, reference_place};
@@ -68,10 +69,7 @@ impl PairReporter<'_> {
         let entry = location_in(others, missing.in_other);
         let junk = junk_location(missing, entry);
         match self.side {
-            Side::Reference => {
-                let place = shown_place(self.form, junk, entry);
-                self.report(difference, missing, place, Some(location))
-            }
+            Side::Reference => self.report(difference, missing, entry, Some(location)),
             Side::Other => self.report(difference, missing, Some(location), junk),
         }
     }
@@ -85,7 +83,7 @@ impl PairReporter<'_> {
         reference: Option<SourceLocation>,
     ) -> Result<String, AllocError>
         ensures { IfOk result (λ report_text. IsDiagnostic self.now.form (string_bytes self.now.pair.now.other) place
-            (difference_name difference)
+            (difference_name difference) (Some (shown_name self.now.text.now missing.now.name))
             (part_message self.now.side self.now.pair.now self.now.text.now missing.now difference reference)
             (string_bytes report_text)) }
     {
@@ -139,7 +137,9 @@ impl PairReporter<'_> {
     }
 
     /// The name of the part, that of the entry that it is in, and the place in the reference.
-    fn subject(&self, missing: &MissingPart, reference: Option<SourceLocation>) -> Subject<'_> {
+    fn subject(&self, missing: &MissingPart, reference: Option<SourceLocation>) -> Subject<'_>
+        ensures { result.name.now ≡ shown_name self.now.text.now missing.now.name }
+    {
         Subject {
             name: shown_name(self.text, missing.name),
             entry: match missing.part {
@@ -179,19 +179,4 @@ fn junk_location(missing: &MissingPart, entry: Option<SourceLocation>) -> Option
     ensures { result ≡ junk_location missing.now entry }
 {
     if missing.is_junk() { entry } else { None }
-}
-
-/// The place of junk, or else of the entry. A line that has a place says no more of what is missing, so there the
-/// entry's is left out.
-fn shown_place(
-    form: Form,
-    junk: Option<SourceLocation>,
-    entry: Option<SourceLocation>,
-) -> Option<SourceLocation>
-    ensures { form ≡ Form.Lines → result ≡ junk }
-{
-    match form {
-        Form::Lines => junk,
-        _ => entry,
-    }
 }

@@ -1,8 +1,9 @@
 //! The findings of a set of files, reported for people or for tools.
 ghost use Rattle.std.specs.Prelude.{◌≡◌, All, IfOk, List, length, string_bytes, ◌+◌, ◌<◌, ◌^◌, slice_get, ℕ};
-ghost use Rattle.ftl_project.specs.Linting.{IsFindingReport, path_of, text_of, location_in};
+ghost use Rattle.ftl_project.specs.Linting.{IsFindingReport, location_in, name_in, path_of, text_of};
 ghost use Rattle.ftl_project.specs.NameIndexes.{IsShort};
 ghost use Rattle.ftl_project.specs.Diagnostics.{IsDiagnostic, ReportsEach};
+ghost use Rattle.ftl_project.specs.Subjects.{subject_name};
 ghost use Rattle.fluent_syntax_names.specs.Severities.{name_of};
 
 use crate::reporting::diagnostics::{
@@ -131,8 +132,8 @@ impl FileReporter<'_> {
         requires { lines.old ≡ self.now.text.now }
         ensures report_text { IfOk result (λ report_text. (message : List ℕ)
             × IsDiagnostic self.now.form self.now.path.now
-            (location_in self.now.text.now finding.now.place) (name_of finding.now.kind) message
-            (string_bytes report_text)) }
+            (location_in self.now.text.now finding.now.place) (name_of finding.now.kind)
+            (name_in self.now.text.now finding.now.place) message (string_bytes report_text)) }
         ensures lines { lines.new ≡ lines.old }
     {
         let diagnostic = Diagnostic {
@@ -149,23 +150,31 @@ impl FileReporter<'_> {
     }
 
     /// The name of the finding, and where it was given first.
-    fn subject(&self, finding: &Finding) -> Option<Subject<'_>> {
-        let other = finding.other.map(|first| {
-            let (line, column) = self.starts.line_column(first.span.start);
-            OtherPlace {
-                path: self.path,
-                location: SourceLocation {
-                    line,
-                    column,
-                    start: first.span.start,
-                    end: first.span.end,
-                },
-            }
-        });
-        Some(Subject {
-            name: shown_name(self.text, finding.place?),
-            entry: None,
-            other,
+    fn subject(&self, finding: &Finding) -> Option<Subject<'_>>
+        ensures { subject_name result ≡ name_in self.now.text.now finding.now.place }
+    {
+        match finding.place {
+            Some(place) => Some(Subject {
+                name: shown_name(self.text, place),
+                entry: None,
+                other: self.first_place(finding),
+            }),
+            None => None,
+        }
+    }
+
+    /// Where the name was given first.
+    fn first_place(&self, finding: &Finding) -> Option<OtherPlace<'_>> {
+        let first = finding.other?;
+        let (line, column) = self.starts.line_column(first.span.start);
+        Some(OtherPlace {
+            path: self.path,
+            location: SourceLocation {
+                line,
+                column,
+                start: first.span.start,
+                end: first.span.end,
+            },
         })
     }
 

@@ -1,8 +1,10 @@
 //! What is reported of a place in a file, for people or for tools.
 ghost use Rattle.std.specs.Prelude.{◌≡◌, ◌++◌, IfOk, OnOk, string_bytes};
 ghost use Rattle.ftl_project.specs.Diagnostics.{IsName, IsDiagnostic, place_or_path, diagnostic_line, location_at};
+ghost use Rattle.ftl_project.specs.Diagnostics.{name_part};
+ghost use Rattle.ftl_project.specs.Subjects.{subject_name};
 
-use crate::reporting::error_lead::{KnownPlace, error_sentence, push_lead, push_lead_members};
+use crate::reporting::error_lead::{KnownPlace, push_lead, push_lead_data, push_lead_members};
 use crate::reporting::excerpt::push_excerpt;
 use crate::reporting::github::{push_data, push_property};
 use crate::reporting::json::{push_json_text, push_junk, push_payload};
@@ -93,7 +95,7 @@ pub(crate) fn diagnostic_text(
     form: Form,
 ) -> Result<String, AllocError>
     ensures { IfOk result (λ report_text. IsDiagnostic form diagnostic.now.path.now diagnostic.now.place
-        diagnostic.now.kind.now
+        diagnostic.now.kind.now (subject_name diagnostic.now.subject)
         (string_bytes diagnostic.now.message) (string_bytes report_text)) }
 {
     let mut out = String::new(alloc);
@@ -119,19 +121,34 @@ fn push_place(out: &mut String, diagnostic: &Diagnostic<'_>) -> Result<(), Alloc
     }
 }
 
-/// `PLACE: KIND`, and the message where there is no place.
+/// `PLACE: KIND NAME`, and the message where there is no place.
 fn push_line(out: &mut String, diagnostic: &Diagnostic<'_>) -> Result<(), AllocError>
     ensures { OnOk result (string_bytes out.new ≡ string_bytes out.old
         ++ diagnostic_line diagnostic.now.path.now diagnostic.now.place diagnostic.now.kind.now
-        (string_bytes diagnostic.now.message)) }
+        (subject_name diagnostic.now.subject) (string_bytes diagnostic.now.message)) }
 {
     push_place(out, diagnostic)?;
     write!(out, ": {}", diagnostic.kind)?;
+    push_name(out, diagnostic)?;
     if diagnostic.place.is_none() {
         out.push_str(": ")?;
         push_shown_text(out, diagnostic.message.as_str())?;
     }
     out.push('\n')
+}
+
+/// The name that it is about, if there is one.
+fn push_name(out: &mut String, diagnostic: &Diagnostic<'_>) -> Result<(), AllocError>
+    ensures { OnOk result
+        (string_bytes out.new ≡ string_bytes out.old ++ name_part (subject_name diagnostic.now.subject)) }
+{
+    match &diagnostic.subject {
+        Some(subject) => {
+            out.push(' ')?;
+            push_shown_text(out, subject.name)
+        }
+        None => Ok(()),
+    }
 }
 
 /// The place with the message, the line of the source, and a caret below.
@@ -234,9 +251,9 @@ fn push_github(out: &mut String, diagnostic: &Diagnostic<'_>) -> Result<(), Allo
     }
     write!(out, ",title={}::", diagnostic.kind)?;
     push_data(out, diagnostic.message.as_str())?;
-    if let Some(error) = &diagnostic.error {
+    if let (Some(error), Some(known)) = (&diagnostic.error, known_place(diagnostic)) {
         out.push_str(": ")?;
-        push_data(out, error_sentence(error))?;
+        push_lead_data(out, &known, error)?;
     }
     out.push('\n')
 }

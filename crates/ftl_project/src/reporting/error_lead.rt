@@ -2,11 +2,12 @@
 
 use crate::reporting::diagnostics::{ReportedError, SourceLocation};
 use crate::reporting::excerpt::push_excerpt;
+use crate::reporting::github::push_data;
 use crate::reporting::json::push_json_text;
 use crate::reporting::paint::Paint;
 use crate::reporting::terminal_text::push_shown_text;
 use fluent_syntax::parser::ErrorKind;
-use ftl::{Cause, advice};
+use ftl::{Cause, OpenBracket, advice};
 use std::alloc::AllocError;
 use std::fmt::Write;
 
@@ -85,6 +86,31 @@ fn push_cause(
     push_excerpt(out, known.text, cause.start, paint.caret)
 }
 
+/// Adds the same as a text for GitHub, which shows no more than one line of the source.
+pub(crate) fn push_lead_data(
+    out: &mut String,
+    known: &KnownPlace<'_>,
+    error: &ReportedError<'_>,
+) -> Result<(), AllocError> {
+    push_data(out, error_sentence(error))?;
+    match &error.lead.cause {
+        Some(cause) if cause.start != known.location.start => {
+            let (line, column) = known.line_column(cause.start);
+            write!(out, " ({line}:{column})")?;
+        }
+        _ => (),
+    }
+    if let Some(bracket) = error.lead.opened {
+        let (line, column) = known.line_column(bracket.place);
+        write!(
+            out,
+            "; the {} at {line}:{column} is still open",
+            bracket.name
+        )?;
+    }
+    Ok(())
+}
+
 /// Adds the members for what to do about the error, for its cause, and for the bracket that is open.
 pub(crate) fn push_lead_members(
     out: &mut String,
@@ -97,10 +123,23 @@ pub(crate) fn push_lead_members(
         push_cause_member(out, known, cause)?;
     }
     if let Some(bracket) = error.lead.opened {
-        let (line, column) = known.line_column(bracket.place);
-        write!(out, ",\"opened\":{{\"line\":{line},\"column\":{column}}}")?;
+        push_opened_member(out, known, bracket)?;
     }
     Ok(())
+}
+
+fn push_opened_member(
+    out: &mut String,
+    known: &KnownPlace<'_>,
+    bracket: OpenBracket,
+) -> Result<(), AllocError> {
+    let (line, column) = known.line_column(bracket.place);
+    let (start, end) = (bracket.place, bracket.place.saturating_add(1));
+    write!(
+        out,
+        ",\"opened\":{{\"line\":{line},\"column\":{column},\"start\":{start},\"end\":{end},\"name\":\"{}\"}}",
+        bracket.name
+    )
 }
 
 fn push_cause_member(
