@@ -66,7 +66,8 @@ back_window t y utf8 long =
 -- ---- the line
 
 line_feed : (b : ℕ) → is_in_line b ≡ false → b ≡ 10
-line_feed b test = ⊎_elim (λ feed. feed.1) (λ other. absurd (true≢false (ap not (sym other.0) ∙ test))) (equal_or_not b 10)
+line_feed b test =
+    ⊎_elim (λ feed. feed.1) (λ other. absurd (true≢false (ap not (sym other.0) ∙ test))) (equal_or_not b 10)
 
 suffix_len-append : {X : Type 0} (p : X → Bool) → (xs ys : List X) → suffix_len p (xs ++ ys)
     ≡ cond (eqb (suffix_len p ys) (length ys)) (length ys + suffix_len p xs) (suffix_len p ys)

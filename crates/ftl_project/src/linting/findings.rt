@@ -180,9 +180,7 @@ impl FileReporter<'_> {
 
     /// A sentence on the finding.
     fn message(&self, finding: &Finding) -> Result<String, AllocError> {
-        let name = finding
-            .place
-            .map_or("", |span| full_name(self.text, span));
+        let name = finding.place.map_or("", |span| full_name(self.text, span));
         let first = finding
             .other
             .map(|first| self.starts.line_column(first.span.start).0);

@@ -12,7 +12,8 @@ returns c =
     let stated : c.args.is_reported ≡ true = search (rules, c.if-not-is_reported.false) in
     let report = report_as c.diagnostic_text.result form c.as_str.result.now
     (string_bytes pair.other) None
-    (codes "missing-file") (codes "missing-file") None (string_bytes c.in_ok-message.message) words c.as_str.ensures.value
+    (codes "missing-file") (codes "missing-file") None (string_bytes c.in_ok-message.message) words
+    c.as_str.ensures.value
     refl
     (simp (c.in_ok-message.ensures.ok, c.as_str-reference.ensures.value)) c.diagnostic_text.ensures in
     IfOk-weaker c.diagnostic_text.result _ _
