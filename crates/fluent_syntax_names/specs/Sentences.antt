@@ -11,14 +11,14 @@ use Rattle.fluent_syntax_names.specs.declared.differences.Side.TheVariants.{Refe
 use Rattle.fluent_syntax_names.specs.declared.finding.Kind.{Kind}
 use Rattle.fluent_syntax_names.specs.declared.finding.Kind.TheVariants as kind
 
--- of the name at its place
+-- of the name at its place, with that of its entry or its `-`
 abbrev pub sentence_of : Kind → List ℕ → List ℕ
 sentence_of kind.DefinedTwice name = codes "`" ++ name ++ codes "` is defined twice"
 sentence_of kind.AttributeTwice name = codes "the entry has the attribute `" ++ name ++ codes "` twice"
 sentence_of kind.VariantTwice name = codes "the select has the variant `" ++ name ++ codes "` twice"
 sentence_of kind.UndefinedMessage name = codes "no file defines the message `" ++ name ++ codes "`"
-sentence_of kind.UndefinedTerm name = codes "no file defines the term `-" ++ name ++ codes "`"
-sentence_of kind.UndefinedAttribute name = codes "no file defines its attribute `" ++ name ++ codes "`"
+sentence_of kind.UndefinedTerm name = codes "no file defines the term `" ++ name ++ codes "`"
+sentence_of kind.UndefinedAttribute name = codes "no file defines the attribute `" ++ name ++ codes "`"
 sentence_of kind.UndefinedValue name = codes "no file gives the message `" ++ name ++ codes "` a value"
 sentence_of kind.CyclicReference name = codes "`" ++ name ++ codes "` leads back to this reference"
 

@@ -41,4 +41,4 @@ pub use graph::components;
 pub use mention::Mention;
 pub use missing_part::{MissingPart, Part};
 pub use name_index::{NameIndex, name_index_of};
-pub use shown_names::shown_name;
+pub use shown_names::{full_name, shown_name};

@@ -10,8 +10,8 @@ use crate::shown_names::shown_name;
 use std::alloc::{AllocError, Global};
 
 impl Kind {
-    /// A sentence on a finding of this kind: `name` is the text at its place, and `first` the number of the line that
-    /// has its other place, if it has one in a line.
+    /// A sentence on a finding of this kind: `name` is the `full_name` at its place, and `first` the number of the line
+    /// that has its other place, if it has one in a line.
     ///
     /// `AllocError` where there is no memory for it.
     pub fn sentence(
@@ -39,8 +39,8 @@ impl Kind {
             Kind::AttributeTwice => format!(in alloc; "the entry has the attribute `{name}` twice"),
             Kind::VariantTwice => format!(in alloc; "the select has the variant `{name}` twice"),
             Kind::UndefinedMessage => format!(in alloc; "no file defines the message `{name}`"),
-            Kind::UndefinedTerm => format!(in alloc; "no file defines the term `-{name}`"),
-            Kind::UndefinedAttribute => format!(in alloc; "no file defines its attribute `{name}`"),
+            Kind::UndefinedTerm => format!(in alloc; "no file defines the term `{name}`"),
+            Kind::UndefinedAttribute => format!(in alloc; "no file defines the attribute `{name}`"),
             Kind::UndefinedValue => format!(in alloc; "no file gives the message `{name}` a value"),
             Kind::CyclicReference => format!(in alloc; "`{name}` leads back to this reference"),
         }

@@ -8,8 +8,7 @@ use Rattle.std.specs.List.{suffix_len, before_first, prefix_len, position_or_len
 use Rattle.std.specs.Str.Lines.{strip_carriage_return}
 use Rattle.std.proofs.Math.Dec.{eqb}
 use Rattle.std.proofs.Math.Seq.{drop-append-add, take-append-add, take-add}
-use Rattle.std.proofs.lemmas.Bool.{lt-ltb, cases_lt}
-use Rattle.std.proofs.lemmas.Bool.Decides.{eqb_tells}
+use Rattle.std.proofs.lemmas.Bool.{cases_eq, cases_lt, eq-eqb, lt-ltb, ne_eqb}
 use Rattle.std.proofs.lemmas.List.{take-append-le, drop-append-le, take-append-drop, append-nil, reverse-append}
 use Rattle.std.proofs.lemmas.List.{length-reverse, get_or-reverse, get_or-append-add, take-take, drop-drop, drop-take}
 use Rattle.std.specs.Char.{len_utf8}
@@ -22,6 +21,9 @@ use Rattle.std.proofs.lemmas.List.Sums.{prefix_len-le-length, prefix_len_stops, 
 use Rattle.std.proofs.Math.Utf8.{encodes, encode}
 use Rattle.ftl_project.specs.Excerpt.{last_line, is_in_line, is_line_feed, begins_with_line_feed, front, back, excerpt}
 use Rattle.ftl_project.specs.Excerpt.{shown_front, shown_back, below_front, window, below}
+
+equal_or_not : (a b : ℕ) → ((eqb a b ≡ true) × (a ≡ b)) ⊎ ((eqb a b ≡ false) × (a ≢ b))
+equal_or_not a b = ⊎_elim (λ same. inl (eq-eqb a b same, same)) (λ other. inr (ne_eqb a b other, other)) (cases_eq a b)
 
 -- ---- bytes and characters
 
@@ -64,7 +66,8 @@ back_window t y utf8 long =
 -- ---- the line
 
 line_feed : (b : ℕ) → is_in_line b ≡ false → b ≡ 10
-line_feed b test = ⊎_elim (λ feed. feed.1) (λ other. absurd (true≢false (ap not (sym other.0) ∙ test))) (eqb_tells b 10)
+line_feed b test =
+    ⊎_elim (λ feed. feed.1) (λ other. absurd (true≢false (ap not (sym other.0) ∙ test))) (equal_or_not b 10)
 
 suffix_len-append : {X : Type 0} (p : X → Bool) → (xs ys : List X) → suffix_len p (xs ++ ys)
     ≡ cond (eqb (suffix_len p ys) (length ys)) (length ys + suffix_len p xs) (suffix_len p ys)
@@ -92,7 +95,7 @@ last_line_near x t =
     let start : length (x ++ t) - suffix_len is_in_line (x ++ t) ≡ length x + (length t - suffix_len is_in_line t) =
     omega (arith, length-append x t) in
     inr (ap (λ n. drop n (x ++ t)) start ∙ drop-append-add x t _))
-    (eqb_tells (suffix_len is_in_line t) (length t))
+    (equal_or_not (suffix_len is_in_line t) (length t))
 
 -- either the line ends after the first text, or in it
 first_line_near : (t y : List ℕ) →
@@ -110,7 +113,7 @@ first_line_near t y =
     let same : position_or_len is_line_feed (t ++ y) ≡ position_or_len is_line_feed t =
     ends ∙ ap (λ b. cond b (length t + position_or_len is_line_feed y) (position_or_len is_line_feed t)) part.0 in
     inr (ap (λ n. take n (t ++ y)) same ∙ take-append-le _ t y within))
-    (eqb_tells (position_or_len is_line_feed t) (length t))
+    (equal_or_not (position_or_len is_line_feed t) (length t))
 
 -- ---- the line's end
 
@@ -119,7 +122,7 @@ strip_cases : (t : List ℕ) → ((strip_carriage_return t ≡ take (length t - 
 strip_cases t =
     ⊎_elim (λ cr. inl (ap (λ b. cond b (take (length t - 1) t) t) cr.0, cr.1))
     (λ other. inr (ap (λ b. cond b (take (length t - 1) t) t) other.0, other.1))
-    (eqb_tells (get_or t (length t - 1) 0) 13)
+    (equal_or_not (get_or t (length t - 1) 0) 13)
 
 not_empty : (t : List ℕ) → get_or t (length t - 1) 0 ≡ 13 → 0 < length t
 not_empty [] cr = absurd (omega (arith, cr))
@@ -183,7 +186,7 @@ begins_line t utf8 =
     let next : length t - 1 - n + 1 ≡ length t - n = omega arith in
     subst (IsCharBoundary t) next
     (IsCharBoundary-after_ascii t (length t - 1 - n) utf8 (omega arith) (omega (arith, feed))))
-    (eqb_tells n (length t))
+    (equal_or_not n (length t))
 
 utf8_last_line : (t : List ℕ) → IsUtf8 t → IsUtf8 (last_line t)
 utf8_last_line t utf8 = IsUtf8-drop t _ utf8 (begins_line t utf8)

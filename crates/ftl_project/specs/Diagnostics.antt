@@ -1,8 +1,7 @@
 -- What is reported of what is found in a file.
-use Rattle.std.specs.Prelude.{◌≡◌, ◌⊎◌, ◌+◌, ◌≤◌, ◌++◌, ℕ, List, [], ◌∷◌, Option, None, Some, codes}
-use Rattle.std.specs.Prelude.{length, min, slice_range}
+use Rattle.std.specs.Prelude.{◌≡◌, ◌++◌, ℕ, List, [], ◌∷◌, Option, None, Some, codes}
+use Rattle.std.specs.Prelude.{length, min}
 use Rattle.std.specs.Fmt.{decimal}
-use Rattle.std.specs.Str.{IsCharBoundary}
 use Rattle.fluent_syntax.specs.Lines.{column_at, line_at}
 use Rattle.fluent_syntax_tree.specs.declared.spans.Span.{Span}
 use Rattle.ftl_project.specs.Excerpt.{shown_text}
@@ -18,12 +17,6 @@ location_at text name = record {
   start = name.start;
   end = name.end;
 }
-
--- The bytes are those of the name, or none where it is no range of the text's characters.
-abbrev pub IsName : (text : List ℕ) → Span → List ℕ → Type 0
-IsName text name bytes =
-    ((bytes ≡ slice_range text name.start name.end) × (length bytes + name.start ≡ name.end))
-    ⊎ ((name.start ≤ name.end → IsCharBoundary text name.start → ¬ (IsCharBoundary text name.end)) × (bytes ≡ []))
 
 -- a place in a file: its path as it is shown, its line and its column
 abbrev pub place_of : (path : List ℕ) (line column : ℕ) → List ℕ

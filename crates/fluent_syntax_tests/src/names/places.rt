@@ -3,7 +3,7 @@
 use crate::alike::{assert_same, assert_same_text};
 use crate::names::findings::name_index;
 use fluent_syntax::spans::Span;
-use fluent_syntax_names::{Difference, Side, missing_parts, shown_name};
+use fluent_syntax_names::{Difference, Side, full_name, missing_parts, shown_name};
 use std::alloc::Global;
 use std::test::Fail;
 
@@ -62,6 +62,31 @@ fn names_as_shown(rt: HostRuntime) -> Result<(), Fail> {
             end: *end,
         };
         assert_same_text(alloc, *text, shown_name(*text, name), *expected)?;
+    }
+    Ok(())
+}
+
+/// A text, a range of it, and the name that sentences have.
+const FULL: &[(&str, usize, usize, &str)] = table! {
+    "a = { b.c }\n", 8, 9, "b.c";
+    "a = { -b-1_.c -> }\n", 12, 13, "-b-1_.c";
+    "a = { -b }\n", 7, 8, "-b";
+    "a = A\n    .b = B\n", 11, 12, "b";
+    "-a = A\n", 1, 2, "-a";
+    "a.b", 2, 3, "a.b";
+    ".b", 1, 2, "b";
+    "a = A\n", 1, 0, "";
+};
+
+#[test]
+fn names_in_sentences(rt: HostRuntime) -> Result<(), Fail> {
+    let alloc = rt.alloc();
+    for (text, start, end, expected) in FULL {
+        let name = Span {
+            start: *start,
+            end: *end,
+        };
+        assert_same_text(alloc, *text, full_name(*text, name), *expected)?;
     }
     Ok(())
 }

@@ -2,10 +2,9 @@
 
 use crate::diagnostics::diagnostic_forms::{LintDiagnostic, LintDiagnosticKind, Related};
 use crate::diagnostics::mapped_ranges::MappedRanges;
-use crate::documents::occurrences::bytes_of;
 use crate::documents::positions::{PositionRange, Positions};
 use fluent_syntax::spans::Span;
-use fluent_syntax_names::Finding;
+use fluent_syntax_names::{Finding, full_name};
 use std::alloc::{AllocError, Global};
 
 /// What is reported of each finding that has a place, in their order, which is that of the text. `AllocError` where a
@@ -27,7 +26,7 @@ pub fn finding_diagnostics<'u>(
             diagnostics.push(LintDiagnostic {
                 range: positions.range(span),
                 kind: LintDiagnosticKind::Finding(kind),
-                message: kind.sentence(alloc, bytes_of(text, span), line)?,
+                message: kind.sentence(alloc, full_name(text, span), line)?,
                 related: first_definition(uri, first),
             })?;
         }

@@ -7,11 +7,11 @@ ghost use Rattle.ftl_project.specs.Subjects.{subject_name};
 ghost use Rattle.fluent_syntax_names.specs.Severities.{name_of};
 
 use crate::reporting::diagnostics::{
-    Diagnostic, OtherPlace, SourceLocation, Subject, diagnostic_text, location_of, name_in,
+    Diagnostic, OtherPlace, SourceLocation, Subject, diagnostic_text, location_of,
 };
 use crate::reporting::line_starts::LineStarts;
 use fluent_syntax::spans::{Lines, Span};
-use fluent_syntax_names::{Finding, NameIndex, Severity, shown_name};
+use fluent_syntax_names::{Finding, NameIndex, Severity, full_name, shown_name};
 use ftl_files::Form;
 use std::alloc::{AllocError, Global};
 
@@ -182,7 +182,7 @@ impl FileReporter<'_> {
 
     /// A sentence on the finding.
     fn message(&self, finding: &Finding) -> Result<String, AllocError> {
-        let name = finding.place.map_or("", |span| name_in(self.text, span));
+        let name = finding.place.map_or("", |span| full_name(self.text, span));
         let first = finding
             .other
             .map(|first| self.starts.line_column(first.span.start).0);

@@ -1,6 +1,6 @@
 //! What is reported of a place in a file, for people or for tools.
 ghost use Rattle.std.specs.Prelude.{◌≡◌, ◌++◌, IfOk, OnOk, string_bytes};
-ghost use Rattle.ftl_project.specs.Diagnostics.{IsName, IsDiagnostic, place_or_path, diagnostic_line, location_at};
+ghost use Rattle.ftl_project.specs.Diagnostics.{IsDiagnostic, place_or_path, diagnostic_line, location_at};
 ghost use Rattle.ftl_project.specs.Diagnostics.{name_part};
 ghost use Rattle.ftl_project.specs.Subjects.{subject_name};
 
@@ -79,13 +79,6 @@ pub(crate) fn location_of<'t>(lines: &mut Lines<'t>, text: &str, name: Span) -> 
         start: name.start,
         end: name.end,
     }
-}
-
-/// The name at a range of the text; none where it is no range of it.
-pub(crate) fn name_in(text: &str, name: Span) -> &str
-    ensures { IsName text.now name result.now }
-{
-    text.get(name.start..name.end).unwrap_or("")
 }
 
 /// What is reported of the diagnostic in the form.

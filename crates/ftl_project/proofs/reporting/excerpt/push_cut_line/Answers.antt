@@ -1,5 +1,5 @@
-use Rattle.std.proofs.Common.{◌≡◌, ◌⊎◌, ◌++◌, ◌+◌, ◌-◌, ◌≤◌, ◌∙◌, OnOk, ap, arith, drop, inl, inr, length, string_bytes, subst, sym, take}
-use Rattle.std.proofs.Common.{⊎_elim}
+use Rattle.std.proofs.Common.{◌≡◌, ◌⊎◌, ◌++◌, ◌+◌, ◌-◌, ◌≤◌, ◌∙◌, OnOk, ap, arith, drop, inl, inr}
+use Rattle.std.proofs.Common.{⊎_elim, length, string_bytes, subst, sym, take}
 use Rattle.std.proofs.lemmas.Bool.{cases_lt}
 use Rattle.ftl_project.specs.Excerpt.{excerpt}
 use Rattle.ftl_project.proofs.Windows.{floor_is_near, near_excerpt}
