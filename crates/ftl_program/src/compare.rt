@@ -108,8 +108,8 @@ struct Comparison<'p> {
 }
 
 impl Comparison<'_> {
-    /// Compares each file or folder, once, with its counterpart. What can't be listed, and a file where the other one is
-    /// a folder, or the other way round, is reported, and the others are compared.
+    /// Compares each file or folder, once, with its counterpart. What can't be listed, and a file where the other one
+    /// is a folder, or the other way round, is reported, and the others are compared.
     fn compare_all(
         &self,
         counterparts: &[Counterparts],
