@@ -3,25 +3,25 @@ use Rattle.ftl.specs.Watched.{inner_of}
 use Rattle.ftl_project.specs.Tally.{answered}
 use Rattle.std.specs.Prelude.{Some}
 use Rattle.ftl_project.proofs.Comparisons.{Compares-report_text, of_side}
-use Rattle.ftl_project.proofs.Counting.{Appends-as, on_ok_then}
+use Rattle.ftl_project.proofs.Counting.{appends_as, on_ok_given}
 use Rattle.ftl_project.proofs.comparing.Comparing.report_pair.Goals as goal
 
-pub returns-in-Ok-clause-counted : goal.returns-in-Ok-clause-counted
-returns-in-Ok-clause-counted g c =
+pub returns-in_ok-write_all-in-Ok-clause-counted : goal.returns-in_ok-write_all-in-Ok-clause-counted
+returns-in_ok-write_all-in-Ok-clause-counted g c =
     let written = g.O.Write.contents in
     let compared = c.in-Ok.compared in
     let after = written (inner_of c.write_all.new.writer) in
-    on_ok_then c.write_all.result (λ appends. (
+    on_ok_given c.write_all-in-Ok.result (
       answered compared.errors compared.warnings (not (compared.errors == 0)),
       Some compared.share,
       string_bytes compared.report_text,
       (compared.share, refl, c.in-Ok.ensures.compared, refl),
       c.count.ensures,
       c.add.ensures,
-      Appends-as (written (inner_of c.args.streams.now.out.now)) after after c.as_bytes.result.now (string_bytes
+      appends_as (written (inner_of c.args.streams.now.out.now)) after after c.as_bytes.result.now (string_bytes
           compared.report_text)
-          appends c.as_bytes.ensures.value refl,
-    )) c.write_all.ensures.all
+          c.in_ok-write_all-in-Ok.ensures.all c.as_bytes.ensures.value refl,
+    )
 
 pub returns-in-Err-clause-counted : goal.returns-in-Err-clause-counted
 returns-in-Err-clause-counted g c =
