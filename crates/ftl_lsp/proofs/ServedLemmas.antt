@@ -11,7 +11,7 @@ use Rattle.ftl_lsp.specs.Outbox.{Sends}
 use Rattle.ftl_lsp.specs.Phases.{ending_of}
 use Rattle.ftl_lsp.specs.Served.{GoesOn, Stops, TakesStep, is_not_written, is_unpublished, stops}
 use Rattle.ftl_lsp.specs.Served.{takes, sends_unasked, publishes_unwritten, has_no_memory_to_publish}
-use Rattle.ftl_lsp.specs.Sessions.{TakesMessage, Session, Unasked}
+use Rattle.ftl_lsp.specs.Sessions.{SendsForMessage, Session, Unasked}
 use Rattle.ftl_lsp.specs.declared.sessions.endings.Ending.{Ending}
 use Rattle.ftl_lsp.specs.declared.sessions.endings.Ending.TheVariants.{Input, Memory, Output}
 use Rattle.ftl_lsp.specs.declared.sessions.phases.Phase.{Phase}
@@ -48,7 +48,7 @@ ends_before_first_message input output =
 
 -- what was to be sent for a body, and was not
 pub reply_is_unsent : {Y : Type 0} (r : Result Y Ending) (before next : Session) (body : List ℕ) (sent : Option Data)
-    (value : Data) (written now : Option (List ℕ)) → TakesMessage before body sent next → sent ≡ Some value →
+    (value : Data) (written now : Option (List ℕ)) → SendsForMessage before body sent next → sent ≡ Some value →
     IfErr r (λ ending. (ending ≡ Memory) ⊎ (ending ≡ Output)) → (r ≡ Err Memory → now ≡ written) →
     IfErr r (λ ending. IsUnsent before body written ending now)
 reply_is_unsent (Ok x) before next body sent value written now answers some fault same = fault
@@ -56,7 +56,7 @@ reply_is_unsent (Err e) before next body sent value written now answers some (in
     subst (λ (ending : Ending). IsUnsent before body written ending now) (sym is) (has_no_memory now (same (ap Err is)))
 reply_is_unsent (Err e) before next body sent value written now answers some (inr is) same =
     subst (λ (ending : Ending). IsUnsent before body written ending now) (sym is)
-    (is_not_written now value next (subst (λ (o : Option Data). TakesMessage before body o next) some answers))
+    (is_not_written now value next (subst (λ (o : Option Data). SendsForMessage before body o next) some answers))
 
 abbrev is_exit : Option Ending → Bool
 is_exit (Some Input) = false

@@ -22,9 +22,9 @@ use Rattle.ftl_lsp.specs.Replies.{sends_diagnostics, sends_none, sends_withdrawa
 use Rattle.ftl_lsp.specs.Diagnostics.{DiagnosesText, shown}
 use Rattle.ftl_lsp.specs.DiagnosticForms.{IsLintDiagnostic, PublishesDiagnostics, error_form}
 use Rattle.ftl_lsp.specs.declared.diagnostics.Diagnostic.{Diagnostic}
-use Rattle.ftl_lsp.specs.Sessions.{TakesMessage, TakesNotification, TakesRequest, TakesRunning, HandlesNotification}
+use Rattle.ftl_lsp.specs.Sessions.{SendsForMessage, SendsForNotification, SendsForRequest, SendsWhileRunning, HandlesNotification}
 use Rattle.ftl_lsp.specs.Sessions.{Finds, RefusesFor, Republishes, fits}
-use Rattle.ftl_lsp.specs.Sessions.{IsMethod, Session, TakesRequest, concerns}
+use Rattle.ftl_lsp.specs.Sessions.{IsMethod, Session, SendsForRequest, concerns}
 use Rattle.ftl_lsp.specs.Asking.{IsResult, names_open}
 use Rattle.ftl_lsp.specs.Sessions.{changes, published, requested, notified, opens, passes, runs}
 use Rattle.ftl_lsp.specs.Sessions.{saves, watches}
@@ -141,7 +141,7 @@ pub republishes : {Y : Type 0} (r : Result (Option Value) Y) (old : List ℕ →
     ((texts : List ℕ → Option OpenText) → texts ≡ mid.texts
     → HandlesNotification old d method (diagnosed uri found.text) texts) →
     OnOk r (new ≡ mid) → IfOk r (λ sent. IsSent (published uri (mid.texts uri)) (option_map view sent)) →
-    IfOk r (λ sent. TakesRunning old d method (option_map view sent) new.texts)
+    IfOk r (λ sent. SendsWhileRunning old d method (option_map view sent) new.texts)
 republishes r old d method uri found mid new open' follows same sent =
     IfOk-with r _ _ _
     (λ e x h. (
@@ -156,7 +156,7 @@ pub publishes_opened : {Y : Type 0} (r : Result (Option Value) Y) (d : Data) (ur
     (old mid new : Session) → uri_in d ≡ Some uri → opened_text_in d ≡ Some text → version ≡ version_in d →
     Sets old.texts uri (Some (record { text = text; version = version })) mid.texts → OnOk r (new ≡ mid) →
     IfOk r (λ sent. IsSent (published uri (mid.texts uri)) (option_map view sent)) →
-    IfOk r (λ sent. TakesRunning old.texts d (Some DidOpen) (option_map view sent) new.texts)
+    IfOk r (λ sent. SendsWhileRunning old.texts d (Some DidOpen) (option_map view sent) new.texts)
 publishes_opened r d uri text version old mid new named stated numbered sets same sent =
     let made = subst
     (λ (n : Option ℤ). Sets old.texts uri (Some (record { text = text; version = n })) mid.texts) numbered sets in
@@ -174,7 +174,7 @@ pub publishes_changed : {Y : Type 0} (r : Result (Option Value) Y) (d : Data) (u
     changes_in d ≡ Some items → edits_in items ≡ Some edits → version ≡ version_in d →
     is_some (old.texts uri) ≡ true → SetsMade old.texts uri version edits found mid.texts → OnOk r (new ≡ mid) →
     IfOk r (λ sent. IsSent (published uri (mid.texts uri)) (option_map view sent)) →
-    IfOk r (λ sent. TakesRunning old.texts d (Some DidChange) (option_map view sent) new.texts)
+    IfOk r (λ sent. SendsWhileRunning old.texts d (Some DidChange) (option_map view sent) new.texts)
 publishes_changed r d uri items edits version true old mid new named stated is_read numbered open'
     (before, after, was, makes, sets) same sent =
     republishes r old.texts d (Some DidChange) uri after mid new (is_open old.texts mid.texts uri after sets)
@@ -188,7 +188,7 @@ publishes_changed r d uri items edits version false old mid new named stated is_
 -- a document that is saved
 takes_saving : (old new : List ℕ → Option OpenText) (d : Data) (uri : List ℕ) (sent : Option Data)
     (found : Option OpenText) → old uri ≡ found → uri_in d ≡ Some uri → new ≡ old → IsSent (published uri found) sent →
-    TakesRunning old d (Some DidSave) sent new
+    SendsWhileRunning old d (Some DidSave) sent new
 takes_saving old new d uri sent (Some found) open' named same is =
     (diagnosed uri found.text, is, saves uri found new named open' same)
 takes_saving old new d uri sent None open' named same is =
@@ -197,7 +197,7 @@ takes_saving old new d uri sent None open' named same is =
 pub publishes_saved : {Y : Type 0} (r : Result (Option Value) Y) (d : Data) (uri : List ℕ) (old new : Session) →
     uri_in d ≡ Some uri → OnOk r (new ≡ old) →
     IfOk r (λ sent. IsSent (published uri (old.texts uri)) (option_map view sent)) →
-    IfOk r (λ sent. TakesRunning old.texts d (Some DidSave) (option_map view sent) new.texts)
+    IfOk r (λ sent. SendsWhileRunning old.texts d (Some DidSave) (option_map view sent) new.texts)
 publishes_saved r d uri old new named same sent =
     IfOk-with r _ _ _ (λ e x h. takes_saving old.texts new.texts d uri _ _ refl named (ap (λ s. s.texts) e) h) same sent
 
@@ -221,22 +221,22 @@ found_code_refuses method fitting found code refuses is =
 pub takes_request : {Y : Type 0} (r : Result (Option Value) Y) (old mid new : Session) (body : List ℕ)
     (d id same_id : Data) (name : List ℕ) (method : Option Method) → read body ≡ Some d →
     message_in d ≡ request id name → same_id ≡ id → IsMethod name method → mid ≡ old →
-    IfOk r (λ sent. TakesRequest mid same_id d method (option_map view sent) new) →
-    IfOk r (λ sent. TakesMessage old body (option_map view sent) new)
+    IfOk r (λ sent. SendsForRequest mid same_id d method (option_map view sent) new) →
+    IfOk r (λ sent. SendsForMessage old body (option_map view sent) new)
 takes_request (Ok sent) old mid new body d id same_id name method is_read asked same named before (reply, is, takes) = (
   reply,
   is,
   requested d id name method reply new is_read asked named
-      (subst (λ (s : Session). TakesRequest s id d method reply new) before
-      (subst (λ (i : Data). TakesRequest mid i d method reply new) same takes)),
+      (subst (λ (s : Session). SendsForRequest s id d method reply new) before
+      (subst (λ (i : Data). SendsForRequest mid i d method reply new) same takes)),
 )
 takes_request (Err e) old mid new body d id same_id name method is_read asked same named before h = h
 
 pub takes_notification : {Y : Type 0} (r : Result (Option Value) Y) (old new : Session) (body : List ℕ) (d : Data)
     (name : List ℕ) (method : Option Method) → read body ≡ Some d →
     message_in d ≡ notification name → IsMethod name method →
-    IfOk r (λ sent. TakesNotification old d method (option_map view sent) new) →
-    IfOk r (λ sent. TakesMessage old body (option_map view sent) new)
+    IfOk r (λ sent. SendsForNotification old d method (option_map view sent) new) →
+    IfOk r (λ sent. SendsForMessage old body (option_map view sent) new)
 takes_notification (Ok sent) old new body d name method is_read asked named (reply, is, takes) =
     (reply, is, notified d name method reply new is_read asked named takes)
 takes_notification (Err e) old new body d name method is_read asked named h = h
@@ -251,19 +251,19 @@ unconcerned texts d DidSave a b c e = absurd (e refl)
 unconcerned texts d _ a b c e = refl
 
 pub takes_none : (old : List ℕ → Option OpenText) (d : Data) (method : Option Method) → concerns old d method ≡ false →
-    TakesRunning old d method None old
+    SendsWhileRunning old d method None old
 takes_none old d method none = (silence, sends_none, passes method old none refl)
 
 pub other_method_passes_over : (old : List ℕ → Option OpenText) (d : Data) (method : Option Method) (known : Method) →
     method ≡ Some known → known ≢ DidOpen → known ≢ DidChange → known ≢ DidClose → known ≢ DidSave →
-    TakesRunning old d method None old
+    SendsWhileRunning old d method None old
 other_method_passes_over old d method known is a b c e =
     takes_none old d method (ap (concerns old d) is ∙ unconcerned old d known a b c e)
 
 -- files are watched, or nothing is sent
 pub initialized_watches : (old : List ℕ → Option OpenText) (d : Data) (method : Option Method) (known : Method)
     (sent : Option Data) → method ≡ Some known → known ≡ Initialized → IsSent watch sent ⊎ IsSent silence sent →
-    TakesRunning old d method sent old
+    SendsWhileRunning old d method sent old
 initialized_watches old d method known sent is named (inl watches') =
     let follows = subst (λ (m : Option Method). HandlesNotification old d m watch old) (sym (is ∙ ap Some named))
     (watches old refl) in
@@ -274,8 +274,8 @@ initialized_watches old d method known sent is named (inr none) =
 -- a notification that was followed while the session runs
 running_is_followed : (old mid : Session) (d : Data) (method : Option Method) (sent : Option Data)
     (phase last : Phase) (new : List ℕ → Option OpenText) → old.phase ≡ Running → mid ≡ old → phase ≡ mid.phase →
-    last ≡ after_notification phase method → TakesRunning mid.texts d method sent new →
-    TakesNotification old d method sent (record { phase = last; texts = new })
+    last ≡ after_notification phase method → SendsWhileRunning mid.texts d method sent new →
+    SendsForNotification old d method sent (record { phase = last; texts = new })
 running_is_followed old mid d method sent phase last new is_running same kept after (reply, is, follows) = (
   reply,
   is,
@@ -286,12 +286,12 @@ running_is_followed old mid d method sent phase last new is_running same kept af
 -- the same, where nothing of the session is changed after it
 pub running_notice_is_taken : (old mid beyond noted : Session) (d : Data) (method : Option Method) (sent : Option Data)
     (last : Phase) → old.phase ≡ Running → mid ≡ old → beyond.phase ≡ mid.phase → noted ≡ beyond →
-    last ≡ after_notification noted.phase method → TakesRunning mid.texts d method sent beyond.texts →
-    TakesNotification old d method sent (record { phase = last; texts = noted.texts })
+    last ≡ after_notification noted.phase method → SendsWhileRunning mid.texts d method sent beyond.texts →
+    SendsForNotification old d method sent (record { phase = last; texts = noted.texts })
 running_notice_is_taken old mid beyond noted d method sent last is_running same kept same_noted after answers =
     subst
     (λ (s : Session). last ≡ after_notification s.phase method →
-    TakesNotification old d method sent (record { phase = last; texts = s.texts }))
+    SendsForNotification old d method sent (record { phase = last; texts = s.texts }))
     (sym same_noted)
     (λ e. running_is_followed old mid d method sent beyond.phase last beyond.texts is_running same kept e answers) after
 

@@ -4,7 +4,7 @@ use Rattle.serde_json.specs.Data.{Data}
 use Rattle.ftl_lsp.specs.Inbox.{EndsAs, TakesFrame}
 use Rattle.ftl_lsp.specs.Outbox.{Sends}
 use Rattle.ftl_lsp.specs.Phases.{ending_of}
-use Rattle.ftl_lsp.specs.Sessions.{Session, TakesMessage, Unasked}
+use Rattle.ftl_lsp.specs.Sessions.{Session, SendsForMessage, Unasked}
 use Rattle.ftl_lsp.specs.declared.sessions.endings.Ending.{Ending}
 use Rattle.ftl_lsp.specs.declared.sessions.endings.Ending.TheVariants.{Memory, Output}
 use Rattle.ftl_lsp.specs.declared.sessions.phases.Phase.TheVariants.{Fresh}
@@ -18,7 +18,7 @@ pub record IsFresh (session : Session) : Type 0 where
 pub record SendsAnswer (before : Session) (body : List ℕ) (now : Session) (written sent_on : Option (List ℕ)) :
     Type 0 where
   pub sent : Option Data
-  pub answered : TakesMessage before body sent now
+  pub answered : SendsForMessage before body sent now
   pub sends : Sends written sent_on sent
 
 -- A frame is taken off the input, and its body is answered.
@@ -47,7 +47,7 @@ pub data IsUnsent (before : Session) (body : List ℕ) (written : Option (List �
     Type 0 where
   has_no_memory : (now : Option (List ℕ)) → now ≡ written → IsUnsent before body written Memory now
   is_not_written : (now : Option (List ℕ)) (value : Data) (next : Session) →
-      TakesMessage before body (Some value) next →
+      SendsForMessage before body (Some value) next →
       IsUnsent before body written Output now
 
 -- Why nothing is sent unasked, and what is on the output then: likewise.

@@ -154,18 +154,18 @@ pub data Unasked (session : Session) (value : Data) : Type 0 where
   shows : Shows session value → Unasked session value
 
 -- The same, where that value is sent for it, if any is.
-abbrev pub TakesRequest : (old : Session) → (id d : Data) → Option Method → Option Data →
+abbrev pub SendsForRequest : (old : Session) → (id d : Data) → Option Method → Option Data →
     (new : Session) → Type 0
-TakesRequest old id d method sent new =
+SendsForRequest old id d method sent new =
     (reply : Reply) × IsSent reply sent × TakesRequest old id d method reply new
 
-abbrev pub TakesNotification : (old : Session) → Data → Option Method → Option Data → (new : Session) → Type 0
-TakesNotification old d method sent new =
+abbrev pub SendsForNotification : (old : Session) → Data → Option Method → Option Data → (new : Session) → Type 0
+SendsForNotification old d method sent new =
     (reply : Reply) × IsSent reply sent × TakesNotification old d method reply new
 
-abbrev pub TakesRunning : (old : List ℕ → Option OpenText) → Data → Option Method → Option Data →
+abbrev pub SendsWhileRunning : (old : List ℕ → Option OpenText) → Data → Option Method → Option Data →
     (new : List ℕ → Option OpenText) → Type 0
-TakesRunning old d method sent new = (reply : Reply) × IsSent reply sent × HandlesNotification old d method reply new
+SendsWhileRunning old d method sent new = (reply : Reply) × IsSent reply sent × HandlesNotification old d method reply new
 
-abbrev pub TakesMessage : (old : Session) → (body : List ℕ) → Option Data → (new : Session) → Type 0
-TakesMessage old body sent new = (reply : Reply) × IsSent reply sent × Steps old body reply new
+abbrev pub SendsForMessage : (old : Session) → (body : List ℕ) → Option Data → (new : Session) → Type 0
+SendsForMessage old body sent new = (reply : Reply) × IsSent reply sent × Steps old body reply new

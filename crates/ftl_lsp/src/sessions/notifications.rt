@@ -3,7 +3,7 @@ ghost use Rattle.std.specs.Prelude.{◌≡◌, ◌⊎◌, option_map, IfOk, OnOk
 ghost use Rattle.serde_json.specs.View.{view};
 ghost use Rattle.ftl_lsp.specs.OpenDocuments.{texts};
 ghost use Rattle.ftl_lsp.specs.Replies.{IsSent, silence, watch};
-ghost use Rattle.ftl_lsp.specs.Sessions.{TakesRunning};
+ghost use Rattle.ftl_lsp.specs.Sessions.{SendsWhileRunning};
 
 use crate::documents::changes::changes_of;
 use crate::sessions::methods::Method;
@@ -22,7 +22,7 @@ impl Server {
     ) -> Result<Option<Value>, AllocError>
         ensures phase { OnOk result (self.new.phase ≡ self.old.phase) }
         ensures follows { let old = texts self.old.documents in
-            IfOk result (λ sent. TakesRunning
+            IfOk result (λ sent. SendsWhileRunning
             old (view message.now) method (option_map view sent) (texts self.new.documents)) }
     {
         let Some(method) = method else {
@@ -54,7 +54,7 @@ impl Server {
     fn open(&mut self, message: &Value) -> Result<Option<Value>, AllocError>
         ensures phase { OnOk result (self.new.phase ≡ self.old.phase) }
         ensures follows { let old = texts self.old.documents in
-            IfOk result (λ sent. TakesRunning
+            IfOk result (λ sent. SendsWhileRunning
             old (view message.now) (Some Method.DidOpen) (option_map view sent) (texts self.new.documents)) }
     {
         let Some(uri) = uri_of(message) else {
@@ -75,7 +75,7 @@ impl Server {
     fn change(&mut self, message: &Value) -> Result<Option<Value>, AllocError>
         ensures phase { OnOk result (self.new.phase ≡ self.old.phase) }
         ensures follows { let old = texts self.old.documents in
-            IfOk result (λ sent. TakesRunning
+            IfOk result (λ sent. SendsWhileRunning
             old (view message.now) (Some Method.DidChange) (option_map view sent) (texts self.new.documents)) }
     {
         let Some(uri) = uri_of(message) else {
@@ -100,7 +100,7 @@ impl Server {
     fn save(&mut self, message: &Value) -> Result<Option<Value>, AllocError>
         ensures phase { OnOk result (self.new.phase ≡ self.old.phase) }
         ensures follows { let old = texts self.old.documents in
-            IfOk result (λ sent. TakesRunning
+            IfOk result (λ sent. SendsWhileRunning
             old (view message.now) (Some Method.DidSave) (option_map view sent) (texts self.new.documents)) }
     {
         match uri_of(message) {
@@ -113,7 +113,7 @@ impl Server {
     fn close(&mut self, message: &Value) -> Result<Option<Value>, AllocError>
         ensures phase { OnOk result (self.new.phase ≡ self.old.phase) }
         ensures follows { let old = texts self.old.documents in
-            IfOk result (λ sent. TakesRunning
+            IfOk result (λ sent. SendsWhileRunning
             old (view message.now) (Some Method.DidClose) (option_map view sent) (texts self.new.documents)) }
     {
         let Some(uri) = uri_of(message) else {

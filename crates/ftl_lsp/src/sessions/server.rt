@@ -5,7 +5,7 @@ ghost use Rattle.serde_json.specs.View.{view};
 ghost use Rattle.ftl_lsp.specs.OpenDocuments.{texts};
 ghost use Rattle.ftl_lsp.specs.Phases.{ending_of};
 ghost use Rattle.ftl_lsp.specs.Replies.{IsSent, refused};
-ghost use Rattle.ftl_lsp.specs.Sessions.{TakesMessage, TakesNotification, TakesRequest, session_of};
+ghost use Rattle.ftl_lsp.specs.Sessions.{SendsForMessage, SendsForNotification, SendsForRequest, session_of};
 
 use crate::documents::open_documents::Documents;
 use crate::sessions::endings::Ending;
@@ -71,7 +71,7 @@ impl Server {
     /// `AllocError` where a growth was refused.
     pub fn take<F: Folders>(&mut self, body: &[u8], files: &F) -> Result<Option<Value>, AllocError>
         ensures { IfOk result (λ sent.
-            TakesMessage (session_of self.old) body.now (option_map view sent)
+            SendsForMessage (session_of self.old) body.now (option_map view sent)
             (session_of self.new)) }
     {
         let value = match Value::from_slice(self.alloc, body) {
@@ -130,7 +130,7 @@ impl Server {
         method: Option<Method>,
         message: &Value,
     ) -> Result<Option<Value>, AllocError>
-        ensures { IfOk result (λ sent. TakesRequest (session_of self.old)
+        ensures { IfOk result (λ sent. SendsForRequest (session_of self.old)
             (view id) (view message.now) method (option_map view sent) (session_of self.new)) }
     {
         if let Some(code) = self.phase.refusal(method) {
@@ -152,7 +152,7 @@ impl Server {
         message: &Value,
         files: &F,
     ) -> Result<Option<Value>, AllocError>
-        ensures { IfOk result (λ sent. TakesNotification
+        ensures { IfOk result (λ sent. SendsForNotification
             (session_of self.old) (view message.now) method (option_map view sent) (session_of self.new)) }
     {
         let Phase::Running = self.phase else {
