@@ -24,7 +24,7 @@ use Rattle.ftl_lsp.specs.DiagnosticForms.{IsLintDiagnostic, PublishesDiagnostics
 use Rattle.ftl_lsp.specs.declared.diagnostics.Diagnostic.{Diagnostic}
 use Rattle.ftl_lsp.specs.Sessions.{SendsForMessage, SendsForNotification, SendsForRequest, SendsWhileRunning, HandlesNotification}
 use Rattle.ftl_lsp.specs.Sessions.{Finds, RefusesFor, Republishes, fits}
-use Rattle.ftl_lsp.specs.Sessions.{IsMethod, Session, SendsForRequest, concerns}
+use Rattle.ftl_lsp.specs.Sessions.{IsMethod, Session, TakesRequest, concerns}
 use Rattle.ftl_lsp.specs.Asking.{IsResult, names_open}
 use Rattle.ftl_lsp.specs.Sessions.{changes, published, requested, notified, opens, passes, runs}
 use Rattle.ftl_lsp.specs.Sessions.{saves, watches}
@@ -227,8 +227,8 @@ takes_request (Ok sent) old mid new body d id same_id name method is_read asked 
   reply,
   is,
   requested d id name method reply new is_read asked named
-      (subst (λ (s : Session). SendsForRequest s id d method reply new) before
-      (subst (λ (i : Data). SendsForRequest mid i d method reply new) same takes)),
+      (subst (λ (s : Session). TakesRequest s id d method reply new) before
+      (subst (λ (i : Data). TakesRequest mid i d method reply new) same takes)),
 )
 takes_request (Err e) old mid new body d id same_id name method is_read asked same named before h = h
 
