@@ -165,7 +165,8 @@ SendsForNotification old d method sent new =
 
 abbrev pub SendsWhileRunning : (old : List ℕ → Option OpenText) → Data → Option Method → Option Data →
     (new : List ℕ → Option OpenText) → Type 0
-SendsWhileRunning old d method sent new = (reply : Reply) × IsSent reply sent × HandlesNotification old d method reply new
+SendsWhileRunning old d method sent new =
+    (reply : Reply) × IsSent reply sent × HandlesNotification old d method reply new
 
 abbrev pub SendsForMessage : (old : Session) → (body : List ℕ) → Option Data → (new : Session) → Type 0
 SendsForMessage old body sent new = (reply : Reply) × IsSent reply sent × Steps old body reply new
