@@ -1,5 +1,5 @@
 -- Where nothing failed in a run that formats in place, each file has become its normal form.
-use Rattle.std.proofs.Common.{◌≡◌, ◌⊎◌, ◌∙◌, ℕ, List, [], ◌∷◌, Option, None, Some, Result, Ok, Err, ap}
+use Rattle.std.proofs.Common.{◌≡◌, ◌⊎◌, ◌∙◌, ℕ, List, [], ◌∷◌, Option, None, Some, Result, Ok, Err, ap, true}
 use Rattle.std.proofs.Common.{arith, inl, inr}
 use Rattle.std.proofs.Common.{refl, string_bytes, subst, sym, ⊎_elim}
 use Rattle.std.proofs.lemmas.List.Elements.{All-cons}

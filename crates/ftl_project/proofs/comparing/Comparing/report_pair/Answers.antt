@@ -3,7 +3,7 @@ use Rattle.ftl.specs.Watched.{inner_of}
 use Rattle.ftl_project.specs.Tally.{answered}
 use Rattle.std.specs.Prelude.{Some}
 use Rattle.ftl_project.proofs.Comparisons.{Compares-report_text, of_side}
-use Rattle.ftl_project.proofs.Counting.{appends_as, on_ok_given}
+use Rattle.ftl_project.proofs.Counting.{Appends-as, on_ok_given}
 use Rattle.ftl_project.proofs.comparing.Comparing.report_pair.Goals as goal
 
 pub returns-in_ok-write_all-in-Ok-clause-counted : goal.returns-in_ok-write_all-in-Ok-clause-counted
@@ -18,7 +18,7 @@ returns-in_ok-write_all-in-Ok-clause-counted g c =
       (compared.share, refl, c.in-Ok.ensures.compared, refl),
       c.count.ensures,
       c.add.ensures,
-      appends_as (written (inner_of c.args.streams.now.out.now)) after after c.as_bytes.result.now (string_bytes
+      Appends-as (written (inner_of c.args.streams.now.out.now)) after after c.as_bytes.result.now (string_bytes
           compared.report_text)
           c.in_ok-write_all-in-Ok.ensures.all c.as_bytes.ensures.value refl,
     )
