@@ -16,6 +16,17 @@ pub(crate) struct Counterparts {
     pub(crate) is_named: bool,
 }
 
+impl Counterparts {
+    /// Two that the words name.
+    fn named(alloc: Global, reference: &str, other: &str) -> Result<Self, AllocError> {
+        Ok(Counterparts {
+            reference: String::from_str(alloc, reference)?,
+            other: String::from_str(alloc, other)?,
+            is_named: true,
+        })
+    }
+}
+
 /// What is compared with what, by the paths and the project's reference, if it names one; else the first of the paths
 /// is the reference. Empty where there is nothing to compare.
 pub(crate) fn counterparts_of(
@@ -38,18 +49,10 @@ fn counterparts_of_first(alloc: Global, paths: &[&str]) -> Result<Vec<Counterpar
     let mut found = Vec::new(alloc);
     if let Some((reference, others)) = paths.split_first() {
         for other in others {
-            found.push(counterparts(alloc, *reference, *other)?)?;
+            found.push(Counterparts::named(alloc, *reference, *other)?)?;
         }
     }
     Ok(found)
-}
-
-fn counterparts(alloc: Global, reference: &str, other: &str) -> Result<Counterparts, AllocError> {
-    Ok(Counterparts {
-        reference: String::from_str(alloc, reference)?,
-        other: String::from_str(alloc, other)?,
-        is_named: true,
-    })
 }
 
 /// Each of the paths with the reference of the project, or with what that has in its place; without paths, every
@@ -65,7 +68,7 @@ fn counterparts_in(
     let mut found = Vec::new(alloc);
     let Some(languages) = &languages else {
         for path in paths {
-            found.push(counterparts(alloc, reference, *path)?)?;
+            found.push(Counterparts::named(alloc, reference, *path)?)?;
         }
         return Ok(found);
     };
@@ -78,7 +81,7 @@ fn counterparts_in(
     match paths {
         [] => finder.add_languages(&mut found)?,
         [one, other] if finder.is_file_elsewhere(*one)? && finder.is_file_elsewhere(*other)? => {
-            found.push(counterparts(alloc, *one, *other)?)?;
+            found.push(Counterparts::named(alloc, *one, *other)?)?;
         }
         paths => {
             for path in paths {
@@ -111,7 +114,7 @@ impl Finder<'_> {
         let own = self.own_name();
         let folder = format!(in alloc; "{}/{own}", self.languages)?;
         if is_below(folder.as_str(), place) {
-            found.push(counterparts(alloc, path, path)?)?;
+            found.push(Counterparts::named(alloc, path, path)?)?;
             return Ok(());
         }
         let original = original_of(alloc, self.languages, own, place)?;
@@ -123,9 +126,9 @@ impl Finder<'_> {
             Some("") if self.is_of_no_language(path) => (),
             Some(rest) => {
                 let reference = format!(in alloc; "{}{rest}", self.reference)?;
-                found.push(counterparts(alloc, reference.as_str(), path)?)?;
+                found.push(Counterparts::named(alloc, reference.as_str(), path)?)?;
             }
-            None => found.push(counterparts(alloc, self.reference, path)?)?,
+            None => found.push(Counterparts::named(alloc, self.reference, path)?)?,
         }
         Ok(())
     }
@@ -165,7 +168,7 @@ impl Finder<'_> {
             let path = format!(in alloc; "{way}{name}")?;
             found.push(Counterparts {
                 is_named: false,
-                ..counterparts(alloc, self.reference, path.as_str())?
+                ..Counterparts::named(alloc, self.reference, path.as_str())?
             })?;
         }
         Ok(())
