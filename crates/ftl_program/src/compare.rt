@@ -20,13 +20,23 @@ pub(crate) fn compare_paths(rt: &HostRuntime, compare: &Compare<'_>) -> u8 {
     if compare.paths.contains(&"-") {
         return refuse_input(rt, "compare");
     }
-    let here = ["."];
-    let paths = if compare.paths.is_empty() {
-        here.as_slice()
-    } else {
-        compare.paths.as_slice()
-    };
-    match projects_of(rt, &compare.excluded, paths) {
+    if compare.paths.is_empty() {
+        return compare_found(rt, compare, projects_of(rt, &compare.excluded, &["."]));
+    }
+    compare_found(
+        rt,
+        compare,
+        projects_of(rt, &compare.excluded, &compare.paths),
+    )
+}
+
+/// Compares the paths of these projects; the exit status, which is given where there are none.
+fn compare_found(
+    rt: &HostRuntime,
+    compare: &Compare<'_>,
+    found: Result<Vec<ProjectPaths<'_>>, u8>,
+) -> u8 {
+    match found {
         Ok(projects) => run_status(rt, compare_projects(rt, compare, &projects)),
         Err(status) => status,
     }
@@ -44,13 +54,13 @@ fn compare_projects(
         if project.settings.reference.is_none() && is_without_reference(projects) {
             return compare_in(rt, compare, project, &compare.paths);
         }
-        // no path of the words, so every language
-        let paths = if compare.paths.is_empty() {
-            [].as_slice()
+        let compared = if compare.paths.is_empty() {
+            // every language
+            compare_in(rt, compare, project, &[])?
         } else {
-            paths.as_slice()
+            compare_in(rt, compare, project, paths)?
         };
-        status = status.max(compare_in(rt, compare, project, paths)?);
+        status = status.max(compared);
     }
     Ok(status)
 }
@@ -116,20 +126,21 @@ impl Comparison<'_> {
         tally: &mut Tally,
     ) -> Result<(), RunFault> {
         let mut named = NamedFiles::new(self.rt, self.project);
-        let mut last: Option<(&str, Named)> = None;
+        let mut last = "";
+        let mut listed: Option<Named> = None;
         for counterpart in counterparts {
             if !named.is_new(self.rt, counterpart.other.as_str())? {
                 continue;
             }
             let reference = counterpart.reference.as_str();
-            let own = match last {
-                Some((path, own)) if path == reference => own,
-                _ => listing_at(self.rt, self.project, reference, tally)?,
-            };
-            if !own.has_failed {
-                self.compare_other(counterpart, &own, tally)?;
+            if listed.is_none() || reference != last {
+                listed = Some(listing_at(self.rt, self.project, reference, tally)?);
+                last = reference;
             }
-            last = Some((reference, own));
+            match &listed {
+                Some(own) if !own.has_failed => self.compare_other(counterpart, own, tally)?,
+                _ => (),
+            }
         }
         Ok(())
     }
