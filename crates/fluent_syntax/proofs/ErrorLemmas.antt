@@ -13,8 +13,9 @@ use Rattle.fluent_syntax_grammar.specs.Tiling.{Fault, Tile}
 use Rattle.fluent_syntax_grammar.specs.Body.{body, faults}
 use Rattle.fluent_syntax_grammar.specs.UniqueReading.{junk_slice, fault_slice}
 use Rattle.fluent_syntax_grammar.specs.UniqueReading as laws
-use Rattle.fluent_syntax_grammar.proofs.JunkAndSpans.{junk_of_errors, runtime_junk_of_errors, errors_ascend}
-use Rattle.fluent_syntax_grammar.proofs.JunkAndSpans.{runtime_errors_ascend}
+use Rattle.fluent_syntax_grammar.proofs.JunkAndSpans.{junk_is_where_errors_are, runtime_junk_is_where_errors_are}
+use Rattle.fluent_syntax_grammar.proofs.JunkAndSpans.{errors_of_text_ascend}
+use Rattle.fluent_syntax_grammar.proofs.JunkAndSpans.{runtime_errors_of_text_ascend}
 use Rattle.fluent_syntax_parser.specs.Faults.{fault_of}
 use Rattle.fluent_syntax_parser.specs.Answers.{Answers}
 use Rattle.fluent_syntax_parser.specs.Rest.{AnswersIn}
@@ -37,28 +38,30 @@ module _ (t : List ℕ) where
   abbrev fault_text : Fault → List ℕ
   fault_text f = bytes_at t f.slice
 
-  text_at : {R : Type 0} (o : Option R) (text : R → List ℕ) (fault : R → Fault) →
+  mapped_texts_are_fault_texts : {R : Type 0} (o : Option R) (text : R → List ℕ) (fault : R → Fault) →
       ((r : R) → text r ≡ fault_text (fault r)) → option_map text o ≡ option_map fault_text (option_map fault o)
-  text_at None text fault same = refl
-  text_at (Some r) text fault same = ap Some (same r)
+  mapped_texts_are_fault_texts None text fault same = refl
+  mapped_texts_are_fault_texts (Some r) text fault same = ap Some (same r)
 
-  text_of_fault : (e : ParserError) → refused_text t e ≡ option_map fault_text (fault_of e)
-  text_of_fault e = text_at e.slice (λ r. slice_range t r.start r.end) (λ r. record {
-    kind = kind_of e.kind;
-    pos = record { start = e.pos.start; end = e.pos.end };
-    slice = record { start = r.start; end = r.end };
-  }) (λ r. refl)
+  refused_text_is_text_of_fault : (e : ParserError) → refused_text t e ≡ option_map fault_text (fault_of e)
+  refused_text_is_text_of_fault e =
+      mapped_texts_are_fault_texts e.slice (λ r. slice_range t r.start r.end) (λ r. record {
+        kind = kind_of e.kind;
+        pos = record { start = e.pos.start; end = e.pos.end };
+        slice = record { start = r.start; end = r.end };
+      }) (λ r. refl)
 
-  refused_texts : (errors : List ParserError) (fs : List Fault) → map fault_of errors ≡ map Some fs →
-      map (refused_text t) errors ≡ map Some (map (bytes_at t) (map fault_slice fs))
-  refused_texts [] [] h = refl
-  refused_texts [] (f ∷ fs) h = cc
-  refused_texts (e ∷ errors) [] h = cc
-  refused_texts (e ∷ errors) (f ∷ fs) h =
+  refused_texts_are_texts_of_faults : (errors : List ParserError) (fs : List Fault) →
+      map fault_of errors ≡ map Some fs → map (refused_text t) errors ≡ map Some (map (bytes_at t) (map fault_slice fs))
+  refused_texts_are_texts_of_faults [] [] h = refl
+  refused_texts_are_texts_of_faults [] (f ∷ fs) h = cc
+  refused_texts_are_texts_of_faults (e ∷ errors) [] h = cc
+  refused_texts_are_texts_of_faults (e ∷ errors) (f ∷ fs) h =
       let head : fault_of e ≡ Some f = cc in
       let tail : map fault_of errors ≡ map Some fs = cc in
-      let here : refused_text t e ≡ Some (fault_text f) = text_of_fault e ∙ ap (option_map fault_text) head in
-      let more = refused_texts errors fs tail in
+      let here : refused_text t e ≡ Some (fault_text f) =
+      refused_text_is_text_of_fault e ∙ ap (option_map fault_text) head in
+      let more = refused_texts_are_texts_of_faults errors fs tail in
       cc
 
 -- ---- answers
@@ -67,38 +70,41 @@ module _ {S : Type 0} (text : S → List ℕ) (t : List ℕ) (tiles : List Tile)
   abbrev Given : Result (Resource S) (ParseFault S) → Type 0
   Given result = Answers text (body_map (bytes_at t)) tiles result
 
-  junk_of : (tree : Resource S) → resource_view text tree ≡ body_map (bytes_at t) (body tiles) →
+  junk_of_tree_is_slices_of_faults : (tree : Resource S) →
+      resource_view text tree ≡ body_map (bytes_at t) (body tiles) →
       flat_map junk_slice (body tiles) ≡ map fault_slice (faults tiles) →
       junk_texts (resource_view text tree) ≡ map (bytes_at t) (map fault_slice (faults tiles))
-  junk_of tree same law =
+  junk_of_tree_is_slices_of_faults tree same law =
       ap junk_texts same
       ∙ (junk_texts-map (bytes_at t) (body tiles) ∙ ap (map (bytes_at t)) law)
 
-  junk_given : (result : Result (Resource S) (ParseFault S)) →
+  junk_of_result_is_refused : (result : Result (Resource S) (ParseFault S)) →
       flat_map junk_slice (body tiles) ≡ map fault_slice (faults tiles) → Given result → JunkIsRefused t text result
-  junk_given (Ok tree) law (same, none) = junk_of tree same law ∙ ap (λ fs. map (bytes_at t) (map fault_slice fs)) none
-  junk_given (Err (Syntax tree errors)) law (same, stated, some) =
-      ap (map Some) (junk_of tree same law) ∙ sym (refused_texts t errors.items (faults tiles) stated)
-  junk_given (Err Memory) law given = tt
+  junk_of_result_is_refused (Ok tree) law (same, none) =
+      junk_of_tree_is_slices_of_faults tree same law ∙ ap (λ fs. map (bytes_at t) (map fault_slice fs)) none
+  junk_of_result_is_refused (Err (Syntax tree errors)) law (same, stated, some) =
+      ap (map Some) (junk_of_tree_is_slices_of_faults tree same law)
+      ∙ sym (refused_texts_are_texts_of_faults t errors.items (faults tiles) stated)
+  junk_of_result_is_refused (Err Memory) law given = tt
 
-  errors_given : (result : Result (Resource S) (ParseFault S)) → laws.Ascend t 0 (faults tiles) → Given result →
-      ErrorsAscend t result
-  errors_given (Ok tree) law given = tt
-  errors_given (Err (Syntax tree errors)) law (same, stated, some) = (faults tiles, stated, law)
-  errors_given (Err Memory) law given = tt
+  errors_of_result_ascend : (result : Result (Resource S) (ParseFault S)) → laws.Ascend t 0 (faults tiles) →
+      Given result → ErrorsAscend t result
+  errors_of_result_ascend (Ok tree) law given = tt
+  errors_of_result_ascend (Err (Syntax tree errors)) law (same, stated, some) = (faults tiles, stated, law)
+  errors_of_result_ascend (Err Memory) law given = tt
 
 module _ {S : Type 0} (text : S → List ℕ) (edition : Edition) (t : List ℕ) (result : Result (Resource S) (ParseFault S))
   where
-    pub junk_answered : (comments : Comments) → AnswersIn text (body_map (bytes_at t)) comments edition t result →
-        JunkIsRefused t text result
-    junk_answered Kept (tiles, tiled, given) =
-        junk_given text t tiles result (junk_of_errors edition t tiles tiled) given
-    junk_answered Dropped (tiles, tiled, given) =
-        junk_given text t tiles result (runtime_junk_of_errors edition t tiles tiled) given
+    pub junk_of_answer_is_refused : (comments : Comments) →
+        AnswersIn text (body_map (bytes_at t)) comments edition t result → JunkIsRefused t text result
+    junk_of_answer_is_refused Kept (tiles, tiled, given) =
+        junk_of_result_is_refused text t tiles result (junk_is_where_errors_are edition t tiles tiled) given
+    junk_of_answer_is_refused Dropped (tiles, tiled, given) =
+        junk_of_result_is_refused text t tiles result (runtime_junk_is_where_errors_are edition t tiles tiled) given
 
-    pub errors_answered : (comments : Comments) → AnswersIn text (body_map (bytes_at t)) comments edition t result →
-        ErrorsAscend t result
-    errors_answered Kept (tiles, tiled, given) =
-        errors_given text t tiles result (errors_ascend edition t tiles tiled) given
-    errors_answered Dropped (tiles, tiled, given) =
-        errors_given text t tiles result (runtime_errors_ascend edition t tiles tiled) given
+    pub errors_of_answer_ascend : (comments : Comments) →
+        AnswersIn text (body_map (bytes_at t)) comments edition t result → ErrorsAscend t result
+    errors_of_answer_ascend Kept (tiles, tiled, given) =
+        errors_of_result_ascend text t tiles result (errors_of_text_ascend edition t tiles tiled) given
+    errors_of_answer_ascend Dropped (tiles, tiled, given) =
+        errors_of_result_ascend text t tiles result (runtime_errors_of_text_ascend edition t tiles tiled) given

@@ -23,45 +23,49 @@ use Rattle.fluent_syntax.specs.RoundTrip.{AnswersReadable, AnswersWritten, IsTre
 module _ {S : Type 0} (text : S → List ℕ) where
   -- ---- what was read is readable
 
-  readable_as : (found : Resource S) (tree : BodyTree Text) → resource_view text found ≡ tree →
+  resource_of_readable_tree_is_readable : (found : Resource S) (tree : BodyTree Text) →
+      resource_view text found ≡ tree →
       is_readable One (joined_body tree) ≡ true → is_readable One (joined_body (resource_view text found)) ≡ true
-  readable_as found tree same h = ap (λ b. is_readable One (joined_body b)) same ∙ h
+  resource_of_readable_tree_is_readable found tree same h = ap (λ b. is_readable One (joined_body b)) same ∙ h
 
-  joined_as : (found : Resource S) (tree : BodyTree Text) → resource_view text found ≡ tree →
+  resource_of_joined_tree_is_joined : (found : Resource S) (tree : BodyTree Text) → resource_view text found ≡ tree →
       joined_body tree ≡ tree → joined_body (resource_view text found) ≡ resource_view text found
-  joined_as found tree same h = ap joined_body same ∙ (h ∙ sym same)
+  resource_of_joined_tree_is_joined found tree same h = ap joined_body same ∙ (h ∙ sym same)
 
-  readable_given : (t : Text) (tiles : List Tile) (result : Result (Resource S) (ParseFault S)) →
+  answers_of_tiling_are_readable : (t : Text) (tiles : List Tile) (result : Result (Resource S) (ParseFault S)) →
       Tiling One t tiles → Answers text (body_map (bytes_at t)) tiles result → AnswersReadable text t result
-  readable_given t tiles (Ok found) tiling (same, clean) = (
-    λ bare. readable_as found (tree_of t tiles) same (joined_is_readable t tiles bare tiling),
-    λ none. joined_as found (tree_of t tiles) same (joined_is_same t tiles none tiling clean),
+  answers_of_tiling_are_readable t tiles (Ok found) tiling (same, clean) = (
+    λ bare. resource_of_readable_tree_is_readable found (tree_of t tiles) same (joined_is_readable t tiles bare tiling),
+    λ none. resource_of_joined_tree_is_joined found (tree_of t tiles) same (joined_is_same t tiles none tiling clean),
   )
-  readable_given t tiles (Err (Syntax found errors)) tiling (same, stated, some) =
-      λ bare. readable_as found (tree_of t tiles) same (joined_is_readable t tiles bare tiling)
-  readable_given t tiles (Err Memory) tiling given = tt
+  answers_of_tiling_are_readable t tiles (Err (Syntax found errors)) tiling (same, stated, some) =
+      λ bare. resource_of_readable_tree_is_readable found (tree_of t tiles) same
+      (joined_is_readable t tiles bare tiling)
+  answers_of_tiling_are_readable t tiles (Err Memory) tiling given = tt
 
-  pub readable_answered : (t : Text) (result : Result (Resource S) (ParseFault S)) →
+  pub answer_of_text_is_readable : (t : Text) (result : Result (Resource S) (ParseFault S)) →
       AnswersTiling text (body_map (bytes_at t)) One t result → AnswersReadable text t result
-  readable_answered t result (tiles, tiling, given) = readable_given t tiles result tiling given
+  answer_of_text_is_readable t result (tiles, tiling, given) =
+      answers_of_tiling_are_readable t tiles result tiling given
 
   -- ---- what was written is read back
 
   -- where memory ran out
-  pub nothing_written : (tree : BodyTree Text) → AnswersWritten text tree (Err Memory)
-  nothing_written tree = let s = some_tiling One (written false tree) in (s.0, s.1, tt)
+  pub memory_error_writes_nothing : (tree : BodyTree Text) → AnswersWritten text tree (Err Memory)
+  memory_error_writes_nothing tree = let s = some_tiling One (written false tree) in (s.0, s.1, tt)
 
-  tree_given : (t : Text) (tiles : List Tile) (tree : BodyTree Text) (result : Result (Resource S) (ParseFault S)) →
+  answer_of_faultless_tiles_has_tree : (t : Text) (tiles : List Tile) (tree : BodyTree Text)
+      (result : Result (Resource S) (ParseFault S)) →
       faults tiles ≡ [] → tree_of t tiles ≡ tree → Answers text (body_map (bytes_at t)) tiles result →
       IsTree text tree result
-  tree_given t tiles tree (Ok found) clean is (same, none) = same ∙ is
-  tree_given t tiles tree (Err (Syntax found errors)) clean is (same, stated, some) = some clean
-  tree_given t tiles tree (Err Memory) clean is given = tt
+  answer_of_faultless_tiles_has_tree t tiles tree (Ok found) clean is (same, none) = same ∙ is
+  answer_of_faultless_tiles_has_tree t tiles tree (Err (Syntax found errors)) clean is (same, stated, some) = some clean
+  answer_of_faultless_tiles_has_tree t tiles tree (Err Memory) clean is given = tt
 
   -- A text that reads as a tree is answered with that tree.
   pub tree_answered : (t : Text) (tree : BodyTree Text) (result : Result (Resource S) (ParseFault S)) →
       ReadsAs One t tree → AnswersTiling text (body_map (bytes_at t)) One t result → IsTree text tree result
   tree_answered t tree result r (tiles, tiling, given) =
-      tree_given t r.tiles tree result r.no_faults r.same
+      answer_of_faultless_tiles_has_tree t r.tiles tree result r.no_faults r.same
       (subst (λ xs. Answers text (body_map (bytes_at t)) xs result) (same_tilings One t tiles r.tiles tiling r.tiling)
       given)

@@ -6,34 +6,37 @@ use Rattle.fluent_syntax_tree.specs.declared.ast.Resource.{Resource}
 use Rattle.fluent_syntax_tree.specs.declared.edition.Edition.{Edition}
 use Rattle.fluent_syntax_tree.specs.declared.spans.Span.{Span}
 use Rattle.fluent_syntax_grammar.specs.Tiling.{Tile}
-use Rattle.fluent_syntax_grammar.proofs.OneTiling.{same_tilings, same_runtime_tilings}
+use Rattle.fluent_syntax_grammar.proofs.OneTiling.{same_tilings, runtime_tilings_of_text_are_equal}
 use Rattle.fluent_syntax_parser.specs.Answers.{Answers, AnswersTiling, AnswersRuntimeTiling}
 use Rattle.fluent_syntax_parser.specs.declared.fault.ParseFault.{ParseFault}
 use Rattle.fluent_syntax_parser.specs.declared.fault.ParseFault.TheVariants.{Syntax, Memory}
 use Rattle.fluent_syntax.specs.SameAnswers.{SameAnswers}
 
 module _ {S Z : Type 0} (text : S → List ℕ) (other : Z → List ℕ) (whole : BodyTree Span → BodyTree (List ℕ)) where
-  of_one_tiling :
+  answers_of_one_tiling_are_same :
       (tiles : List Tile) (a : Result (Resource S) (ParseFault S)) (b : Result (Resource Z) (ParseFault Z)) →
       Answers text whole tiles a → Answers other whole tiles b → SameAnswers text other a b
-  of_one_tiling tiles (Ok x) (Ok y) (p, e) (q, f) = p ∙ sym q
-  of_one_tiling tiles (Ok x) (Err (Syntax y others)) (p, e) (q, stated, some) = some e
-  of_one_tiling tiles (Ok x) (Err Memory) h k = tt
-  of_one_tiling tiles (Err (Syntax x errors)) (Ok y) (p, stated, some) (q, f) = some f
-  of_one_tiling tiles (Err (Syntax x errors)) (Err (Syntax y others)) (p, stated, some) (q, found, any) =
+  answers_of_one_tiling_are_same tiles (Ok x) (Ok y) (p, e) (q, f) = p ∙ sym q
+  answers_of_one_tiling_are_same tiles (Ok x) (Err (Syntax y others)) (p, e) (q, stated, some) = some e
+  answers_of_one_tiling_are_same tiles (Ok x) (Err Memory) h k = tt
+  answers_of_one_tiling_are_same tiles (Err (Syntax x errors)) (Ok y) (p, stated, some) (q, f) = some f
+  answers_of_one_tiling_are_same tiles (Err (Syntax x errors)) (Err (Syntax y others)) (p, stated, some)
+      (q, found, any) =
       (p ∙ sym q, stated ∙ sym found)
-  of_one_tiling tiles (Err (Syntax x errors)) (Err Memory) h k = tt
-  of_one_tiling tiles (Err Memory) b h k = tt
+  answers_of_one_tiling_are_same tiles (Err (Syntax x errors)) (Err Memory) h k = tt
+  answers_of_one_tiling_are_same tiles (Err Memory) b h k = tt
 
   module _ (edition : Edition) (t : List ℕ) (a : Result (Resource S) (ParseFault S))
       (b : Result (Resource Z) (ParseFault Z)) where
-    pub answers_same : AnswersTiling text whole edition t a → AnswersTiling other whole edition t b →
+    pub answers_of_one_text_are_same : AnswersTiling text whole edition t a → AnswersTiling other whole edition t b →
         SameAnswers text other a b
-    answers_same (xs, p, h) (ys, q, k) =
-        of_one_tiling ys a b (subst (λ tiles. Answers text whole tiles a) (same_tilings edition t xs ys p q) h) k
+    answers_of_one_text_are_same (xs, p, h) (ys, q, k) =
+        answers_of_one_tiling_are_same ys a b
+        (subst (λ tiles. Answers text whole tiles a) (same_tilings edition t xs ys p q) h) k
 
-    pub runtime_answers_same : AnswersRuntimeTiling text whole edition t a →
+    pub runtime_answers_of_one_text_are_same : AnswersRuntimeTiling text whole edition t a →
         AnswersRuntimeTiling other whole edition t b → SameAnswers text other a b
-    runtime_answers_same (xs, p, h) (ys, q, k) =
-        of_one_tiling ys a b (subst (λ tiles. Answers text whole tiles a) (same_runtime_tilings edition t xs ys p q) h)
+    runtime_answers_of_one_text_are_same (xs, p, h) (ys, q, k) =
+        answers_of_one_tiling_are_same ys a b
+        (subst (λ tiles. Answers text whole tiles a) (runtime_tilings_of_text_are_equal edition t xs ys p q) h)
         k

@@ -12,21 +12,21 @@ use Rattle.fluent_syntax_edits.specs.declared.fault.EditFault.TheVariants.{Memor
 
 module _ (edition : Edition) (t : List ℕ) (n : ℕ) (change : Change) where
   -- a growth was refused
-  pub no_growth : (r : Result (String Global) EditFault) → IsErrAnd r (λ fault. fault ≡ Memory) →
+  pub memory_error_is_edit_result : (r : Result (String Global) EditFault) → IsErrAnd r (λ fault. fault ≡ Memory) →
       IsEditResult edition t n change r
-  no_growth (Ok made) h = absurd h
-  no_growth (Err fault) h = rw h no_memory
+  memory_error_is_edit_result (Ok made) h = absurd h
+  memory_error_is_edit_result (Err fault) h = rw h no_memory
 
   -- there is no stretch, or no memory
-  pub no_place : (fault : EditFault) → let r : Result Span EditFault = Err fault in
+  pub error_of_range_is_edit_result : (fault : EditFault) → let r : Result Span EditFault = Err fault in
       (r ≡ Err Memory) ⊎ RangeOf edition t n change r → IsEditResult edition t n change (Err fault)
-  no_place fault (inl e) = let same : fault ≡ Memory = cc in rw same no_memory
-  no_place fault (inr x) = no_range x
+  error_of_range_is_edit_result fault (inl e) = let same : fault ≡ Memory = cc in rw same no_memory
+  error_of_range_is_edit_result fault (inr x) = no_range x
 
-  pub place : (s : Span) → let r : Result Span EditFault = Ok s in
+  pub found_range_is_range_of_change : (s : Span) → let r : Result Span EditFault = Ok s in
       (r ≡ Err Memory) ⊎ RangeOf edition t n change r → RangeOf edition t n change r
-  place s (inl e) = cc
-  place s (inr x) = x
+  found_range_is_range_of_change s (inl e) = cc
+  found_range_is_range_of_change s (inr x) = x
 
   -- what was made is not read so
   pub refused : (s : Span) (made : List ℕ) (fault : EditFault) → RangeOf edition t n change (Ok s) →

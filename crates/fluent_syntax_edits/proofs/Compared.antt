@@ -10,7 +10,7 @@ use Rattle.fluent_syntax_tree.specs.declared.spans.Span.{Span}
 use Rattle.fluent_syntax_grammar.specs.Body.{faults}
 use Rattle.fluent_syntax_grammar.specs.RoundTrip.{tree_of}
 use Rattle.fluent_syntax_grammar.specs.Tiling.{Fault, Tile, Tiling}
-use Rattle.fluent_syntax_grammar.proofs.OneTiling.{one_tile, tiled_is_unique}
+use Rattle.fluent_syntax_grammar.proofs.OneTiling.{tile_of_text_is_one, tiled_is_unique}
 use Rattle.fluent_syntax_parser.specs.Faults.{fault_of}
 use Rattle.fluent_syntax_edits.specs.Changes.{Change, tree_after, replacement_text}
 use Rattle.fluent_syntax_edits.specs.Edits.{ReadAs, ReadsChanged}
@@ -34,7 +34,7 @@ map_some_injects (x ∷ xs) (y ∷ ys) e =
 
 tiling_is_unique : (edition : Edition) (t : List ℕ) (tiles others : List Tile) → Tiling edition t tiles →
     Tiling edition t others → tiles ≡ others
-tiling_is_unique edition t tiles others a b = tiled_is_unique t _ (one_tile edition t) 0 tiles others a b
+tiling_is_unique edition t tiles others a b = tiled_is_unique t _ (tile_of_text_is_one edition t) 0 tiles others a b
 
 module _ (edition : Edition) (t u : List ℕ) (n : ℕ) (change : Change) (s : Span) where
   abbrev moved : Fault → Fault

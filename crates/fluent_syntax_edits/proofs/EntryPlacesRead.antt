@@ -16,36 +16,37 @@ use Rattle.fluent_syntax_edits.specs.declared.entry_places.EntryPlace.{EntryPlac
 
 module _ (edition : Edition) (t : List ℕ) where
   -- Whatever the tiles from the place on are: these places, the last one, and those of the tiles are the text's.
-  pub record PlacesReadTo (i : ℕ) (ps : List EntryPlace) (last : Option EntryPlace) : Type 0 where
+  pub record HasEntryPlacesBefore (i : ℕ) (ps : List EntryPlace) (last : Option EntryPlace) : Type 0 where
     pub whole : (more : List Tile) → Tiled t (TileAt edition t) i more →
         (tiles : List Tile) × Tiling edition t tiles × (ps ++ entry_places_after last more ≡ entry_places tiles)
 
-  place_given : (s : Span) (tile : Tile) (e : Entry Span) (error : Option ParserError) →
+  tile_of_entry_has_its_entry_place : (s : Span) (tile : Tile) (e : Entry Span) (error : Option ParserError) →
       TileAt edition t s.start s.end tile → Gives tile e error →
       entry_place_of tile ≡ entry_place s (tree_of e)
-  place_given s tile e error (reads {e = v} r) g =
+  tile_of_entry_has_its_entry_place s tile e error (reads {e = v} r) g =
       let same : v ≡ tree_of e = let given = g.entry in cc in ap (entry_place s) same
-  place_given s tile e error (refuses r j) g =
+  tile_of_entry_has_its_entry_place s tile e error (refuses r j) g =
       let same : junk s ≡ tree_of e = let given = g.entry in cc in ap (entry_place s) same
 
   -- one tile more
-  pub places_read_on : (i j : ℕ) (ps qs : List EntryPlace) (last : Option EntryPlace) (now : EntryPlace)
+  pub entry_places_grow_by_tile : (i j : ℕ) (ps qs : List EntryPlace) (last : Option EntryPlace) (now : EntryPlace)
       (found : SpannedTile)
-      → PlacesReadTo i ps last → TileTo edition t i j found →
+      → HasEntryPlacesBefore i ps last → TileTo edition t i j found →
       ((tile : Tile) (more : List Tile) → entry_place_of tile ≡ entry_place found.span (tree_of found.entry) →
-      qs ++ entry_places_after (Some now) more ≡ ps ++ entry_places_after last (tile ∷ more)) → PlacesReadTo j qs
-      (Some now)
-  places_read_on i j ps qs last now found read to add = record {
+      qs ++ entry_places_after (Some now) more ≡ ps ++ entry_places_after last (tile ∷ more)) →
+      HasEntryPlacesBefore j qs (Some now)
+  entry_places_grow_by_tile i j ps qs last now found read to add = record {
     whole = λ more a.
         let beyond = subst (λ k. Tiled t (TileAt edition t) k more) to.ends a in
         let (tiles, tiling, same) = read.whole (to.tile ∷ more) (next to.blank to.inside to.in_place beyond) in
-        let place = place_given found.span to.tile found.entry found.error to.in_place to.yields in
+        let place =
+        tile_of_entry_has_its_entry_place found.span to.tile found.entry found.error to.in_place to.yields in
         (tiles, tiling, add to.tile more place ∙ same);
   }
 
   -- no tile more
-  pub read_all : (i : ℕ) (ps qs : List EntryPlace) (last : Option EntryPlace) → PlacesReadTo i ps last
-      → BlankBlock t i (length t) →
+  pub places_read_to_end_are_entry_places : (i : ℕ) (ps qs : List EntryPlace) (last : Option EntryPlace)
+      → HasEntryPlacesBefore i ps last → BlankBlock t i (length t) →
       qs ≡ ps ++ entry_places_after last [] → HasEntryPlaces edition t qs
-  read_all i ps qs last read blank e =
+  places_read_to_end_are_entry_places i ps qs last read blank e =
       let (tiles, tiling, same) = read.whole [] (done blank) in (tiles, tiling, e ∙ same)

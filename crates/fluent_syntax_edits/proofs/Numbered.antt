@@ -21,26 +21,26 @@ module _ {X Y : Type 0} (v : X → Y) where
   set_there f (suc n) (x ∷ xs) y d l e = ap (λ ys. v x ∷ ys) (set_there f n xs y d (omega arith) e)
 
   -- an item comes before it, or after the last
-  pub insert_there : (n m : ℕ) (xs : List X) (y : X) → m ≤ n → m ≤ length xs → (m < n → length xs ≤ m) →
+  pub insert_maps_to_insert : (n m : ℕ) (xs : List X) (y : X) → m ≤ n → m ≤ length xs → (m < n → length xs ≤ m) →
       map v (insert xs m y) ≡ insert (map v xs) n (v y)
-  insert_there zero zero xs y a b l = refl
-  insert_there (suc n) zero [] y a b l = refl
-  insert_there (suc n) zero (x ∷ xs) y a b l = absurd (omega (arith, l (omega arith)))
-  insert_there zero (suc m) xs y a b l = absurd (omega arith)
-  insert_there (suc n) (suc m) [] y a b l = absurd (omega arith)
-  insert_there (suc n) (suc m) (x ∷ xs) y a b l =
+  insert_maps_to_insert zero zero xs y a b l = refl
+  insert_maps_to_insert (suc n) zero [] y a b l = refl
+  insert_maps_to_insert (suc n) zero (x ∷ xs) y a b l = absurd (omega (arith, l (omega arith)))
+  insert_maps_to_insert zero (suc m) xs y a b l = absurd (omega arith)
+  insert_maps_to_insert (suc n) (suc m) [] y a b l = absurd (omega arith)
+  insert_maps_to_insert (suc n) (suc m) (x ∷ xs) y a b l =
       ap (λ ys. v x ∷ ys)
-      (insert_there n m xs y (omega arith) (omega arith) (λ k. omega (arith, l (omega arith))))
+      (insert_maps_to_insert n m xs y (omega arith) (omega arith) (λ k. omega (arith, l (omega arith))))
 
   -- the item goes, if it is there
-  pub remove_there : (n : ℕ) (xs : List X) → map v (remove xs n) ≡ remove (map v xs) n
-  remove_there n [] = none n
+  pub remove_maps_to_remove : (n : ℕ) (xs : List X) → map v (remove xs n) ≡ remove (map v xs) n
+  remove_maps_to_remove n [] = none n
     where
       none : (n : ℕ) → map v (remove [] n) ≡ remove [] n
       none zero = refl
       none (suc n) = refl
-  remove_there zero (x ∷ xs) = refl
-  remove_there (suc n) (x ∷ xs) = ap (λ ys. v x ∷ ys) (remove_there n xs)
+  remove_maps_to_remove zero (x ∷ xs) = refl
+  remove_maps_to_remove (suc n) (x ∷ xs) = ap (λ ys. v x ∷ ys) (remove_maps_to_remove n xs)
 
 -- Where the images of two lists are the same up to a map, those of two items at one number are.
 pub images_agree_at : {X Y : Type 0} (f : X → Y) (g : Y → Y) (xs ys : List X) (i : ℕ) (x y : X) → i < length xs →

@@ -5,7 +5,7 @@
 mod apply_edit;
 mod edit;
 mod edited_ranges;
-#[tactic(auto, using(crate::proofs::Answered::no_growth))]
+#[tactic(auto, using(crate::proofs::Answered::memory_error_is_edit_result))]
 mod edits;
 mod entry_places;
 pub mod fault;

@@ -33,58 +33,60 @@ any_triple_holds : {A : Type 0} {c : Construct A} → HoareTriple AnyPlace c Any
 any_triple_holds = record { on_read = λ i j a p x. tt; on_refused = λ i from to k p x. tt }
 
 module _ (edition : Edition) (t : List ℕ) where
-  bare_message : (start : ℕ) (id : Span) (value : Option (PatternTree Span)) (rest : List (AttributeTree Span)) →
-      HoareTriple AnyPlace (message_with t start id value rest) Bare AnyFault
-  bare_message start id None [] = holds_fails_from (λ i p. tt)
-  bare_message start id None (a ∷ rest) = holds_yields (λ i p. refl)
-  bare_message start id (Some value) rest = holds_yields (λ i p. refl)
+  message_of_parts_is_bare : (start : ℕ) (id : Span) (value : Option (PatternTree Span))
+      (rest : List (AttributeTree Span)) → HoareTriple AnyPlace (message_with t start id value rest) Bare AnyFault
+  message_of_parts_is_bare start id None [] = holds_fails_from (λ i p. tt)
+  message_of_parts_is_bare start id None (a ∷ rest) = holds_yields (λ i p. refl)
+  message_of_parts_is_bare start id (Some value) rest = holds_yields (λ i p. refl)
 
-  bare_term : (start : ℕ) (id : Span) (value : Option (PatternTree Span)) (rest : List (AttributeTree Span)) →
-      HoareTriple AnyPlace (term_with t start id value rest) Bare AnyFault
-  bare_term start id None rest = holds_fails_from (λ i p. tt)
-  bare_term start id (Some value) rest = holds_yields (λ i p. refl)
+  term_of_parts_is_bare : (start : ℕ) (id : Span) (value : Option (PatternTree Span))
+      (rest : List (AttributeTree Span)) → HoareTriple AnyPlace (term_with t start id value rest) Bare AnyFault
+  term_of_parts_is_bare start id None rest = holds_fails_from (λ i p. tt)
+  term_of_parts_is_bare start id (Some value) rest = holds_yields (λ i p. refl)
 
-  pub message_bare : HoareTriple AnyPlace (message_entry edition t) Bare AnyFault
-  message_bare =
+  pub read_message_is_bare : HoareTriple AnyPlace (message_entry edition t) Bare AnyFault
+  read_message_is_bare =
       holds_bind {mid = AnyValue} any_triple_holds
       (λ start. holds_bind {mid = AnyValue} any_triple_holds
       (λ id. holds_bind {mid = AnyValue} any_triple_holds (λ u. holds_bind {mid = AnyValue} any_triple_holds (λ v.
       holds_bind {mid = AnyValue} any_triple_holds
       (λ value. holds_bind {mid = AnyValue} any_triple_holds
-      (λ w. holds_bind {mid = AnyValue} any_triple_holds (λ rest. bare_message start id value rest)))))))
+      (λ w. holds_bind {mid = AnyValue} any_triple_holds (λ rest. message_of_parts_is_bare start id value rest)))))))
 
-  pub term_bare : HoareTriple AnyPlace (term_entry edition t) Bare AnyFault
-  term_bare =
+  pub read_term_is_bare : HoareTriple AnyPlace (term_entry edition t) Bare AnyFault
+  read_term_is_bare =
       holds_bind {mid = AnyValue} any_triple_holds
       (λ start. holds_bind {mid = AnyValue} any_triple_holds
       (λ z. holds_bind {mid = AnyValue} any_triple_holds
       (λ id. holds_bind {mid = AnyValue} any_triple_holds (λ u. holds_bind {mid = AnyValue} any_triple_holds (λ v.
       holds_bind {mid = AnyValue} any_triple_holds
       (λ value. holds_bind {mid = AnyValue} any_triple_holds
-      (λ w. holds_bind {mid = AnyValue} any_triple_holds (λ rest. bare_term start id value rest))))))))
+      (λ w. holds_bind {mid = AnyValue} any_triple_holds (λ rest. term_of_parts_is_bare start id value rest))))))))
 
-  a_hash : (i b : ℕ) (o : Option ℕ) → o ≡ Some b → (b == 35) ≡ true → holds (λ c. c == 35) o ≡ true
-  a_hash i b o e f = rw e f
+  byte_equal_to_hash_passes_hash_test : (i b : ℕ) (o : Option ℕ) → o ≡ Some b → (b == 35) ≡ true →
+      holds (λ c. c == 35) o ≡ true
+  byte_equal_to_hash_passes_hash_test i b o e f = rw e f
 
   entry_is_bare : (i j : ℕ) (e : EntryTree Span) (o : Option ℕ) → slice_get t i ≡ o → has_byte t 35 i ≡ false →
       entry_of edition t (family edition t) o i (Read e j) → IsBare e
-  entry_is_bare i j e None p h x = message_bare.on_read i j e tt x
-  entry_is_bare i j e (Some b) p h (first f x) = differs (a_hash i b (slice_get t i) p f) h
-  entry_is_bare i j e (Some b) p h (second f (first g x)) = term_bare.on_read i j e tt x
-  entry_is_bare i j e (Some b) p h (second f (second g x)) = message_bare.on_read i j e tt x
+  entry_is_bare i j e None p h x = read_message_is_bare.on_read i j e tt x
+  entry_is_bare i j e (Some b) p h (first f x) = differs (byte_equal_to_hash_passes_hash_test i b (slice_get t i) p f) h
+  entry_is_bare i j e (Some b) p h (second f (first g x)) = read_term_is_bare.on_read i j e tt x
+  entry_is_bare i j e (Some b) p h (second f (second g x)) = read_message_is_bare.on_read i j e tt x
 
   -- where there is no `#` the tile is none of a comment
-  pub bare_tile_at : (i j : ℕ) (tile : Tile) → has_byte t 35 i ≡ false → TileAt edition t i j tile → IsBareTile tile
-  bare_tile_at i j tile h (reads {e = e} (chosen x)) = entry_is_bare i j e (slice_get t i) refl h x
-  bare_tile_at i j tile h (refuses x y) = tt
+  pub tile_off_hash_is_bare : (i j : ℕ) (tile : Tile) → has_byte t 35 i ≡ false → TileAt edition t i j tile →
+      IsBareTile tile
+  tile_off_hash_is_bare i j tile h (reads {e = e} (chosen x)) = entry_is_bare i j e (slice_get t i) refl h x
+  tile_off_hash_is_bare i j tile h (refuses x y) = tt
 
-  bare_runtime_tile : (i j : ℕ) (tile : Tile) → RuntimeTileAt edition t i j tile → IsBareTile tile
-  bare_runtime_tile i j tile (drops h x) = tt
-  bare_runtime_tile i j tile (keeps_tile h x) = bare_tile_at i j tile h x
+  runtime_tile_is_bare : (i j : ℕ) (tile : Tile) → RuntimeTileAt edition t i j tile → IsBareTile tile
+  runtime_tile_is_bare i j tile (drops h x) = tt
+  runtime_tile_is_bare i j tile (keeps_tile h x) = tile_off_hash_is_bare i j tile h x
 
   -- the tiling without comments has none
-  pub bare_runtime : (i : ℕ) (tiles : List Tile) → Tiled t (RuntimeTileAt edition t) i tiles →
+  pub runtime_tiles_are_bare : (i : ℕ) (tiles : List Tile) → Tiled t (RuntimeTileAt edition t) i tiles →
       list_every IsBareTile tiles
-  bare_runtime i tiles (done b) = tt
-  bare_runtime i tiles (next {start = s} {end = j} {tile = x} {tiles = more} b l y m) =
-      (bare_runtime_tile s j x y, bare_runtime j more m)
+  runtime_tiles_are_bare i tiles (done b) = tt
+  runtime_tiles_are_bare i tiles (next {start = s} {end = j} {tile = x} {tiles = more} b l y m) =
+      (runtime_tile_is_bare s j x y, runtime_tiles_are_bare j more m)

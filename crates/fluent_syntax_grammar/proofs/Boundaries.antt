@@ -17,8 +17,8 @@ text_cuts t = record {
 ascii_byte_is_small : (t : List ℕ) (i : ℕ) → AsciiAt t i → get_or t i 0 < 128
 ascii_byte_is_small t i a = let e = get_or_from_slice_get t i a.byte 0 a.in_place in let s = a.ascii in omega arith
 
-pub boundary_cuts : (t : List ℕ) → IsUtf8 t → AreBoundaries t (IsCharBoundary t)
-boundary_cuts t u = record {
+pub char_boundaries_are_boundaries : (t : List ℕ) → IsUtf8 t → AreBoundaries t (IsCharBoundary t)
+char_boundaries_are_boundaries t u = record {
   in_text = λ i p. p.0;
   before = λ i a. IsCharBoundary-before_ascii t i (slice_get_within t i a.byte a.in_place) (ascii_byte_is_small t i a);
   after = λ i a. IsCharBoundary-after_ascii t i u (slice_get_within t i a.byte a.in_place) (ascii_byte_is_small t i a);

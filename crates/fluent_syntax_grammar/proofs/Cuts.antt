@@ -9,7 +9,8 @@ use Rattle.std.specs.Char.{is_ascii_hexdigit}
 use Rattle.fluent_syntax_grammar.specs.Places.{holds, LongestRun, ByteRun, has, has_byte, has_eol, after_eol}
 use Rattle.fluent_syntax_grammar.specs.Places.{is_line_place, is_blank_place, Blank, BlankBlock, no_line, line}
 use Rattle.fluent_syntax_grammar.specs.Lines.{is_run_place}
-use Rattle.fluent_syntax_grammar.proofs.Facts.{byte_exists, longest_run_in_text, two_on, add_one, has_inside, some_none}
+use Rattle.fluent_syntax_grammar.proofs.Facts.{byte_exists, longest_run_in_text, one_and_one_on_is_two_on}
+use Rattle.fluent_syntax_grammar.proofs.Facts.{plus_one_is_successor, has_inside, some_is_not_none}
 use Rattle.fluent_syntax_grammar.proofs.Tests.{or_cases}
 
 -- there is an ASCII byte
@@ -41,8 +42,8 @@ byte_equal_to_ascii_is_ascii c l b e = grind (arith, nat_tests)
 pub ascii_byte : (t : List ℕ) (c i : ℕ) → c < 128 → has_byte t c i ≡ true → AsciiAt t i
 ascii_byte t c i l e = has_ascii t (λ b. b == c) i (record { small = byte_equal_to_ascii_is_ascii c l }) e
 
-pub ascii_space : IsAsciiSet is_space
-ascii_space = record { small = λ b e. grind (arith, nat_tests) }
+pub space_is_ascii_set : IsAsciiSet is_space
+space_is_ascii_set = record { small = λ b e. grind (arith, nat_tests) }
 
 pub digit_is_ascii : IsAsciiSet is_digit
 digit_is_ascii = record { small = λ b e. grind (arith, nat_tests) }
@@ -55,21 +56,22 @@ hex_digit_is_ascii = record { small = λ b e. grind (arith, nat_tests) }
 
 -- ---- line ends
 
-eol_of : (a b c : Bool) (i k : ℕ) → (if a then Some (i + 1) else if b && c then Some (i + 2) else None) ≡ Some k →
+eol_by_tests_is_lf_or_crlf : (a b c : Bool) (i k : ℕ) →
+    (if a then Some (i + 1) else if b && c then Some (i + 2) else None) ≡ Some k →
     ((a ≡ true) × (k ≡ i + 1)) ⊎ ((b ≡ true) × (c ≡ true) × (k ≡ i + 2))
-eol_of true b c i k e = inl (refl, cc)
-eol_of false true true i k e = inr (refl, refl, cc)
-eol_of false true false i k e = cc
-eol_of false false c i k e = cc
+eol_by_tests_is_lf_or_crlf true b c i k e = inl (refl, cc)
+eol_by_tests_is_lf_or_crlf false true true i k e = inr (refl, refl, cc)
+eol_by_tests_is_lf_or_crlf false true false i k e = cc
+eol_by_tests_is_lf_or_crlf false false c i k e = cc
 
 -- a line end is an LF, or a CR before an LF
-pub eol_cases : (t : List ℕ) (i k : ℕ) → after_eol t i ≡ Some k →
+pub eol_is_lf_or_crlf : (t : List ℕ) (i k : ℕ) → after_eol t i ≡ Some k →
     ((has_byte t lf i ≡ true) × (k ≡ i + 1)) ⊎ ((has_byte t cr i ≡ true) × (has_byte t lf (i + 1) ≡ true) × (k ≡ i + 2))
-eol_cases t i k e = eol_of (has_byte t lf i) (has_byte t cr i) (has_byte t lf (i + 1)) i k e
+eol_is_lf_or_crlf t i k e = eol_by_tests_is_lf_or_crlf (has_byte t lf i) (has_byte t cr i) (has_byte t lf (i + 1)) i k e
 
 -- and it ends within the text
 pub line_end_is_in_text : (t : List ℕ) (i k : ℕ) → after_eol t i ≡ Some k → k ≤ length t
-line_end_is_in_text t i k e = elim (eol_cases t i k e) [
+line_end_is_in_text t i k e = elim (eol_is_lf_or_crlf t i k e) [
   | inl x ↦ (let l = has_inside (λ b. b == lf) t i x.0 in let f = x.1 in omega arith)
   | inr x ↦ (let l = has_inside (λ b. b == lf) t (i + 1) x.1 in let f = x.2 in omega arith)
 ]
@@ -96,27 +98,29 @@ place_is_in_text : (t : List ℕ) (k : ℕ) (o : Option ℕ) (e : Bool) → slic
 place_is_in_text t k None e g h = cc
 place_is_in_text t k (Some b) e g h = slice_get_within t k b g
 
-pub line_inside : (t : List ℕ) (k : ℕ) → is_line_place t k ≡ true → k < length t
-line_inside t k h = place_is_in_text t k (slice_get t k) (has_eol t k) refl h
+pub line_place_is_inside_text : (t : List ℕ) (k : ℕ) → is_line_place t k ≡ true → k < length t
+line_place_is_inside_text t k h = place_is_in_text t k (slice_get t k) (has_eol t k) refl h
 
-some_stops : (o : Option ℕ) (e : Bool) → (is_some o && not e) ≡ false → (o ≡ None) ⊎ (e ≡ true)
-some_stops None e h = inl refl
-some_stops (Some b) true h = inr refl
-some_stops (Some b) false h = cc
+line_stop_is_end_or_eol : (o : Option ℕ) (e : Bool) → (is_some o && not e) ≡ false → (o ≡ None) ⊎ (e ≡ true)
+line_stop_is_end_or_eol None e h = inl refl
+line_stop_is_end_or_eol (Some b) true h = inr refl
+line_stop_is_end_or_eol (Some b) false h = cc
 
-line_ends : (t : List ℕ) (j : ℕ) → is_line_place t j ≡ false → (slice_get t j ≡ None) ⊎ AsciiAt t j
-line_ends t j h = elim (some_stops (slice_get t j) (has_eol t j) h) [ inl e ↦ inl e | inr e ↦ inr (eol_is_ascii t j e) ]
+line_stops_at_end_or_ascii_byte : (t : List ℕ) (j : ℕ) → is_line_place t j ≡ false →
+    (slice_get t j ≡ None) ⊎ AsciiAt t j
+line_stops_at_end_or_ascii_byte t j h =
+    elim (line_stop_is_end_or_eol (slice_get t j) (has_eol t j) h) [ inl e ↦ inl e | inr e ↦ inr (eol_is_ascii t j e) ]
 
 abbrev is_run_byte : ℕ → Bool
 is_run_byte b = not (b == lf || b == 123 || b == 125)
 
-run_some : (t : List ℕ) (k : ℕ) (o : Option ℕ) (e : Bool) → slice_get t k ≡ o → (holds is_run_byte o && not e) ≡ true →
-    k < length t
-run_some t k None e g h = cc
-run_some t k (Some b) e g h = slice_get_within t k b g
+run_byte_is_inside_text : (t : List ℕ) (k : ℕ) (o : Option ℕ) (e : Bool) → slice_get t k ≡ o →
+    (holds is_run_byte o && not e) ≡ true → k < length t
+run_byte_is_inside_text t k None e g h = cc
+run_byte_is_inside_text t k (Some b) e g h = slice_get_within t k b g
 
-pub run_inside : (t : List ℕ) (k : ℕ) → is_run_place t k ≡ true → k < length t
-run_inside t k h = run_some t k (slice_get t k) (has_eol t k) refl h
+pub run_place_is_inside_text : (t : List ℕ) (k : ℕ) → is_run_place t k ≡ true → k < length t
+run_place_is_inside_text t k h = run_byte_is_inside_text t k (slice_get t k) (has_eol t k) refl h
 
 and_true_keeps_false : (a : Bool) → (a && true) ≡ false → a ≡ false
 and_true_keeps_false true h = h
@@ -139,7 +143,7 @@ run_ends_at_end_or_ascii t j h = elim (run_stops_at_none_or_other (slice_get t j
 ]
 
 pub eol_goes_on : (t : List ℕ) (i k : ℕ) → after_eol t i ≡ Some k → i < k
-eol_goes_on t i k e = elim (eol_cases t i k e) [ inl x ↦ omega arith | inr x ↦ omega arith ]
+eol_goes_on t i k e = elim (eol_is_lf_or_crlf t i k e) [ inl x ↦ omega arith | inr x ↦ omega arith ]
 
 pub block_goes_on : (t : List ℕ) (i j : ℕ) → BlankBlock t i j → i ≤ j
 block_goes_on t i j (no_line a b) = omega arith
@@ -154,49 +158,52 @@ module _ (t : List ℕ) (P : ℕ → Type 0) (cuts : AreBoundaries t P) where
   longest_run_places test ascii i j p s (suc k) a b =
       let split : (i ≤ k) ⊎ (i ≡ suc k) = grind arith in
       elim split [
-        | inl l ↦ subst P (add_one k) (cuts.after k (ascii k (s.each k l (omega arith))))
+        | inl l ↦ subst P (plus_one_is_successor k) (cuts.after k (ascii k (s.each k l (omega arith))))
         | inr e ↦ subst P e p
       ]
 
-  pub word_place : (set : ℕ → Bool) → IsAsciiSet set → (i j : ℕ) → P i → ByteRun t set i j → P j
-  word_place set s i j p w =
+  pub byte_run_ends_at_boundary : (set : ℕ → Bool) → IsAsciiSet set → (i j : ℕ) → P i → ByteRun t set i j → P j
+  byte_run_ends_at_boundary set s i j p w =
       longest_run_places (has t set) (λ k e. has_ascii t set k s e) i j p w j w.forward (omega arith)
 
-  pub blank_place : (i j : ℕ) → P i → Blank t i j → P j
-  blank_place i j p w =
+  pub blank_ends_at_boundary : (i j : ℕ) → P i → Blank t i j → P j
+  blank_ends_at_boundary i j p w =
       longest_run_places (is_blank_place t) (λ k e. blank_is_ascii t k e) i j p w j w.forward (omega arith)
 
-  pub eol_place : (i k : ℕ) → after_eol t i ≡ Some k → P k
-  eol_place i k e =
-      elim (eol_cases t i k e) [
+  pub eol_ends_at_boundary : (i k : ℕ) → after_eol t i ≡ Some k → P k
+  eol_ends_at_boundary i k e =
+      elim (eol_is_lf_or_crlf t i k e) [
         | inl x ↦ subst P (sym x.1) (cuts.after i (ascii_byte t lf i (omega arith) x.0))
-        | inr x ↦ subst P (two_on i ∙ sym x.2) (cuts.after (i + 1) (ascii_byte t lf (i + 1) (omega arith) x.1))
+        | inr x ↦ subst P (one_and_one_on_is_two_on i ∙ sym x.2)
+            (cuts.after (i + 1) (ascii_byte t lf (i + 1) (omega arith) x.1))
       ]
 
   pub block_place : (i j : ℕ) → P i → BlankBlock t i j → P j
   block_place i j p (no_line a b) = p
-  block_place i j p (line {m = m} a b c) = block_place m j (eol_place _ m b) c
+  block_place i j p (line {m = m} a b c) = block_place m j (eol_ends_at_boundary _ m b) c
 
-  stop_place : (j : ℕ) → j ≤ length t → (slice_get t j ≡ None) ⊎ AsciiAt t j → P j
-  stop_place j l x =
+  stop_in_text_is_boundary : (j : ℕ) → j ≤ length t → (slice_get t j ≡ None) ⊎ AsciiAt t j → P j
+  stop_in_text_is_boundary j l x =
       elim x [
         | inl e ↦
             (let c = (slice_get_cases t j).1 in
             elim c [
-              | inl y ↦ absurd (some_none y.2 e)
+              | inl y ↦ absurd (some_is_not_none y.2 e)
               | inr y ↦ (let same : length t ≡ j = omega arith in subst P same cuts.at_end)
             ])
         | inr a ↦ cuts.before j a
       ]
 
   -- the rest of a line stops at a line end or at the text's end
-  pub line_stop : (i j : ℕ) → P i → LongestRun (is_line_place t) i j → P j
-  line_stop i j p s =
-      stop_place j (longest_run_in_text (length t) (is_line_place t) (line_inside t) i j (cuts.in_text i p) s)
-      (line_ends t j s.longest)
+  pub line_run_ends_at_boundary : (i j : ℕ) → P i → LongestRun (is_line_place t) i j → P j
+  line_run_ends_at_boundary i j p s =
+      stop_in_text_is_boundary j
+      (longest_run_in_text (length t) (is_line_place t) (line_place_is_inside_text t) i j (cuts.in_text i p) s)
+      (line_stops_at_end_or_ascii_byte t j s.longest)
 
   -- a run stops at a line end, a brace or the text's end
-  pub run_stop : (i j : ℕ) → P i → LongestRun (is_run_place t) i j → P j
-  run_stop i j p s =
-      stop_place j (longest_run_in_text (length t) (is_run_place t) (run_inside t) i j (cuts.in_text i p) s)
+  pub text_run_ends_at_boundary : (i j : ℕ) → P i → LongestRun (is_run_place t) i j → P j
+  text_run_ends_at_boundary i j p s =
+      stop_in_text_is_boundary j
+      (longest_run_in_text (length t) (is_run_place t) (run_place_is_inside_text t) i j (cuts.in_text i p) s)
       (run_ends_at_end_or_ascii t j s.longest)

@@ -149,17 +149,17 @@ jumps_to_unique n i j k a b = a.there ∙ sym b.there
 pub jumps_to_is_functional : {n : ℕ} → IsFunctionalRelation (JumpsTo n)
 jumps_to_is_functional {n = n} = record { same = jumps_to_unique n }
 
-block_unique : (t : List ℕ) (i j k : ℕ) → BlankBlock t i j → BlankBlock t i k → j ≡ k
-block_unique t i j k (no_line a b) (no_line c d) = refl
-block_unique t i j k (no_line a b) (line c d e) = let h = longest_run_is_functional.same i _ _ a c in cc
-block_unique t i j k (line a b c) (no_line d e) = let h = longest_run_is_functional.same i _ _ a d in cc
-block_unique t i j k (line {m = m} a b c) (line {m = n} d e f) =
+blank_block_end_is_unique : (t : List ℕ) (i j k : ℕ) → BlankBlock t i j → BlankBlock t i k → j ≡ k
+blank_block_end_is_unique t i j k (no_line a b) (no_line c d) = refl
+blank_block_end_is_unique t i j k (no_line a b) (line c d e) = let h = longest_run_is_functional.same i _ _ a c in cc
+blank_block_end_is_unique t i j k (line a b c) (no_line d e) = let h = longest_run_is_functional.same i _ _ a d in cc
+blank_block_end_is_unique t i j k (line {m = m} a b c) (line {m = n} d e f) =
     let h = longest_run_is_functional.same i _ _ a d in
     let same_m : m ≡ n = cc in
-    block_unique t m j k c (subst (λ n. BlankBlock t n k) (sym same_m) f)
+    blank_block_end_is_unique t m j k c (subst (λ n. BlankBlock t n k) (sym same_m) f)
 
 pub single_block : {t : List ℕ} → IsFunctionalRelation (BlankBlock t)
-single_block {t = t} = record { same = block_unique t }
+single_block {t = t} = record { same = blank_block_end_is_unique t }
 
 pub ruleset functional = (
   bind_is_functional,

@@ -64,17 +64,17 @@ module _ (t : List ℕ) where
   key_is_functional = search words depth 30
 
 module _ (t : List ℕ) (R : Family) (h : IsFunctionalFamily R) where
-  inside_braces : IsFunctional R.expression
-  inside_braces = h.expression
+  family_expression_is_functional : IsFunctional R.expression
+  family_expression_is_functional = h.expression
 
-  inside_parentheses : IsFunctional R.argument_list
-  inside_parentheses = h.argument_list
+  family_argument_list_is_functional : IsFunctional R.argument_list
+  family_argument_list_is_functional = h.argument_list
 
   pub call_is_functional : IsFunctional (call_arguments t R)
-  call_is_functional = search (words, inside_parentheses) depth 30
+  call_is_functional = search (words, family_argument_list_is_functional) depth 30
 
   pub placeable_is_functional : IsFunctional (placeable t R)
-  placeable_is_functional = search (words, inside_braces) depth 30
+  placeable_is_functional = search (words, family_expression_is_functional) depth 30
 
   inline_of_is_functional : (s : Start) → IsFunctional (inline_of t R s)
   inline_of_is_functional quote = search words depth 30
@@ -136,8 +136,8 @@ module _ (t : List ℕ) (R : Family) (h : IsFunctionalFamily R) where
   pub line_is_functional : IsFunctional (line t R)
   line_is_functional = search (words, ending_is_functional, pieces_are_functional) depth 30
 
-  own_unique : IsFunctional {A = More Line (Unit {0})} (line t R >>= λ l. yields (item l tt))
-  own_unique = search (words, line_is_functional) depth 30
+  own_line_is_functional : IsFunctional {A = More Line (Unit {0})} (line t R >>= λ l. yields (item l tt))
+  own_line_is_functional = search (words, line_is_functional) depth 30
 
   line_unique : (i : ℕ) (o p : Outcome (More Line (Unit {0}))) → next_line t R i o → next_line t R i p → o ≡ p
   line_unique i o p (no_byte a b) (no_byte c d) = let h = longest_run_is_functional.same i _ _ a c in cc
@@ -150,7 +150,7 @@ module _ (t : List ℕ) (R : Family) (h : IsFunctionalFamily R) where
   line_unique i o p (own_line a b c d) (no_byte e f) = let h = longest_run_is_functional.same i _ _ a e in cc
   line_unique i o p (own_line {k = k} a b c d) (other_line {k = m} e f g) =
       let h : k ≡ m = longest_run_is_functional.same i _ _ a e in cc
-  line_unique i o p (own_line a b c d) (own_line e f g x) = own_unique.same i o p d x
+  line_unique i o p (own_line a b c d) (own_line e f g x) = own_line_is_functional.same i o p d x
 
   pub next_line_is_functional : IsFunctional (next_line t R)
   next_line_is_functional = record { same = line_unique }

@@ -17,9 +17,9 @@ and_true_is_itself true = refl
 and_true_is_itself false = refl
 
 module _ (edition : Edition) where
-  canonical_parts :
+  canonical_is_readable_and_further :
       ArePartsOf (readable_rules edition ∷ further_rules edition ∷ []) (λ rules. rules) (canonical_rules edition)
-  canonical_parts = record {
+  canonical_is_readable_and_further = record {
     junk_parts = refl;
     message_parts = λ m. and_true_is_itself (is_message m);
     comment_parts = λ content. ap (λ b. are_lines content && b) (and_true_is_itself (is_plain_comment content));
@@ -33,10 +33,10 @@ module _ (edition : Edition) where
   }
 
   -- A readable tree is canonical exactly where it obeys the four.
-  pub readable_further : (es : BodyTree Text) → is_readable edition es ≡ true →
+  pub readable_is_canonical_by_further_rules : (es : BodyTree Text) → is_readable edition es ≡ true →
       is_canonical edition es ≡ body_obeys (further_rules edition) es
-  readable_further es h =
+  readable_is_canonical_by_further_rules es h =
       body_obeys_each (readable_rules edition ∷ further_rules edition ∷ []) (λ rules. rules) (canonical_rules edition)
-      canonical_parts es
+      canonical_is_readable_and_further es
       ∙ ap (λ b. b && (body_obeys (further_rules edition) es && true)) h
       ∙ sym (and_true_is_itself (body_obeys (further_rules edition) es))

@@ -80,18 +80,23 @@ holds_here {pre = pre} {read = read} {refused = refused} h =
 fails_never_reads : {A : Type 0} (k : Kind) (X : Type 0) (i j : ℕ) (a : A) → fails k i (Read a j) → X
 fails_never_reads k X i j a x = elim x [ ]
 
-fails_refused : {A : Type 0} (pre : ℕ → Type 0) (k : Kind) (refused : Kind → ℕ → ℕ → Type 0) →
+fails_refuses_at_its_place : {A : Type 0} (pre : ℕ → Type 0) (k : Kind) (refused : Kind → ℕ → ℕ → Type 0) →
     ((i : ℕ) → pre i → refused k i (i + 1)) → (i from to : ℕ) (l : Kind) → pre i →
     fails {A = A} k i (Refused l from to) → refused l from to
-fails_refused pre k refused h i from to l p (failed e) = rw e (h i p)
+fails_refuses_at_its_place pre k refused h i from to l p (failed e) = rw e (h i p)
 
 pub holds_fails : {A : Type 0} {pre : ℕ → Type 0} {k : Kind} {read : A → ℕ → Type 0} {refused : Kind → ℕ → ℕ → Type 0} →
     ((i : ℕ) → pre i → refused k i (i + 1)) → HoareTriple pre (fails k) read refused
 holds_fails {pre = pre} {k = k} {read = read} {refused = refused} h =
-    record { on_read = λ i j a p x. fails_never_reads k (read a j) i j a x; on_refused = fails_refused pre k refused h }
+    record {
+      on_read = λ i j a p x. fails_never_reads k (read a j) i j a x;
+      on_refused =
+          fails_refuses_at_its_place pre k refused h;
+    }
 
-from_read : {A : Type 0} (k : Kind) (start : ℕ) (X : Type 0) (i j : ℕ) (a : A) → fails_from k start i (Read a j) → X
-from_read k start X i j a x = elim x [ ]
+fails_from_reads_nothing : {A : Type 0} (k : Kind) (start : ℕ) (X : Type 0) (i j : ℕ) (a : A) →
+    fails_from k start i (Read a j) → X
+fails_from_reads_nothing k start X i j a x = elim x [ ]
 
 fails_from_refuses_there : {A : Type 0} (pre : ℕ → Type 0) (k : Kind) (start : ℕ) (refused : Kind → ℕ → ℕ → Type 0) →
     ((i : ℕ) → pre i → refused k start i) → (i from to : ℕ) (l : Kind) → pre i →
@@ -103,7 +108,7 @@ pub holds_fails_from :
     ((i : ℕ) → pre i → refused k start i) → HoareTriple pre (fails_from k start) read refused
 holds_fails_from {pre = pre} {k = k} {start = start} {read = read} {refused = refused} h =
     record {
-      on_read = λ i j a p x. from_read k start (read a j) i j a x;
+      on_read = λ i j a p x. fails_from_reads_nothing k start (read a j) i j a x;
       on_refused = fails_from_refuses_there pre k start refused h;
     }
 

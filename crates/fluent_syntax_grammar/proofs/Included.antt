@@ -46,27 +46,29 @@ pub peek_is_included : {A B : Type 0} {look : ℕ → A} {f g : A → Construct 
     IsIncluded (peek look f) (peek look g)
 peek_is_included {look = look} {f = f} {g = g} fg = record { part = peek_outcome_is_included look f g fg }
 
-branch_on_part : {A : Type 0} (b : Bool) (c c' d d' : Construct A) → IsIncluded c c' → IsIncluded d d' →
+branch_on_outcome_is_included : {A : Type 0} (b : Bool) (c c' d d' : Construct A) → IsIncluded c c' → IsIncluded d d' →
     (i : ℕ) (o : Outcome A) → branch_on b c d i o → branch_on b c' d' i o
-branch_on_part b c c' d d' p q i o (first e x) = first e (p.part i o x)
-branch_on_part b c c' d d' p q i o (second e x) = second e (q.part i o x)
+branch_on_outcome_is_included b c c' d d' p q i o (first e x) = first e (p.part i o x)
+branch_on_outcome_is_included b c c' d d' p q i o (second e x) = second e (q.part i o x)
 
 pub branch_on_is_included : {A : Type 0} {b : Bool} {c c' d d' : Construct A} → IsIncluded c c' → IsIncluded d d' →
     IsIncluded (branch_on b c d) (branch_on b c' d')
-branch_on_is_included {b = b} {c = c} {c' = c'} {d = d} {d' = d'} p q = record { part = branch_on_part b c c' d d' p q }
+branch_on_is_included {b = b} {c = c} {c' = c'} {d = d} {d' = d'} p q =
+    record { part = branch_on_outcome_is_included b c c' d d' p q }
 
 module _ {A S B : Type 0} (f g : S → Construct (More A S)) (add : A → B → B) (none : B)
     (fg : (s : S) → IsIncluded (f s) (g s)) where
-  many_part : (s : S) (i : ℕ) (o : Outcome B) → many f add none s i o → many g add none s i o
-  many_part s i o (list_ends x) = list_ends ((fg s).part i _ x)
-  many_part s i o (list_stops x) = list_stops ((fg s).part i _ x)
-  many_part s i o (item_and_more x y) = item_and_more ((fg s).part i _ x) (many_part _ _ _ y)
-  many_part s i o (stops_later x y) = stops_later ((fg s).part i _ x) (many_part _ _ _ y)
+  many_outcome_is_included : (s : S) (i : ℕ) (o : Outcome B) → many f add none s i o → many g add none s i o
+  many_outcome_is_included s i o (list_ends x) = list_ends ((fg s).part i _ x)
+  many_outcome_is_included s i o (list_stops x) = list_stops ((fg s).part i _ x)
+  many_outcome_is_included s i o (item_and_more x y) =
+      item_and_more ((fg s).part i _ x) (many_outcome_is_included _ _ _ y)
+  many_outcome_is_included s i o (stops_later x y) = stops_later ((fg s).part i _ x) (many_outcome_is_included _ _ _ y)
 
 pub many_is_included : {A S B : Type 0} {f g : S → Construct (More A S)} {add : A → B → B} {none : B} {s : S} →
     ((s : S) → IsIncluded (f s) (g s)) → IsIncluded (many f add none s) (many g add none s)
 many_is_included {f = f} {g = g} {add = add} {none = none} {s = s} fg =
-    record { part = many_part f g add none fg s }
+    record { part = many_outcome_is_included f g add none fg s }
 
 pub ruleset inclusions = (itself_is_included, bind_is_included, peek_is_included, branch_on_is_included)
 
@@ -77,17 +79,17 @@ pub record IsIncludedFamily (R S : Family) : Type 0 where
   pub argument_list : IsIncluded R.argument_list S.argument_list
 
 module _ (t : List ℕ) (R S : Family) (h : IsIncludedFamily R S) where
-  inside_braces : IsIncluded R.expression S.expression
-  inside_braces = h.expression
+  family_expression_is_included : IsIncluded R.expression S.expression
+  family_expression_is_included = h.expression
 
-  inside_parentheses : IsIncluded R.argument_list S.argument_list
-  inside_parentheses = h.argument_list
+  family_argument_list_is_included : IsIncluded R.argument_list S.argument_list
+  family_argument_list_is_included = h.argument_list
 
   pub call_is_included : IsIncluded (call_arguments t R) (call_arguments t S)
-  call_is_included = search (inclusions, inside_parentheses) depth 30
+  call_is_included = search (inclusions, family_argument_list_is_included) depth 30
 
   pub placeable_is_included : IsIncluded (placeable t R) (placeable t S)
-  placeable_is_included = search (inclusions, inside_braces) depth 30
+  placeable_is_included = search (inclusions, family_expression_is_included) depth 30
 
   inline_of_is_included : (s : Start) → IsIncluded (inline_of t R s) (inline_of t S s)
   inline_of_is_included quote = search inclusions depth 30
@@ -147,17 +149,17 @@ module _ (t : List ℕ) (R S : Family) (h : IsIncludedFamily R S) where
   line_is_included : IsIncluded (line t R) (line t S)
   line_is_included = search (inclusions, pieces_are_included) depth 30
 
-  own_is_included : IsIncluded {A = More Line (Unit {0})} (line t R >>= λ l. yields (item l tt))
+  own_line_is_included : IsIncluded {A = More Line (Unit {0})} (line t R >>= λ l. yields (item l tt))
       (line t S >>= λ l. yields (item l tt))
-  own_is_included = search (inclusions, line_is_included) depth 30
+  own_line_is_included = search (inclusions, line_is_included) depth 30
 
-  line_part : (i : ℕ) (o : Outcome (More Line (Unit {0}))) → next_line t R i o → next_line t S i o
-  line_part i o (no_byte a b) = no_byte a b
-  line_part i o (other_line a b c) = other_line a b c
-  line_part i o (own_line a b c d) = own_line a b c (own_is_included.part i o d)
+  next_line_outcome_is_included : (i : ℕ) (o : Outcome (More Line (Unit {0}))) → next_line t R i o → next_line t S i o
+  next_line_outcome_is_included i o (no_byte a b) = no_byte a b
+  next_line_outcome_is_included i o (other_line a b c) = other_line a b c
+  next_line_outcome_is_included i o (own_line a b c d) = own_line a b c (own_line_is_included.part i o d)
 
   pub next_line_is_included : IsIncluded (next_line t R) (next_line t S)
-  next_line_is_included = record { part = line_part }
+  next_line_is_included = record { part = next_line_outcome_is_included }
 
   pub lines_are_included : IsIncluded (more_lines t R) (more_lines t S)
   lines_are_included = many_is_included (λ u. next_line_is_included)

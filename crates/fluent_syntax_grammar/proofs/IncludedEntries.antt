@@ -13,13 +13,14 @@ module _ (edition : Edition) (t : List ℕ) (R S : Family) (h : IsIncludedFamily
   attribute_is_included : IsIncluded (attribute_of edition t R) (attribute_of edition t S)
   attribute_is_included = search (inclusions, pattern_is_included) depth 30
 
-  attributes_part : (i : ℕ) (o : Outcome (List (AttributeTree Span))) → attributes_of edition t R i o →
+  attributes_outcome_is_included : (i : ℕ) (o : Outcome (List (AttributeTree Span))) → attributes_of edition t R i o →
       attributes_of edition t S i o
-  attributes_part i o (no_more x) = no_more (attribute_is_included.part i _ x)
-  attributes_part i o (one_more {j = j} x y) = one_more (attribute_is_included.part i _ x) (attributes_part j _ y)
+  attributes_outcome_is_included i o (no_more x) = no_more (attribute_is_included.part i _ x)
+  attributes_outcome_is_included i o (one_more {j = j} x y) =
+      one_more (attribute_is_included.part i _ x) (attributes_outcome_is_included j _ y)
 
   pub attributes_are_included : IsIncluded (attributes_of edition t R) (attributes_of edition t S)
-  attributes_are_included = record { part = attributes_part }
+  attributes_are_included = record { part = attributes_outcome_is_included }
 
   pub message_is_included : IsIncluded (message_of edition t R) (message_of edition t S)
   message_is_included = search (inclusions, pattern_is_included, attributes_are_included) depth 30
@@ -34,6 +35,6 @@ module _ (edition : Edition) (t : List ℕ) (R S : Family) (h : IsIncludedFamily
   pub entry_is_included : IsIncluded (entry_in edition t R) (entry_in edition t S)
   entry_is_included = search (inclusions, entry_of_is_included) depth 30
 
-  pub tile_part : (i j : ℕ) (x : Tile) → TileIn edition t R i j x → TileIn edition t S i j x
-  tile_part i j x (reads a) = reads (entry_is_included.part i _ a)
-  tile_part i j x (refuses a b) = refuses (entry_is_included.part i _ a) b
+  pub tile_in_family_is_included : (i j : ℕ) (x : Tile) → TileIn edition t R i j x → TileIn edition t S i j x
+  tile_in_family_is_included i j x (reads a) = reads (entry_is_included.part i _ a)
+  tile_in_family_is_included i j x (refuses a b) = refuses (entry_is_included.part i _ a) b

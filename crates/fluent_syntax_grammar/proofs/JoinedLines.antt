@@ -11,18 +11,18 @@ use Rattle.fluent_syntax_grammar.specs.Joined.{is_joined, joined_expression, joi
 use Rattle.fluent_syntax_grammar.specs.Joined.{joined_after}
 
 mutual
-  select_same : (e : ExpressionTree Text) → is_select (joined_expression e) ≡ is_select e
-  select_same (select e vs) = refl
-  select_same (inline e) = holds_same e
+  joining_keeps_is_select : (e : ExpressionTree Text) → is_select (joined_expression e) ≡ is_select e
+  joining_keeps_is_select (select e vs) = refl
+  joining_keeps_is_select (inline e) = joining_keeps_holds_select e
 
-  holds_same : (e : InlineTree Text) → holds_select (joined_inline e) ≡ holds_select e
-  holds_same (string_literal v) = refl
-  holds_same (number_literal v) = refl
-  holds_same (function_reference id a) = refl
-  holds_same (message_reference id a) = refl
-  holds_same (term_reference id attribute a) = refl
-  holds_same (variable_reference id) = refl
-  holds_same (inline_placeable e) = select_same e
+  joining_keeps_holds_select : (e : InlineTree Text) → holds_select (joined_inline e) ≡ holds_select e
+  joining_keeps_holds_select (string_literal v) = refl
+  joining_keeps_holds_select (number_literal v) = refl
+  joining_keeps_holds_select (function_reference id a) = refl
+  joining_keeps_holds_select (message_reference id a) = refl
+  joining_keeps_holds_select (term_reference id attribute a) = refl
+  joining_keeps_holds_select (variable_reference id) = refl
+  joining_keeps_holds_select (inline_placeable e) = joining_keeps_is_select e
 
 or_is_congruent : (a b c d : Bool) → a ≡ b → c ≡ d → (a || c) ≡ (b || d)
 or_is_congruent a b c d e f = rw (e, f) refl
@@ -31,27 +31,29 @@ or_assoc : (a b c : Bool) → ((a || b) || c) ≡ (a || (b || c))
 or_assoc true b c = refl
 or_assoc false b c = refl
 
-after_text_multiline : (v w : Text) (es : PatternTree Text) (x : Bool) →
+multiline_after_text_is_lf_or_rest : (v w : Text) (es : PatternTree Text) (x : Bool) →
     is_multiline (joined_pattern es) ≡ is_multiline es →
     is_multiline (joined_after w es) ≡ (has_lf w || is_multiline es) →
     is_multiline (if x then elements (text_element (v ++ w)) (joined_pattern es) else elements (text_element v)
     (joined_after w es)) ≡ (has_lf v || (has_lf w || is_multiline es))
-after_text_multiline v w es true g h =
+multiline_after_text_is_lf_or_rest v w es true g h =
     or_is_congruent (has_lf (v ++ w)) (has_lf v || has_lf w) _ _ (list_any-append (λ b. b == lf) v w) g
     ∙ or_assoc (has_lf v) (has_lf w) (is_multiline es)
-after_text_multiline v w es false g h = ap (λ x. has_lf v || x) h
+multiline_after_text_is_lf_or_rest v w es false g h = ap (λ x. has_lf v || x) h
 
 mutual
-  pub multiline_same : (p : PatternTree Text) → is_multiline (joined_pattern p) ≡ is_multiline p
-  multiline_same no_elements = refl
-  multiline_same (elements (placeable e) es) =
-      or_is_congruent _ (is_select e) _ (is_multiline es) (select_same e) (multiline_same es)
-  multiline_same (elements (text_element v) es) = after_multiline es v
+  pub joining_keeps_is_multiline : (p : PatternTree Text) → is_multiline (joined_pattern p) ≡ is_multiline p
+  joining_keeps_is_multiline no_elements = refl
+  joining_keeps_is_multiline (elements (placeable e) es) =
+      or_is_congruent _ (is_select e) _ (is_multiline es) (joining_keeps_is_select e) (joining_keeps_is_multiline es)
+  joining_keeps_is_multiline (elements (text_element v) es) = joined_after_is_multiline_by_lf_or_rest es v
 
-  after_multiline : (es : PatternTree Text) (v : Text) →
+  joined_after_is_multiline_by_lf_or_rest : (es : PatternTree Text) (v : Text) →
       is_multiline (joined_after v es) ≡ (has_lf v || is_multiline es)
-  after_multiline no_elements v = refl
-  after_multiline (elements (placeable e) es) v =
-      ap (λ x. has_lf v || x) (or_is_congruent _ (is_select e) _ (is_multiline es) (select_same e) (multiline_same es))
-  after_multiline (elements (text_element w) es) v =
-      after_text_multiline v w es (is_joined v w) (multiline_same es) (after_multiline es w)
+  joined_after_is_multiline_by_lf_or_rest no_elements v = refl
+  joined_after_is_multiline_by_lf_or_rest (elements (placeable e) es) v =
+      ap (λ x. has_lf v || x)
+      (or_is_congruent _ (is_select e) _ (is_multiline es) (joining_keeps_is_select e) (joining_keeps_is_multiline es))
+  joined_after_is_multiline_by_lf_or_rest (elements (text_element w) es) v =
+      multiline_after_text_is_lf_or_rest v w es (is_joined v w) (joining_keeps_is_multiline es)
+      (joined_after_is_multiline_by_lf_or_rest es w)

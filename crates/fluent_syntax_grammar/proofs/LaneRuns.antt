@@ -39,43 +39,46 @@ module _ (test : ℕ → Bool) (t : List ℕ) (i n r : ℕ) (room : i + n ≤ le
       ap (λ z. mask_l z % 2 ^ 64) (ap (map (top 7)) are ∙ map-map (top 7) lane v)
       ∙ mask_l-mod (map stops v) 64 (omega (arith, length-map v stops, length-chunk i n t room))
 
-  counted : r ≡ prefix_len (λ x. not (stops x)) (chunk i n t)
-  counted = found ∙ (ap (lanes_before n) mask ∙ first_set_mask_l stops (chunk i n t) n (length-chunk i n t room) few)
+  count_is_prefix_before_first_stop : r ≡ prefix_len (λ x. not (stops x)) (chunk i n t)
+  count_is_prefix_before_first_stop =
+      found ∙ (ap (lanes_before n) mask ∙ first_set_mask_l stops (chunk i n t) n (length-chunk i n t room) few)
 
-  byte_at : (k : ℕ) → stops (get_or t k 0) ≡ not (test (get_or t k 0))
-  byte_at k = agree_below_at stops (λ x. not (test x)) 256 (get_or t k 0) exact (fits k).fits
+  lane_stops_where_test_fails : (k : ℕ) → stops (get_or t k 0) ≡ not (test (get_or t k 0))
+  lane_stops_where_test_fails k = agree_below_at stops (λ x. not (test x)) 256 (get_or t k 0) exact (fits k).fits
 
-  inside : r ≤ n
-  inside = run_in_chunk_le stops t i n r 0 room counted
+  count_is_at_most_lanes : r ≤ n
+  count_is_at_most_lanes = run_in_chunk_le stops t i n r 0 room count_is_prefix_before_first_stop
 
   -- a lane is set just where the test fails
-  pub run_of : RunOf test t i n r
-  run_of = record {
-    within = inside;
+  pub lanes_count_run : RunOf test t i n r
+  lanes_count_run = record {
+    within = count_is_at_most_lanes;
     each = λ k from to.
-        rw (slice_get-get_or t k 0 (omega (arith, inside)))
-        (negation_false_is_true _ _ (byte_at k) (run_in_chunk_fails stops t i n r 0 room counted k from to));
+        rw (slice_get-get_or t k 0 (omega (arith, count_is_at_most_lanes)))
+        (negation_false_is_true _ _ (lane_stops_where_test_fails k)
+        (run_in_chunk_fails stops t i n r 0 room count_is_prefix_before_first_stop k from to));
     stops = λ short.
         rw (slice_get-get_or t (i + r) 0 (omega arith))
-        (negation_true_is_false _ _ (byte_at (i + r)) (run_in_chunk_stops stops t i n r 0 room counted short));
+        (negation_true_is_false _ _ (lane_stops_where_test_fails (i + r))
+        (run_in_chunk_stops stops t i n r 0 room count_is_prefix_before_first_stop short));
   }
 
 -- ---- How many bytes pass
 
 module _ (test : ℕ → Bool) (t : List ℕ) where
-  at_byte : (k : ℕ) (b : Bool) → k < length t → has t test k ≡ b → test (get_or t k 0) ≡ b
-  at_byte k b within is = ap (holds test) (sym (slice_get-get_or t k 0 within)) ∙ is
+  test_of_byte_is_test_at_place : (k : ℕ) (b : Bool) → k < length t → has t test k ≡ b → test (get_or t k 0) ≡ b
+  test_of_byte_is_test_at_place k b within is = ap (holds test) (sym (slice_get-get_or t k 0 within)) ∙ is
 
   -- the bytes before the run, and those of the run, if it ends before its n bytes or the text does
   pub run_after : (i n r : ℕ) → i + n ≤ length t → ((k : ℕ) → k < i → has t test k ≡ true) → RunOf test t i n r
       → (i + r < length t → r < n) → i + r ≡ prefix_len test t
   run_after i n r room before run ends =
       sym (prefix_len_is test t (i + r) 0 (omega (arith, run.within))
-      (λ k within. at_byte k true (omega (arith, run.within)) (elim (cases_lt k i) [
+      (λ k within. test_of_byte_is_test_at_place k true (omega (arith, run.within)) (elim (cases_lt k i) [
         | inl first ↦ before k first
         | inr beyond ↦ run.each k (omega (arith, beyond)) within
       ]))
-      (λ more. at_byte (i + r) false more (run.stops (ends more))))
+      (λ more. test_of_byte_is_test_at_place (i + r) false more (run.stops (ends more))))
 
 all_by_first : (first : Bool) (n m : ℕ) (rest : Bool) → (n == m) ≡ rest
     → (cond first (1 + n) 0 == suc m) ≡ (first && rest)
@@ -84,6 +87,7 @@ all_by_first true n m false is = grind (arith, nat_tests)
 all_by_first false n m rest is = grind (arith, nat_tests)
 
 -- All bytes pass just where as many pass as there are.
-pub all_pass : (test : ℕ → Bool) (t : List ℕ) → (prefix_len test t == length t) ≡ list_all test t
-all_pass test [] = refl
-all_pass test (b ∷ bs) = all_by_first (test b) (prefix_len test bs) (length bs) (list_all test bs) (all_pass test bs)
+pub prefix_is_whole_when_all_pass : (test : ℕ → Bool) (t : List ℕ) → (prefix_len test t == length t) ≡ list_all test t
+prefix_is_whole_when_all_pass test [] = refl
+prefix_is_whole_when_all_pass test (b ∷ bs) =
+    all_by_first (test b) (prefix_len test bs) (length bs) (list_all test bs) (prefix_is_whole_when_all_pass test bs)

@@ -49,18 +49,19 @@ module _ (P : ℕ → Type 0) where
   ItemInBounds (text from to) = (from ≤ to) × P from × P to
   ItemInBounds (placeable_item x) = expression_every (IsSpan P) x
 
-  earlier_piece : (s s' e : ℕ) → s' ≤ s → (p : Piece) → PieceInBounds s e p → PieceInBounds s' e p
-  earlier_piece s s' e l (run from to) (a, b, c, d, f) = (omega arith, b, c, d, f)
-  earlier_piece s s' e l (placed x) g = g
+  piece_is_in_earlier_bounds : (s s' e : ℕ) → s' ≤ s → (p : Piece) → PieceInBounds s e p → PieceInBounds s' e p
+  piece_is_in_earlier_bounds s s' e l (run from to) (a, b, c, d, f) = (omega arith, b, c, d, f)
+  piece_is_in_earlier_bounds s s' e l (placed x) g = g
 
-  pub later_piece : (s e e' : ℕ) → e ≤ e' → (p : Piece) → PieceInBounds s e p → PieceInBounds s e' p
-  later_piece s e e' l (run from to) (a, b, c, d, f) = (a, b, omega arith, d, f)
-  later_piece s e e' l (placed x) g = g
+  pub piece_is_in_later_bounds : (s e e' : ℕ) → e ≤ e' → (p : Piece) → PieceInBounds s e p → PieceInBounds s e' p
+  piece_is_in_later_bounds s e e' l (run from to) (a, b, c, d, f) = (a, b, omega arith, d, f)
+  piece_is_in_later_bounds s e e' l (placed x) g = g
 
-  pub earlier_pieces : (s s' e : ℕ) → s' ≤ s → (ps : List Piece) → list_every (PieceInBounds s e) ps →
+  pub pieces_are_in_earlier_bounds : (s s' e : ℕ) → s' ≤ s → (ps : List Piece) → list_every (PieceInBounds s e) ps →
       list_every (PieceInBounds s' e) ps
-  earlier_pieces s s' e l [] g = tt
-  earlier_pieces s s' e l (p ∷ ps) (g, h) = (earlier_piece s s' e l p g, earlier_pieces s s' e l ps h)
+  pieces_are_in_earlier_bounds s s' e l [] g = tt
+  pieces_are_in_earlier_bounds s s' e l (p ∷ ps) (g, h) =
+      (piece_is_in_earlier_bounds s s' e l p g, pieces_are_in_earlier_bounds s s' e l ps h)
 
   with_in_bounds : (s e : ℕ) → s ≤ e → (ps : List Piece) (x : Ending) → list_every (PieceInBounds s e) ps →
       EndingInBounds e x →
@@ -76,20 +77,21 @@ module _ (P : ℕ → Type 0) where
       ((b, d, f), with_in_bounds s e l (p ∷ ps) x g h)
   with_in_bounds s e l (placed y ∷ ps) x (g, h) m = (g, with_in_bounds s e l ps x h m)
 
-  every_flat : {X Y : Type 0} (Q : X → Type 0) (R : Y → Type 0) (f : X → List Y) →
+  flat_map_holds_of_every_item : {X Y : Type 0} (Q : X → Type 0) (R : Y → Type 0) (f : X → List Y) →
       ((x : X) → Q x → list_every R (f x)) → (xs : List X) → list_every Q xs → list_every R (flat_map f xs)
-  every_flat Q R f g [] h = tt
-  every_flat Q R f g (x ∷ xs) (h, k) = list_every-append R (f x) (flat_map f xs) (g x h) (every_flat Q R f g xs k)
+  flat_map_holds_of_every_item Q R f g [] h = tt
+  flat_map_holds_of_every_item Q R f g (x ∷ xs) (h, k) =
+      list_every-append R (f x) (flat_map f xs) (g x h) (flat_map_holds_of_every_item Q R f g xs k)
 
   text_if_in_bounds : (b : Bool) (from to : ℕ) → from ≤ to → P from → P to →
       list_every ItemInBounds (if b then text from to ∷ [] else [])
   text_if_in_bounds true from to l p q = ((l, p, q), tt)
   text_if_in_bounds false from to l p q = tt
 
-  indented_in_bounds : (edition : Edition) (kept first : ℕ) → kept ≤ first → P kept → P first →
+  indent_items_are_in_bounds : (edition : Edition) (kept first : ℕ) → kept ≤ first → P kept → P first →
       list_every ItemInBounds (indented edition kept first)
-  indented_in_bounds One kept first l p q = tt
-  indented_in_bounds Two kept first l p q = text_if_in_bounds (nat_lt kept first) kept first l p q
+  indent_items_are_in_bounds One kept first l p q = tt
+  indent_items_are_in_bounds Two kept first l p q = text_if_in_bounds (nat_lt kept first) kept first l p q
 
   items_from_in_bounds : (edition : Edition) (kept first e : ℕ) → kept ≤ first → first ≤ e → P kept → P first →
       (ps : List Piece) (x : Ending) → list_every (PieceInBounds first e) ps → EndingInBounds e x →
@@ -99,37 +101,40 @@ module _ (P : ℕ → Type 0) where
   items_from_in_bounds edition kept first e l m p q [] text_end g h = tt
   items_from_in_bounds edition kept first e l m p q (run from to ∷ ps) x ((a, b, c, d, f), g) h =
       with_in_bounds kept e (omega arith) (run kept to ∷ ps) x
-      ((omega arith, omega arith, c, p, f), earlier_pieces first kept e l ps g) h
+      ((omega arith, omega arith, c, p, f), pieces_are_in_earlier_bounds first kept e l ps g) h
   items_from_in_bounds edition kept first e l m p q (placed y ∷ ps) x (g, h) k =
       list_every-append ItemInBounds (indented edition kept first) (placeable_item y ∷ with_ending ps x)
-      (indented_in_bounds edition kept first l p q) (g, with_in_bounds first e m ps x h k)
+      (indent_items_are_in_bounds edition kept first l p q) (g, with_in_bounds first e m ps x h k)
 
-  kept_in_bounds : (common : Option ℕ) (l : Line) → LineInBounds l → (common_indent_end common l ≤ l.start + l.spaces) ×
-      P (common_indent_end common l)
-  kept_in_bounds None l g = (omega arith, g.leading l.spaces (omega arith))
-  kept_in_bounds (Some c) l g = (omega arith, g.leading (min l.spaces c) (omega arith))
+  kept_indent_is_in_bounds : (common : Option ℕ) (l : Line) → LineInBounds l →
+      (common_indent_end common l ≤ l.start + l.spaces) × P (common_indent_end common l)
+  kept_indent_is_in_bounds None l g = (omega arith, g.leading l.spaces (omega arith))
+  kept_indent_is_in_bounds (Some c) l g = (omega arith, g.leading (min l.spaces c) (omega arith))
 
   line_items_in_bounds : (edition : Edition) (common : Option ℕ) (l : Line) → LineInBounds l →
       list_every ItemInBounds (line_items edition common l)
   line_items_in_bounds edition common l g =
-      let k = kept_in_bounds common l g in
+      let k = kept_indent_is_in_bounds common l g in
       items_from_in_bounds edition (common_indent_end common l) (l.start + l.spaces) g.end k.0 g.late k.1
       (g.leading l.spaces (omega arith)) l.pieces l.ending g.pieces g.ending
 
-  opening_in_bounds : (o : Option Line) → option_every LineInBounds o → list_every ItemInBounds (opening_items o)
-  opening_in_bounds None g = tt
-  opening_in_bounds (Some l) g = with_in_bounds (l.start + l.spaces) g.end g.late l.pieces l.ending g.pieces g.ending
+  opening_items_are_in_bounds : (o : Option Line) → option_every LineInBounds o →
+      list_every ItemInBounds (opening_items o)
+  opening_items_are_in_bounds None g = tt
+  opening_items_are_in_bounds (Some l) g =
+      with_in_bounds (l.start + l.spaces) g.end g.late l.pieces l.ending g.pieces g.ending
 
-  items_in_bounds : (edition : Edition) (y : Layout) → LayoutInBounds y → list_every ItemInBounds (items edition y)
-  items_in_bounds edition y g =
+  items_of_layout_are_in_bounds : (edition : Edition) (y : Layout) → LayoutInBounds y →
+      list_every ItemInBounds (items edition y)
+  items_of_layout_are_in_bounds edition y g =
       list_every-append ItemInBounds (opening_items y.opening)
       (flat_map (line_items edition (common_indent edition y)) y.lines)
-      (opening_in_bounds y.opening g.opening)
-      (every_flat LineInBounds ItemInBounds (line_items edition (common_indent edition y))
+      (opening_items_are_in_bounds y.opening g.opening)
+      (flat_map_holds_of_every_item LineInBounds ItemInBounds (line_items edition (common_indent edition y))
       (line_items_in_bounds edition (common_indent edition y)) y.lines g.lines)
 
-trimmed_small : (b : ℕ) → is_trimmed b ≡ true → b < 128
-trimmed_small b e = grind (arith, nat_tests)
+trimmed_byte_is_ascii : (b : ℕ) → is_trimmed b ≡ true → b < 128
+trimmed_byte_is_ascii b e = grind (arith, nat_tests)
 
 either_place_holds : (P : ℕ → Type 0) (from : ℕ) (test : Bool) (m n : ℕ) → (test ≡ true → P (from + m)) → P (from + n) →
     P (from + (if test then m else n))
@@ -137,51 +142,56 @@ either_place_holds P from true m n f p = f refl
 either_place_holds P from false m n f p = p
 
 module _ (t : List ℕ) (P : ℕ → Type 0) (cuts : AreBoundaries t P) where
-  if_in_bounds : (b : Bool) (x : Item) → ItemInBounds P x → list_every (ItemInBounds P) (if b then x ∷ [] else [])
-  if_in_bounds true x g = (g, tt)
-  if_in_bounds false x g = tt
+  optional_item_is_in_bounds : (b : Bool) (x : Item) → ItemInBounds P x →
+      list_every (ItemInBounds P) (if b then x ∷ [] else [])
+  optional_item_is_in_bounds true x g = (g, tt)
+  optional_item_is_in_bounds false x g = tt
 
-  before_in_bounds : (x : Item) (xs : List Item) → ItemInBounds P x → list_every (ItemInBounds P) xs →
+  items_before_cut_are_in_bounds : (x : Item) (xs : List Item) → ItemInBounds P x → list_every (ItemInBounds P) xs →
       list_every (ItemInBounds P) (cut_before t x xs)
-  before_in_bounds x [] g h = if_in_bounds (stays t x) x g
-  before_in_bounds x (y ∷ ys) g h = (g, h)
+  items_before_cut_are_in_bounds x [] g h = optional_item_is_in_bounds (stays t x) x g
+  items_before_cut_are_in_bounds x (y ∷ ys) g h = (g, h)
 
-  cut_in_bounds : (xs : List Item) → list_every (ItemInBounds P) xs → list_every (ItemInBounds P) (cut t xs)
-  cut_in_bounds [] g = tt
-  cut_in_bounds (x ∷ xs) (g, h) = before_in_bounds x (cut t xs) g (cut_in_bounds xs h)
+  cut_items_are_in_bounds : (xs : List Item) → list_every (ItemInBounds P) xs → list_every (ItemInBounds P) (cut t xs)
+  cut_items_are_in_bounds [] g = tt
+  cut_items_are_in_bounds (x ∷ xs) (g, h) = items_before_cut_are_in_bounds x (cut t xs) g (cut_items_are_in_bounds xs h)
 
   -- the bytes of a text, by their places in the whole
-  trimmed_byte : (from to n : ℕ) → to ≤ length t → n < to - from →
+  place_of_trimmed_byte_has_ascii_byte : (from to n : ℕ) → to ≤ length t → n < to - from →
       is_trimmed (get_or (slice_range t from to) n 0) ≡ true → AsciiAt t (from + n)
-  trimmed_byte from to n l m e =
+  place_of_trimmed_byte_has_ascii_byte from to n l m e =
       let same : get_or (slice_range t from to) n 0 ≡ get_or t (from + n) 0 =
       get_or-take (to - from) (drop from t) n 0 m ∙ get_or-drop from t n 0 in
-      let small : get_or t (from + n) 0 < 128 = trimmed_small (get_or t (from + n) 0) (ap is_trimmed (sym same) ∙ e) in
+      let small : get_or t (from + n) 0 < 128 =
+      trimmed_byte_is_ascii (get_or t (from + n) 0) (ap is_trimmed (sym same) ∙ e) in
       record { byte = get_or t (from + n) 0; in_place = slice_get-get_or t (from + n) 0 (omega arith); ascii = small }
 
-  trimmed_place : (from to n : ℕ) → to ≤ length t → n ≤ to - from → P from → P (from + n) →
+  trimmed_end_is_boundary : (from to n : ℕ) → to ≤ length t → n ≤ to - from → P from → P (from + n) →
       P (from + trimmed_len_below (slice_range t from to) n)
-  trimmed_place from to zero l m p q = q
-  trimmed_place from to (suc n) l m p q =
+  trimmed_end_is_boundary from to zero l m p q = q
+  trimmed_end_is_boundary from to (suc n) l m p q =
       let test = is_trimmed (get_or (slice_range t from to) n 0) in
       let more =
-      λ (e : test ≡ true). trimmed_place from to n l (omega arith) p
-      (cuts.before (from + n) (trimmed_byte from to n l (omega arith) e)) in
+      λ (e : test ≡ true). trimmed_end_is_boundary from to n l (omega arith) p
+      (cuts.before (from + n) (place_of_trimmed_byte_has_ascii_byte from to n l (omega arith) e)) in
       either_place_holds P from test (trimmed_len_below (slice_range t from to) n) (suc n) more q
 
   end_in_bounds : (from to : ℕ) → from ≤ to → P from → P to → (from ≤ trimmed_end t from to) × P (trimmed_end t from to)
   end_in_bounds from to l p q =
       let inside = cuts.in_text to q in
       let n : length (slice_range t from to) ≡ to - from = simp (length-take, length-drop) (omega arith) in
-      let end : to ≡ from + length (slice_range t from to) = omega arith in
-      (omega arith, trimmed_place from to (length (slice_range t from to)) inside (omega arith) p (subst P end q))
+      let end : to ≡ from + length (slice_range t from to) = omega arith in (
+        omega arith,
+        trimmed_end_is_boundary from to (length (slice_range t from to)) inside (omega arith) p (subst P end q),
+      )
 
-  spelled_in_bounds : (xs : List Item) → list_every (ItemInBounds P) xs →
+  spelled_items_are_in_bounds : (xs : List Item) → list_every (ItemInBounds P) xs →
       list_every (element_every (IsSpan P)) (spelled t xs)
-  spelled_in_bounds [] g = tt
-  spelled_in_bounds (text from to ∷ []) ((a, b, c), g) = let e = end_in_bounds from to a b c in ((e.0, b, e.1), tt)
-  spelled_in_bounds (text from to ∷ x ∷ xs) (g, h) = (g, spelled_in_bounds (x ∷ xs) h)
-  spelled_in_bounds (placeable_item x ∷ xs) (g, h) = (g, spelled_in_bounds xs h)
+  spelled_items_are_in_bounds [] g = tt
+  spelled_items_are_in_bounds (text from to ∷ []) ((a, b, c), g) =
+      let e = end_in_bounds from to a b c in ((e.0, b, e.1), tt)
+  spelled_items_are_in_bounds (text from to ∷ x ∷ xs) (g, h) = (g, spelled_items_are_in_bounds (x ∷ xs) h)
+  spelled_items_are_in_bounds (placeable_item x ∷ xs) (g, h) = (g, spelled_items_are_in_bounds xs h)
 
 elements_in_bounds : (P : ℕ → Type 0) (es : List (ElementTree Span)) → list_every (element_every (IsSpan P)) es →
     pattern_every (IsSpan P) (elements_of es)
@@ -199,5 +209,5 @@ pub pattern_in_bounds : (t : List ℕ) (P : ℕ → Type 0) → AreBoundaries t 
     option_every (pattern_every (IsSpan P)) (pattern_of edition t y)
 pattern_in_bounds t P cuts edition y g =
     if_any_in_bounds P (spelled t (cut t (items edition y)))
-    (spelled_in_bounds t P cuts (cut t (items edition y))
-    (cut_in_bounds t P cuts (items edition y) (items_in_bounds P edition y g)))
+    (spelled_items_are_in_bounds t P cuts (cut t (items edition y))
+    (cut_items_are_in_bounds t P cuts (items edition y) (items_of_layout_are_in_bounds P edition y g)))

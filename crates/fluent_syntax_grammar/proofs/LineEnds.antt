@@ -8,9 +8,9 @@ use Rattle.fluent_syntax_grammar.specs.Bytes.{lf, cr, space, is_space, is_letter
 use Rattle.fluent_syntax_grammar.specs.Places.{has, has_byte, after_eol, starts_line, BlankBlock, no_line, line}
 use Rattle.fluent_syntax_grammar.specs.Places.{has_eol}
 use Rattle.fluent_syntax_grammar.specs.Tiling.{is_entry_byte}
-use Rattle.fluent_syntax_grammar.proofs.Cuts.{eol_cases}
+use Rattle.fluent_syntax_grammar.proofs.Cuts.{eol_is_lf_or_crlf}
 use Rattle.fluent_syntax_grammar.proofs.Facts.{tests_exclude, tests_imply, holds-none, lt_or_le}
-use Rattle.fluent_syntax_grammar.proofs.Tests.{true_by_right, or_is_false, and_left}
+use Rattle.fluent_syntax_grammar.proofs.Tests.{true_by_right, or_is_false, and_is_false_by_left}
 
 -- spaces and the bytes of line ends
 abbrev pub is_blank_byte : ℕ → Bool
@@ -37,11 +37,11 @@ entry_byte_is_no_lf b e = grind (arith, nat_tests)
 entry_byte_is_no_cr : (b : ℕ) → is_entry_byte b ≡ true → (b == cr) ≡ false
 entry_byte_is_no_cr b e = grind (arith, nat_tests)
 
-pub letter_entry : (b : ℕ) → is_letter b ≡ true → is_entry_byte b ≡ true
-letter_entry b e = grind (arith, nat_tests)
+pub letter_is_entry_byte : (b : ℕ) → is_letter b ≡ true → is_entry_byte b ≡ true
+letter_is_entry_byte b e = grind (arith, nat_tests)
 
-pub hash_entry : (b : ℕ) → (b == 35) ≡ true → is_entry_byte b ≡ true
-hash_entry b e = grind (arith, nat_tests)
+pub hash_is_entry_byte : (b : ℕ) → (b == 35) ≡ true → is_entry_byte b ≡ true
+hash_is_entry_byte b e = grind (arith, nat_tests)
 
 place_in_eol_cases : (i k m : ℕ) → k ≤ i → i < m → (m ≡ k + 1) ⊎ (m ≡ k + 2) → (i ≡ k) ⊎ ((i ≡ k + 1) × (m ≡ k + 2))
 place_in_eol_cases i k m a b (inl e) = inl (omega arith)
@@ -59,11 +59,12 @@ no_eol_no_bytes false true m n e = cc
 no_eol_no_bytes false false m n e = refl
 
 module _ (t : List ℕ) where
-  pub after_none : (i : ℕ) → after_eol t i ≡ None → has_eol t i ≡ false
-  after_none i e = no_eol_no_bytes (has_byte t lf i) (has_byte t cr i && has_byte t lf (i + 1)) (i + 1) (i + 2) e
+  pub no_eol_end_means_no_eol : (i : ℕ) → after_eol t i ≡ None → has_eol t i ≡ false
+  no_eol_end_means_no_eol i e =
+      no_eol_no_bytes (has_byte t lf i) (has_byte t cr i && has_byte t lf (i + 1)) (i + 1) (i + 2) e
 
-  eol_blank : (k m i : ℕ) → after_eol t k ≡ Some m → k ≤ i → i < m → has t is_blank_byte i ≡ true
-  eol_blank k m i e a b = elim (eol_cases t k m e) [
+  bytes_of_eol_are_blank : (k m i : ℕ) → after_eol t k ≡ Some m → k ≤ i → i < m → has t is_blank_byte i ≡ true
+  bytes_of_eol_are_blank k m i e a b = elim (eol_is_lf_or_crlf t k m e) [
     | inl x ↦ (let same : k ≡ i = omega arith in
         subst (λ i. has t is_blank_byte i ≡ true) same
         (tests_imply (λ c. c == lf) is_blank_byte (slice_get t k) lf_is_blank_byte x.0))
@@ -76,36 +77,42 @@ module _ (t : List ℕ) where
   ]
 
   -- in a blank block there are spaces and line ends
-  block_bytes : (i j k : ℕ) → BlankBlock t i j → i ≤ k → k < j → has t is_blank_byte k ≡ true
-  block_bytes i j k (no_line a b) l m = absurd (omega arith)
-  block_bytes i j k (line {k = n} {m = p} a b c) l m = elim (lt_or_le k n) [
+  bytes_of_block_are_blank : (i j k : ℕ) → BlankBlock t i j → i ≤ k → k < j → has t is_blank_byte k ≡ true
+  bytes_of_block_are_blank i j k (no_line a b) l m = absurd (omega arith)
+  bytes_of_block_are_blank i j k (line {k = n} {m = p} a b c) l m = elim (lt_or_le k n) [
     | inl x ↦ tests_imply is_space is_blank_byte (slice_get t k) space_is_blank_byte (a.each k l x)
-    | inr x ↦ elim (lt_or_le k p) [ inl y ↦ eol_blank n p k b x y | inr y ↦ block_bytes p j k c y m ]
+    | inr x ↦ elim (lt_or_le k p) [
+      | inl y ↦ bytes_of_eol_are_blank n p k b x y
+      | inr y ↦
+          bytes_of_block_are_blank p j k c y m
+    ]
   ]
 
-  pub block_no_entry : (i j k : ℕ) → BlankBlock t i j → i ≤ k → k < j → has t is_entry_byte k ≡ false
-  block_no_entry i j k b l m =
-      tests_exclude is_blank_byte is_entry_byte (slice_get t k) blank_byte_begins_no_entry (block_bytes i j k b l m)
+  pub blank_block_has_no_entry_byte : (i j k : ℕ) → BlankBlock t i j → i ≤ k → k < j → has t is_entry_byte k ≡ false
+  blank_block_has_no_entry_byte i j k b l m =
+      tests_exclude is_blank_byte is_entry_byte (slice_get t k) blank_byte_begins_no_entry
+      (bytes_of_block_are_blank i j k b l m)
 
-  empty_block : (i : ℕ) → has t is_space i ≡ false → has_byte t lf i ≡ false → has_byte t cr i ≡ false →
-      BlankBlock t i i
-  empty_block i e f g =
+  block_is_empty_off_blank_bytes : (i : ℕ) → has t is_space i ≡ false → has_byte t lf i ≡ false →
+      has_byte t cr i ≡ false → BlankBlock t i i
+  block_is_empty_off_blank_bytes i e f g =
       no_line (record { forward = omega arith; each = λ k a b. absurd (omega arith); longest = e })
       (no_bytes_no_eol (has_byte t lf i) (has_byte t cr i && has_byte t lf (i + 1)) _ _
-      (or_is_false (has_byte t lf i) _ f (and_left (has_byte t cr i) _ g)))
+      (or_is_false (has_byte t lf i) _ f (and_is_false_by_left (has_byte t cr i) _ g)))
 
   -- where an entry may begin, and at the text's end, the blank block is empty
-  pub block_at_entry : (i : ℕ) → has t is_entry_byte i ≡ true → BlankBlock t i i
-  block_at_entry i e =
-      empty_block i (tests_exclude is_entry_byte is_space (slice_get t i) entry_byte_is_no_space e)
+  pub block_at_entry_byte_is_empty : (i : ℕ) → has t is_entry_byte i ≡ true → BlankBlock t i i
+  block_at_entry_byte_is_empty i e =
+      block_is_empty_off_blank_bytes i (tests_exclude is_entry_byte is_space (slice_get t i) entry_byte_is_no_space e)
       (tests_exclude is_entry_byte (λ b. b == lf) (slice_get t i) entry_byte_is_no_lf e)
       (tests_exclude is_entry_byte (λ b. b == cr) (slice_get t i) entry_byte_is_no_cr e)
 
-  pub past_end : (p : ℕ → Bool) → has t p (length t) ≡ false
-  past_end p = holds-none p (slice_get t (length t)) (slice_get_past t (length t) (omega arith))
+  pub end_of_text_has_no_byte : (p : ℕ → Bool) → has t p (length t) ≡ false
+  end_of_text_has_no_byte p = holds-none p (slice_get t (length t)) (slice_get_past t (length t) (omega arith))
 
   pub block_at_end : BlankBlock t (length t) (length t)
-  block_at_end = empty_block (length t) (past_end is_space) (past_end (λ b. b == lf)) (past_end (λ b. b == cr))
+  block_at_end = block_is_empty_off_blank_bytes (length t) (end_of_text_has_no_byte is_space)
+      (end_of_text_has_no_byte (λ b. b == lf)) (end_of_text_has_no_byte (λ b. b == cr))
 
   -- ---- lines
 
@@ -113,19 +120,21 @@ module _ (t : List ℕ) where
   abbrev pub IsLineStart : ℕ → Type 0
   IsLineStart i = (starts_line t i ≡ true) ⊎ (i ≡ length t)
 
-  lf_start : (i : ℕ) → has_byte t lf i ≡ true → starts_line t (i + 1) ≡ true
-  lf_start i e =
+  line_starts_after_lf : (i : ℕ) → has_byte t lf i ≡ true → starts_line t (i + 1) ≡ true
+  line_starts_after_lf i e =
       true_by_right (i + 1 == 0) (has_byte t lf ((i + 1) - 1))
       (let same : i ≡ (i + 1) - 1 = omega arith in subst (λ k. has_byte t lf k ≡ true) same e)
 
-  pub eol_start : (k m : ℕ) → after_eol t k ≡ Some m → starts_line t m ≡ true
-  eol_start k m e = elim (eol_cases t k m e) [
-    | inl x ↦ subst (λ m. starts_line t m ≡ true) (sym x.1) (lf_start k x.0)
+  pub line_starts_after_eol : (k m : ℕ) → after_eol t k ≡ Some m → starts_line t m ≡ true
+  line_starts_after_eol k m e = elim (eol_is_lf_or_crlf t k m e) [
+    | inl x ↦ subst (λ m. starts_line t m ≡ true) (sym x.1) (line_starts_after_lf k x.0)
     | inr x ↦ (let same : (k + 1) + 1 ≡ m = omega arith in
-        subst (λ m. starts_line t m ≡ true) same (lf_start (k + 1) x.1))
+        subst (λ m. starts_line t m ≡ true) same (line_starts_after_lf (k + 1) x.1))
   ]
 
   -- a blank block leads from the start of a line to the start of a line
-  pub block_start : (i j : ℕ) → starts_line t i ≡ true → BlankBlock t i j → starts_line t j ≡ true
-  block_start i j e (no_line a b) = e
-  block_start i j e (line {k = k} {m = m} a b c) = block_start m j (eol_start k m b) c
+  pub block_from_line_start_ends_at_line_start : (i j : ℕ) → starts_line t i ≡ true → BlankBlock t i j →
+      starts_line t j ≡ true
+  block_from_line_start_ends_at_line_start i j e (no_line a b) = e
+  block_from_line_start_ends_at_line_start i j e (line {k = k} {m = m} a b c) =
+      block_from_line_start_ends_at_line_start m j (line_starts_after_eol k m b) c

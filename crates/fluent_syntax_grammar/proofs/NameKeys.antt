@@ -17,11 +17,11 @@ or_absorbs_repetition : (b c : Bool) → (b || c) ≡ (b || (b || c))
 or_absorbs_repetition true c = refl
 or_absorbs_repetition false c = refl
 
-or_swap : (a b c : Bool) → (a || (b || c)) ≡ (b || (a || c))
-or_swap true true c = refl
-or_swap true false c = refl
-or_swap false true c = refl
-or_swap false false c = refl
+or_swaps_first_two : (a b c : Bool) → (a || (b || c)) ≡ (b || (a || c))
+or_swaps_first_two true true c = refl
+or_swaps_first_two true false c = refl
+or_swaps_first_two false true c = refl
+or_swaps_first_two false false c = refl
 
 -- one more name after others
 is_used-append : (name n : List ℕ) (names : List (List ℕ)) →
@@ -29,7 +29,7 @@ is_used-append : (name n : List ℕ) (names : List (List ℕ)) →
 is_used-append name n [] = refl
 is_used-append name n (x ∷ xs) =
     ap (λ b. bytes_eq name x || b) (is_used-append name n xs)
-    ∙ or_swap (bytes_eq name x) (bytes_eq name n) (is_used name xs)
+    ∙ or_swaps_first_two (bytes_eq name x) (bytes_eq name n) (is_used name xs)
 
 module _ {K : Type 0} (text : K → List ℕ) where
   -- the table has the name where a key is the name
@@ -47,17 +47,17 @@ module _ {K : Type 0} (text : K → List ℕ) where
     by_order x keys Equal e more =
         rw (e, same k x e) (or_absorbs_repetition (bytes_eq name (text x)) (is_key text keys name))
     by_order x keys Greater e more =
-        rw (e, more) (or_swap (bytes_eq name (text x)) (bytes_eq name (text k)) (is_key text keys name))
+        rw (e, more) (or_swaps_first_two (bytes_eq name (text x)) (bytes_eq name (text k)) (is_key text keys name))
 
-    key_inserted : (keys : List K) →
+    inserted_key_is_key : (keys : List K) →
         is_key text (insert_key cmp keys k) name ≡ (bytes_eq name (text k) || is_key text keys name)
-    key_inserted [] = refl
-    key_inserted (x ∷ keys) = by_order x keys (cmp k x) refl (key_inserted keys)
+    inserted_key_is_key [] = refl
+    inserted_key_is_key (x ∷ keys) = by_order x keys (cmp k x) refl (inserted_key_is_key keys)
 
   -- one name more
-  pub notes_after : (cmp : K → K → Ordering) → ((x y : K) → cmp x y ≡ Equal → text x ≡ text y) → (keys : List K)
-      (names : List (List ℕ)) (k : K) → NotesAll text keys names →
+  pub inserted_key_notes_its_name : (cmp : K → K → Ordering) → ((x y : K) → cmp x y ≡ Equal → text x ≡ text y) →
+      (keys : List K) (names : List (List ℕ)) (k : K) → NotesAll text keys names →
       NotesAll text (insert_key cmp keys k) (names ++ text k ∷ [])
-  notes_after cmp same keys names k all = λ name.
-      key_inserted cmp same name k keys ∙ ap (λ b. bytes_eq name (text k) || b) (all name)
+  inserted_key_notes_its_name cmp same keys names k all = λ name.
+      inserted_key_is_key cmp same name k keys ∙ ap (λ b. bytes_eq name (text k) || b) (all name)
       ∙ sym (is_used-append name (text k) names)

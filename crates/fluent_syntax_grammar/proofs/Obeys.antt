@@ -14,7 +14,7 @@ module _ (edition : Edition) where
       inline_obeys (canonical_rules edition) e ≡ true
   inline_part e h = right_true (is_expression (inline e) && has_one_default (inline e)) _ h
 
-  pub select_parts : (e : InlineTree Text) (vs : VariantTrees Text) →
+  pub parts_of_canonical_select_obey : (e : InlineTree Text) (vs : VariantTrees Text) →
       expression_obeys (canonical_rules edition) (select e vs) ≡ true →
       (inline_obeys (canonical_rules edition) e && variants_obey (canonical_rules edition) vs) ≡ true
-  select_parts e vs h = right_true (is_expression (select e vs) && has_one_default (select e vs)) _ h
+  parts_of_canonical_select_obey e vs h = right_true (is_expression (select e vs) && has_one_default (select e vs)) _ h

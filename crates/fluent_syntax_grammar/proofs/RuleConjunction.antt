@@ -29,9 +29,9 @@ module _ {K : Type 0} where
   both_pass a b (k ∷ ks) =
       ap (λ rest. (a k && b k) && rest) (both_pass a b ks) ∙ and_swaps_inner (a k) (b k) (list_all a ks) (list_all b ks)
 
-  pub none_asked : (ks : List K) → true ≡ list_all (λ (k : K). true) ks
-  none_asked [] = refl
-  none_asked (k ∷ ks) = none_asked ks
+  pub true_holds_of_all_parts : (ks : List K) → true ≡ list_all (λ (k : K). true) ks
+  true_holds_of_all_parts [] = refl
+  true_holds_of_all_parts (k ∷ ks) = true_holds_of_all_parts ks
 
 -- Rules, and those that they are put together of.
 module _ {K : Type 0} (ks : List K) (parts : K → Rules) (whole : Rules) where
@@ -52,22 +52,22 @@ module _ {K : Type 0} (ks : List K) (parts : K → Rules) (whole : Rules) where
       → (x && y) ≡ list_all (λ k. a k && b k) ks
   meet a b e f = rw (e, f) (sym (both_pass a b ks))
 
-  option_parts : {X : Type 0} (test : X → Bool) (part : K → X → Bool)
+  option_test_is_all_of_parts : {X : Type 0} (test : X → Bool) (part : K → X → Bool)
       → ((x : X) → test x ≡ list_all (λ k. part k x) ks)
       → (o : Option X) → option_obeys test o ≡ list_all (λ k. option_obeys (part k) o) ks
-  option_parts test part e None = none_asked ks
-  option_parts test part e (Some x) = e x
+  option_test_is_all_of_parts test part e None = true_holds_of_all_parts ks
+  option_test_is_all_of_parts test part e (Some x) = e x
 
-  list_parts : {X : Type 0} (test : X → Bool) (part : K → X → Bool)
+  list_test_is_all_of_parts : {X : Type 0} (test : X → Bool) (part : K → X → Bool)
       → ((x : X) → test x ≡ list_all (λ k. part k x) ks)
       → (xs : List X) → list_all test xs ≡ list_all (λ k. list_all (part k) xs) ks
-  list_parts test part e [] = none_asked ks
-  list_parts test part e (x ∷ xs) = meet _ _ (e x) (list_parts test part e xs)
+  list_test_is_all_of_parts test part e [] = true_holds_of_all_parts ks
+  list_test_is_all_of_parts test part e (x ∷ xs) = meet _ _ (e x) (list_test_is_all_of_parts test part e xs)
 
   module _ (are : ArePartsOf) where
-    named_parts : (o : Option Text)
+    optional_name_test_is_all_of_parts : (o : Option Text)
         → option_obeys whole.name o ≡ list_all (λ k. option_obeys (parts k).name o) ks
-    named_parts o = option_parts whole.name (λ k. (parts k).name) are.name_parts o
+    optional_name_test_is_all_of_parts o = option_test_is_all_of_parts whole.name (λ k. (parts k).name) are.name_parts o
 
     key_obeys_each : (key : KeyTree Text) → key_obeys whole key ≡ list_all (λ k. key_obeys (parts k) key) ks
     key_obeys_each (name_key v) = are.name_parts v
@@ -85,15 +85,16 @@ module _ {K : Type 0} (ks : List K) (parts : K → Rules) (whole : Rules) where
       inline_obeys_each (number_literal v) = are.number_parts v
       inline_obeys_each (function_reference id a) =
           meet _ _ (are.name_parts id) (meet _ _ (are.callee_parts id) (arguments_obey_each a))
-      inline_obeys_each (message_reference id attribute) = meet _ _ (are.name_parts id) (named_parts attribute)
+      inline_obeys_each (message_reference id attribute) =
+          meet _ _ (are.name_parts id) (optional_name_test_is_all_of_parts attribute)
       inline_obeys_each (term_reference id attribute a) =
-          meet _ _ (are.name_parts id) (meet _ _ (named_parts attribute) (maybe_obeys_each a))
+          meet _ _ (are.name_parts id) (meet _ _ (optional_name_test_is_all_of_parts attribute) (maybe_obeys_each a))
       inline_obeys_each (variable_reference id) = are.name_parts id
       inline_obeys_each (inline_placeable e) = expression_obeys_each e
 
       maybe_obeys_each : (a : MaybeArguments Text) →
           optional_arguments_obey whole a ≡ list_all (λ k. optional_arguments_obey (parts k) a) ks
-      maybe_obeys_each no_arguments = none_asked ks
+      maybe_obeys_each no_arguments = true_holds_of_all_parts ks
       maybe_obeys_each (some_arguments a) = arguments_obey_each a
 
       arguments_obey_each : (a : ArgumentsTree Text)
@@ -102,12 +103,12 @@ module _ {K : Type 0} (ks : List K) (parts : K → Rules) (whole : Rules) where
           meet _ _ (are.arguments_parts (arguments ps ns)) (meet _ _ (inlines_obey_each ps) (nameds_obey_each ns))
 
       inlines_obey_each : (es : InlineTrees Text) → inlines_obey whole es ≡ list_all (λ k. inlines_obey (parts k) es) ks
-      inlines_obey_each no_inlines = none_asked ks
+      inlines_obey_each no_inlines = true_holds_of_all_parts ks
       inlines_obey_each (inlines e es) = meet _ _ (inline_obeys_each e) (inlines_obey_each es)
 
       nameds_obey_each : (ns : NamedTrees Text) → named_arguments_obey whole ns
           ≡ list_all (λ k. named_arguments_obey (parts k) ns) ks
-      nameds_obey_each no_named = none_asked ks
+      nameds_obey_each no_named = true_holds_of_all_parts ks
       nameds_obey_each (nameds n ns) = meet _ _ (named_obeys_each n) (nameds_obey_each ns)
 
       named_obeys_each : (n : NamedTree Text) → named_obeys whole n ≡ list_all (λ k. named_obeys (parts k) n) ks
@@ -120,16 +121,16 @@ module _ {K : Type 0} (ks : List K) (parts : K → Rules) (whole : Rules) where
 
       elements_obey_each : (es : PatternTree Text) →
           elements_obey whole es ≡ list_all (λ k. elements_obey (parts k) es) ks
-      elements_obey_each no_elements = none_asked ks
+      elements_obey_each no_elements = true_holds_of_all_parts ks
       elements_obey_each (elements e es) = meet _ _ (element_obeys_each e) (elements_obey_each es)
 
       element_obeys_each : (e : ElementTree Text) → element_obeys whole e ≡ list_all (λ k. element_obeys (parts k) e) ks
-      element_obeys_each (text_element v) = none_asked ks
+      element_obeys_each (text_element v) = true_holds_of_all_parts ks
       element_obeys_each (placeable e) = expression_obeys_each e
 
       variants_obey_each : (vs : VariantTrees Text)
           → variants_obey whole vs ≡ list_all (λ k. variants_obey (parts k) vs) ks
-      variants_obey_each no_variants = none_asked ks
+      variants_obey_each no_variants = true_holds_of_all_parts ks
       variants_obey_each (variants v vs) = meet _ _ (variant_obeys_each v) (variants_obey_each vs)
 
       variant_obeys_each : (v : VariantTree Text) → variant_obeys whole v ≡ list_all (λ k. variant_obeys (parts k) v) ks
@@ -142,15 +143,17 @@ module _ {K : Type 0} (ks : List K) (parts : K → Rules) (whole : Rules) where
     attributes_obey_each : (more : List (AttributeTree Text))
         → list_all (attribute_obeys whole) more ≡ list_all (λ k. list_all (attribute_obeys (parts k)) more) ks
     attributes_obey_each more =
-        list_parts (attribute_obeys whole) (λ k. attribute_obeys (parts k)) attribute_obeys_each more
+        list_test_is_all_of_parts (attribute_obeys whole) (λ k. attribute_obeys (parts k)) attribute_obeys_each more
 
     comment_obeys_each : (content : Option (List Text))
         → option_obeys whole.comment content ≡ list_all (λ k. option_obeys (parts k).comment content) ks
-    comment_obeys_each content = option_parts whole.comment (λ k. (parts k).comment) are.comment_parts content
+    comment_obeys_each content =
+        option_test_is_all_of_parts whole.comment (λ k. (parts k).comment) are.comment_parts content
 
     value_obeys_each : (value : Option (PatternTree Text))
         → option_obeys (pattern_obeys whole) value ≡ list_all (λ k. option_obeys (pattern_obeys (parts k)) value) ks
-    value_obeys_each value = option_parts (pattern_obeys whole) (λ k. pattern_obeys (parts k)) pattern_obeys_each value
+    value_obeys_each value =
+        option_test_is_all_of_parts (pattern_obeys whole) (λ k. pattern_obeys (parts k)) pattern_obeys_each value
 
     pub entry_obeys_each : (e : EntryTree Text) → entry_obeys whole e ≡ list_all (λ k. entry_obeys (parts k) e) ks
     entry_obeys_each (message m) =
@@ -164,4 +167,4 @@ module _ {K : Type 0} (ks : List K) (parts : K → Rules) (whole : Rules) where
     entry_obeys_each (junk content) = are.junk_parts
 
     pub body_obeys_each : (es : BodyTree Text) → body_obeys whole es ≡ list_all (λ k. body_obeys (parts k) es) ks
-    body_obeys_each es = list_parts (entry_obeys whole) (λ k. entry_obeys (parts k)) entry_obeys_each es
+    body_obeys_each es = list_test_is_all_of_parts (entry_obeys whole) (λ k. entry_obeys (parts k)) entry_obeys_each es

@@ -43,18 +43,19 @@ attached_if_stays_bare : (b : Bool) (content : List Span) (e h : EntryTree Span)
 attached_if_stays_bare true content e h p = attached_is_bare content e (attached content e) refl h p
 attached_if_stays_bare false content e h p = cc
 
-attaches_bare : (x y : Tile) (h : EntryTree Span) → attached_entry x y ≡ Some h → (bare_tile x ≡ [])
-    × (bare h ≡ bare_tile y)
-attaches_bare (entry s (comment regular c)) (entry r e) h p = (refl, attached_if_stays_bare (s.end == r.start) c e h p)
-attaches_bare (entry s (comment regular c)) (refused f) h p = cc
-attaches_bare (entry s (comment regular c)) dropped h p = cc
-attaches_bare (entry s (comment group c)) y h p = cc
-attaches_bare (entry s (comment resource c)) y h p = cc
-attaches_bare (entry s (message m)) y h p = cc
-attaches_bare (entry s (term m)) y h p = cc
-attaches_bare (entry s (junk x)) y h p = cc
-attaches_bare (refused f) y h p = cc
-attaches_bare dropped y h p = cc
+attached_entry_is_bare_as_its_tile : (x y : Tile) (h : EntryTree Span) → attached_entry x y ≡ Some h →
+    (bare_tile x ≡ []) × (bare h ≡ bare_tile y)
+attached_entry_is_bare_as_its_tile (entry s (comment regular c)) (entry r e) h p =
+    (refl, attached_if_stays_bare (s.end == r.start) c e h p)
+attached_entry_is_bare_as_its_tile (entry s (comment regular c)) (refused f) h p = cc
+attached_entry_is_bare_as_its_tile (entry s (comment regular c)) dropped h p = cc
+attached_entry_is_bare_as_its_tile (entry s (comment group c)) y h p = cc
+attached_entry_is_bare_as_its_tile (entry s (comment resource c)) y h p = cc
+attached_entry_is_bare_as_its_tile (entry s (message m)) y h p = cc
+attached_entry_is_bare_as_its_tile (entry s (term m)) y h p = cc
+attached_entry_is_bare_as_its_tile (entry s (junk x)) y h p = cc
+attached_entry_is_bare_as_its_tile (refused f) y h p = cc
+attached_entry_is_bare_as_its_tile dropped y h p = cc
 
 joined_is_bare_tiles : (x y : Tile) (others after : BodyTree Span) (tiles : List Tile) (o : Option (EntryTree Span)) →
     attached_entry x y ≡ o →
@@ -64,7 +65,7 @@ joined_is_bare_tiles x y others after tiles None e p q =
     flat_map_of_append bare (alone x) others
     ∙ (ap (λ zs. zs ++ without_comments others) (alone_is_bare_tile x) ∙ ap (λ zs. bare_tile x ++ zs) p)
 joined_is_bare_tiles x y others after tiles (Some h) e p q =
-    let b = attaches_bare x y h e in
+    let b = attached_entry_is_bare_as_its_tile x y h e in
     ap (λ zs. zs ++ without_comments after) b.1
     ∙ (ap (λ zs. bare_tile y ++ zs) q ∙ sym (ap (λ zs. zs ++ (bare_tile y ++ bare_tiles tiles)) b.0))
 
@@ -106,12 +107,13 @@ bare_tile_attaches_nothing (entry s (junk x)) y b = refl
 bare_tile_attaches_nothing (refused f) y b = refl
 bare_tile_attaches_nothing dropped y b = refl
 
-pub body_bare : (xs : List Tile) → list_every IsBareTile xs → body xs ≡ bare_tiles xs
-body_bare [] b = refl
-body_bare (x ∷ []) (b, c) = bare_tile_is_kept x b ∙ sym (append_nothing (bare_tile x))
-body_bare (x ∷ y ∷ tiles) (b, c) =
+pub body_of_bare_tiles_is_bare_tiles : (xs : List Tile) → list_every IsBareTile xs → body xs ≡ bare_tiles xs
+body_of_bare_tiles_is_bare_tiles [] b = refl
+body_of_bare_tiles_is_bare_tiles (x ∷ []) (b, c) = bare_tile_is_kept x b ∙ sym (append_nothing (bare_tile x))
+body_of_bare_tiles_is_bare_tiles (x ∷ y ∷ tiles) (b, c) =
     ap (λ o. or_attached o (alone x) (body (y ∷ tiles)) (body tiles)) (bare_tile_attaches_nothing x y b) ∙
-    (ap (λ zs. zs ++ body (y ∷ tiles)) (bare_tile_is_kept x b) ∙ ap (λ zs. bare_tile x ++ zs) (body_bare (y ∷ tiles) c))
+    (ap (λ zs. zs ++ body (y ∷ tiles)) (bare_tile_is_kept x b)
+    ∙ ap (λ zs. bare_tile x ++ zs) (body_of_bare_tiles_is_bare_tiles (y ∷ tiles) c))
 
 -- ---- next to one another
 
@@ -127,23 +129,24 @@ aligned_keep_names xs ys (dropped_right {ys = others} a) = aligned_keep_names xs
 aligned_keep_names xs ys (junk_left {xs = more} a) = aligned_keep_names more ys a
 aligned_keep_names xs ys (junk_both {xs = more} {ys = others} a) = aligned_keep_names more others a
 
-pub aligned_faults : (xs ys : List Tile) → Aligned xs ys → faults xs ≡ [] → faults ys ≡ []
-aligned_faults xs ys nothing e = refl
-aligned_faults xs ys (both {x = entry s x} {xs = more} {ys = others} a) e = aligned_faults more others a e
-aligned_faults xs ys (both {x = refused f} {xs = more} {ys = others} a) e = cc
-aligned_faults xs ys (both {x = dropped} {xs = more} {ys = others} a) e = aligned_faults more others a e
-aligned_faults xs ys (comment_left {xs = more} a) e = aligned_faults more ys a e
-aligned_faults xs ys (dropped_right {ys = others} a) e = aligned_faults xs others a e
-aligned_faults xs ys (junk_left {xs = more} a) e = cc
-aligned_faults xs ys (junk_both a) e = cc
+pub aligned_is_faultless : (xs ys : List Tile) → Aligned xs ys → faults xs ≡ [] → faults ys ≡ []
+aligned_is_faultless xs ys nothing e = refl
+aligned_is_faultless xs ys (both {x = entry s x} {xs = more} {ys = others} a) e = aligned_is_faultless more others a e
+aligned_is_faultless xs ys (both {x = refused f} {xs = more} {ys = others} a) e = cc
+aligned_is_faultless xs ys (both {x = dropped} {xs = more} {ys = others} a) e = aligned_is_faultless more others a e
+aligned_is_faultless xs ys (comment_left {xs = more} a) e = aligned_is_faultless more ys a e
+aligned_is_faultless xs ys (dropped_right {ys = others} a) e = aligned_is_faultless xs others a e
+aligned_is_faultless xs ys (junk_left {xs = more} a) e = cc
+aligned_is_faultless xs ys (junk_both a) e = cc
 
-pub aligned_bare : (xs ys : List Tile) → Aligned xs ys → faults xs ≡ [] → bare_tiles ys ≡ bare_tiles xs
-aligned_bare xs ys nothing e = refl
-aligned_bare xs ys (both {x = entry s x} {xs = more} {ys = others} a) e =
-    ap (λ zs. bare x ++ zs) (aligned_bare more others a e)
-aligned_bare xs ys (both {x = refused f} {xs = more} {ys = others} a) e = cc
-aligned_bare xs ys (both {x = dropped} {xs = more} {ys = others} a) e = aligned_bare more others a e
-aligned_bare xs ys (comment_left {xs = more} a) e = aligned_bare more ys a e
-aligned_bare xs ys (dropped_right {ys = others} a) e = aligned_bare xs others a e
-aligned_bare xs ys (junk_left {xs = more} a) e = cc
-aligned_bare xs ys (junk_both a) e = cc
+pub aligned_is_equally_bare : (xs ys : List Tile) → Aligned xs ys → faults xs ≡ [] → bare_tiles ys ≡ bare_tiles xs
+aligned_is_equally_bare xs ys nothing e = refl
+aligned_is_equally_bare xs ys (both {x = entry s x} {xs = more} {ys = others} a) e =
+    ap (λ zs. bare x ++ zs) (aligned_is_equally_bare more others a e)
+aligned_is_equally_bare xs ys (both {x = refused f} {xs = more} {ys = others} a) e = cc
+aligned_is_equally_bare xs ys (both {x = dropped} {xs = more} {ys = others} a) e =
+    aligned_is_equally_bare more others a e
+aligned_is_equally_bare xs ys (comment_left {xs = more} a) e = aligned_is_equally_bare more ys a e
+aligned_is_equally_bare xs ys (dropped_right {ys = others} a) e = aligned_is_equally_bare xs others a e
+aligned_is_equally_bare xs ys (junk_left {xs = more} a) e = cc
+aligned_is_equally_bare xs ys (junk_both a) e = cc

@@ -10,44 +10,47 @@ use Rattle.fluent_syntax_grammar.specs.Tiling.{next, entry_at, TileAt, reads, re
 use Rattle.fluent_syntax_grammar.specs.Tiling.{keeps_tile, SomeTiling, SomeRuntimeTiling}
 use Rattle.fluent_syntax_tree.specs.declared.edition.Edition.{Edition}
 use Rattle.fluent_syntax_tree.specs.declared.spans.Span.{Span}
-use Rattle.fluent_syntax_grammar.proofs.Cuts.{block_goes_on, line_inside}
+use Rattle.fluent_syntax_grammar.proofs.Cuts.{block_goes_on, line_place_is_inside_text}
 use Rattle.fluent_syntax_grammar.proofs.SoundStrings.{InText}
-use Rattle.fluent_syntax_grammar.proofs.SoundTiling.{entry_refused, tile_good}
+use Rattle.fluent_syntax_grammar.proofs.SoundTiling.{refused_entry_has_entry_fault, tile_good}
 use Rattle.fluent_syntax_grammar.proofs.Boundaries.{text_cuts}
-use Rattle.fluent_syntax_grammar.proofs.WholeLines.{IsLine, line_to, line_in_text, hashes_onward}
-use Rattle.fluent_syntax_grammar.proofs.CommentFaults.{some_hash}
+use Rattle.fluent_syntax_grammar.proofs.WholeLines.{IsLine, line_reads_as_whole_line, line_ends_in_text}
+use Rattle.fluent_syntax_grammar.proofs.WholeLines.{hashes_end_within_line}
+use Rattle.fluent_syntax_grammar.proofs.CommentFaults.{hashes_at_hash_are_at_least_one}
 use Rattle.fluent_syntax_grammar.proofs.Stretches.{junk_ends_at_entry, junk_ends_with_text, junk_goes_on}
-use Rattle.fluent_syntax_grammar.proofs.TotalWords.{longest_run_word, block_word}
-use Rattle.fluent_syntax_grammar.proofs.TotalFamily.{pattern_everywhere}
-use Rattle.fluent_syntax_grammar.proofs.Facts.{lt_or_same}
+use Rattle.fluent_syntax_grammar.proofs.TotalWords.{longest_run_is_total, blank_block_is_total}
+use Rattle.fluent_syntax_grammar.proofs.TotalFamily.{pattern_is_total_onward}
+use Rattle.fluent_syntax_grammar.proofs.Facts.{at_most_is_less_or_same}
 use Rattle.fluent_syntax_grammar.proofs.Included.{IsIncludedFamily, itself_is_included}
-use Rattle.fluent_syntax_grammar.proofs.TotalEntries.{entry_has}
+use Rattle.fluent_syntax_grammar.proofs.TotalEntries.{entry_has_outcome}
 
 module _ (t : List ℕ) where
   -- ---- junk and dropped lines
 
-  end_at : (k : ℕ) → k ≤ length t → (b : Bool) → starts_entry t k ≡ b → (k < length t → (j : ℕ) × JunkEnd t (k + 1) j) →
-      (j : ℕ) × JunkEnd t k j
-  end_at k l true e more = (k, junk_ends_at_entry t k e)
-  end_at k l false e more =
-      elim (lt_or_same k (length t) l)
+  junk_end_exists_by_entry_test : (k : ℕ) → k ≤ length t → (b : Bool) → starts_entry t k ≡ b →
+      (k < length t → (j : ℕ) × JunkEnd t (k + 1) j) → (j : ℕ) × JunkEnd t k j
+  junk_end_exists_by_entry_test k l true e more = (k, junk_ends_at_entry t k e)
+  junk_end_exists_by_entry_test k l false e more =
+      elim (at_most_is_less_or_same k (length t) l)
       [ inl m ↦ (let x = more m in (x.0, junk_goes_on t k x.0 e x.1)) | inr same ↦ (k, junk_ends_with_text t k same) ]
 
-  end_exists : (m k : ℕ) → length t ≤ k + m → k ≤ length t → (j : ℕ) × JunkEnd t k j
-  end_exists zero k a l = end_at k l (starts_entry t k) refl (λ b. absurd (omega arith))
-  end_exists (suc m) k a l = end_at k l (starts_entry t k) refl (λ b. end_exists m (k + 1) (omega arith) (omega arith))
+  junk_end_exists : (m k : ℕ) → length t ≤ k + m → k ≤ length t → (j : ℕ) × JunkEnd t k j
+  junk_end_exists zero k a l = junk_end_exists_by_entry_test k l (starts_entry t k) refl (λ b. absurd (omega arith))
+  junk_end_exists (suc m) k a l = junk_end_exists_by_entry_test k l (starts_entry t k) refl
+      (λ b. junk_end_exists m (k + 1) (omega arith) (omega arith))
 
-  line_end : (i k : ℕ) → LongestRun (is_line_place t) i k → (o : Option ℕ) → after_eol t k ≡ o → (j : ℕ) × IsLine t i j
-  line_end i k s None e = (k, record { end = k; stretch = s; eol = inr (e, refl) })
-  line_end i k s (Some j) e = (j, record { end = k; stretch = s; eol = inl e })
+  line_exists_by_its_eol : (i k : ℕ) → LongestRun (is_line_place t) i k → (o : Option ℕ) → after_eol t k ≡ o →
+      (j : ℕ) × IsLine t i j
+  line_exists_by_its_eol i k s None e = (k, record { end = k; stretch = s; eol = inr (e, refl) })
+  line_exists_by_its_eol i k s (Some j) e = (j, record { end = k; stretch = s; eol = inl e })
 
   line_exists : (i : ℕ) → i ≤ length t → (j : ℕ) × IsLine t i j
-  line_exists i l = let w = (longest_run_word t (is_line_place t) (line_inside t)).exists i l in
-      line_end i w.0 w.1 (after_eol t w.0) refl
+  line_exists i l = let w = (longest_run_is_total t (is_line_place t) (line_place_is_inside_text t)).exists i l in
+      line_exists_by_its_eol i w.0 w.1 (after_eol t w.0) refl
 
 module _ (edition : Edition) (t : List ℕ) where
-  every : IsIncludedFamily (family edition t) (family edition t)
-  every = record { expression = itself_is_included; argument_list = itself_is_included }
+  family_includes_itself : IsIncludedFamily (family edition t) (family edition t)
+  family_includes_itself = record { expression = itself_is_included; argument_list = itself_is_included }
 
   -- a tile that is at a place, and goes on
   record TileThere (i : ℕ) : Type 0 where
@@ -57,8 +60,9 @@ module _ (edition : Edition) (t : List ℕ) where
     on : i < end
     in_text : end ≤ length t
 
-  tile_of : (i : ℕ) → i < length t → (o : Outcome (EntryTree Span)) → entry_at edition t i o → TileThere i
-  tile_of i l (Read e j) x =
+  tile_exists_by_outcome_of_entry : (i : ℕ) → i < length t → (o : Outcome (EntryTree Span)) → entry_at edition t i o →
+      TileThere i
+  tile_exists_by_outcome_of_entry i l (Read e j) x =
       let q = tile_good edition t (InText t) (text_cuts t) i j _ (omega arith) l (reads x) in
       record {
         tile = entry (record { start = i; end = j }) e;
@@ -67,17 +71,18 @@ module _ (edition : Edition) (t : List ℕ) where
         on = q.onward;
         in_text = q.place;
       }
-  tile_of i l (Refused k from to) x =
-      let f = entry_refused edition t (InText t) (text_cuts t) i from to k (omega arith) x in
-      let e = end_exists t (length t) (failing_place k from to) (omega arith) f.in_text in
+  tile_exists_by_outcome_of_entry i l (Refused k from to) x =
+      let f = refused_entry_has_entry_fault edition t (InText t) (text_cuts t) i from to k (omega arith) x in
+      let e = junk_end_exists t (length t) (failing_place k from to) (omega arith) f.in_text in
       let q = tile_good edition t (InText t) (text_cuts t) i e.0 _ (omega arith) l (refuses x e.1) in
       record { tile = _; end = e.0; tile_there = refuses x e.1; on = q.onward; in_text = q.place }
 
   tile_exists : (i : ℕ) → i < length t → TileThere i
   tile_exists i l =
-      let x = entry_has edition t (family edition t) every 0 (λ s g. pattern_everywhere edition t) i (omega arith)
+      let x = entry_has_outcome edition t (family edition t) family_includes_itself 0
+      (λ s g. pattern_is_total_onward edition t) i (omega arith)
       (omega arith) in
-      tile_of i l x.0 x.1
+      tile_exists_by_outcome_of_entry i l x.0 x.1
 
   record RuntimeTileThere (i : ℕ) : Type 0 where
     tile : Tile
@@ -86,64 +91,71 @@ module _ (edition : Edition) (t : List ℕ) where
     on : i < end
     in_text : end ≤ length t
 
-  runtime_tile : (i : ℕ) → i < length t → (hash : Bool) → has_byte t 35 i ≡ hash → RuntimeTileThere i
-  runtime_tile i l true h =
+  runtime_tile_exists_by_hash_test : (i : ℕ) → i < length t → (hash : Bool) → has_byte t 35 i ≡ hash →
+      RuntimeTileThere i
+  runtime_tile_exists_by_hash_test i l true h =
       let x = line_exists t i (omega arith) in
-      let one = some_hash t i h in
-      let on = hashes_onward t i x.0 x.1 in
+      let one = hashes_at_hash_are_at_least_one t i h in
+      let on = hashes_end_within_line t i x.0 x.1 in
       record {
         tile = dropped;
         end = x.0;
-        tile_there = drops h (line_to t i x.0 x.1);
+        tile_there = drops h (line_reads_as_whole_line t i x.0 x.1);
         on = omega arith;
-        in_text = line_in_text t i x.0 (omega arith) x.1;
+        in_text = line_ends_in_text t i x.0 (omega arith) x.1;
       }
-  runtime_tile i l false h = let x = tile_exists i l in
+  runtime_tile_exists_by_hash_test i l false h = let x = tile_exists i l in
       record { tile = x.tile; end = x.end; tile_there = keeps_tile h x.tile_there; on = x.on; in_text = x.in_text }
 
-  tiles_at : (i : ℕ) → i ≤ length t → (s : ℕ) → BlankBlock t i s → s ≤ length t →
+  tiles_exist_past_blank_block : (i : ℕ) → i ≤ length t → (s : ℕ) → BlankBlock t i s → s ≤ length t →
       ((j : ℕ) → i < j → j ≤ length t → (tiles : List Tile) × Tiled t (TileAt edition t) j tiles) →
       (tiles : List Tile) × Tiled t (TileAt edition t) i tiles
-  tiles_at i l s b m more = elim (lt_or_same s (length t) m) [
+  tiles_exist_past_blank_block i l s b m more = elim (at_most_is_less_or_same s (length t) m) [
     | inl n ↦ (let x = tile_exists s n in let on = x.on in let f = block_goes_on t i s b in
         let r = more x.end (omega arith) x.in_text in (x.tile ∷ r.0, next b n x.tile_there r.1))
     | inr same ↦ ([], done (subst (λ s. BlankBlock t i s) same b))
   ]
 
   tiles_exist : (m i : ℕ) → length t ≤ i + m → i ≤ length t → (tiles : List Tile) × Tiled t (TileAt edition t) i tiles
-  tiles_exist zero i a l = let b = (block_word t).exists i l in
-      tiles_at i l b.0 b.1 ((block_word t).in_text i b.0 l b.1) (λ j c d. absurd (omega arith))
-  tiles_exist (suc m) i a l = let b = (block_word t).exists i l in
-      tiles_at i l b.0 b.1 ((block_word t).in_text i b.0 l b.1) (λ j c d. tiles_exist m j (omega arith) d)
+  tiles_exist zero i a l = let b = (blank_block_is_total t).exists i l in
+      tiles_exist_past_blank_block i l b.0 b.1 ((blank_block_is_total t).in_text i b.0 l b.1)
+      (λ j c d. absurd (omega arith))
+  tiles_exist (suc m) i a l = let b = (blank_block_is_total t).exists i l in
+      tiles_exist_past_blank_block i l b.0 b.1 ((blank_block_is_total t).in_text i b.0 l b.1)
+      (λ j c d. tiles_exist m j (omega arith) d)
 
-  runtime_at : (i : ℕ) → i ≤ length t → (s : ℕ) → BlankBlock t i s → s ≤ length t →
+  runtime_tiles_exist_past_blank_block : (i : ℕ) → i ≤ length t → (s : ℕ) → BlankBlock t i s → s ≤ length t →
       ((j : ℕ) → i < j → j ≤ length t → (tiles : List Tile) × Tiled t (RuntimeTileAt edition t) j tiles) →
       (tiles : List Tile) × Tiled t (RuntimeTileAt edition t) i tiles
-  runtime_at i l s b m more = elim (lt_or_same s (length t) m) [
-    | inl n ↦ (let x = runtime_tile s n (has_byte t 35 s) refl in let on = x.on in let f = block_goes_on t i s b in
+  runtime_tiles_exist_past_blank_block i l s b m more = elim (at_most_is_less_or_same s (length t) m) [
+    | inl n ↦ (let x = runtime_tile_exists_by_hash_test s n (has_byte t 35 s) refl in let on = x.on in let f =
+        block_goes_on t i s b in
         let r = more x.end (omega arith) x.in_text in (x.tile ∷ r.0, next b n x.tile_there r.1))
     | inr same ↦ ([], done (subst (λ s. BlankBlock t i s) same b))
   ]
 
-  runtime_exist : (m i : ℕ) → length t ≤ i + m → i ≤ length t → (tiles : List Tile) ×
+  runtime_tiles_exist : (m i : ℕ) → length t ≤ i + m → i ≤ length t → (tiles : List Tile) ×
       Tiled t (RuntimeTileAt edition t) i tiles
-  runtime_exist zero i a l = let b = (block_word t).exists i l in
-      runtime_at i l b.0 b.1 ((block_word t).in_text i b.0 l b.1) (λ j c d. absurd (omega arith))
-  runtime_exist (suc m) i a l = let b = (block_word t).exists i l in
-      runtime_at i l b.0 b.1 ((block_word t).in_text i b.0 l b.1) (λ j c d. runtime_exist m j (omega arith) d)
+  runtime_tiles_exist zero i a l = let b = (blank_block_is_total t).exists i l in
+      runtime_tiles_exist_past_blank_block i l b.0 b.1 ((blank_block_is_total t).in_text i b.0 l b.1)
+      (λ j c d. absurd (omega arith))
+  runtime_tiles_exist (suc m) i a l = let b = (blank_block_is_total t).exists i l in
+      runtime_tiles_exist_past_blank_block i l b.0 b.1 ((blank_block_is_total t).in_text i b.0 l b.1)
+      (λ j c d. runtime_tiles_exist m j (omega arith) d)
 
   -- from each place of a text on there are tiles
-  pub some_tiles : (i : ℕ) → i ≤ length t → (tiles : List Tile) × Tiled t (TileAt edition t) i tiles
-  some_tiles i inside = tiles_exist (length t) i (omega arith) inside
+  pub some_tiles_cover_rest_of_text : (i : ℕ) → i ≤ length t → (tiles : List Tile) × Tiled t (TileAt edition t) i tiles
+  some_tiles_cover_rest_of_text i inside = tiles_exist (length t) i (omega arith) inside
 
   -- and tiles without comments
-  pub some_runtime_tiles : (i : ℕ) → i ≤ length t → (tiles : List Tile) × Tiled t (RuntimeTileAt edition t) i tiles
-  some_runtime_tiles i inside = runtime_exist (length t) i (omega arith) inside
+  pub some_runtime_tiles_cover_rest_of_text : (i : ℕ) → i ≤ length t →
+      (tiles : List Tile) × Tiled t (RuntimeTileAt edition t) i tiles
+  some_runtime_tiles_cover_rest_of_text i inside = runtime_tiles_exist (length t) i (omega arith) inside
 
   -- every text has a tiling
   pub some_tiling : SomeTiling edition t
-  some_tiling = some_tiles 0 (omega arith)
+  some_tiling = some_tiles_cover_rest_of_text 0 (omega arith)
 
   -- every text has a tiling without comments
   pub some_runtime_tiling : SomeRuntimeTiling edition t
-  some_runtime_tiling = some_runtime_tiles 0 (omega arith)
+  some_runtime_tiling = some_runtime_tiles_cover_rest_of_text 0 (omega arith)

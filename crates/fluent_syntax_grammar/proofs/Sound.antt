@@ -13,8 +13,10 @@ use Rattle.fluent_syntax_grammar.specs.Meaning.{kind_means}
 use Rattle.fluent_syntax_tree.specs.declared.spans.Span.{Span}
 use Rattle.fluent_syntax_grammar.proofs.HoareTriple.{HoareTriple, holds_weaker, holds_bind, holds_yields, holds_fails}
 use Rattle.fluent_syntax_grammar.proofs.HoareTriple.{holds_skip, holds_peek, holds_branch_on, holds_many}
-use Rattle.fluent_syntax_grammar.proofs.Cuts.{AreBoundaries, IsAsciiSet, ascii_space, word_place, blank_place}
-use Rattle.fluent_syntax_grammar.proofs.Cuts.{block_place, block_goes_on, eol_goes_on, eol_place, line_stop, run_stop}
+use Rattle.fluent_syntax_grammar.proofs.Cuts.{AreBoundaries, IsAsciiSet, space_is_ascii_set, byte_run_ends_at_boundary}
+use Rattle.fluent_syntax_grammar.proofs.Cuts.{blank_ends_at_boundary}
+use Rattle.fluent_syntax_grammar.proofs.Cuts.{block_place, block_goes_on, eol_goes_on, eol_ends_at_boundary}
+use Rattle.fluent_syntax_grammar.proofs.Cuts.{line_run_ends_at_boundary, text_run_ends_at_boundary}
 
 -- an ordered range between two places of the kind
 abbrev pub IsSpan : (ℕ → Type 0) → Span → Type 0
@@ -58,9 +60,9 @@ ended_from_earlier_start : {A : Type 0} {P : ℕ → Type 0} {Good : A → Type 
     Ended P m Good a j → Ended P s Good a j
 ended_from_earlier_start s m l a j e = let f = e.late in record { late = omega arith; place = e.place; good = e.good }
 
-pub fault_from_earlier : {t : List ℕ} (s m : ℕ) → s ≤ m → (k : Kind) (from to : ℕ) → IsFault t m k from to →
+pub fault_holds_of_earlier_start : {t : List ℕ} (s m : ℕ) → s ≤ m → (k : Kind) (from to : ℕ) → IsFault t m k from to →
     IsFault t s k from to
-fault_from_earlier s m l k from to e = let f = e.late in
+fault_holds_of_earlier_start s m l k from to e = let f = e.late in
     record { late = omega arith; in_text = e.in_text; one = e.one; plain = e.plain; means = e.means }
 
 here_part_is_read : {B : Type 0} (t : List ℕ) (P : ℕ → Type 0) (s : ℕ) (Good : B → Type 0) (f : ℕ → Construct B) →
@@ -70,12 +72,13 @@ here_part_is_read t P s Good f g i j b p (goes_on at_place y) =
     ended_from_earlier_start {Good = Good} s i p.late b j
     ((g i p).holds.on_read i j b (record { late = omega arith; place = p.place }) y)
 
-here_refused : {B : Type 0} (t : List ℕ) (P : ℕ → Type 0) (s : ℕ) (Good : B → Type 0) (f : ℕ → Construct B) →
+refused_part_after_here_has_fault : {B : Type 0} (t : List ℕ) (P : ℕ → Type 0) (s : ℕ) (Good : B → Type 0)
+    (f : ℕ → Construct B) →
     ((m : ℕ) → Inside P s m → Sound t P m (f m) Good) → (i from to : ℕ) (k : Kind) → Inside P s i →
     (here >>= f) i (Refused k from to) → IsFault t s k from to
-here_refused t P s Good f g i from to k p (stops x) = elim x [ ]
-here_refused t P s Good f g i from to k p (goes_on at_place y) =
-    fault_from_earlier s i p.late k from to
+refused_part_after_here_has_fault t P s Good f g i from to k p (stops x) = elim x [ ]
+refused_part_after_here_has_fault t P s Good f g i from to k p (goes_on at_place y) =
+    fault_holds_of_earlier_start s i p.late k from to
     ((g i p).holds.on_refused i from to k (record { late = omega arith; place = p.place }) y)
 
 module _ {t : List ℕ} {P : ℕ → Type 0} {s : ℕ} where
@@ -124,7 +127,13 @@ module _ {t : List ℕ} {P : ℕ → Type 0} {s : ℕ} where
   pub here_is_sound : {B : Type 0} {Good : B → Type 0} {f : ℕ → Construct B} →
       ((m : ℕ) → Inside P s m → Sound t P m (f m) Good) → Sound t P s (here >>= f) Good
   here_is_sound {Good = Good} {f = f} g =
-      record { holds = record { on_read = here_part_is_read t P s Good f g; on_refused = here_refused t P s Good f g } }
+      record {
+        holds = record {
+          on_read = here_part_is_read t P s Good f g;
+          on_refused =
+              refused_part_after_here_has_fault t P s Good f g;
+        };
+      }
 
 -- what is good of a list's item, where there is one
 abbrev pub good_more : {A S : Type 0} → (A → Type 0) → More A S → Type 0
@@ -150,22 +159,23 @@ spanned_is_sound p = here_is_sound (λ m q. yields_is_sound (q.late, p, q.place)
 module _ (t : List ℕ) (P : ℕ → Type 0) (cuts : AreBoundaries t P) where
   pub word_is_onward : {set : ℕ → Bool} → IsAsciiSet set → IsOnward P (ByteRun t set)
   word_is_onward {set = set} a =
-      record { forward = λ i j w. w.forward; place = λ i j p w. word_place t P cuts set a i j p w }
+      record { forward = λ i j w. w.forward; place = λ i j p w. byte_run_ends_at_boundary t P cuts set a i j p w }
 
   pub blank_is_onward : IsOnward P (Blank t)
-  blank_is_onward = record { forward = λ i j w. w.forward; place = λ i j p w. blank_place t P cuts i j p w }
+  blank_is_onward = record { forward = λ i j w. w.forward; place = λ i j p w. blank_ends_at_boundary t P cuts i j p w }
 
   pub block_is_onward : IsOnward P (BlankBlock t)
   block_is_onward = record { forward = λ i j w. block_goes_on t i j w; place = λ i j p w. block_place t P cuts i j p w }
 
   pub line_is_onward : IsOnward P (LongestRun (is_line_place t))
-  line_is_onward = record { forward = λ i j w. w.forward; place = λ i j p w. line_stop t P cuts i j p w }
+  line_is_onward =
+      record { forward = λ i j w. w.forward; place = λ i j p w. line_run_ends_at_boundary t P cuts i j p w }
 
   pub run_is_onward : IsOnward P (LongestRun (is_run_place t))
-  run_is_onward = record { forward = λ i j w. w.forward; place = λ i j p w. run_stop t P cuts i j p w }
+  run_is_onward = record { forward = λ i j w. w.forward; place = λ i j p w. text_run_ends_at_boundary t P cuts i j p w }
 
   pub inline_blank_is_sound : {s : ℕ} → Sound t P s (inline_blank t) (λ u. Unit {0})
-  inline_blank_is_sound = skip_is_sound (word_is_onward ascii_space)
+  inline_blank_is_sound = skip_is_sound (word_is_onward space_is_ascii_set)
 
   pub blank_is_sound : {s : ℕ} → Sound t P s (blank t) (λ u. Unit {0})
   blank_is_sound = skip_is_sound blank_is_onward
@@ -177,12 +187,13 @@ module _ (t : List ℕ) (P : ℕ → Type 0) (cuts : AreBoundaries t P) where
   rest_of_line_is_sound = here_is_sound (λ m q. bind_is_sound (skip_is_sound line_is_onward)
       (λ u v. spanned_is_sound q.place))
 
-  past_holds : (s : ℕ) (o : Option ℕ) →
+  past_eol_reads_soundly : (s : ℕ) (o : Option ℕ) →
       HoareTriple (λ i. Inside P s i × (after_eol t i ≡ o)) (past_eol o) (Ended P s (λ u. Unit {0})) (IsFault t s)
-  past_holds s None = holds_yields (λ i p. let q = p.0 in record { late = q.late; place = q.place; good = tt })
-  past_holds s (Some k) =
+  past_eol_reads_soundly s None =
+      holds_yields (λ i p. let q = p.0 in record { late = q.late; place = q.place; good = tt })
+  past_eol_reads_soundly s (Some k) =
       holds_skip (λ i j p w. let q = p.0 in let l = q.late in let f = eol_goes_on t i k p.1 in let e = w.there in
-      record { late = omega arith; place = subst P (sym e) (eol_place t P cuts i k p.1); good = tt })
+      record { late = omega arith; place = subst P (sym e) (eol_ends_at_boundary t P cuts i k p.1); good = tt })
 
   pub optional_eol_is_sound : {s : ℕ} → Sound t P s (optional_eol t) (λ u. Unit {0})
-  optional_eol_is_sound {s = s} = record { holds = holds_peek (past_holds s) }
+  optional_eol_is_sound {s = s} = record { holds = holds_peek (past_eol_reads_soundly s) }

@@ -16,7 +16,7 @@ use Rattle.fluent_syntax_grammar.proofs.Sound.{peek_is_sound, here_is_sound, spa
 use Rattle.fluent_syntax_grammar.proofs.Sound.{rest_of_line_is_sound, optional_eol_is_sound}
 use Rattle.fluent_syntax_grammar.proofs.SoundWords.{token_is_sound}
 use Rattle.fluent_syntax_tree.proofs.Every.{list_every-append}
-use Rattle.fluent_syntax_grammar.proofs.CommentFaults.{some_hash}
+use Rattle.fluent_syntax_grammar.proofs.CommentFaults.{hashes_at_hash_are_at_least_one}
 use Rattle.fluent_syntax_grammar.proofs.SoundEntries.{IsEntryFault, fault_is_entry_fault, earlier_fault}
 
 hashes_place_holds : (P : ℕ → Type 0) (i : ℕ) (a b c : Bool) → P i → (a ≡ true → P (i + 1)) → (b ≡ true → P (i + 2)) →
@@ -27,35 +27,36 @@ hashes_place_holds P i true false c p f g h = f refl
 hashes_place_holds P i true true false p f g h = g refl
 hashes_place_holds P i true true true p f g h = h refl
 
-plus_one : (i m n : ℕ) → m + 1 ≡ n → (i + m) + 1 ≡ i + n
-plus_one i m n e = omega arith
+offset_plus_one_is_next_offset : (i m n : ℕ) → m + 1 ≡ n → (i + m) + 1 ≡ i + n
+offset_plus_one_is_next_offset i m n e = omega arith
 
 module _ (t : List ℕ) (P : ℕ → Type 0) (cuts : AreBoundaries t P) where
-  hash_after : (i m n : ℕ) → m + 1 ≡ n → has_byte t 35 (i + m) ≡ true → P (i + n)
-  hash_after i m n e h = subst P (plus_one i m n e) (cuts.after (i + m) (ascii_byte t 35 (i + m) (omega arith) h))
+  boundary_is_after_hash : (i m n : ℕ) → m + 1 ≡ n → has_byte t 35 (i + m) ≡ true → P (i + n)
+  boundary_is_after_hash i m n e h =
+      subst P (offset_plus_one_is_next_offset i m n e) (cuts.after (i + m) (ascii_byte t 35 (i + m) (omega arith) h))
 
   pub place_after_hashes : (i : ℕ) → P i → P (i + hashes t i)
   place_after_hashes i p = hashes_place_holds P i (has_byte t 35 i) (has_byte t 35 (i + 1)) (has_byte t 35 (i + 2)) p
-      (λ e. cuts.after i (ascii_byte t 35 i (omega arith) e)) (λ e. hash_after i 1 2 refl e)
-      (λ e. hash_after i 2 3 refl e)
+      (λ e. cuts.after i (ascii_byte t 35 i (omega arith) e)) (λ e. boundary_is_after_hash i 1 2 refl e)
+      (λ e. boundary_is_after_hash i 2 3 refl e)
 
-  text_is_sound : {s : ℕ} (eol : Bool) → Sound t P s (comment_text t eol) (IsSpan P)
-  text_is_sound true = here_is_sound (λ m q. spanned_is_sound q.place)
-  text_is_sound false = bind_is_sound (token_is_sound t P cuts 32 refl) (λ u v. rest_of_line_is_sound t P cuts)
+  comment_text_is_sound : {s : ℕ} (eol : Bool) → Sound t P s (comment_text t eol) (IsSpan P)
+  comment_text_is_sound true = here_is_sound (λ m q. spanned_is_sound q.place)
+  comment_text_is_sound false = bind_is_sound (token_is_sound t P cuts 32 refl) (λ u v. rest_of_line_is_sound t P cuts)
 
-  rest_is_sound : {s : ℕ} (b : Option ℕ) → Sound t P s (comment_rest t b) (list_every (IsSpan P))
-  rest_is_sound None = yields_is_sound tt
-  rest_is_sound (Some b) =
-      bind_is_sound (peek_is_sound text_is_sound)
+  comment_rest_is_sound : {s : ℕ} (b : Option ℕ) → Sound t P s (comment_rest t b) (list_every (IsSpan P))
+  comment_rest_is_sound None = yields_is_sound tt
+  comment_rest_is_sound (Some b) =
+      bind_is_sound (peek_is_sound comment_text_is_sound)
       (λ content g. bind_is_sound (optional_eol_is_sound t P cuts) (λ u v. yields_is_sound (g, tt)))
 
   -- a comment line, from a place with that many hashes
-  pub line_from : (s i level : ℕ) → s ≤ i + level → P i → hashes t i ≡ level →
+  pub comment_line_reads_soundly : (s i level : ℕ) → s ≤ i + level → P i → hashes t i ≡ level →
       HoareTriple (λ j. j ≡ i) (comment_line t level) (Ended P s (list_every (IsSpan P))) (IsFault t s)
-  line_from s i level l p e = holds_bind {mid = λ u. Inside P s}
+  comment_line_reads_soundly s i level l p e = holds_bind {mid = λ u. Inside P s}
       (holds_skip (λ j m q w. let by = w.by in let same : i + hashes t i ≡ m = omega arith in
       record { late = omega arith; place = subst P same (place_after_hashes i p) }))
-      (λ u. (peek_is_sound rest_is_sound).holds)
+      (λ u. (peek_is_sound comment_rest_is_sound).holds)
 
   lines_read : (s level i j : ℕ) (rest : List Span) → Inside P s i → comment_lines t level i (Read rest j) →
       Ended P s (list_every (IsSpan P)) rest j
@@ -63,43 +64,45 @@ module _ (t : List ℕ) (P : ℕ → Type 0) (cuts : AreBoundaries t P) where
   lines_read s level i j rest p (no_comment_line e x) = record { late = p.late; place = p.place; good = tt }
   lines_read s level i j rest p (one_more {j = m} {content = content} {rest = more} e x y) =
       let late = p.late in
-      let q = (line_from s i level (omega arith) p.place e).on_read i m content refl x in
+      let q = (comment_line_reads_soundly s i level (omega arith) p.place e).on_read i m content refl x in
       let r = lines_read s level m j more (record { late = q.late; place = q.place }) y in
       record { late = r.late; place = r.place; good = list_every-append (IsSpan P) content more q.good r.good }
 
-  lines_refused : (X : Type 0) (level i from to : ℕ) (k : Kind) → comment_lines t level i (Refused k from to) → X
-  lines_refused X level i from to k x = elim x [ ]
+  comment_lines_refuse_nothing : (X : Type 0) (level i from to : ℕ) (k : Kind) →
+      comment_lines t level i (Refused k from to) → X
+  comment_lines_refuse_nothing X level i from to k x = elim x [ ]
 
-  lines_are_sound : {s : ℕ} (level : ℕ) → Sound t P s (comment_lines t level) (list_every (IsSpan P))
-  lines_are_sound {s = s} level =
+  comment_lines_are_sound : {s : ℕ} (level : ℕ) → Sound t P s (comment_lines t level) (list_every (IsSpan P))
+  comment_lines_are_sound {s = s} level =
       record {
         holds =
             record {
               on_read = λ i j a p x. lines_read s level i j a p x;
-              on_refused = λ i from to k p x. lines_refused (IsFault t s k from to) level i from to k x;
+              on_refused = λ i from to k p x. comment_lines_refuse_nothing (IsFault t s k from to) level i from to k x;
             };
       }
 
-  comment_from : (i level : ℕ) → P i → hashes t i ≡ level →
+  comment_of_level_reads_soundly : (i level : ℕ) → P i → hashes t i ≡ level →
       HoareTriple (λ j. j ≡ i) (comment_of t level) (Ended P (i + level) (entry_every (IsSpan P)))
       (IsFault t (i + level))
-  comment_from i level p e = holds_bind (line_from (i + level) i level (omega arith) p e) (λ content.
+  comment_of_level_reads_soundly i level p e =
+      holds_bind (comment_line_reads_soundly (i + level) i level (omega arith) p e) (λ content.
       known {Mid = list_every (IsSpan P)}
-      (λ g. bind_is_sound (lines_are_sound level) (λ rest k. yields_is_sound
+      (λ g. bind_is_sound (comment_lines_are_sound level) (λ rest k. yields_is_sound
       (list_every-append (IsSpan P) content rest g k))))
 
-  pub comment_read : (i j : ℕ) (a : EntryTree Span) → P i → has_byte t 35 i ≡ true → comment_entry t i (Read a j) →
-      Ended P (i + 1) (entry_every (IsSpan P)) a j
-  comment_read i j a p e (chosen x) =
-      let q = (comment_from i (hashes t i) p refl).on_read i j a refl x in
+  pub read_comment_has_spans_in_bounds : (i j : ℕ) (a : EntryTree Span) → P i → has_byte t 35 i ≡ true →
+      comment_entry t i (Read a j) → Ended P (i + 1) (entry_every (IsSpan P)) a j
+  read_comment_has_spans_in_bounds i j a p e (chosen x) =
+      let q = (comment_of_level_reads_soundly i (hashes t i) p refl).on_read i j a refl x in
       let late = q.late in
-      let one = some_hash t i e in
+      let one = hashes_at_hash_are_at_least_one t i e in
       record { late = omega arith; place = q.place; good = q.good }
 
-  pub comment_refused : (i from to : ℕ) (k : Kind) → P i → has_byte t 35 i ≡ true →
+  pub refused_comment_has_entry_fault : (i from to : ℕ) (k : Kind) → P i → has_byte t 35 i ≡ true →
       comment_entry t i (Refused k from to) → IsEntryFault t i (i + 1) k from to
-  comment_refused i from to k p e (chosen x) =
-      let one = some_hash t i e in
+  refused_comment_has_entry_fault i from to k p e (chosen x) =
+      let one = hashes_at_hash_are_at_least_one t i e in
       earlier_fault t i (i + hashes t i) (i + 1) (omega arith) k from to
       (fault_is_entry_fault t i (i + hashes t i) (omega arith) k from to
-      ((comment_from i (hashes t i) p refl).on_refused i from to k refl x))
+      ((comment_of_level_reads_soundly i (hashes t i) p refl).on_refused i from to k refl x))

@@ -21,7 +21,7 @@ use Rattle.fluent_syntax_tree.specs.declared.edition.Edition.{Edition}
 use Rattle.fluent_syntax_tree.specs.declared.spans.Span.{Span}
 use Rattle.fluent_syntax_grammar.proofs.HoareTriple.{HoareTriple, holds_weaker, holds_bind, holds_yields, holds_fails}
 use Rattle.fluent_syntax_grammar.proofs.HoareTriple.{holds_fails_from, holds_skip, holds_peek, holds_branch_on}
-use Rattle.fluent_syntax_grammar.proofs.Cuts.{AreBoundaries, word_place, name_set_is_ascii, ascii_byte}
+use Rattle.fluent_syntax_grammar.proofs.Cuts.{AreBoundaries, byte_run_ends_at_boundary, name_set_is_ascii, ascii_byte}
 use Rattle.fluent_syntax_grammar.proofs.Sound.{IsSpan, IsPlain, Inside, Ended, IsFault, Sound, bind_is_sound}
 use Rattle.fluent_syntax_grammar.proofs.Sound.{yields_is_sound}
 use Rattle.fluent_syntax_grammar.proofs.Sound.{fails_is_sound, inline_blank_is_sound, blank_block_is_sound}
@@ -29,7 +29,7 @@ use Rattle.fluent_syntax_grammar.proofs.SoundWords.{token_is_sound, identifier_i
 use Rattle.fluent_syntax_grammar.proofs.SoundLines as lines
 use Rattle.fluent_syntax_grammar.proofs.SoundLines.{family_is_sound}
 use Rattle.fluent_syntax_grammar.proofs.Facts.{differs, tests_imply}
-use Rattle.fluent_syntax_grammar.proofs.Tests.{letter_name}
+use Rattle.fluent_syntax_grammar.proofs.Tests.{letter_is_name_byte}
 
 -- the fault of an entry that begins at i, whose failing place is not before s
 pub record IsEntryFault (t : List ℕ) (i s : ℕ) (k : Kind) (from to : ℕ) : Type 0 where
@@ -63,34 +63,36 @@ pub record SoundEntry {A : Type 0} (t : List ℕ) (P : ℕ → Type 0) (i s : �
   pub holds : HoareTriple (Inside P s) c (Ended P s Good) (IsEntryFault t i s)
 
 module _ {t : List ℕ} {P : ℕ → Type 0} {i s : ℕ} where
-  pub known_entry : {A B : Type 0} {Mid : A → Type 0} {Good : B → Type 0} {a : A} {c : Construct B} →
+  pub entry_after_known_result_is_sound : {A B : Type 0} {Mid : A → Type 0} {Good : B →
+      Type 0} {a : A} {c : Construct B} →
       (Mid a → SoundEntry t P i s c Good) → HoareTriple (Ended P s Mid a) c (Ended P s Good) (IsEntryFault t i s)
-  known_entry f = record {
+  entry_after_known_result_is_sound f = record {
     on_read = λ i j b p x. (f p.good).holds.on_read i j b (record { late = p.late; place = p.place }) x;
     on_refused =
         λ i from to k p x. (f p.good).holds.on_refused i from to k (record { late = p.late; place = p.place }) x;
   }
 
-  pub entry_bind : {A B : Type 0} {Mid : A → Type 0} {Good : B → Type 0} {c : Construct A} {f : A → Construct B} →
+  pub bind_is_sound_entry : {A B : Type 0} {Mid : A → Type 0} {Good : B → Type 0} {c : Construct A} {f : A →
+      Construct B} →
       i ≤ s → Sound t P s c Mid → ((a : A) → Mid a → SoundEntry t P i s (f a) Good) → SoundEntry t P i s (c >>= f) Good
-  entry_bind {Mid = Mid} l x g =
+  bind_is_sound_entry {Mid = Mid} l x g =
       record {
         holds =
             holds_bind (holds_weaker (λ i p. p) (λ a j e. e) (fault_is_entry_fault t i s l) x.holds)
-            (λ a. known_entry {Mid = Mid} (g a));
+            (λ a. entry_after_known_result_is_sound {Mid = Mid} (g a));
       }
 
-  pub entry_yields : {A : Type 0} {Good : A → Type 0} {a : A} → Good a → SoundEntry t P i s (yields a) Good
-  entry_yields g = record { holds = holds_yields (λ i p. record { late = p.late; place = p.place; good = g }) }
+  pub yields_is_sound_entry : {A : Type 0} {Good : A → Type 0} {a : A} → Good a → SoundEntry t P i s (yields a) Good
+  yields_is_sound_entry g = record { holds = holds_yields (λ i p. record { late = p.late; place = p.place; good = g }) }
 
 module _ (edition : Edition) (t : List ℕ) (P : ℕ → Type 0) (cuts : AreBoundaries t P) where
   pub pattern_is_sound : {s : ℕ} → Sound t P s (pattern edition t) (option_every (pattern_every (IsSpan P)))
   pattern_is_sound = lines.pattern_over_is_sound edition t P cuts (family edition t) (family_is_sound edition t P cuts)
 
-  with_is_sound : {s : ℕ} (id : Span) (value : Option (PatternTree Span)) → IsSpan P id →
+  attribute_with_is_sound : {s : ℕ} (id : Span) (value : Option (PatternTree Span)) → IsSpan P id →
       option_every (pattern_every (IsSpan P)) value → Sound t P s (attribute_with id value) (attribute_every (IsSpan P))
-  with_is_sound id None g k = fails_is_sound cuts.in_text tt (λ i. tt)
-  with_is_sound id (Some value) g k = yields_is_sound (g, k)
+  attribute_with_is_sound id None g k = fails_is_sound cuts.in_text tt (λ i. tt)
+  attribute_with_is_sound id (Some value) g k = yields_is_sound (g, k)
 
   pub attribute_is_sound : {s : ℕ} → Sound t P s (attribute edition t) (attribute_every (IsSpan P))
   attribute_is_sound =
@@ -99,26 +101,27 @@ module _ (edition : Edition) (t : List ℕ) (P : ℕ → Type 0) (cuts : AreBoun
       (λ id g.
       bind_is_sound (inline_blank_is_sound t P cuts)
       (λ u v. bind_is_sound (token_is_sound t P cuts 61 refl)
-      (λ u v. bind_is_sound pattern_is_sound (λ value k. with_is_sound id value g k))))))
+      (λ u v. bind_is_sound pattern_is_sound (λ value k. attribute_with_is_sound id value g k))))))
 
-  attributes_read : (s i j : ℕ) (rest : List (AttributeTree Span)) → Inside P s i →
+  read_attributes_have_spans_in_bounds : (s i j : ℕ) (rest : List (AttributeTree Span)) → Inside P s i →
       attributes edition t i (Read rest j) → Ended P s (list_every (attribute_every (IsSpan P))) rest j
-  attributes_read s i j rest p (no_more x) = record { late = p.late; place = p.place; good = tt }
-  attributes_read s i j rest p (one_more {j = m} {a = a} {rest = more} x y) =
+  read_attributes_have_spans_in_bounds s i j rest p (no_more x) = record { late = p.late; place = p.place; good = tt }
+  read_attributes_have_spans_in_bounds s i j rest p (one_more {j = m} {a = a} {rest = more} x y) =
       let q = attribute_is_sound.holds.on_read i m a p x in
-      let r = attributes_read s m j more (record { late = q.late; place = q.place }) y in
+      let r = read_attributes_have_spans_in_bounds s m j more (record { late = q.late; place = q.place }) y in
       record { late = r.late; place = r.place; good = (q.good, r.good) }
 
-  attributes_refused : (X : Type 0) (i from to : ℕ) (k : Kind) → attributes edition t i (Refused k from to) → X
-  attributes_refused X i from to k x = elim x [ ]
+  attributes_are_never_refused : (X : Type 0) (i from to : ℕ) (k : Kind) → attributes edition t i (Refused k from to) →
+      X
+  attributes_are_never_refused X i from to k x = elim x [ ]
 
   pub attributes_are_sound : {s : ℕ} → Sound t P s (attributes edition t) (list_every (attribute_every (IsSpan P)))
   attributes_are_sound {s = s} =
       record {
         holds =
             record {
-              on_read = λ i j a p x. attributes_read s i j a p x;
-              on_refused = λ i from to k p x. attributes_refused (IsFault t s k from to) i from to k x;
+              on_read = λ i j a p x. read_attributes_have_spans_in_bounds s i j a p x;
+              on_refused = λ i from to k p x. attributes_are_never_refused (IsFault t s k from to) i from to k x;
             };
       }
 
@@ -135,8 +138,8 @@ module _ (edition : Edition) (t : List ℕ) (P : ℕ → Type 0) (cuts : AreBoun
             (λ j p. let late = p.late in let inside = cuts.in_text j p.place in
             record { late = omega arith; ordered = omega arith; onward = late; in_text = inside; means = tt });
       }
-  message_with_is_sound i id None (a ∷ rest) f g k = entry_yields (f, tt, k, tt)
-  message_with_is_sound i id (Some value) rest f g k = entry_yields (f, g, k, tt)
+  message_with_is_sound i id None (a ∷ rest) f g k = yields_is_sound_entry (f, tt, k, tt)
+  message_with_is_sound i id (Some value) rest f g k = yields_is_sound_entry (f, g, k, tt)
 
   term_with_is_sound : (i : ℕ) (id : Span) (value : Option (PatternTree Span)) (rest : List (AttributeTree Span)) →
       IsSpan P id → option_every (pattern_every (IsSpan P)) value → list_every (attribute_every (IsSpan P)) rest →
@@ -148,7 +151,7 @@ module _ (edition : Edition) (t : List ℕ) (P : ℕ → Type 0) (cuts : AreBoun
             (λ j p. let late = p.late in let inside = cuts.in_text j p.place in
             record { late = omega arith; ordered = omega arith; onward = late; in_text = inside; means = tt });
       }
-  term_with_is_sound i id (Some value) rest f g k = entry_yields (f, g, k, tt)
+  term_with_is_sound i id (Some value) rest f g k = yields_is_sound_entry (f, g, k, tt)
 
   abbrev AfterName : ℕ → Span →
       (Span → Option (PatternTree Span) → List (AttributeTree Span) → Construct (EntryTree Span)) →
@@ -161,7 +164,7 @@ module _ (edition : Edition) (t : List ℕ) (P : ℕ → Type 0) (cuts : AreBoun
     rest ← attributes edition t
     last id value rest
 
-  after_name :
+  rest_after_name_is_sound :
       (i : ℕ) (id : Span)
       (last : Span → Option (PatternTree Span) → List (AttributeTree Span) → Construct (EntryTree Span)) →
       IsSpan P id →
@@ -169,18 +172,19 @@ module _ (edition : Edition) (t : List ℕ) (P : ℕ → Type 0) (cuts : AreBoun
       option_every (pattern_every (IsSpan P)) value → list_every (attribute_every (IsSpan P)) rest →
       SoundEntry t P i (i + 1) (last id value rest) Good) →
       SoundEntry t P i (i + 1) (AfterName i id last) Good
-  after_name i id last f g =
+  rest_after_name_is_sound i id last f g =
       let l : i ≤ i + 1 = omega arith in
-      entry_bind l (inline_blank_is_sound t P cuts)
-      (λ u v. entry_bind l (token_is_sound t P cuts 61 refl) (λ u v. entry_bind l pattern_is_sound (λ value k.
-      entry_bind l (blank_block_is_sound t P cuts) (λ u v. entry_bind l attributes_are_sound
+      bind_is_sound_entry l (inline_blank_is_sound t P cuts)
+      (λ u v. bind_is_sound_entry l (token_is_sound t P cuts 61 refl)
+      (λ u v. bind_is_sound_entry l pattern_is_sound (λ value k.
+      bind_is_sound_entry l (blank_block_is_sound t P cuts) (λ u v. bind_is_sound_entry l attributes_are_sound
       (λ rest m. g value rest k m)))))
 
 name_moves_forward : (t : List ℕ) (i j : ℕ) → has t is_letter i ≡ true → ByteRun t is_name_byte i j → i < j
 name_moves_forward t i j e w =
     let forward = w.forward in
     let split : (i < j) ⊎ (i ≡ j) = grind arith in
-    let there = tests_imply is_letter is_name_byte (slice_get t i) letter_name e in
+    let there = tests_imply is_letter is_name_byte (slice_get t i) letter_is_name_byte e in
     elim split [ inl l ↦ l | inr same ↦ differs (subst (λ k. has t is_name_byte k ≡ true) same there) w.longest ]
 
 module _ (t : List ℕ) (P : ℕ → Type 0) (cuts : AreBoundaries t P) where
@@ -188,7 +192,7 @@ module _ (t : List ℕ) (P : ℕ → Type 0) (cuts : AreBoundaries t P) where
   identifier_advances i j a p
       (goes_on at_place (goes_on (chosen given) (first e (goes_on (passed w) (goes_on at_place given))))) =
       let forward = w.forward in
-      let place = word_place t P cuts is_name_byte name_set_is_ascii i j p w in
+      let place = byte_run_ends_at_boundary t P cuts is_name_byte name_set_is_ascii i j p w in
       let on = name_moves_forward t i j e w in
       record { late = omega arith; place = place; good = (forward, p, place) }
   identifier_advances i j a p (goes_on at_place (goes_on (chosen given) (second e x))) = elim x [ ]
@@ -203,31 +207,34 @@ module _ (t : List ℕ) (P : ℕ → Type 0) (cuts : AreBoundaries t P) where
       (goes_on at_place (goes_on (chosen given) (first f (goes_on (passed w) (goes_on at_place x))))) = elim x [ ]
   name_refused i from to k e (goes_on at_place (goes_on (chosen given) (second f x))) = differs e f
 
-  at_name : (i j : ℕ) (a : Span) → P i → j ≡ i → (m : ℕ) → identifier t j (Read a m) → Ended P (i + 1) (IsSpan P) a m
-  at_name i j a p e m x = identifier_advances i m a p (subst (λ j. identifier t j (Read a m)) e x)
+  identifier_at_equal_place_goes_on : (i j : ℕ) (a : Span) → P i → j ≡ i → (m : ℕ) → identifier t j (Read a m) →
+      Ended P (i + 1) (IsSpan P) a m
+  identifier_at_equal_place_goes_on i j a p e m x =
+      identifier_advances i m a p (subst (λ j. identifier t j (Read a m)) e x)
 
   -- a name that begins at i, or none
-  name_holds : (i : ℕ) → P i → HoareTriple (λ j. j ≡ i) (identifier t) (Ended P (i + 1) (IsSpan P)) (IsEntryFault t i i)
-  name_holds i p = record {
-    on_read = λ j m a e x. at_name i j a p e m x;
+  name_reads_soundly_or_has_entry_fault : (i : ℕ) → P i →
+      HoareTriple (λ j. j ≡ i) (identifier t) (Ended P (i + 1) (IsSpan P)) (IsEntryFault t i i)
+  name_reads_soundly_or_has_entry_fault i p = record {
+    on_read = λ j m a e x. identifier_at_equal_place_goes_on i j a p e m x;
     on_refused = λ j from to k e x.
         fault_is_entry_fault t i i (omega arith) k from to
         ((identifier_is_sound t P cuts {s = i}).holds.on_refused j from to k
         (record { late = omega arith; place = subst P (sym e) p }) x);
   }
 
-  name_there : (i : ℕ) → P i → has t is_letter i ≡ true →
+  name_at_letter_reads_soundly : (i : ℕ) → P i → has t is_letter i ≡ true →
       HoareTriple (λ j. j ≡ i) (identifier t) (Ended P (i + 1) (IsSpan P)) (IsEntryFault t i (i + 1))
-  name_there i p l = record {
-    on_read = λ j m a e x. at_name i j a p e m x;
+  name_at_letter_reads_soundly i p l = record {
+    on_read = λ j m a e x. identifier_at_equal_place_goes_on i j a p e m x;
     on_refused =
         λ j from to k e x. absurd (name_refused i from to k l (subst (λ j. identifier t j (Refused k from to)) e x));
   }
 
   -- a byte that is there is read
-  token_there : (b i : ℕ) → b < 128 → has_byte t b i ≡ true → (F : Kind → ℕ → ℕ → Type 0) →
+  token_at_its_byte_goes_on : (b i : ℕ) → b < 128 → has_byte t b i ≡ true → (F : Kind → ℕ → ℕ → Type 0) →
       HoareTriple (λ j. j ≡ i) (token t b) (λ u. Inside P (i + 1)) F
-  token_there b i l h F = holds_bind {mid = λ found j. (found ≡ true) × Inside P (i + 1) j}
+  token_at_its_byte_goes_on b i l h F = holds_bind {mid = λ found j. (found ≡ true) × Inside P (i + 1) j}
       (holds_peek (λ found. holds_branch_on
       (λ e. holds_bind {mid = λ u. Inside P (i + 1)}
       (holds_skip (λ j m p w. let e = p.0 in let by = w.by in let same : i + 1 ≡ m = omega arith in
@@ -246,47 +253,53 @@ module _ (edition : Edition) (t : List ℕ) (P : ℕ → Type 0) (cuts : AreBoun
   abbrev NameTerm : ℕ → Construct (EntryTree Span)
   NameTerm i = identifier t >>= λ id. AfterName edition t P cuts i id (term_with t i)
 
-  message_from : (i s : ℕ) → s ≤ i + 1 →
+  message_reads_soundly_from_its_name : (i s : ℕ) → s ≤ i + 1 →
       HoareTriple (λ j. j ≡ i) (identifier t) (Ended P (i + 1) (IsSpan P)) (IsEntryFault t i s) →
       HoareTriple (λ j. j ≡ i) (NameAndMore i) (Ended P (i + 1) EntrySpansInBounds) (IsEntryFault t i s)
-  message_from i s l name =
+  message_reads_soundly_from_its_name i s l name =
       holds_bind name
       (λ id. holds_weaker {pre = Ended P (i + 1) (IsSpan P) id} (λ j p. p) (λ a j x. x)
       (earlier_fault t i (i + 1) s l)
-      (known_entry {Mid = IsSpan P}
-      (λ f. after_name edition t P cuts i id (message_with t i) f
+      (entry_after_known_result_is_sound {Mid = IsSpan P}
+      (λ f. rest_after_name_is_sound edition t P cuts i id (message_with t i) f
       (λ value rest g k. message_with_is_sound edition t P cuts i id value rest f g k))))
 
   pub message_ends_inside : (i j : ℕ) (a : EntryTree Span) → P i → message_entry edition t i (Read a j) →
       Ended P (i + 1) EntrySpansInBounds a j
   message_ends_inside i j a p (goes_on at_place x) =
-      (message_from i i (omega arith) (name_holds t P cuts i p)).on_read i j a refl x
+      (message_reads_soundly_from_its_name i i (omega arith)
+      (name_reads_soundly_or_has_entry_fault t P cuts i p)).on_read i j a refl x
 
   pub message_refused : (i from to : ℕ) (k : Kind) → P i → message_entry edition t i (Refused k from to) →
       IsEntryFault t i i k from to
   message_refused i from to k p (stops x) = elim x [ ]
   message_refused i from to k p (goes_on at_place x) =
-      (message_from i i (omega arith) (name_holds t P cuts i p)).on_refused i from to k refl x
+      (message_reads_soundly_from_its_name i i (omega arith)
+      (name_reads_soundly_or_has_entry_fault t P cuts i p)).on_refused i from to k refl x
 
-  pub letter_refused : (i from to : ℕ) (k : Kind) → P i → has t is_letter i ≡ true →
+  pub message_refused_at_letter_fails_past_it : (i from to : ℕ) (k : Kind) → P i → has t is_letter i ≡ true →
       message_entry edition t i (Refused k from to) → IsEntryFault t i (i + 1) k from to
-  letter_refused i from to k p l (stops x) = elim x [ ]
-  letter_refused i from to k p l (goes_on at_place x) =
-      (message_from i (i + 1) (omega arith) (name_there t P cuts i p l)).on_refused i from to k refl x
+  message_refused_at_letter_fails_past_it i from to k p l (stops x) = elim x [ ]
+  message_refused_at_letter_fails_past_it i from to k p l (goes_on at_place x) =
+      (message_reads_soundly_from_its_name i (i + 1) (omega arith)
+      (name_at_letter_reads_soundly t P cuts i p l)).on_refused i from to k refl x
 
-  term_from : (i : ℕ) → has_byte t 45 i ≡ true →
+  term_reads_soundly_from_its_hyphen : (i : ℕ) → has_byte t 45 i ≡ true →
       HoareTriple (λ j. j ≡ i) (token t 45 >> NameTerm i) (Ended P (i + 1) EntrySpansInBounds)
       (IsEntryFault t i (i + 1))
-  term_from i e = holds_bind (token_there t P cuts 45 i (omega arith) e (IsEntryFault t i (i + 1)))
-      (λ u. (entry_bind (omega arith) (identifier_is_sound t P cuts)
-      (λ id f. after_name edition t P cuts i id (term_with t i) f
+  term_reads_soundly_from_its_hyphen i e =
+      holds_bind (token_at_its_byte_goes_on t P cuts 45 i (omega arith) e (IsEntryFault t i (i + 1)))
+      (λ u. (bind_is_sound_entry (omega arith) (identifier_is_sound t P cuts)
+      (λ id f. rest_after_name_is_sound edition t P cuts i id (term_with t i) f
       (λ value rest g k. term_with_is_sound edition t P cuts i id value rest f g k))).holds)
 
-  pub term_read : (i j : ℕ) (a : EntryTree Span) → has_byte t 45 i ≡ true → term_entry edition t i (Read a j) →
-      Ended P (i + 1) EntrySpansInBounds a j
-  term_read i j a e (goes_on at_place x) = (term_from i e).on_read i j a refl x
+  pub read_term_has_spans_in_bounds : (i j : ℕ) (a : EntryTree Span) → has_byte t 45 i ≡ true →
+      term_entry edition t i (Read a j) → Ended P (i + 1) EntrySpansInBounds a j
+  read_term_has_spans_in_bounds i j a e (goes_on at_place x) =
+      (term_reads_soundly_from_its_hyphen i e).on_read i j a refl x
 
-  pub term_refused : (i from to : ℕ) (k : Kind) → has_byte t 45 i ≡ true → term_entry edition t i (Refused k from to) →
-      IsEntryFault t i (i + 1) k from to
-  term_refused i from to k e (stops x) = elim x [ ]
-  term_refused i from to k e (goes_on at_place x) = (term_from i e).on_refused i from to k refl x
+  pub refused_term_has_entry_fault : (i from to : ℕ) (k : Kind) → has_byte t 45 i ≡ true →
+      term_entry edition t i (Refused k from to) → IsEntryFault t i (i + 1) k from to
+  refused_term_has_entry_fault i from to k e (stops x) = elim x [ ]
+  refused_term_has_entry_fault i from to k e (goes_on at_place x) =
+      (term_reads_soundly_from_its_hyphen i e).on_refused i from to k refl x

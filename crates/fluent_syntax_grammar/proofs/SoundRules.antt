@@ -23,7 +23,7 @@ use Rattle.fluent_syntax_grammar.specs.Variants.{variant_key, only_star, variant
 use Rattle.fluent_syntax_tree.specs.declared.edition.Edition.{Edition}
 use Rattle.fluent_syntax_tree.specs.declared.spans.Span.{Span}
 use Rattle.fluent_syntax_grammar.proofs.HoareTriple.{HoareTriple, holds_weaker, holds_fails, holds_skip, holds_peek}
-use Rattle.fluent_syntax_grammar.proofs.Cuts.{AreBoundaries, ascii_byte, eol_goes_on, eol_place}
+use Rattle.fluent_syntax_grammar.proofs.Cuts.{AreBoundaries, ascii_byte, eol_goes_on, eol_ends_at_boundary}
 use Rattle.fluent_syntax_grammar.proofs.Sound.{IsSpan, IsPlain, Inside, Ended, IsFault, Sound, bind_is_sound}
 use Rattle.fluent_syntax_grammar.proofs.Sound.{yields_is_sound, fails_is_sound, peek_is_sound, branch_on_is_sound}
 use Rattle.fluent_syntax_grammar.proofs.Sound.{inline_blank_is_sound, blank_is_sound, good_more, many_is_sound}
@@ -74,14 +74,14 @@ module _ (t : List ℕ) (P : ℕ → Type 0) (cuts : AreBoundaries t P) where
       (λ e. fails_is_sound cuts.in_text tt (λ i. tt))
 
 -- the parts of an argument are good
-abbrev pub good_argument : (ℕ → Type 0) → Argument → Type 0
-good_argument P (positional e) = inline_every (IsSpan P) e
-good_argument P (named name e) = IsSpan P name × inline_every (IsSpan P) e
+abbrev pub ArgumentSpansInBounds : (ℕ → Type 0) → Argument → Type 0
+ArgumentSpansInBounds P (positional e) = inline_every (IsSpan P) e
+ArgumentSpansInBounds P (named name e) = IsSpan P name × inline_every (IsSpan P) e
 
-arguments_stay_good : (P : ℕ → Type 0) (x : Argument) (a : ArgumentsTree Span) → good_argument P x →
-    arguments_every (IsSpan P) a → arguments_every (IsSpan P) (add_argument x a)
-arguments_stay_good P (positional e) (arguments ps ns) g (h, k) = ((g, h), k)
-arguments_stay_good P (named name e) (arguments ps ns) g (h, k) = (h, (g, k))
+arguments_with_added_stay_in_bounds : (P : ℕ → Type 0) (x : Argument) (a : ArgumentsTree Span) →
+    ArgumentSpansInBounds P x → arguments_every (IsSpan P) a → arguments_every (IsSpan P) (add_argument x a)
+arguments_with_added_stay_in_bounds P (positional e) (arguments ps ns) g (h, k) = ((g, h), k)
+arguments_with_added_stay_in_bounds P (named name e) (arguments ps ns) g (h, k) = (h, (g, k))
 
 argument_name_is_good : (P : ℕ → Type 0) (e : InlineTree Span) → inline_every (IsSpan P) e →
     option_every (IsSpan P) (argument_name e)
@@ -112,23 +112,23 @@ fault_is_plain t (inline_placeable e) k h i = let e : ExpectedSimpleExpressionAs
     subst (λ k. IsPlain k × kind_means t k i) e (tt, tt)
 
 module _ (t : List ℕ) (P : ℕ → Type 0) (cuts : AreBoundaries t P) where
-  arrow_holds : (s : ℕ) (o : Option ℕ) →
+  arrow_line_end_reads_soundly : (s : ℕ) (o : Option ℕ) →
       HoareTriple (λ i. Inside P s i × (after_eol t i ≡ o)) (arrow_line_end o) (Ended P s (λ u. Unit {0})) (IsFault t s)
-  arrow_holds s None =
+  arrow_line_end_reads_soundly s None =
       holds_fails (λ i p. let q = p.0 in
       record { late = q.late; in_text = cuts.in_text i q.place; one = refl; plain = tt; means = tt })
-  arrow_holds s (Some k) =
+  arrow_line_end_reads_soundly s (Some k) =
       holds_skip (λ i j p w. let q = p.0 in let l = q.late in let f = eol_goes_on t i k p.1 in let e = w.there in
-      record { late = omega arith; place = subst P (sym e) (eol_place t P cuts i k p.1); good = tt })
+      record { late = omega arith; place = subst P (sym e) (eol_ends_at_boundary t P cuts i k p.1); good = tt })
 
   pub arrow_is_sound : {s : ℕ} → Sound t P s (peek (after_eol t) arrow_line_end) (λ u. Unit {0})
-  arrow_is_sound {s = s} = record { holds = holds_peek (arrow_holds s) }
+  arrow_is_sound {s = s} = record { holds = holds_peek (arrow_line_end_reads_soundly s) }
 
   abbrev pub AtArrow : ℕ → Bool → ℕ → Type 0
   AtArrow s arrow i = Inside P s i × (has_arrow t i ≡ arrow)
 
-  pub after_arrow : (s i j : ℕ) → AtArrow s true i → Steps 2 i j → Inside P s j
-  after_arrow s i j p w =
+  pub place_after_arrow_is_inside : (s i j : ℕ) → AtArrow s true i → Steps 2 i j → Inside P s j
+  place_after_arrow_is_inside s i j p w =
       let q = p.0 in
       let late = q.late in
       let by = w.by in
@@ -187,28 +187,28 @@ module _ (t : List ℕ) (P : ℕ → Type 0) (cuts : AreBoundaries t P) (R : Fam
   value_is_sound other = fails_is_sound cuts.in_text tt (λ i. tt)
 
   named_rest_is_sound : {s : ℕ} (names : List (List ℕ)) (name : Span) → IsSpan P name →
-      Sound t P s (named_rest t R names name) (good_more (good_argument P))
+      Sound t P s (named_rest t R names name) (good_more (ArgumentSpansInBounds P))
   named_rest_is_sound names name f = branch_on_is_sound (λ e. fails_is_sound cuts.in_text tt (λ i. tt))
       (λ y. bind_is_sound (token_is_sound t P cuts 58 refl)
       (λ u v. bind_is_sound (blank_is_sound t P cuts) (λ u v. bind_is_sound (peek_is_sound value_is_sound) (λ e g.
       bind_is_sound (separator_is_sound t P cuts) (λ u v. yields_is_sound (f, g))))))
 
   positional_rest_is_sound : {s : ℕ} (names : List (List ℕ)) (e : InlineTree Span) → inline_every (IsSpan P) e →
-      Sound t P s (positional_rest t names e) (good_more (good_argument P))
+      Sound t P s (positional_rest t names e) (good_more (ArgumentSpansInBounds P))
   positional_rest_is_sound [] e g = bind_is_sound (separator_is_sound t P cuts) (λ u v. yields_is_sound g)
   positional_rest_is_sound (n ∷ ns) e g = fails_is_sound cuts.in_text tt (λ i. tt)
 
   argument_rest_is_sound : {s : ℕ} (names : List (List ℕ)) (e : InlineTree Span) (o : Option Span) (colon : Bool) →
       inline_every (IsSpan P) e → option_every (IsSpan P) o →
-      Sound t P s (argument_rest t R names e o colon) (good_more (good_argument P))
+      Sound t P s (argument_rest t R names e o colon) (good_more (ArgumentSpansInBounds P))
   argument_rest_is_sound names e None colon g k = positional_rest_is_sound names e g
   argument_rest_is_sound names e (Some n) true g k = named_rest_is_sound names n k
   argument_rest_is_sound names e (Some n) false g k = positional_rest_is_sound names e g
 
-  argument_holds : (s : ℕ) (names : List (List ℕ)) (o : Option ℕ) →
+  argument_by_byte_reads_soundly : (s : ℕ) (names : List (List ℕ)) (o : Option ℕ) →
       HoareTriple (λ i. Inside P s i × (slice_get t i ≡ o)) (next_argument_at t R names o)
-      (Ended P s (good_more (good_argument P))) (IsFault t s)
-  argument_holds s names None =
+      (Ended P s (good_more (ArgumentSpansInBounds P))) (IsFault t s)
+  argument_by_byte_reads_soundly s names None =
       holds_fails (λ i p. let q = p.0 in
       record {
         late = q.late;
@@ -217,7 +217,8 @@ module _ (t : List ℕ) (P : ℕ → Type 0) (cuts : AreBoundaries t P) (R : Fam
         plain = tt;
         means = holds-none (λ c. c == 41) (slice_get t i) p.1;
       })
-  argument_holds s names (Some b) = holds_weaker {pre = Inside P s} (λ i p. p.0) (λ a j x. x) (λ k from to x. x)
+  argument_by_byte_reads_soundly s names (Some b) =
+      holds_weaker {pre = Inside P s} (λ i p. p.0) (λ a j x. x) (λ k from to x. x)
       (branch_on_is_sound (λ e. bind_is_sound (token_is_sound t P cuts 41 refl) (λ u v. yields_is_sound tt))
       (λ e. bind_is_sound inline_is_sound
       (λ e g. bind_is_sound look_is_sound
@@ -226,4 +227,5 @@ module _ (t : List ℕ) (P : ℕ → Type 0) (cuts : AreBoundaries t P) (R : Fam
   pub arguments_are_sound : {s : ℕ} (names : List (List ℕ)) →
       Sound t P s (more_arguments t R names) (arguments_every (IsSpan P))
   arguments_are_sound {s = s} names =
-      many_is_sound (λ names. record { holds = holds_peek (argument_holds s names) }) (tt, tt) (arguments_stay_good P)
+      many_is_sound (λ names. record { holds = holds_peek (argument_by_byte_reads_soundly s names) }) (tt, tt)
+      (arguments_with_added_stay_in_bounds P)

@@ -23,17 +23,17 @@ abbrev pub InText : List ℕ → ℕ → Type 0
 InText t i = i ≤ length t
 
 module _ (t : List ℕ) where
-  inside_text : (i : ℕ) → AsciiAt t i → i < length t
-  inside_text i a = slice_get_within t i a.byte a.in_place
+  ascii_place_is_inside_text : (i : ℕ) → AsciiAt t i → i < length t
+  ascii_place_is_inside_text i a = slice_get_within t i a.byte a.in_place
 
-  hex_in_text : (i w k : ℕ) → i ≤ length t → HexDigits t i w k → k ≤ length t
-  hex_in_text i w k l h =
+  hex_digits_end_in_text : (i w k : ℕ) → i ≤ length t → HexDigits t i w k → k ≤ length t
+  hex_digits_end_in_text i w k l h =
       let forward = h.forward in
       let split : (i < k) ⊎ (i ≡ k) = grind arith in
       elim split [
         | inl m ↦
             (let last =
-            inside_text (k - 1)
+            ascii_place_is_inside_text (k - 1)
             (has_ascii t is_ascii_hexdigit (k - 1) hex_digit_is_ascii (h.each (k - 1) (omega arith) (omega arith))) in
             omega arith)
         | inr e ↦ omega arith
@@ -42,18 +42,27 @@ module _ (t : List ℕ) where
   abbrev Any : Unit {0} → Type 0
   Any u = Unit {0}
 
-  hex_read : (s w i j : ℕ) (a : Unit {0}) → Inside (InText t) s i → hex_digits t w i (Read a j) →
+  read_hex_digits_end_in_text : (s w i j : ℕ) (a : Unit {0}) → Inside (InText t) s i → hex_digits t w i (Read a j) →
       Ended (InText t) s Any a j
-  hex_read s w i j a p (all_there h e) = let f = h.forward in let late = p.late in
-      record { late = omega arith; place = hex_in_text i w j p.place h; good = tt }
+  read_hex_digits_end_in_text s w i j a p (all_there h e) = let f = h.forward in let late = p.late in
+      record { late = omega arith; place = hex_digits_end_in_text i w j p.place h; good = tt }
 
-  hex_refused : (s w i from to : ℕ) (k : Kind) → Inside (InText t) s i → hex_digits t w i (Refused k from to) →
-      IsFault t s k from to
-  hex_refused s w i from to k p (too_few h l e) = let f = h.forward in let late = p.late in
-      record { late = omega arith; in_text = hex_in_text i w from p.place h; one = e; plain = tt; means = tt }
+  refused_hex_digits_have_fault_in_text : (s w i from to : ℕ) (k : Kind) → Inside (InText t) s i →
+      hex_digits t w i (Refused k from to) → IsFault t s k from to
+  refused_hex_digits_have_fault_in_text s w i from to k p (too_few h l e) = let f = h.forward in let late = p.late in
+      record {
+        late = omega arith;
+        in_text = hex_digits_end_in_text i w from p.place h;
+        one = e;
+        plain = tt;
+        means =
+            tt;
+      }
 
-  hex_holds : (s w : ℕ) → HoareTriple (Inside (InText t) s) (hex_digits t w) (Ended (InText t) s Any) (IsFault t s)
-  hex_holds s w = record { on_read = hex_read s w; on_refused = hex_refused s w }
+  hex_digits_read_soundly : (s w : ℕ) →
+      HoareTriple (Inside (InText t) s) (hex_digits t w) (Ended (InText t) s Any) (IsFault t s)
+  hex_digits_read_soundly s w =
+      record { on_read = read_hex_digits_end_in_text s w; on_refused = refused_hex_digits_have_fault_in_text s w }
 
   -- two bytes on
   skip_two : (s i j : ℕ) (b : ℕ) → Inside (InText t) s i → slice_get t (i + 1) ≡ Some b → Steps 2 i j →
@@ -61,22 +70,22 @@ module _ (t : List ℕ) where
   skip_two s i j b p e w = let late = p.late in let by = w.by in let l = slice_get_within t (i + 1) b e in
       record { late = omega arith; place = omega arith }
 
-  escaped_holds : (s : ℕ) (o : Option ℕ) →
+  escape_reads_soundly : (s : ℕ) (o : Option ℕ) →
       HoareTriple (λ i. Inside (InText t) s i × (slice_get t (i + 1) ≡ o)) (escaped t o) (Ended (InText t) s Any)
       (IsFault t s)
-  escaped_holds s None =
+  escape_reads_soundly s None =
       holds_fails (λ i p. let q = p.0 in
       record { late = q.late; in_text = q.place; one = refl; plain = tt; means = tt })
-  escaped_holds s (Some b) =
+  escape_reads_soundly s (Some b) =
       holds_branch_on (λ e.
       holds_skip (λ i j p w. let q = skip_two s i j b p.0 p.1 w in
       record { late = q.late; place = q.place; good = tt }))
       (λ e. holds_branch_on
       (λ e. holds_bind {mid = λ u. Inside (InText t) s} (holds_skip (λ i j p w. skip_two s i j b p.0 p.1 w))
-      (λ u. hex_holds s 4))
+      (λ u. hex_digits_read_soundly s 4))
       (λ e. holds_branch_on
       (λ e. holds_bind {mid = λ u. Inside (InText t) s} (holds_skip (λ i j p w. skip_two s i j b p.0 p.1 w))
-      (λ u. hex_holds s 6))
+      (λ u. hex_digits_read_soundly s 6))
       (λ e. holds_fails
       (λ i p. let q = p.0 in record { late = q.late; in_text = q.place; one = refl; plain = tt; means = tt }))))
 
@@ -101,7 +110,7 @@ module _ (t : List ℕ) where
       }))
       (λ e. holds_branch_on
       (λ e. holds_peek
-      (λ o. holds_weaker (λ i p. (p.0.0, p.1)) (λ a j x. x) (λ k from to x. x) (escaped_holds s o)))
+      (λ o. holds_weaker (λ i p. (p.0.0, p.1)) (λ a j x. x) (λ k from to x. x) (escape_reads_soundly s o)))
       (λ e. holds_skip
       (λ i j p w. let q = p.0 in let late = q.late in let by = w.by in let l = slice_get_within t i b p.1 in
       record { late = omega arith; place = omega arith; good = tt })))
@@ -109,29 +118,31 @@ module _ (t : List ℕ) where
   abbrev AtQuote : ℕ → Unit {0} → ℕ → Type 0
   AtQuote s u j = Inside (InText t) s j × (has_byte t 34 j ≡ true)
 
-  units_read : (s i j : ℕ) (a : Unit {0}) → Inside (InText t) s i → string_units t i (Read a j) → AtQuote s a j
-  units_read s i j a p (before_quote e) = (p, e)
-  units_read s i j a p (unit_and_more {j = m} e x y) =
+  read_units_end_at_quote : (s i j : ℕ) (a : Unit {0}) → Inside (InText t) s i → string_units t i (Read a j) →
+      AtQuote s a j
+  read_units_end_at_quote s i j a p (before_quote e) = (p, e)
+  read_units_end_at_quote s i j a p (unit_and_more {j = m} e x y) =
       let q = (unit_holds s (slice_get t i)).on_read i m tt (p, refl, e) x in
-      units_read s m j a (record { late = q.late; place = q.place }) y
+      read_units_end_at_quote s m j a (record { late = q.late; place = q.place }) y
 
-  units_refused : (s i from to : ℕ) (k : Kind) → Inside (InText t) s i → string_units t i (Refused k from to) →
-      IsFault t s k from to
-  units_refused s i from to k p (unit_and_more {j = m} e x y) =
+  refused_units_have_fault_in_text : (s i from to : ℕ) (k : Kind) → Inside (InText t) s i →
+      string_units t i (Refused k from to) → IsFault t s k from to
+  refused_units_have_fault_in_text s i from to k p (unit_and_more {j = m} e x y) =
       let q = (unit_holds s (slice_get t i)).on_read i m tt (p, refl, e) x in
-      units_refused s m from to k (record { late = q.late; place = q.place }) y
-  units_refused s i from to k p (bad_unit e x) = (unit_holds s (slice_get t i)).on_refused i from to k (p, refl, e) x
+      refused_units_have_fault_in_text s m from to k (record { late = q.late; place = q.place }) y
+  refused_units_have_fault_in_text s i from to k p (bad_unit e x) =
+      (unit_holds s (slice_get t i)).on_refused i from to k (p, refl, e) x
 
 module _ (t : List ℕ) (P : ℕ → Type 0) (cuts : AreBoundaries t P) where
-  to_text : (s i : ℕ) → Inside P s i → Inside (InText t) s i
-  to_text s i p = record { late = p.late; place = cuts.in_text i p.place }
+  boundary_is_in_text : (s i : ℕ) → Inside P s i → Inside (InText t) s i
+  boundary_is_in_text s i p = record { late = p.late; place = cuts.in_text i p.place }
 
   pub units_are_sound : {s : ℕ} → Sound t P s (string_units t) (λ u. Unit {0})
   units_are_sound {s = s} = record {
     holds = record {
-      on_read = λ i j a p x. let q = units_read t s i j a (to_text s i p) x in let r = q.0 in
+      on_read = λ i j a p x. let q = read_units_end_at_quote t s i j a (boundary_is_in_text s i p) x in let r = q.0 in
           record { late = r.late; place = cuts.before j (ascii_byte t 34 j (omega arith) q.1); good = tt };
-      on_refused = λ i from to k p x. units_refused t s i from to k (to_text s i p) x;
+      on_refused = λ i from to k p x. refused_units_have_fault_in_text t s i from to k (boundary_is_in_text s i p) x;
     };
   }
 

@@ -25,9 +25,9 @@ module _ (t : List ℕ) (P : ℕ → Type 0) (cuts : AreBoundaries t P) where
     pub inside : Inside P s j
     pub missing : found ≡ false → has_byte t b j ≡ false
 
-  pub optional_holds : (s b : ℕ) → nat_lt b 128 ≡ true →
+  pub optional_byte_reads_soundly : (s b : ℕ) → nat_lt b 128 ≡ true →
       HoareTriple (Inside P s) (optional t b) (AfterOptional s b) (IsFault t s)
-  optional_holds s b l = holds_peek (λ found. holds_branch_on
+  optional_byte_reads_soundly s b l = holds_peek (λ found. holds_branch_on
       (λ e. holds_bind {mid = λ u. Inside P s}
       (holds_skip (λ i j p w. let q = p.0 in let late = q.late in let by = w.by in
       record {
@@ -42,12 +42,12 @@ module _ (t : List ℕ) (P : ℕ → Type 0) (cuts : AreBoundaries t P) where
       record {
         holds =
             holds_weaker (λ i p. p) (λ a j e. let q = e.inside in record { late = q.late; place = q.place; good = tt })
-            (λ k from to e. e) (optional_holds s b l);
+            (λ k from to e. e) (optional_byte_reads_soundly s b l);
       }
 
   pub token_is_sound : {s : ℕ} (b : ℕ) → nat_lt b 128 ≡ true → Sound t P s (token t b) (λ u. Unit {0})
   token_is_sound {s = s} b l = record {
-    holds = holds_bind (optional_holds s b l) (λ found. holds_branch_on
+    holds = holds_bind (optional_byte_reads_soundly s b l) (λ found. holds_branch_on
         (λ e. holds_yields (λ i p. let q = p.inside in record { late = q.late; place = q.place; good = tt }))
         (λ e. holds_fails
         (λ i p. let q = p.inside in

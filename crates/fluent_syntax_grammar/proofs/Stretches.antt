@@ -10,7 +10,7 @@ use Rattle.fluent_syntax_grammar.specs.Places.{LongestRun, has, starts_line}
 use Rattle.fluent_syntax_grammar.specs.Construct.{Outcome, Read, Refused}
 use Rattle.fluent_syntax_grammar.specs.Strings.{HexDigits, hex_digits, all_there, too_few, after_character}
 use Rattle.fluent_syntax_grammar.specs.Tiling.{is_entry_byte, starts_entry, JunkEnd}
-use Rattle.fluent_syntax_grammar.proofs.Facts.{byte_exists, equal, here_or_on, right_true}
+use Rattle.fluent_syntax_grammar.proofs.Facts.{byte_exists, equal, at_most_is_same_or_next_on, right_true}
 
 -- ---- the longest run
 
@@ -19,7 +19,7 @@ run_ends_here test i e = record { forward = omega arith; each = λ k a b. absurd
 
 run_has_each : (test : ℕ → Bool) (i j k : ℕ) → test i ≡ true → LongestRun test (i + 1) j → i ≤ k → k < j → test k ≡ true
 run_has_each test i j k e s a b =
-    elim (here_or_on i k a) [ inl same ↦ subst (λ k. test k ≡ true) same e | inr l ↦ s.each k l b ]
+    elim (at_most_is_same_or_next_on i k a) [ inl same ↦ subst (λ k. test k ≡ true) same e | inr l ↦ s.each k l b ]
 
 pub run_goes_on : (test : ℕ → Bool) (i j : ℕ) → test i ≡ true → LongestRun test (i + 1) j → LongestRun test i j
 run_goes_on test i j e s = let f = s.forward in
@@ -35,10 +35,14 @@ module _ (t : List ℕ) where
   hex_ends_here i w e =
       record { forward = omega arith; most = omega arith; each = λ j a b. absurd (omega arith); longest = λ l. e }
 
-  hex_each : (i w k j : ℕ) → has t is_ascii_hexdigit i ≡ true → HexDigits t (i + 1) w k → i ≤ j → j < k →
-      has t is_ascii_hexdigit j ≡ true
-  hex_each i w k j e h a b =
-      elim (here_or_on i j a) [ inl same ↦ subst (λ j. has t is_ascii_hexdigit j ≡ true) same e | inr l ↦ h.each j l b ]
+  each_place_of_hex_digits_is_hex_digit : (i w k j : ℕ) → has t is_ascii_hexdigit i ≡ true → HexDigits t (i + 1) w k →
+      i ≤ j → j < k → has t is_ascii_hexdigit j ≡ true
+  each_place_of_hex_digits_is_hex_digit i w k j e h a b =
+      elim (at_most_is_same_or_next_on i j a) [
+        | inl same ↦
+            subst (λ j. has t is_ascii_hexdigit j ≡ true) same e
+        | inr l ↦ h.each j l b
+      ]
 
   hex_goes_on : (i w k : ℕ) → has t is_ascii_hexdigit i ≡ true → HexDigits t (i + 1) w k → HexDigits t i (suc w) k
   hex_goes_on i w k e h =
@@ -47,17 +51,17 @@ module _ (t : List ℕ) where
       record {
         forward = omega arith;
         most = omega arith;
-        each = λ j a b. hex_each i w k j e h a b;
+        each = λ j a b. each_place_of_hex_digits_is_hex_digit i w k j e h a b;
         longest = λ l. h.longest (omega arith);
       }
 
-  hex_at : (w i : ℕ) (b : Bool) → has t is_ascii_hexdigit i ≡ b → (k : ℕ) × HexDigits t (i + 1) w k →
-      (k : ℕ) × HexDigits t i (suc w) k
-  hex_at w i true e more = (more.0, hex_goes_on i w more.0 e more.1)
-  hex_at w i false e more = (i, hex_ends_here i (suc w) e)
+  hex_digits_end_exists_by_first : (w i : ℕ) (b : Bool) → has t is_ascii_hexdigit i ≡ b →
+      (k : ℕ) × HexDigits t (i + 1) w k → (k : ℕ) × HexDigits t i (suc w) k
+  hex_digits_end_exists_by_first w i true e more = (more.0, hex_goes_on i w more.0 e more.1)
+  hex_digits_end_exists_by_first w i false e more = (i, hex_ends_here i (suc w) e)
 
-  hex_exists : (w i : ℕ) → (k : ℕ) × HexDigits t i w k
-  hex_exists zero i = (
+  hex_digits_end_exists : (w i : ℕ) → (k : ℕ) × HexDigits t i w k
+  hex_digits_end_exists zero i = (
     i,
     record {
       forward = omega arith;
@@ -66,20 +70,22 @@ module _ (t : List ℕ) where
       longest = λ l. absurd (omega arith);
     },
   )
-  hex_exists (suc w) i = hex_at w i (has t is_ascii_hexdigit i) refl (hex_exists w (i + 1))
+  hex_digits_end_exists (suc w) i =
+      hex_digits_end_exists_by_first w i (has t is_ascii_hexdigit i) refl (hex_digits_end_exists w (i + 1))
 
-  hex_outcome : (w i k : ℕ) (b : Bool) → (k == i + w) ≡ b → HexDigits t i w k →
+  hex_digits_have_outcome_by_count : (w i k : ℕ) (b : Bool) → (k == i + w) ≡ b → HexDigits t i w k →
       (o : Outcome (Unit {0})) × hex_digits t w i o
-  hex_outcome w i k true e h = (Read tt k, all_there h (equal k (i + w) e))
-  hex_outcome w i k false e h =
+  hex_digits_have_outcome_by_count w i k true e h = (Read tt k, all_there h (equal k (i + w) e))
+  hex_digits_have_outcome_by_count w i k false e h =
       let m = h.most in (
         Refused (InvalidUnicodeEscapeSequence (slice_range t i (after_character t k))) k (k + 1),
         too_few h (unequal_le_is_less k (i + w) e m) refl,
       )
 
   -- so many digits are there, or the first that is not refuses
-  pub hex_digits_exist : (w i : ℕ) → (o : Outcome (Unit {0})) × hex_digits t w i o
-  hex_digits_exist w i = let h = hex_exists w i in hex_outcome w i h.0 (h.0 == i + w) refl h.1
+  pub hex_digits_have_outcome : (w i : ℕ) → (o : Outcome (Unit {0})) × hex_digits t w i o
+  hex_digits_have_outcome w i =
+      let h = hex_digits_end_exists w i in hex_digits_have_outcome_by_count w i h.0 (h.0 == i + w) refl h.1
 
   -- ---- the end of junk
 
@@ -109,7 +115,7 @@ module _ (t : List ℕ) where
       record {
         forward = omega arith;
         nearest =
-            λ m a b. elim (here_or_on k m a)
+            λ m a b. elim (at_most_is_same_or_next_on k m a)
             [ inl same ↦ subst (λ m. starts_entry t m ≡ false) same e | inr l ↦ x.nearest m l b ];
         stop = x.stop;
         in_text = x.in_text;

@@ -6,7 +6,7 @@ use Rattle.std.specs.List.{list_all}
 use Rattle.std.proofs.Math.Seq.{take-append_seam}
 use Rattle.fluent_syntax_grammar.specs.Bytes.{lf, cr, space, is_space}
 use Rattle.fluent_syntax_grammar.specs.Places.{holds, LongestRun, has, has_eol, after_eol, ByteRun, is_blank_place}
-use Rattle.fluent_syntax_grammar.proofs.Facts.{left_true, right_true, here_or_on}
+use Rattle.fluent_syntax_grammar.proofs.Facts.{left_true, right_true, at_most_is_same_or_next_on}
 use Rattle.fluent_syntax_grammar.proofs.Stretches.{run_ends_here, run_goes_on}
 
 -- From the place on, these bytes are left of the text.
@@ -48,16 +48,18 @@ suffix_as e h = record { within = h.within; rest = h.rest ∙ e }
 pub suffix_first : {t : List ℕ} {i : ℕ} {bs : List ℕ} → SuffixAt t i bs → slice_get t i ≡ first bs
 suffix_first {t = t} {i = i} h = byte_is_first_of_drop t i ∙ ap first h.rest
 
-pub reaches_end : {t : List ℕ} {i : ℕ} {bs : List ℕ} → SuffixAt t i bs → i + length bs ≡ length t
-reaches_end {t = t} {i = i} h = let w = h.within in let l = length-drop i t in let e = ap length h.rest in omega arith
+pub suffix_reaches_end_of_text : {t : List ℕ} {i : ℕ} {bs : List ℕ} → SuffixAt t i bs → i + length bs ≡ length t
+suffix_reaches_end_of_text {t = t} {i = i} h =
+    let w = h.within in let l = length-drop i t in let e = ap length h.rest in omega arith
 
 -- what is left says which place it is
-pub suffix_same : {t : List ℕ} {i j : ℕ} {bs : List ℕ} → SuffixAt t i bs → SuffixAt t j bs → i ≡ j
-suffix_same h g = let a = reaches_end h in let b = reaches_end g in omega arith
+pub equal_suffixes_are_at_one_place : {t : List ℕ} {i j : ℕ} {bs : List ℕ} → SuffixAt t i bs → SuffixAt t j bs → i ≡ j
+equal_suffixes_are_at_one_place h g =
+    let a = suffix_reaches_end_of_text h in let b = suffix_reaches_end_of_text g in omega arith
 
 pub suffix_next : {t : List ℕ} {i b : ℕ} {bs : List ℕ} → SuffixAt t i (b ∷ bs) → SuffixAt t (i + 1) bs
 suffix_next {t = t} {i = i} {b = b} {bs = bs} h =
-    let n = reaches_end h in
+    let n = suffix_reaches_end_of_text h in
     let s : suc i ≡ i + 1 = omega arith in
     record { within = omega arith; rest = subst (λ n. drop n t ≡ bs) s (drop_loses_first t i ∙ ap after_first h.rest) }
 
@@ -71,9 +73,9 @@ take_of_append_is_first : (n : ℕ) (xs ys : List ℕ) → n ≡ length xs → t
 take_of_append_is_first n xs ys e = rw e (take-append_seam xs ys)
 
 -- the bytes from the place to the end of the first part
-pub suffix_range : {t : List ℕ} {i : ℕ} (xs ys : List ℕ) → SuffixAt t i (xs ++ ys) →
+pub range_over_prefix_is_prefix : {t : List ℕ} {i : ℕ} (xs ys : List ℕ) → SuffixAt t i (xs ++ ys) →
     slice_range t i (i + length xs) ≡ xs
-suffix_range {t = t} {i = i} xs ys h = rw (h.rest) (take_of_append_is_first _ xs ys (omega arith))
+range_over_prefix_is_prefix {t = t} {i = i} xs ys h = rw (h.rest) (take_of_append_is_first _ xs ys (omega arith))
 
 -- ---- tests of the place
 
@@ -109,13 +111,14 @@ suffix_byte_run {t = t} set (x ∷ xs) ys {i = i} a e h =
     (suffix_byte_run set xs ys {i = i + 1} (right_true (set x) (list_all set xs) a) e (suffix_next h)))
 
 -- Each of these bytes is in the set.
-pub each_in_set : {t : List ℕ} (set : ℕ → Bool) (xs ys : List ℕ) {i : ℕ} → list_all set xs ≡ true →
+pub each_place_of_prefix_is_in_set : {t : List ℕ} (set : ℕ → Bool) (xs ys : List ℕ) {i : ℕ} → list_all set xs ≡ true →
     SuffixAt t i (xs ++ ys) →
     (k : ℕ) → i ≤ k → k < i + length xs → has t set k ≡ true
-each_in_set set [] ys a h k l m = absurd (omega arith)
-each_in_set {t = t} set (x ∷ xs) ys {i = i} a h k l m = elim (here_or_on i k l) [
+each_place_of_prefix_is_in_set set [] ys a h k l m = absurd (omega arith)
+each_place_of_prefix_is_in_set {t = t} set (x ∷ xs) ys {i = i} a h k l m = elim (at_most_is_same_or_next_on i k l) [
   | inl e ↦ subst (λ k. has t set k ≡ true) e (suffix_has set h ∙ left_true (set x) (list_all set xs) a)
-  | inr n ↦ each_in_set set xs ys {i = i + 1} (right_true (set x) (list_all set xs) a) (suffix_next h) k n (omega arith)
+  | inr n ↦ each_place_of_prefix_is_in_set set xs ys {i = i + 1} (right_true (set x) (list_all set xs) a)
+      (suffix_next h) k n (omega arith)
 ]
 
 -- ---- blanks
@@ -129,21 +132,23 @@ or_with_third_is_true true y z e = refl
 or_with_third_is_true false true z e = refl
 or_with_third_is_true false false z e = cc
 
-suffix_blank_place : {t : List ℕ} {i b : ℕ} {bs : List ℕ} → is_space_or_lf b ≡ true → SuffixAt t i (b ∷ bs) →
-    is_blank_place t i ≡ true
-suffix_blank_place {t = t} {i = i} {b = b} e h = rw (suffix_first h) (or_with_third_is_true (b == space) (b == lf) _ e)
+suffix_of_space_or_lf_is_at_blank_place : {t : List ℕ} {i b : ℕ} {bs : List ℕ} → is_space_or_lf b ≡ true →
+    SuffixAt t i (b ∷ bs) → is_blank_place t i ≡ true
+suffix_of_space_or_lf_is_at_blank_place {t = t} {i = i} {b = b} e h =
+    rw (suffix_first h) (or_with_third_is_true (b == space) (b == lf) _ e)
 
 -- spaces and LFs, before a byte that begins no blank
-pub suffix_blank : {t : List ℕ} (xs ys : List ℕ) {i : ℕ} → list_all is_space_or_lf xs ≡ true →
+pub prefix_of_spaces_and_lfs_is_blank : {t : List ℕ} (xs ys : List ℕ) {i : ℕ} → list_all is_space_or_lf xs ≡ true →
     holds is_space (first ys) ≡ false → holds (λ b. b == lf) (first ys) ≡ false →
     holds (λ b. b == cr) (first ys) ≡ false →
     SuffixAt t i (xs ++ ys) → LongestRun (is_blank_place t) i (i + length xs)
-suffix_blank {t = t} [] ys {i = i} a d e f h = let s : i ≡ i + 0 = omega arith in
+prefix_of_spaces_and_lfs_is_blank {t = t} [] ys {i = i} a d e f h = let s : i ≡ i + 0 = omega arith in
     subst (λ n. LongestRun (is_blank_place t) i n) s (run_ends_here (is_blank_place t) i (suffix_is_no_blank h d e f))
-suffix_blank {t = t} (x ∷ xs) ys {i = i} a d e f h =
+prefix_of_spaces_and_lfs_is_blank {t = t} (x ∷ xs) ys {i = i} a d e f h =
     let s : (i + 1) + length xs ≡ i + suc (length xs) = omega arith in
     subst (λ n. LongestRun (is_blank_place t) i n) s
     (run_goes_on (is_blank_place t) i _
-    (suffix_blank_place (left_true (is_space_or_lf x) (list_all is_space_or_lf xs) a) h)
-    (suffix_blank xs ys {i = i + 1} (right_true (is_space_or_lf x) (list_all is_space_or_lf xs) a) d e f
+    (suffix_of_space_or_lf_is_at_blank_place (left_true (is_space_or_lf x) (list_all is_space_or_lf xs) a) h)
+    (prefix_of_spaces_and_lfs_is_blank xs ys {i = i + 1}
+    (right_true (is_space_or_lf x) (list_all is_space_or_lf xs) a) d e f
     (suffix_next h)))

@@ -10,34 +10,34 @@ use Rattle.fluent_syntax_grammar.specs.Bytes.{is_letter, is_name_byte}
 pub both_true : {x y : Bool} → x ≡ true → y ≡ true → (x && y) ≡ true
 both_true e f = rw (e, f) refl
 
-pub and_false : (x : Bool) → (x && false) ≡ false
-and_false true = refl
-and_false false = refl
+pub and_with_false_is_false : (x : Bool) → (x && false) ≡ false
+and_with_false_is_false true = refl
+and_with_false_is_false false = refl
 
-pub and_left : (x y : Bool) → x ≡ false → (x && y) ≡ false
-and_left x y e = rw e refl
+pub and_is_false_by_left : (x y : Bool) → x ≡ false → (x && y) ≡ false
+and_is_false_by_left x y e = rw e refl
 
-pub and_right : (x y : Bool) → y ≡ false → (x && y) ≡ false
-and_right x y e = rw e (and_false x)
+pub and_is_false_by_right : (x y : Bool) → y ≡ false → (x && y) ≡ false
+and_is_false_by_right x y e = rw e (and_with_false_is_false x)
 
-pub or_true : (x : Bool) → (x || true) ≡ true
-or_true true = refl
-or_true false = refl
+pub or_with_true_is_true : (x : Bool) → (x || true) ≡ true
+or_with_true_is_true true = refl
+or_with_true_is_true false = refl
 
 pub true_by_left : (x y : Bool) → x ≡ true → (x || y) ≡ true
 true_by_left x y e = rw e refl
 
 pub true_by_right : (x y : Bool) → y ≡ true → (x || y) ≡ true
-true_by_right x y e = rw e (or_true x)
+true_by_right x y e = rw e (or_with_true_is_true x)
 
-pub or_by_first : (x y z : Bool) → x ≡ true → (x || y || z) ≡ true
-or_by_first x y z e = true_by_left (x || y) z (true_by_left x y e)
+pub or_of_three_is_true_by_first : (x y z : Bool) → x ≡ true → (x || y || z) ≡ true
+or_of_three_is_true_by_first x y z e = true_by_left (x || y) z (true_by_left x y e)
 
-pub or_by_second : (x y z : Bool) → y ≡ true → (x || y || z) ≡ true
-or_by_second x y z e = true_by_left (x || y) z (true_by_right x y e)
+pub or_of_three_is_true_by_second : (x y z : Bool) → y ≡ true → (x || y || z) ≡ true
+or_of_three_is_true_by_second x y z e = true_by_left (x || y) z (true_by_right x y e)
 
-pub or_by_third : (x y z : Bool) → z ≡ true → (x || y || z) ≡ true
-or_by_third x y z e = true_by_right (x || y) z e
+pub or_of_three_is_true_by_third : (x y z : Bool) → z ≡ true → (x || y || z) ≡ true
+or_of_three_is_true_by_third x y z e = true_by_right (x || y) z e
 
 pub or_cases : (x y : Bool) → (x || y) ≡ true → (x ≡ true) ⊎ (y ≡ true)
 or_cases true y e = inl refl
@@ -60,18 +60,18 @@ pub not_false : (x : Bool) → x ≡ false → not x ≡ true
 not_false true e = cc
 not_false false e = refl
 
-pub not_true : (x : Bool) → not x ≡ true → x ≡ false
-not_true true e = cc
-not_true false e = refl
+pub not_true_is_false : (x : Bool) → not x ≡ true → x ≡ false
+not_true_is_false true e = cc
+not_true_is_false false e = refl
 
 pub negated_right_is_false : (x y : Bool) → (x && not y) ≡ true → y ≡ false
-negated_right_is_false true y e = not_true y e
+negated_right_is_false true y e = not_true_is_false y e
 negated_right_is_false false y e = cc
 
 -- ---- bytes
 
-pub letter_name : (b : ℕ) → is_letter b ≡ true → is_name_byte b ≡ true
-letter_name b e = grind (arith, nat_tests)
+pub letter_is_name_byte : (b : ℕ) → is_letter b ≡ true → is_name_byte b ≡ true
+letter_is_name_byte b e = grind (arith, nat_tests)
 
 bytes_differ_by_tests : (p : ℕ → Bool) (b c : ℕ) (x : Bool) → (b == c) ≡ x → p b ≡ true → p c ≡ false → x ≡ false
 bytes_differ_by_tests p b c false e f g = refl

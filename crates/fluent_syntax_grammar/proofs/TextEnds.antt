@@ -7,12 +7,13 @@ use Rattle.fluent_syntax_grammar.specs.Elements.{without_last_lf}
 use Rattle.fluent_syntax_grammar.specs.Written.{Text, last_of}
 
 -- the last byte, which is at place n
-pub last_byte : (before : Option ℕ) (bs : Text) (n : ℕ) → n + 1 ≡ length bs → last_of before bs ≡ Some (get_or bs n 0)
-last_byte before [] n is = absurd (omega arith)
-last_byte before (b ∷ []) zero is = refl
-last_byte before (b ∷ []) (suc n) is = absurd (omega arith)
-last_byte before (b ∷ c ∷ bs) zero is = absurd (omega arith)
-last_byte before (b ∷ c ∷ bs) (suc n) is = last_byte (Some b) (c ∷ bs) n (omega arith)
+pub last_of_bytes_is_last_byte : (before : Option ℕ) (bs : Text) (n : ℕ) → n + 1 ≡ length bs →
+    last_of before bs ≡ Some (get_or bs n 0)
+last_of_bytes_is_last_byte before [] n is = absurd (omega arith)
+last_of_bytes_is_last_byte before (b ∷ []) zero is = refl
+last_of_bytes_is_last_byte before (b ∷ []) (suc n) is = absurd (omega arith)
+last_of_bytes_is_last_byte before (b ∷ c ∷ bs) zero is = absurd (omega arith)
+last_of_bytes_is_last_byte before (b ∷ c ∷ bs) (suc n) is = last_of_bytes_is_last_byte (Some b) (c ∷ bs) n (omega arith)
 
 pub last_of-cons : (last : Option ℕ) (b : ℕ) (bs : Text) → last_of last (b ∷ bs) ≡ slice_get (b ∷ bs) (length bs)
 last_of-cons last b [] = refl

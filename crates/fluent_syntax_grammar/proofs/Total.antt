@@ -32,25 +32,26 @@ TotalConsuming t s c = Decides (From t s) c (λ a. From t (s + 1))
 
 -- ---- the formers
 
-bind_has : {A B : Type 0} (pre : ℕ → Type 0) (mid : A → ℕ → Type 0) (read : B → ℕ → Type 0) (c : Construct A)
+bind_has_outcome : {A B : Type 0} (pre : ℕ → Type 0) (mid : A → ℕ → Type 0) (read : B → ℕ → Type 0) (c : Construct A)
     (f : A → Construct B) → Decides pre c mid → ((a : A) → Decides (mid a) (f a) read) →
     (i : ℕ) → pre i → (o : Outcome A) → c i o → (p : Outcome B) × (c >>= f) i p
-bind_has pre mid read c f h g i p (Read a j) x = let z = (g a).has j (h.on.on_read i j a p x) in (z.0, goes_on x z.1)
-bind_has pre mid read c f h g i p (Refused k from to) x = (Refused k from to, stops x)
+bind_has_outcome pre mid read c f h g i p (Read a j) x =
+    let z = (g a).has j (h.on.on_read i j a p x) in (z.0, goes_on x z.1)
+bind_has_outcome pre mid read c f h g i p (Refused k from to) x = (Refused k from to, stops x)
 
 -- what holds after the first part is where the second one begins
 pub bind_decides :
     {A B : Type 0} {pre : ℕ → Type 0} {mid : A → ℕ → Type 0} {read : B → ℕ → Type 0} {c : Construct A}
     {f : A → Construct B} → Decides pre c mid → ((a : A) → Decides (mid a) (f a) read) → Decides pre (c >>= f) read
 bind_decides {pre = pre} {mid = mid} {read = read} {c = c} {f = f} h g = record {
-  has = λ i p. let x = h.has i p in bind_has pre mid read c f h g i p x.0 x.1;
+  has = λ i p. let x = h.has i p in bind_has_outcome pre mid read c f h g i p x.0 x.1;
   on = holds_bind h.on (λ a. (g a).on);
 }
 
 -- less is asked, more is held
-pub weaker_decides : {A : Type 0} {pre pre' : ℕ → Type 0} {c : Construct A} {read read' : A → ℕ → Type 0} →
+pub weakened_construct_decides : {A : Type 0} {pre pre' : ℕ → Type 0} {c : Construct A} {read read' : A → ℕ → Type 0} →
     ((i : ℕ) → pre' i → pre i) → ((a : A) (j : ℕ) → read a j → read' a j) → Decides pre c read → Decides pre' c read'
-weaker_decides p r x =
+weakened_construct_decides p r x =
     record { has = λ i q. x.has i (p i q); on = holds_weaker p r (λ k from to fault. fault) x.on }
 
 pub yields_decides : {A : Type 0} {pre : ℕ → Type 0} {read : A → ℕ → Type 0} {a : A} → ((i : ℕ) → pre i → read a i) →
@@ -83,7 +84,7 @@ peek_decides {look = look} g = record {
 -- whatever is seen
 pub any_peek_decides : {A B : Type 0} {pre : ℕ → Type 0} {read : B → ℕ → Type 0} {look : ℕ → A}
     {part : A → Construct B} → ((a : A) → Decides pre (part a) read) → Decides pre (peek look part) read
-any_peek_decides g = peek_decides (λ a. weaker_decides (λ i p. p.0) (λ b j x. x) (g a))
+any_peek_decides g = peek_decides (λ a. weakened_construct_decides (λ i p. p.0) (λ b j x. x) (g a))
 
 branch_on_has_outcome : {A : Type 0} (pre : ℕ → Type 0) (read : A → ℕ → Type 0) (test : Bool) (c d : Construct A) →
     (test ≡ true → Decides pre c read) → (test ≡ false → Decides pre d read) → (i : ℕ) → pre i →
@@ -121,11 +122,11 @@ module _ {t : List ℕ} {s : ℕ} where
       skip_decides (λ i p. w.exists i p.in_text) (λ i j p x. let late = p.late in let f = w.forward i j x in
       record { late = omega arith; in_text = w.in_text i j p.in_text x })
 
-  pub earlier : (i : ℕ) → From t (s + 1) i → From t s i
-  earlier i p = let late = p.late in record { late = omega arith; in_text = p.in_text }
+  pub from_later_is_from_earlier : (i : ℕ) → From t (s + 1) i → From t s i
+  from_later_is_from_earlier i p = let late = p.late in record { late = omega arith; in_text = p.in_text }
 
   pub strict_is_onward : {A : Type 0} {c : Construct A} → TotalConsuming t s c → TotalOnward t s c
-  strict_is_onward x = weaker_decides (λ i p. p) (λ a. earlier) x
+  strict_is_onward x = weakened_construct_decides (λ i p. p) (λ a. from_later_is_from_earlier) x
 
 -- ---- lists
 
@@ -139,12 +140,12 @@ abbrev pub TotalConsumingItem : {A S : Type 0} → List ℕ → ℕ → Construc
 TotalConsumingItem t s c = Decides (From t s) c (more_on t s)
 
 pub more_earlier : {A S : Type 0} (t : List ℕ) (s : ℕ) (x : More A S) (j : ℕ) → From t (s + 1) j → more_on t s x j
-more_earlier t s no_item j p = earlier j p
+more_earlier t s no_item j p = from_later_is_from_earlier j p
 more_earlier t s (item a r) j p = p
 
 pub item_strict_is_consuming : {A S : Type 0} {t : List ℕ} {s : ℕ} {c : Construct (More A S)} → TotalConsuming t s c →
     TotalConsumingItem t s c
-item_strict_is_consuming {t = t} {s = s} x = weaker_decides (λ i p. p) (more_earlier t s) x
+item_strict_is_consuming {t = t} {s = s} x = weakened_construct_decides (λ i p. p) (more_earlier t s) x
 
 pub none_past_end : {A : Type 0} {t : List ℕ} {c : Construct A} (s : ℕ) → length t < s → TotalOnward t s c
 none_past_end s l = record {
@@ -159,35 +160,37 @@ none_past_end s l = record {
 module _ {A S B : Type 0} (t : List ℕ) (next : S → Construct (More A S)) (add : A → B → B) (none : B) (low : ℕ)
     (h : (s : ℕ) → low ≤ s → (r : S) → TotalConsumingItem t s (next r)) where
   module _ (s : ℕ) (r : S) (l : low ≤ s) (g : (r : S) → TotalOnward t (s + 1) (many next add none r)) where
-    after_item : (i : ℕ) (x : More A S) (j : ℕ) → next r i (Read x j) → more_on t s x j → (o : Outcome B) ×
-        many next add none r i o
-    after_item i no_item j x p = (Read none j, list_ends x)
-    after_item i (item a q) j x p = rest_of i a q j x ((g q).has j p)
+    list_has_outcome_after_item : (i : ℕ) (x : More A S) (j : ℕ) → next r i (Read x j) → more_on t s x j →
+        (o : Outcome B) × many next add none r i o
+    list_has_outcome_after_item i no_item j x p = (Read none j, list_ends x)
+    list_has_outcome_after_item i (item a q) j x p = rest_of i a q j x ((g q).has j p)
       where
         rest_of : (i : ℕ) (a : A) (q : S) (j : ℕ) → next r i (Read (item a q) j) →
             (o : Outcome B) × many next add none q j o → (o : Outcome B) × many next add none r i o
         rest_of i a q j x (Read b m, y) = (Read (add a b) m, item_and_more x y)
         rest_of i a q j x (Refused k from to, y) = (Refused k from to, stops_later x y)
 
-    one_has : (i : ℕ) → From t s i → (o : Outcome (More A S)) × next r i o → (o : Outcome B) × many next add none r i o
-    one_has i p (Read x j, y) = after_item i x j y ((h s l r).on.on_read i j x p y)
-    one_has i p (Refused k from to, y) = (Refused k from to, list_stops y)
+    list_has_outcome_by_item : (i : ℕ) → From t s i → (o : Outcome (More A S)) × next r i o →
+        (o : Outcome B) × many next add none r i o
+    list_has_outcome_by_item i p (Read x j, y) = list_has_outcome_after_item i x j y ((h s l r).on.on_read i j x p y)
+    list_has_outcome_by_item i p (Refused k from to, y) = (Refused k from to, list_stops y)
 
-    many_on : (i j : ℕ) (b : B) → From t s i → many next add none r i (Read b j) → From t s j
-    many_on i j b p (list_ends x) = (h s l r).on.on_read i j _ p x
-    many_on i j b p (item_and_more {later = q} {j = m} x y) =
-        earlier j ((g q).on.on_read m j _ ((h s l r).on.on_read i m _ p x) y)
+    read_list_goes_on : (i j : ℕ) (b : B) → From t s i → many next add none r i (Read b j) → From t s j
+    read_list_goes_on i j b p (list_ends x) = (h s l r).on.on_read i j _ p x
+    read_list_goes_on i j b p (item_and_more {later = q} {j = m} x y) =
+        from_later_is_from_earlier j ((g q).on.on_read m j _ ((h s l r).on.on_read i m _ p x) y)
 
-    one_both : TotalOnward t s (many next add none r)
-    one_both = record {
-      has = λ i p. one_has i p ((h s l r).has i p);
-      on = record { on_read = many_on; on_refused = λ i from to k p x. tt };
+    list_is_total_onward_by_item : TotalOnward t s (many next add none r)
+    list_is_total_onward_by_item = record {
+      has = λ i p. list_has_outcome_by_item i p ((h s l r).has i p);
+      on = record { on_read = read_list_goes_on; on_refused = λ i from to k p x. tt };
     }
 
-  many_from : (m s : ℕ) → low ≤ s → length t < s + m → (r : S) → TotalOnward t s (many next add none r)
-  many_from zero s l e r = none_past_end s (omega arith)
-  many_from (suc m) s l e r = one_both s r l (λ r. many_from m (s + 1) (omega arith) (omega arith) r)
+  list_is_total_onward : (m s : ℕ) → low ≤ s → length t < s + m → (r : S) → TotalOnward t s (many next add none r)
+  list_is_total_onward zero s l e r = none_past_end s (omega arith)
+  list_is_total_onward (suc m) s l e r =
+      list_is_total_onward_by_item s r l (λ r. list_is_total_onward m (s + 1) (omega arith) (omega arith) r)
 
   -- a list whose items go on, by induction on the bytes that are left
   pub many_is_onward : (s : ℕ) → low ≤ s → (r : S) → TotalOnward t s (many next add none r)
-  many_is_onward s l r = many_from (length t + 1) s l (omega arith) r
+  many_is_onward s l r = list_is_total_onward (length t + 1) s l (omega arith) r

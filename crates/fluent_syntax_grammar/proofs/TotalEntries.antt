@@ -18,9 +18,9 @@ use Rattle.fluent_syntax_tree.specs.declared.spans.Span.{Span}
 use Rattle.fluent_syntax_grammar.proofs.HoareTriple.{HoareTriple}
 use Rattle.fluent_syntax_grammar.proofs.SoundStrings.{InText}
 use Rattle.fluent_syntax_grammar.proofs.SoundEntries.{attributes_are_sound}
-use Rattle.fluent_syntax_grammar.proofs.SoundComments.{place_after_hashes, line_from}
+use Rattle.fluent_syntax_grammar.proofs.SoundComments.{place_after_hashes, comment_line_reads_soundly}
 use Rattle.fluent_syntax_grammar.proofs.Boundaries.{text_cuts}
-use Rattle.fluent_syntax_grammar.proofs.CommentFaults.{some_hash}
+use Rattle.fluent_syntax_grammar.proofs.CommentFaults.{hashes_at_hash_are_at_least_one}
 use Rattle.fluent_syntax_grammar.proofs.Total.{From, AnyFault, TotalOnward, TotalConsuming, bind_decides, fails_decides}
 use Rattle.fluent_syntax_grammar.proofs.Total.{fails_from_decides, skip_decides, any_peek_decides, yields_is_onward}
 use Rattle.fluent_syntax_grammar.proofs.Total.{here_is_onward, strict_is_onward}
@@ -39,7 +39,7 @@ use Rattle.fluent_syntax_grammar.specs.Tiling.{entry_in}
 use Rattle.fluent_syntax_grammar.proofs.Included.{IsIncludedFamily}
 use Rattle.fluent_syntax_grammar.proofs.IncludedEntries.{attributes_are_included}
 use Rattle.fluent_syntax_grammar.proofs.Nesting.{within_family}
-use Rattle.fluent_syntax_grammar.proofs.TotalFamily.{pattern_within}
+use Rattle.fluent_syntax_grammar.proofs.TotalFamily.{pattern_within_depth_is_total_onward}
 
 attribute_with_is_onward : {t : List ℕ} {s : ℕ} (id : Span) (value : Option (PatternTree Span)) →
     TotalOnward t s (attribute_with id value)
@@ -85,17 +85,17 @@ module _ (edition : Edition) (t : List ℕ) (R : Family) (h : IsIncludedFamily R
       let r = more j (omega arith) p.in_text in
       record { list = a ∷ r.list; end = r.end; read = one_more x r.read }
 
-  attributes_exist : (m i : ℕ) → length t ≤ i + m → low ≤ i → i ≤ length t → Attributes i
-  attributes_exist zero i a b l =
+  attributes_are_read_somehow : (m i : ℕ) → length t ≤ i + m → low ≤ i → i ≤ length t → Attributes i
+  attributes_are_read_somehow zero i a b l =
       let x = (attribute_is_consuming i b).has i (record { late = omega arith; in_text = l }) in
       attributes_at i b l (λ j d c. absurd (omega arith)) x.0 x.1
-  attributes_exist (suc m) i a b l =
+  attributes_are_read_somehow (suc m) i a b l =
       let x = (attribute_is_consuming i b).has i (record { late = omega arith; in_text = l }) in
-      attributes_at i b l (λ j d c. attributes_exist m j (omega arith) (omega arith) c) x.0 x.1
+      attributes_at i b l (λ j d c. attributes_are_read_somehow m j (omega arith) (omega arith) c) x.0 x.1
 
   -- the list goes on as that of the grammar does
-  attributes_on : (s : ℕ) → HoareTriple (From t s) (attributes_of edition t R) (λ a j. From t s j) AnyFault
-  attributes_on s =
+  attributes_go_on : (s : ℕ) → HoareTriple (From t s) (attributes_of edition t R) (λ a j. From t s j) AnyFault
+  attributes_go_on s =
       let part = attributes_are_included edition t R (family edition t) h in
       let whole = on_sound (attributes_are_sound edition t (InText t) (text_cuts t) {s = s}) in
       record {
@@ -106,9 +106,9 @@ module _ (edition : Edition) (t : List ℕ) (R : Family) (h : IsIncludedFamily R
   attributes_are_onward : (s : ℕ) → low ≤ s → TotalOnward t s (attributes_of edition t R)
   attributes_are_onward s l = record {
     has = λ i p. (let late = p.late in let r =
-        attributes_exist (length t) i (omega arith) (omega arith) p.in_text in
+        attributes_are_read_somehow (length t) i (omega arith) (omega arith) p.in_text in
         (Read r.list r.end, r.read));
-    on = attributes_on s;
+    on = attributes_go_on s;
   }
 
   message_is_onward : (s : ℕ) → low ≤ s → TotalOnward t s (message_of edition t R)
@@ -133,24 +133,26 @@ module _ (edition : Edition) (t : List ℕ) (R : Family) (h : IsIncludedFamily R
       (λ u. bind_decides (attributes_are_onward s l) (λ rest. term_with_is_onward t start id value rest))))))))
 
 module _ (t : List ℕ) where
-  text_is_onward : {s : ℕ} (eol : Bool) → TotalOnward t s (comment_text t eol)
-  text_is_onward true = bind_decides here_is_onward (λ i. spanned_is_onward t)
-  text_is_onward false = bind_decides (strict_is_onward (token_is_consuming t 32)) (λ u. rest_of_line_is_onward t)
+  comment_text_is_onward : {s : ℕ} (eol : Bool) → TotalOnward t s (comment_text t eol)
+  comment_text_is_onward true = bind_decides here_is_onward (λ i. spanned_is_onward t)
+  comment_text_is_onward false =
+      bind_decides (strict_is_onward (token_is_consuming t 32)) (λ u. rest_of_line_is_onward t)
 
-  rest_is_onward : {s : ℕ} (b : Option ℕ) → TotalOnward t s (comment_rest t b)
-  rest_is_onward None = yields_is_onward
-  rest_is_onward (Some b) =
-      bind_decides (any_peek_decides text_is_onward) (λ content. bind_decides (optional_eol_is_onward t)
+  comment_rest_is_onward : {s : ℕ} (b : Option ℕ) → TotalOnward t s (comment_rest t b)
+  comment_rest_is_onward None = yields_is_onward
+  comment_rest_is_onward (Some b) =
+      bind_decides (any_peek_decides comment_text_is_onward) (λ content. bind_decides (optional_eol_is_onward t)
       (λ u. yields_is_onward))
 
-  line_has : (i level : ℕ) → i ≤ length t → hashes t i ≡ level → (o : Outcome (List Span)) × comment_line t level i o
-  line_has i level l e =
+  comment_line_has_outcome : (i level : ℕ) → i ≤ length t → hashes t i ≡ level →
+      (o : Outcome (List Span)) × comment_line t level i o
+  comment_line_has_outcome i level l e =
       let inside = place_after_hashes t (InText t) (text_cuts t) i l in
       let whole =
       bind_decides {pre = λ j. j ≡ i} {mid = λ u. From t 0}
       (skip_decides (λ j p. (j + level, record { by = refl }))
       (λ j m p w. let by = w.by in record { late = omega arith; in_text = omega arith }))
-      (λ u. any_peek_decides rest_is_onward) in
+      (λ u. any_peek_decides comment_rest_is_onward) in
       whole.has i refl
 
   record Lines (level i : ℕ) : Type 0 where
@@ -158,91 +160,101 @@ module _ (t : List ℕ) where
     end : ℕ
     read : comment_lines t level i (Read list end)
 
-  lines_at : (level i : ℕ) → 1 ≤ level → i ≤ length t → hashes t i ≡ level →
+  comment_lines_are_read_by_first_outcome : (level i : ℕ) → 1 ≤ level → i ≤ length t → hashes t i ≡ level →
       ((j : ℕ) → i < j → j ≤ length t → Lines level j) → (o : Outcome (List Span)) → comment_line t level i o →
       Lines level i
-  lines_at level i one l e more (Refused k from to) x = record { list = []; end = i; read = no_comment_line e x }
-  lines_at level i one l e more (Read c j) x =
-      let p = (line_from t (InText t) (text_cuts t) (i + level) i level (omega arith) l e).on_read i j c refl x in
+  comment_lines_are_read_by_first_outcome level i one l e more (Refused k from to) x =
+      record { list = []; end = i; read = no_comment_line e x }
+  comment_lines_are_read_by_first_outcome level i one l e more (Read c j) x =
+      let p = (comment_line_reads_soundly t (InText t) (text_cuts t) (i + level) i level (omega arith) l e).on_read i j
+      c refl x in
       let late = p.late in
       let r = more j (omega arith) p.place in
       record { list = c ++ r.list; end = r.end; read = comments.one_more e x r.read }
 
-  lines_level : (level i : ℕ) (b : Bool) → (hashes t i == level) ≡ b → 1 ≤ level → i ≤ length t →
-      ((j : ℕ) → i < j → j ≤ length t → Lines level j) → Lines level i
-  lines_level level i false e one l more =
+  comment_lines_are_read_by_level_test : (level i : ℕ) (b : Bool) → (hashes t i == level) ≡ b → 1 ≤ level →
+      i ≤ length t → ((j : ℕ) → i < j → j ≤ length t → Lines level j) → Lines level i
+  comment_lines_are_read_by_level_test level i false e one l more =
       record { list = []; end = i; read = other_level (eq_false_is_unequal (hashes t i) level e) }
-  lines_level level i true e one l more = let x = line_has i level l (equal (hashes t i) level e) in
-      lines_at level i one l (equal (hashes t i) level e) more x.0 x.1
+  comment_lines_are_read_by_level_test level i true e one l more =
+      let x = comment_line_has_outcome i level l (equal (hashes t i) level e) in
+      comment_lines_are_read_by_first_outcome level i one l (equal (hashes t i) level e) more x.0 x.1
 
-  lines_exist : (level m i : ℕ) → 1 ≤ level → length t ≤ i + m → i ≤ length t → Lines level i
-  lines_exist level zero i one a l =
-      lines_level level i (hashes t i == level) refl one l (λ j b c. absurd (omega arith))
-  lines_exist level (suc m) i one a l =
-      lines_level level i (hashes t i == level) refl one l (λ j b c. lines_exist level m j one (omega arith) c)
+  comment_lines_are_read_somehow : (level m i : ℕ) → 1 ≤ level → length t ≤ i + m → i ≤ length t → Lines level i
+  comment_lines_are_read_somehow level zero i one a l =
+      comment_lines_are_read_by_level_test level i (hashes t i == level) refl one l (λ j b c. absurd (omega arith))
+  comment_lines_are_read_somehow level (suc m) i one a l =
+      comment_lines_are_read_by_level_test level i (hashes t i == level) refl one l
+      (λ j b c. comment_lines_are_read_somehow level m j one (omega arith) c)
 
-  comment_at : (level i : ℕ) → 1 ≤ level → i ≤ length t → hashes t i ≡ level → (o : Outcome (List Span)) →
-      comment_line t level i o → (o : Outcome (EntryTree Span)) × comment_of t level i o
-  comment_at level i one l e (Refused k from to) x = (Refused k from to, stops x)
-  comment_at level i one l e (Read c j) x =
-      let p = (line_from t (InText t) (text_cuts t) i i level (omega arith) l e).on_read i j c refl x in
-      let r = lines_exist level (length t) j one (omega arith) p.place in
+  comment_has_outcome_after_line : (level i : ℕ) → 1 ≤ level → i ≤ length t → hashes t i ≡ level →
+      (o : Outcome (List Span)) → comment_line t level i o → (o : Outcome (EntryTree Span)) × comment_of t level i o
+  comment_has_outcome_after_line level i one l e (Refused k from to) x = (Refused k from to, stops x)
+  comment_has_outcome_after_line level i one l e (Read c j) x =
+      let p = (comment_line_reads_soundly t (InText t) (text_cuts t) i i level (omega arith) l e).on_read i j c refl
+      x in
+      let r = comment_lines_are_read_somehow level (length t) j one (omega arith) p.place in
       (Read _ r.end, goes_on x (goes_on r.read given))
 
-  pub comment_has : (i : ℕ) → i ≤ length t → has_byte t 35 i ≡ true →
+  pub comment_at_hash_has_outcome : (i : ℕ) → i ≤ length t → has_byte t 35 i ≡ true →
       (o : Outcome (EntryTree Span)) × comment_entry t i o
-  comment_has i l h =
-      let x = line_has i (hashes t i) l refl in
-      let y = comment_at (hashes t i) i (some_hash t i h) l refl x.0 x.1 in
+  comment_at_hash_has_outcome i l h =
+      let x = comment_line_has_outcome i (hashes t i) l refl in
+      let y = comment_has_outcome_after_line (hashes t i) i (hashes_at_hash_are_at_least_one t i h) l refl x.0 x.1 in
       (y.0, chosen y.1)
 
 module _ (edition : Edition) (t : List ℕ) (R : Family) (h : IsIncludedFamily R (family edition t)) (low : ℕ)
     (patterns : (s : ℕ) → low ≤ s → TotalOnward t s (pattern edition t R)) where
-  hash_holds : (i b : ℕ) → slice_get t i ≡ Some b → (b == 35) ≡ true → has_byte t 35 i ≡ true
-  hash_holds i b e f = rw e f
+  byte_equal_to_hash_is_hash_there : (i b : ℕ) → slice_get t i ≡ Some b → (b == 35) ≡ true → has_byte t 35 i ≡ true
+  byte_equal_to_hash_is_hash_there i b e f = rw e f
 
-  entry_other : (i b : ℕ) (minus : Bool) → low ≤ i → i ≤ length t → (b == 45) ≡ minus → (o : Outcome (EntryTree Span)) ×
-      branch_on (b == 45) (term_of edition t R) (message_of edition t R) i o
-  entry_other i b true g l e =
+  message_or_term_has_outcome : (i b : ℕ) (minus : Bool) → low ≤ i → i ≤ length t → (b == 45) ≡ minus →
+      (o : Outcome (EntryTree Span)) × branch_on (b == 45) (term_of edition t R) (message_of edition t R) i o
+  message_or_term_has_outcome i b true g l e =
       let x = (term_is_onward edition t R h low patterns i g).has i (record { late = omega arith; in_text = l })
       in
       (x.0, first e x.1)
-  entry_other i b false g l e =
+  message_or_term_has_outcome i b false g l e =
       let x = (message_is_onward edition t R h low patterns i g).has i
       (record { late = omega arith; in_text = l }) in
       (x.0, second e x.1)
 
-  entry_choice : (i b : ℕ) (hash : Bool) → low ≤ i → i ≤ length t → slice_get t i ≡ Some b → (b == 35) ≡ hash →
-      (o : Outcome (EntryTree Span)) × entry_of edition t R (Some b) i o
-  entry_choice i b true g l e f = let x = comment_has t i l (hash_holds i b e f) in (x.0, first f x.1)
-  entry_choice i b false g l e f = let x = entry_other i b (b == 45) g l refl in (x.0, second f x.1)
+  entry_of_byte_has_outcome : (i b : ℕ) (hash : Bool) → low ≤ i → i ≤ length t → slice_get t i ≡ Some b →
+      (b == 35) ≡ hash → (o : Outcome (EntryTree Span)) × entry_of edition t R (Some b) i o
+  entry_of_byte_has_outcome i b true g l e f =
+      let x = comment_at_hash_has_outcome t i l (byte_equal_to_hash_is_hash_there i b e f) in (x.0, first f x.1)
+  entry_of_byte_has_outcome i b false g l e f =
+      let x = message_or_term_has_outcome i b (b == 45) g l refl in (x.0, second f x.1)
 
-  entry_has_of : (i : ℕ) (o : Option ℕ) → low ≤ i → i ≤ length t → slice_get t i ≡ o → (p : Outcome (EntryTree Span)) ×
-      entry_of edition t R o i p
-  entry_has_of i None g l e =
+  entry_of_byte_or_end_has_outcome : (i : ℕ) (o : Option ℕ) → low ≤ i → i ≤ length t → slice_get t i ≡ o →
+      (p : Outcome (EntryTree Span)) × entry_of edition t R o i p
+  entry_of_byte_or_end_has_outcome i None g l e =
       (message_is_onward edition t R h low patterns i g).has i (record { late = omega arith; in_text = l })
-  entry_has_of i (Some b) g l e = entry_choice i b (b == 35) g l e refl
+  entry_of_byte_or_end_has_outcome i (Some b) g l e = entry_of_byte_has_outcome i b (b == 35) g l e refl
 
-  pub entry_has : (i : ℕ) → low ≤ i → i ≤ length t → (o : Outcome (EntryTree Span)) × entry_in edition t R i o
-  entry_has i g l = let x = entry_has_of i (slice_get t i) g l refl in (x.0, chosen x.1)
+  pub entry_has_outcome : (i : ℕ) → low ≤ i → i ≤ length t → (o : Outcome (EntryTree Span)) × entry_in edition t R i o
+  entry_has_outcome i g l = let x = entry_of_byte_or_end_has_outcome i (slice_get t i) g l refl in (x.0, chosen x.1)
 
-less_or_not : (a b : ℕ) → (a < b) ⊎ (b ≤ a)
-less_or_not zero zero = inr (omega arith)
-less_or_not zero (suc b) = inl (omega arith)
-less_or_not (suc a) zero = inr (omega arith)
-less_or_not (suc a) (suc b) = elim (less_or_not a b) [ inl e ↦ inl (omega arith) | inr e ↦ inr (omega arith) ]
+number_is_less_or_not : (a b : ℕ) → (a < b) ⊎ (b ≤ a)
+number_is_less_or_not zero zero = inr (omega arith)
+number_is_less_or_not zero (suc b) = inl (omega arith)
+number_is_less_or_not (suc a) zero = inr (omega arith)
+number_is_less_or_not (suc a) (suc b) =
+    elim (number_is_less_or_not a b) [ inl e ↦ inl (omega arith) | inr e ↦ inr (omega arith) ]
 
 module _ (edition : Edition) (t : List ℕ) (n i : ℕ) (l : i ≤ length t) where
-  patterns_left : length t - i ≤ n → (s : ℕ) → i ≤ s → TotalOnward t s (pattern edition t (within edition t n))
-  patterns_left e s g = pattern_within edition t n s (omega (arith, e))
+  patterns_are_total_within_depth : length t - i ≤ n → (s : ℕ) → i ≤ s →
+      TotalOnward t s (pattern edition t (within edition t n))
+  patterns_are_total_within_depth e s g = pattern_within_depth_is_total_onward edition t n s (omega (arith, e))
 
   -- Where an entry nests deeper than n, more bytes are left than n.
-  pub too_deep_left : TooDeep (entry_in edition t (within edition t n)) i → n < length t - i
-  too_deep_left d =
-      elim (less_or_not n (length t - i)) [
+  pub too_deep_entry_has_more_bytes_than_depth : TooDeep (entry_in edition t (within edition t n)) i → n < length t - i
+  too_deep_entry_has_more_bytes_than_depth d =
+      elim (number_is_less_or_not n (length t - i)) [
         | inl e ↦ e
         | inr e ↦ (
-            let has = entry_has edition t (within edition t n) (within_family edition t n) i (patterns_left e) i
+            let has = entry_has_outcome edition t (within edition t n) (within_family edition t n) i
+            (patterns_are_total_within_depth e) i
             (omega arith) l in
             absurd (d has.0 has.1)
             )
@@ -251,11 +263,11 @@ module _ (edition : Edition) (t : List ℕ) (n i : ℕ) (l : i ≤ length t) whe
   -- And so it is with an attribute.
   pub attribute_too_deep_left : TooDeep (attribute_of edition t (within edition t n)) i → n < length t - i
   attribute_too_deep_left d =
-      elim (less_or_not n (length t - i)) [
+      elim (number_is_less_or_not n (length t - i)) [
         | inl e ↦ e
         | inr e ↦ (
             let all = attribute_is_consuming edition t (within edition t n) (within_family edition t n) i
-            (patterns_left e)
+            (patterns_are_total_within_depth e)
             i (omega arith) in
             let has = all.has i (record { late = omega arith; in_text = l }) in
             absurd (d has.0 has.1)

@@ -25,16 +25,16 @@ use Rattle.fluent_syntax_grammar.proofs.HoareTriple.{HoareTriple, yields_value, 
 use Rattle.fluent_syntax_grammar.proofs.HoareTriple.{holds_branch_on}
 use Rattle.fluent_syntax_grammar.proofs.Cuts.{eol_goes_on, line_end_is_in_text}
 use Rattle.fluent_syntax_grammar.proofs.SoundStrings.{InText}
-use Rattle.fluent_syntax_grammar.proofs.SoundLines.{ending_holds}
+use Rattle.fluent_syntax_grammar.proofs.SoundLines.{ending_reads_soundly}
 use Rattle.fluent_syntax_grammar.proofs.Boundaries.{text_cuts}
 use Rattle.fluent_syntax_grammar.proofs.Total.{From, AnyFault, Decides, TotalOnward, TotalConsuming, TotalConsumingItem}
-use Rattle.fluent_syntax_grammar.proofs.Total.{bind_decides, weaker_decides, yields_decides, here_decides}
+use Rattle.fluent_syntax_grammar.proofs.Total.{bind_decides, weakened_construct_decides, yields_decides, here_decides}
 use Rattle.fluent_syntax_grammar.proofs.Total.{fails_decides, skip_decides, peek_decides, any_peek_decides}
 use Rattle.fluent_syntax_grammar.proofs.Total.{branch_on_decides, any_branch_decides, yields_is_onward, here_is_onward}
 use Rattle.fluent_syntax_grammar.proofs.Total.{strict_is_onward, more_on, more_earlier, item_strict_is_consuming}
 use Rattle.fluent_syntax_grammar.proofs.Total.{many_is_onward}
 use Rattle.fluent_syntax_grammar.proofs.TotalWords.{eol_decides, blank_is_total_onward, inline_blank_is_onward}
-use Rattle.fluent_syntax_grammar.proofs.TotalWords.{optional_is_onward, token_is_consuming, run_word}
+use Rattle.fluent_syntax_grammar.proofs.TotalWords.{optional_is_onward, token_is_consuming, text_run_is_total}
 use Rattle.fluent_syntax_grammar.proofs.TotalWords.{identifier_is_consuming, number_is_consuming, string_is_consuming}
 use Rattle.fluent_syntax_grammar.proofs.Facts.{differs, longest_run_nonempty}
 
@@ -95,21 +95,22 @@ module _ (t : List ℕ) where
     on =
         holds_weaker (λ i p. record { late = p.late; place = p.in_text })
         (λ a j e. record { late = e.late; in_text = e.place }) (λ k from to f. tt)
-        (ending_holds t (InText t) (text_cuts t) s);
+        (ending_reads_soundly t (InText t) (text_cuts t) s);
   }
 
-  eol_some : (a b c : Bool) (i : ℕ) → (a || b && c) ≡ true →
+  true_eol_test_gives_eol_end : (a b c : Bool) (i : ℕ) → (a || b && c) ≡ true →
       (if a then Some (i + 1) else if b && c then Some (i + 2) else None) ≡ None → ⊥
-  eol_some true b c i e f = cc
-  eol_some false true true i e f = cc
-  eol_some false true false i e f = cc
-  eol_some false false c i e f = cc
+  true_eol_test_gives_eol_end true b c i e f = cc
+  true_eol_test_gives_eol_end false true true i e f = cc
+  true_eol_test_gives_eol_end false true false i e f = cc
+  true_eol_test_gives_eol_end false false c i e f = cc
 
   -- where there is a line end, the ending passes over it
-  ending_past : (s i j : ℕ) (x : Ending) (o : Option ℕ) → From t s i → has_eol t i ≡ true → after_eol t i ≡ o →
-      ending_of t i o i (Read x j) → From t (s + 1) j
-  ending_past s i j x None p e f y = absurd (eol_some (has_byte t lf i) (has_byte t cr i) (has_byte t lf (i + 1)) i e f)
-  ending_past s i j x (Some k) p e f (goes_on {j = m} (passed w) y) =
+  ending_by_eol_goes_past_it : (s i j : ℕ) (x : Ending) (o : Option ℕ) → From t s i → has_eol t i ≡ true →
+      after_eol t i ≡ o → ending_of t i o i (Read x j) → From t (s + 1) j
+  ending_by_eol_goes_past_it s i j x None p e f y =
+      absurd (true_eol_test_gives_eol_end (has_byte t lf i) (has_byte t cr i) (has_byte t lf (i + 1)) i e f)
+  ending_by_eol_goes_past_it s i j x (Some k) p e f (goes_on {j = m} (passed w) y) =
       let late = p.late in
       let there = w.there in
       let on = eol_goes_on t i k f in
@@ -118,30 +119,35 @@ module _ (t : List ℕ) where
       let same = g.1 in
       record { late = omega arith; in_text = omega arith }
 
-  ending_read : (s i j : ℕ) (x : Ending) → From t s i → has_eol t i ≡ true → ending t i (Read x j) → From t (s + 1) j
-  ending_read s i j x p e (goes_on at_place (chosen y)) = ending_past s i j x (after_eol t i) p e refl y
+  ending_at_eol_goes_on : (s i j : ℕ) (x : Ending) → From t s i → has_eol t i ≡ true → ending t i (Read x j) →
+      From t (s + 1) j
+  ending_at_eol_goes_on s i j x p e (goes_on at_place (chosen y)) =
+      ending_by_eol_goes_past_it s i j x (after_eol t i) p e refl y
 
   -- ---- runs
 
-  no_line_feed : (a b c : Bool) → (a || b && c) ≡ false → a ≡ false
-  no_line_feed true b c e = e
-  no_line_feed false b c e = refl
+  no_eol_means_no_lf : (a b c : Bool) → (a || b && c) ≡ false → a ≡ false
+  no_eol_means_no_lf true b c e = e
+  no_eol_means_no_lf false b c e = refl
 
-  run_test : (x y z e : Bool) → x ≡ false → y ≡ false → z ≡ false → e ≡ false → (not ((x || y) || z) && not e) ≡ true
-  run_test x y z e a b c d = rw (a, b, c, d)
+  run_test_holds_of_plain_byte : (x y z e : Bool) → x ≡ false → y ≡ false → z ≡ false → e ≡ false →
+      (not ((x || y) || z) && not e) ≡ true
+  run_test_holds_of_plain_byte x y z e a b c d = rw (a, b, c, d)
 
-  byte_is : (i b c : ℕ) → slice_get t i ≡ Some b → has_byte t c i ≡ false → (b == c) ≡ false
-  byte_is i b c e f = rw e at f
+  byte_there_is_not_other_byte : (i b c : ℕ) → slice_get t i ≡ Some b → has_byte t c i ≡ false → (b == c) ≡ false
+  byte_there_is_not_other_byte i b c e f = rw e at f
 
-  run_at : (i b : ℕ) (o : Option ℕ) (e : Bool) → o ≡ Some b → e ≡ false → (b == lf) ≡ false → (b == 123) ≡ false →
-      (b == 125) ≡ false → (holds (λ b. not (b == lf || b == 123 || b == 125)) o && not e) ≡ true
-  run_at i b o e h f x y z = rw h (run_test (b == lf) (b == 123) (b == 125) e x y z f)
+  plain_byte_is_run_byte : (i b : ℕ) (o : Option ℕ) (e : Bool) → o ≡ Some b → e ≡ false → (b == lf) ≡ false →
+      (b == 123) ≡ false → (b == 125) ≡ false → (holds (λ b. not (b == lf || b == 123 || b == 125)) o && not e) ≡ true
+  plain_byte_is_run_byte i b o e h f x y z =
+      rw h (run_test_holds_of_plain_byte (b == lf) (b == 123) (b == 125) e x y z f)
 
-  run_place : (i b : ℕ) → slice_get t i ≡ Some b → has_eol t i ≡ false → (b == 123) ≡ false → (b == 125) ≡ false →
-      is_run_place t i ≡ true
-  run_place i b h e y z =
-      run_at i b (slice_get t i) (has_eol t i) h e
-      (byte_is i b lf h (no_line_feed (has_byte t lf i) (has_byte t cr i) (has_byte t lf (i + 1)) e)) y z
+  place_of_plain_byte_is_run_place : (i b : ℕ) → slice_get t i ≡ Some b → has_eol t i ≡ false → (b == 123) ≡ false →
+      (b == 125) ≡ false → is_run_place t i ≡ true
+  place_of_plain_byte_is_run_place i b h e y z =
+      plain_byte_is_run_byte i b (slice_get t i) (has_eol t i) h e
+      (byte_there_is_not_other_byte i b lf h
+      (no_eol_means_no_lf (has_byte t lf i) (has_byte t cr i) (has_byte t lf (i + 1)) e)) y z
 
 -- from a place on, over a family that has outcomes from there on
 module _ (t : List ℕ) (R : Family) (low : ℕ) (h : (s : ℕ) → low ≤ s → TotalOnwardFamily t s R) where
@@ -237,21 +243,24 @@ module _ (t : List ℕ) (R : Family) (low : ℕ) (h : (s : ℕ) → low ≤ s �
     abbrev AtRun : ℕ → Type 0
     AtRun i = From t s i × (is_run_place t i ≡ true)
 
-    past_run : (i j : ℕ) → AtRun i → LongestRun (is_run_place t) i j → From t (s + 1) j
-    past_run i j p w = let q = p.0 in let late = q.late in let on = longest_run_nonempty (is_run_place t) i j p.1 w in
-        record { late = omega arith; in_text = (run_word t).in_text i j q.in_text w }
+    run_of_bytes_goes_on : (i j : ℕ) → AtRun i → LongestRun (is_run_place t) i j → From t (s + 1) j
+    run_of_bytes_goes_on i j p w =
+        let q = p.0 in let late = q.late in let on = longest_run_nonempty (is_run_place t) i j p.1 w in
+        record { late = omega arith; in_text = (text_run_is_total t).in_text i j q.in_text w }
 
-    after_run : (from : ℕ) → TotalOnward {A = Piece} t (s + 1) (here >>= λ to. yields (run from to))
-    after_run from = bind_decides here_is_onward (λ to. yields_is_onward)
+    run_after_its_start_is_total_onward : (from : ℕ) →
+        TotalOnward {A = Piece} t (s + 1) (here >>= λ to. yields (run from to))
+    run_after_its_start_is_total_onward from = bind_decides here_is_onward (λ to. yields_is_onward)
 
-    run_decides : Decides AtRun (text_run t) (λ p. From t (s + 1))
-    run_decides =
+    text_run_decides : Decides AtRun (text_run t) (λ p. From t (s + 1))
+    text_run_decides =
         bind_decides {mid = λ from. AtRun} (here_decides (λ i p. p))
-        (λ from. bind_decides (skip_decides (λ i p. (run_word t).exists i (p.0).in_text) past_run)
-        (λ u. after_run from))
+        (λ from. bind_decides (skip_decides (λ i p. (text_run_is_total t).exists i (p.0).in_text) run_of_bytes_goes_on)
+        (λ u. run_after_its_start_is_total_onward from))
 
-    placed_piece : TotalConsuming {A = More Piece (Unit {0})} t s (placeable t R >>= λ e. yields (item (placed e) tt))
-    placed_piece = bind_decides (placeable_is_consuming s l) (λ e. yields_is_onward)
+    placed_piece_is_total_consuming : TotalConsuming {A = More Piece (Unit {0})} t s
+        (placeable t R >>= λ e. yields (item (placed e) tt))
+    placed_piece_is_total_consuming = bind_decides (placeable_is_consuming s l) (λ e. yields_is_onward)
 
     -- there is a byte that begins no line end
     abbrev AtByte : ℕ → ℕ → Type 0
@@ -263,11 +272,11 @@ module _ (t : List ℕ) (R : Family) (low : ℕ) (h : (s : ℕ) → low ≤ s �
         (branch_on (b == 123) (placeable t R >>= λ e. yields (item (placed e) tt))
         (text_run t >>= λ p. yields (item p tt)))
 
-    rest_decides : (b : ℕ) → Decides (AtByte b) (Rest b) (λ p. From t (s + 1))
-    rest_decides b = branch_on_decides (λ x. fails_decides) (λ x. branch_on_decides
-        (λ y. weaker_decides (λ i p. p.0) (λ a j z. z) placed_piece)
-        (λ y. weaker_decides (λ i p. (p.0, run_place t i b p.1 p.2 y x)) (λ a j z. z)
-        (bind_decides run_decides (λ p. yields_decides (λ i q. q)))))
+    piece_of_byte_decides : (b : ℕ) → Decides (AtByte b) (Rest b) (λ p. From t (s + 1))
+    piece_of_byte_decides b = branch_on_decides (λ x. fails_decides) (λ x. branch_on_decides
+        (λ y. weakened_construct_decides (λ i p. p.0) (λ a j z. z) placed_piece_is_total_consuming)
+        (λ y. weakened_construct_decides (λ i p. (p.0, place_of_plain_byte_is_run_place t i b p.1 p.2 y x)) (λ a j z. z)
+        (bind_decides text_run_decides (λ p. yields_decides (λ i q. q)))))
 
     piece_decides : (o : Option ℕ) →
         Decides (λ i. From t s i × (slice_get t i ≡ o)) (next_piece_at t R o) (more_on t s)
@@ -275,59 +284,63 @@ module _ (t : List ℕ) (R : Family) (low : ℕ) (h : (s : ℕ) → low ≤ s �
     piece_decides (Some b) =
         peek_decides
         (λ eol. branch_on_decides (λ e. yields_decides (λ i p. p.0.0))
-        (λ e. weaker_decides (λ i p. (p.0.0, p.0.1, p.1 ∙ e)) (more_earlier t s) (rest_decides b)))
+        (λ e. weakened_construct_decides (λ i p. (p.0.0, p.0.1, p.1 ∙ e)) (more_earlier t s) (piece_of_byte_decides b)))
 
     item_piece_is_consuming : TotalConsumingItem t s (next_piece t R)
     item_piece_is_consuming = peek_decides piece_decides
 
     -- from a byte that begins no line end, a piece goes on
-    piece_past : (b : ℕ) → HoareTriple (AtByte b) (next_piece_at t R (Some b)) (λ p. From t (s + 1)) AnyFault
-    piece_past b =
+    piece_of_byte_goes_on : (b : ℕ) → HoareTriple (AtByte b) (next_piece_at t R (Some b)) (λ p. From t (s + 1)) AnyFault
+    piece_of_byte_goes_on b =
         holds_peek
         (λ eol. holds_branch_on (λ e. holds_yields (λ i p. differs (p.1 ∙ e) p.0.2))
-        (λ e. holds_weaker (λ i p. p.0) (λ a j z. z) (λ k from to z. z) (rest_decides b).on))
+        (λ e. holds_weaker (λ i p. p.0) (λ a j z. z) (λ k from to z. z) (piece_of_byte_decides b).on))
 
     -- before a line end there is none
-    none_read : (i j : ℕ) (p : More Piece (Unit {0})) (b : ℕ) → has_eol t i ≡ true →
+    piece_at_eol_reads_nothing : (i j : ℕ) (p : More Piece (Unit {0})) (b : ℕ) → has_eol t i ≡ true →
         next_piece_at t R (Some b) i (Read p j) → i ≡ j
-    none_read i j p b e (chosen (first f x)) = (yields_value no_item p i j x).1
-    none_read i j p b e (chosen (second f x)) = differs e f
+    piece_at_eol_reads_nothing i j p b e (chosen (first f x)) = (yields_value no_item p i j x).1
+    piece_at_eol_reads_nothing i j p b e (chosen (second f x)) = differs e f
 
     -- after a piece of a line with a byte: it went on, or there is a line end
     abbrev pub AfterPiece : ℕ → Type 0
     AfterPiece j = From t (s + 1) j ⊎ (From t s j × (has_eol t j ≡ true))
 
-    piece_read : (i j b : ℕ) (p : More Piece (Unit {0})) (eol : Bool) → From t s i → slice_get t i ≡ Some b →
-        has_eol t i ≡ eol → next_piece_at t R (Some b) i (Read p j) → AfterPiece j
-    piece_read i j b p true q e f x = let same = none_read i j p b f x in
+    read_piece_by_eol_ends_after_piece : (i j b : ℕ) (p : More Piece (Unit {0})) (eol : Bool) → From t s i →
+        slice_get t i ≡ Some b → has_eol t i ≡ eol → next_piece_at t R (Some b) i (Read p j) → AfterPiece j
+    read_piece_by_eol_ends_after_piece i j b p true q e f x = let same = piece_at_eol_reads_nothing i j p b f x in
         inr (subst (λ j. From t s j × (has_eol t j ≡ true)) same (q, f))
-    piece_read i j b p false q e f x = inl ((piece_past b).on_read i j p (q, e, f) x)
+    read_piece_by_eol_ends_after_piece i j b p false q e f x = inl ((piece_of_byte_goes_on b).on_read i j p (q, e, f) x)
 
-    next_read : (i j b : ℕ) (p : More Piece (Unit {0})) → From t s i → slice_get t i ≡ Some b →
+    read_next_piece_ends_after_piece : (i j b : ℕ) (p : More Piece (Unit {0})) → From t s i → slice_get t i ≡ Some b →
         next_piece t R i (Read p j) → AfterPiece j
-    next_read i j b p q e (chosen x) =
-        piece_read i j b p (has_eol t i) q e refl (subst (λ o. next_piece_at t R o i (Read p j)) e x)
+    read_next_piece_ends_after_piece i j b p q e (chosen x) =
+        read_piece_by_eol_ends_after_piece i j b p (has_eol t i) q e refl
+        (subst (λ o. next_piece_at t R o i (Read p j)) e x)
 
   pub pieces_are_onward : (s : ℕ) → low ≤ s + 1 → TotalOnward t s (more_pieces t R)
   pieces_are_onward s l =
       many_is_onward t (λ u. next_piece t R) _ _ s (λ m k u. item_piece_is_consuming m (omega arith)) s (omega arith) tt
 
-  after_rest : (s : ℕ) (l : low ≤ s + 1) (m j b : ℕ) (ps : List Piece) → From t (s + 1) m →
+  pieces_read_further_on_end_after_piece : (s : ℕ) (l : low ≤ s + 1) (m j b : ℕ) (ps : List Piece) → From t (s + 1) m →
       more_pieces t R m (Read ps j) → AfterPiece s l j
-  after_rest s l m j b ps p x = inl ((pieces_are_onward (s + 1) (omega arith)).on.on_read m j ps p x)
+  pieces_read_further_on_end_after_piece s l m j b ps p x =
+      inl ((pieces_are_onward (s + 1) (omega arith)).on.on_read m j ps p x)
 
   -- after the pieces of a line with a byte: they went on, or there is a line end
-  more_of_read : (u : Unit {0}) (s : ℕ) (l : low ≤ s + 1) (i j b : ℕ) (ps : List Piece) → From t s i →
+  read_list_of_pieces_ends_after_piece : (u : Unit {0}) (s : ℕ) (l : low ≤ s + 1) (i j b : ℕ) (ps : List Piece) →
+      From t s i →
       slice_get t i ≡ Some b → many (λ u. next_piece t R) (λ p ps. p ∷ ps) [] u i (Read ps j) → AfterPiece s l j
-  more_of_read u s l i j b ps p e (list_ends x) = next_read s l i j b _ p e x
-  more_of_read u s l i j b ps p e (item_and_more {later = v} {j = m} {rest = rest} x y) =
-      after_rest s l m j b rest ((item_piece_is_consuming s l).on.on_read i m _ p x) y
+  read_list_of_pieces_ends_after_piece u s l i j b ps p e (list_ends x) =
+      read_next_piece_ends_after_piece s l i j b _ p e x
+  read_list_of_pieces_ends_after_piece u s l i j b ps p e (item_and_more {later = v} {j = m} {rest = rest} x y) =
+      pieces_read_further_on_end_after_piece s l m j b rest ((item_piece_is_consuming s l).on.on_read i m _ p x) y
 
-  pub more_read : (s : ℕ) (l : low ≤ s + 1) (i j b : ℕ) (ps : List Piece) → From t s i → slice_get t i ≡ Some b →
-      more_pieces t R i (Read ps j) → AfterPiece s l j
-  more_read s l i j b ps p e x = more_of_read tt s l i j b ps p e x
+  pub read_pieces_end_after_piece : (s : ℕ) (l : low ≤ s + 1) (i j b : ℕ) (ps : List Piece) → From t s i →
+      slice_get t i ≡ Some b → more_pieces t R i (Read ps j) → AfterPiece s l j
+  read_pieces_end_after_piece s l i j b ps p e x = read_list_of_pieces_ends_after_piece tt s l i j b ps p e x
 
-  pub ending_after : (s : ℕ) (l : low ≤ s + 1) (i j : ℕ) (x : Ending) → AfterPiece s l i → ending t i (Read x j) →
-      From t (s + 1) j
-  ending_after s l i j x (inl p) y = (ending_is_onward t {s = s + 1}).on.on_read i j x p y
-  ending_after s l i j x (inr p) y = ending_read t s i j x p.0 p.1 y
+  pub ending_after_pieces_goes_on : (s : ℕ) (l : low ≤ s + 1) (i j : ℕ) (x : Ending) → AfterPiece s l i →
+      ending t i (Read x j) → From t (s + 1) j
+  ending_after_pieces_goes_on s l i j x (inl p) y = (ending_is_onward t {s = s + 1}).on.on_read i j x p y
+  ending_after_pieces_goes_on s l i j x (inr p) y = ending_at_eol_goes_on t s i j x p.0 p.1 y

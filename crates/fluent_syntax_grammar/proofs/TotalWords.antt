@@ -14,19 +14,20 @@ use Rattle.fluent_syntax_grammar.specs.Strings.{hex_digits, all_there, escaped, 
 use Rattle.fluent_syntax_grammar.specs.Strings.{unit_and_more, bad_unit, string_literal}
 use Rattle.fluent_syntax_grammar.specs.Lines.{is_run_place}
 use Rattle.fluent_syntax_grammar.proofs.HoareTriple.{HoareTriple, holds_weaker}
-use Rattle.fluent_syntax_grammar.proofs.Cuts.{blank_is_ascii, line_inside, run_inside, eol_goes_on, line_end_is_in_text}
+use Rattle.fluent_syntax_grammar.proofs.Cuts.{blank_is_ascii, line_place_is_inside_text, run_place_is_inside_text}
+use Rattle.fluent_syntax_grammar.proofs.Cuts.{eol_goes_on, line_end_is_in_text}
 use Rattle.fluent_syntax_grammar.proofs.Cuts.{block_goes_on, block_place}
 use Rattle.fluent_syntax_grammar.proofs.Sound.{Sound}
 use Rattle.fluent_syntax_grammar.proofs.SoundStrings.{InText, unit_holds, units_are_sound}
 use Rattle.fluent_syntax_grammar.proofs.SoundEntries.{identifier_advances}
 use Rattle.fluent_syntax_grammar.proofs.Boundaries.{text_cuts}
-use Rattle.fluent_syntax_grammar.proofs.Stretches.{run_ends_here, run_goes_on, hex_digits_exist}
+use Rattle.fluent_syntax_grammar.proofs.Stretches.{run_ends_here, run_goes_on, hex_digits_have_outcome}
 use Rattle.fluent_syntax_grammar.proofs.Total.{From, AnyFault, Decides, TotalOnward, TotalConsuming, IsTotalRelation}
-use Rattle.fluent_syntax_grammar.proofs.Total.{bind_decides, weaker_decides, yields_decides, fails_decides}
+use Rattle.fluent_syntax_grammar.proofs.Total.{bind_decides, weakened_construct_decides, yields_decides, fails_decides}
 use Rattle.fluent_syntax_grammar.proofs.Total.{skip_decides, peek_decides, any_peek_decides, branch_on_decides}
 use Rattle.fluent_syntax_grammar.proofs.Total.{any_branch_decides, yields_is_onward, here_is_onward, skip_is_onward}
 use Rattle.fluent_syntax_grammar.proofs.Total.{strict_is_onward}
-use Rattle.fluent_syntax_grammar.proofs.Facts.{lt_or_same, longest_run_in_text, has_inside}
+use Rattle.fluent_syntax_grammar.proofs.Facts.{at_most_is_less_or_same, longest_run_in_text, has_inside}
 
 false_is_not_true : {X : Type 0} → false ≡ true → X
 false_is_not_true e = cc
@@ -42,54 +43,56 @@ hex_digits_go_forward : {t : List ℕ} (i w j m : ℕ) (u : Unit {0}) → i + 2 
 hex_digits_go_forward i w j m u p (all_there h e) = let f = h.forward in omega arith
 
 module _ (t : List ℕ) where
-  longest_run_at : (test : ℕ → Bool) → ((k : ℕ) → test k ≡ true → k < length t) → (m i : ℕ) → length t ≤ i + m →
+  longest_run_exists_by_test : (test : ℕ → Bool) → ((k : ℕ) → test k ≡ true → k < length t) → (m i : ℕ) →
+      length t ≤ i + m →
       (b : Bool) → test i ≡ b → (test i ≡ true → (j : ℕ) × LongestRun test (i + 1) j) → (j : ℕ) × LongestRun test i j
-  longest_run_at test inside m i l false e more = (i, run_ends_here test i e)
-  longest_run_at test inside m i l true e more = let x = more e in (x.0, run_goes_on test i x.0 e x.1)
+  longest_run_exists_by_test test inside m i l false e more = (i, run_ends_here test i e)
+  longest_run_exists_by_test test inside m i l true e more = let x = more e in (x.0, run_goes_on test i x.0 e x.1)
 
   longest_run_exists : (test : ℕ → Bool) → ((k : ℕ) → test k ≡ true → k < length t) → (m i : ℕ) → length t ≤ i + m →
       (j : ℕ) × LongestRun test i j
   longest_run_exists test inside zero i l =
-      longest_run_at test inside zero i l (test i) refl (λ e. let x = inside i e in absurd (omega arith))
+      longest_run_exists_by_test test inside zero i l (test i) refl (λ e. let x = inside i e in absurd (omega arith))
   longest_run_exists test inside (suc m) i l =
-      longest_run_at test inside (suc m) i l (test i) refl (λ e. longest_run_exists test inside m (i + 1) (omega arith))
+      longest_run_exists_by_test test inside (suc m) i l (test i) refl
+      (λ e. longest_run_exists test inside m (i + 1) (omega arith))
 
-  pub longest_run_word : (test : ℕ → Bool) → ((k : ℕ) → test k ≡ true → k < length t) →
+  pub longest_run_is_total : (test : ℕ → Bool) → ((k : ℕ) → test k ≡ true → k < length t) →
       IsTotalRelation t (LongestRun test)
-  longest_run_word test inside = record {
+  longest_run_is_total test inside = record {
     exists = λ i l. longest_run_exists test inside (length t) i (omega arith);
     forward = λ i j s. s.forward;
     in_text = λ i j l s. longest_run_in_text (length t) test inside i j l s;
   }
 
-  blank_inside : (k : ℕ) → is_blank_place t k ≡ true → k < length t
-  blank_inside k e = let a = blank_is_ascii t k e in slice_get_within t k a.byte a.in_place
+  blank_place_is_inside_text : (k : ℕ) → is_blank_place t k ≡ true → k < length t
+  blank_place_is_inside_text k e = let a = blank_is_ascii t k e in slice_get_within t k a.byte a.in_place
 
-  pub word_of : (set : ℕ → Bool) → IsTotalRelation t (ByteRun t set)
-  word_of set = longest_run_word (has t set) (has_inside set t)
+  pub byte_run_is_total : (set : ℕ → Bool) → IsTotalRelation t (ByteRun t set)
+  byte_run_is_total set = longest_run_is_total (has t set) (has_inside set t)
 
-  pub run_word : IsTotalRelation t (LongestRun (is_run_place t))
-  run_word = longest_run_word (is_run_place t) (run_inside t)
+  pub text_run_is_total : IsTotalRelation t (LongestRun (is_run_place t))
+  text_run_is_total = longest_run_is_total (is_run_place t) (run_place_is_inside_text t)
 
   -- ---- blank blocks
 
-  block_at : (m i k : ℕ) → length t ≤ i + m → i ≤ length t → InlineBlank t i k → (o : Option ℕ) → after_eol t k ≡ o →
-      ((q : ℕ) → i < q → q ≤ length t → (j : ℕ) × BlankBlock t q j) → (j : ℕ) × BlankBlock t i j
-  block_at m i k l a w None e more = (i, no_line w e)
-  block_at m i k l a w (Some q) e more =
+  block_exists_by_eol : (m i k : ℕ) → length t ≤ i + m → i ≤ length t → InlineBlank t i k → (o : Option ℕ) →
+      after_eol t k ≡ o → ((q : ℕ) → i < q → q ≤ length t → (j : ℕ) × BlankBlock t q j) → (j : ℕ) × BlankBlock t i j
+  block_exists_by_eol m i k l a w None e more = (i, no_line w e)
+  block_exists_by_eol m i k l a w (Some q) e more =
       let forward = w.forward in
       let on = eol_goes_on t k q e in
       let x = more q (omega arith) (line_end_is_in_text t k q e) in
       (x.0, line w e x.1)
 
   block_exists : (m i : ℕ) → length t ≤ i + m → i ≤ length t → (j : ℕ) × BlankBlock t i j
-  block_exists zero i l a = let w = (word_of is_space).exists i a in
-      block_at zero i w.0 l a w.1 (after_eol t w.0) refl (λ q b c. absurd (omega arith))
-  block_exists (suc m) i l a = let w = (word_of is_space).exists i a in
-      block_at (suc m) i w.0 l a w.1 (after_eol t w.0) refl (λ q b c. block_exists m q (omega arith) c)
+  block_exists zero i l a = let w = (byte_run_is_total is_space).exists i a in
+      block_exists_by_eol zero i w.0 l a w.1 (after_eol t w.0) refl (λ q b c. absurd (omega arith))
+  block_exists (suc m) i l a = let w = (byte_run_is_total is_space).exists i a in
+      block_exists_by_eol (suc m) i w.0 l a w.1 (after_eol t w.0) refl (λ q b c. block_exists m q (omega arith) c)
 
-  pub block_word : IsTotalRelation t (BlankBlock t)
-  block_word = record {
+  pub blank_block_is_total : IsTotalRelation t (BlankBlock t)
+  blank_block_is_total = record {
     exists = λ i l. block_exists (length t) i (omega arith) l;
     forward = λ i j b. block_goes_on t i j b;
     in_text = λ i j l b. block_place t (InText t) (text_cuts t) i j l b;
@@ -98,13 +101,13 @@ module _ (t : List ℕ) where
   -- ---- marks
 
   pub inline_blank_is_onward : {s : ℕ} → TotalOnward t s (inline_blank t)
-  inline_blank_is_onward = skip_is_onward (word_of is_space)
+  inline_blank_is_onward = skip_is_onward (byte_run_is_total is_space)
 
   pub blank_is_total_onward : {s : ℕ} → TotalOnward t s (blank t)
-  blank_is_total_onward = skip_is_onward (longest_run_word (is_blank_place t) blank_inside)
+  blank_is_total_onward = skip_is_onward (longest_run_is_total (is_blank_place t) blank_place_is_inside_text)
 
   pub blank_block_is_onward : {s : ℕ} → TotalOnward t s (blank_block t)
-  blank_block_is_onward = skip_is_onward block_word
+  blank_block_is_onward = skip_is_onward blank_block_is_total
 
   -- after an optional byte that was there, the place is after it
   pub record AfterByte (s : ℕ) (found : Bool) (j : ℕ) : Type 0 where
@@ -123,7 +126,7 @@ module _ (t : List ℕ) where
       (λ e. yields_decides (λ i p. record { at = p.0; past = λ yes. false_is_not_true yes })))
 
   pub optional_is_onward : {s : ℕ} (b : ℕ) → TotalOnward t s (optional t b)
-  optional_is_onward {s = s} b = weaker_decides (λ i p. p) (λ a j x. x.at) (optional_decides s b)
+  optional_is_onward {s = s} b = weakened_construct_decides (λ i p. p) (λ a j x. x.at) (optional_decides s b)
 
   pub token_is_consuming : {s : ℕ} (b : ℕ) → TotalConsuming t s (token t b)
   token_is_consuming {s = s} b =
@@ -151,26 +154,27 @@ module _ (t : List ℕ) where
   pub rest_of_line_is_onward : {s : ℕ} → TotalOnward t s (rest_of_line t)
   rest_of_line_is_onward =
       bind_decides here_is_onward
-      (λ start. bind_decides (skip_is_onward (longest_run_word (is_line_place t) (line_inside t)))
+      (λ start. bind_decides (skip_is_onward (longest_run_is_total (is_line_place t) (line_place_is_inside_text t)))
       (λ u. spanned_is_onward))
 
-  word_on : (set : ℕ → Bool) (i j : ℕ) → has t set i ≡ true → ByteRun t set i j → i < j
-  word_on set i j e w =
-      elim (lt_or_same i j w.forward)
+  byte_run_in_set_goes_on : (set : ℕ → Bool) (i j : ℕ) → has t set i ≡ true → ByteRun t set i j → i < j
+  byte_run_in_set_goes_on set i j e w =
+      elim (at_most_is_less_or_same i j w.forward)
       [ inl l ↦ l | inr same ↦ absurd (false≢true (sym w.longest ∙ subst (λ k. has t set k ≡ true) same e)) ]
 
   digits_are_consuming : {s : ℕ} → TotalConsuming t s (digits t)
   digits_are_consuming {s = s} = peek_decides (λ found. branch_on_decides
-      (λ e. skip_decides (λ i p. (word_of is_digit).exists i (p.0).in_text)
-      (λ i j p w. let q = p.0 in let late = q.late in let l = word_on is_digit i j (p.1 ∙ e) w in
-      let m = (word_of is_digit).in_text i j q.in_text w in record { late = omega arith; in_text = m }))
+      (λ e. skip_decides (λ i p. (byte_run_is_total is_digit).exists i (p.0).in_text)
+      (λ i j p w. let q = p.0 in let late = q.late in let l = byte_run_in_set_goes_on is_digit i j (p.1 ∙ e) w in
+      let m = (byte_run_is_total is_digit).in_text i j q.in_text w in record { late = omega arith; in_text = m }))
       (λ e. fails_decides))
 
   identifier_is_onward : {s : ℕ} → TotalOnward t s (identifier t)
   identifier_is_onward =
       bind_decides here_is_onward
       (λ start. bind_decides (any_peek_decides (λ letter. yields_is_onward))
-      (λ letter. any_branch_decides (bind_decides (skip_is_onward (word_of is_name_byte)) (λ u. spanned_is_onward))
+      (λ letter. any_branch_decides
+      (bind_decides (skip_is_onward (byte_run_is_total is_name_byte)) (λ u. spanned_is_onward))
       fails_decides))
 
   pub identifier_is_consuming : {s : ℕ} → TotalConsuming t s (identifier t)
@@ -202,7 +206,7 @@ module _ (t : List ℕ) where
 
   hex_decides : (i w : ℕ) → Decides (λ j. i + 2 ≤ j) (hex_digits t w) (After i)
   hex_decides i w = record {
-    has = λ j p. hex_digits_exist t w j;
+    has = λ j p. hex_digits_have_outcome t w j;
     on = record { on_read = λ j m u p x. hex_digits_go_forward i w j m u p x; on_refused = λ j from to k p x. tt };
   }
 
@@ -224,33 +228,37 @@ module _ (t : List ℕ) where
       (any_branch_decides (any_peek_decides (escaped_decides i))
       (skip_decides (λ j p. (j + 1, record { by = refl })) (λ j m p w. let by = w.by in omega arith)))
 
-  unit_text : (i j : ℕ) → i ≤ length t → has_byte t 34 i ≡ false → string_unit t (slice_get t i) i (Read tt j) →
-      j ≤ length t
-  unit_text i j l e x =
+  string_unit_ends_in_text : (i j : ℕ) → i ≤ length t → has_byte t 34 i ≡ false →
+      string_unit t (slice_get t i) i (Read tt j) → j ≤ length t
+  string_unit_ends_in_text i j l e x =
       ((unit_holds t i (slice_get t i)).on_read i j tt (record { late = omega arith; place = l }, refl, e) x).place
 
-  units_unit : (i : ℕ) → i ≤ length t → has_byte t 34 i ≡ false →
+  string_units_have_outcome_after_unit : (i : ℕ) → i ≤ length t → has_byte t 34 i ≡ false →
       ((j : ℕ) → i < j → j ≤ length t → (o : Outcome (Unit {0})) × string_units t j o) →
       (o : Outcome (Unit {0})) → string_unit t (slice_get t i) i o → (o : Outcome (Unit {0})) × string_units t i o
-  units_unit i l e more (Read a j) x = let on = (unit_decides i (slice_get t i)).on.on_read i j tt refl x in
-      let y = more j (omega arith) (unit_text i j l e x) in (y.0, unit_and_more e x y.1)
-  units_unit i l e more (Refused k from to) x = (Refused k from to, bad_unit e x)
+  string_units_have_outcome_after_unit i l e more (Read a j) x =
+      let on = (unit_decides i (slice_get t i)).on.on_read i j tt refl x in
+      let y = more j (omega arith) (string_unit_ends_in_text i j l e x) in (y.0, unit_and_more e x y.1)
+  string_units_have_outcome_after_unit i l e more (Refused k from to) x = (Refused k from to, bad_unit e x)
 
-  units_at : (i : ℕ) → i ≤ length t → (b : Bool) → has_byte t 34 i ≡ b →
+  string_units_have_outcome_by_quote : (i : ℕ) → i ≤ length t → (b : Bool) → has_byte t 34 i ≡ b →
       ((j : ℕ) → i < j → j ≤ length t → (o : Outcome (Unit {0})) × string_units t j o) → (o : Outcome (Unit {0})) ×
       string_units t i o
-  units_at i l true e more = (Read tt i, before_quote e)
-  units_at i l false e more = let x = (unit_decides i (slice_get t i)).has i refl in
-      units_unit i l e more x.0 x.1
+  string_units_have_outcome_by_quote i l true e more = (Read tt i, before_quote e)
+  string_units_have_outcome_by_quote i l false e more = let x = (unit_decides i (slice_get t i)).has i refl in
+      string_units_have_outcome_after_unit i l e more x.0 x.1
 
-  units_exist : (m i : ℕ) → length t ≤ i + m → i ≤ length t → (o : Outcome (Unit {0})) × string_units t i o
-  units_exist zero i a l = units_at i l (has_byte t 34 i) refl (λ j b c. absurd (omega arith))
-  units_exist (suc m) i a l = units_at i l (has_byte t 34 i) refl (λ j b c. units_exist m j (omega arith) c)
+  string_units_have_outcome : (m i : ℕ) → length t ≤ i + m → i ≤ length t →
+      (o : Outcome (Unit {0})) × string_units t i o
+  string_units_have_outcome zero i a l =
+      string_units_have_outcome_by_quote i l (has_byte t 34 i) refl (λ j b c. absurd (omega arith))
+  string_units_have_outcome (suc m) i a l = string_units_have_outcome_by_quote i l (has_byte t 34 i) refl
+      (λ j b c. string_units_have_outcome m j (omega arith) c)
 
   units_are_onward : {s : ℕ} → TotalOnward t s (string_units t)
   units_are_onward {s = s} =
       record {
-        has = λ i p. units_exist (length t) i (omega arith) p.in_text;
+        has = λ i p. string_units_have_outcome (length t) i (omega arith) p.in_text;
         on = on_sound (units_are_sound t (InText t) (text_cuts t) {s = s});
       }
 

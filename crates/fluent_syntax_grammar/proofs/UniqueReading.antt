@@ -22,11 +22,13 @@ use Rattle.fluent_syntax_grammar.proofs.FunctionalEntries.{comment_is_functional
 use Rattle.fluent_syntax_grammar.proofs.Nesting.{family_is_functional}
 use Rattle.fluent_syntax_grammar.proofs.OneTiling as tilings
 use Rattle.fluent_syntax_grammar.proofs.SoundStrings.{InText}
-use Rattle.fluent_syntax_grammar.proofs.SoundTiling.{IsTileWellFormed, tiled_good, runtime_good}
+use Rattle.fluent_syntax_grammar.proofs.SoundTiling.{IsTileWellFormed, tiles_are_well_formed}
+use Rattle.fluent_syntax_grammar.proofs.SoundTiling.{runtime_tiles_are_well_formed}
 use Rattle.fluent_syntax_grammar.proofs.Boundaries.{text_cuts}
 use Rattle.fluent_syntax_grammar.proofs.Aligned.{aligned}
-use Rattle.fluent_syntax_grammar.proofs.Runtime.{bare_body, body_bare, aligned_keep_names, aligned_faults, aligned_bare}
-use Rattle.fluent_syntax_grammar.proofs.BareEntries.{bare_runtime}
+use Rattle.fluent_syntax_grammar.proofs.Runtime.{bare_body, body_of_bare_tiles_is_bare_tiles, aligned_keep_names}
+use Rattle.fluent_syntax_grammar.proofs.Runtime.{aligned_is_faultless, aligned_is_equally_bare}
+use Rattle.fluent_syntax_grammar.proofs.BareEntries.{runtime_tiles_are_bare}
 
 module _ (edition : Edition) (t : List ℕ) where
   pub one_reading : IsUnambiguous edition t
@@ -73,34 +75,37 @@ module _ (edition : Edition) (t : List ℕ) where
   one_tiling = tilings.same_tilings edition t
 
   pub one_runtime_tiling : OneRuntimeTiling edition t
-  one_runtime_tiling = tilings.same_runtime_tilings edition t
+  one_runtime_tiling = tilings.runtime_tilings_of_text_are_equal edition t
 
-  faults_mean : (tiles : List Tile) → list_every (IsTileWellFormed edition t (InText t) (text_cuts t)) tiles →
-      list_every (FaultMeans t) (faults tiles)
-  faults_mean [] g = tt
-  faults_mean (entry s e ∷ tiles) (g, h) = faults_mean tiles h
-  faults_mean (refused f ∷ tiles) (g, h) = (g.4, faults_mean tiles h)
-  faults_mean (dropped ∷ tiles) (g, h) = faults_mean tiles h
+  faults_of_tiles_mean_their_kinds : (tiles : List Tile) →
+      list_every (IsTileWellFormed edition t (InText t) (text_cuts t)) tiles → list_every (FaultMeans t) (faults tiles)
+  faults_of_tiles_mean_their_kinds [] g = tt
+  faults_of_tiles_mean_their_kinds (entry s e ∷ tiles) (g, h) = faults_of_tiles_mean_their_kinds tiles h
+  faults_of_tiles_mean_their_kinds (refused f ∷ tiles) (g, h) = (g.4, faults_of_tiles_mean_their_kinds tiles h)
+  faults_of_tiles_mean_their_kinds (dropped ∷ tiles) (g, h) = faults_of_tiles_mean_their_kinds tiles h
 
   pub kinds_mean : KindsMean edition t
-  kinds_mean = λ tiles a. faults_mean tiles (tiled_good edition t (InText t) (text_cuts t) 0 tiles (omega arith) a)
+  kinds_mean = λ tiles a. faults_of_tiles_mean_their_kinds tiles
+      (tiles_are_well_formed edition t (InText t) (text_cuts t) 0 tiles (omega arith) a)
 
   pub runtime_kinds_mean : RuntimeKindsMean edition t
   runtime_kinds_mean =
-      λ tiles a. faults_mean tiles (runtime_good edition t (InText t) (text_cuts t) 0 tiles (omega arith) a)
+      λ tiles a. faults_of_tiles_mean_their_kinds tiles
+      (runtime_tiles_are_well_formed edition t (InText t) (text_cuts t) 0 tiles (omega arith) a)
 
   pub has_no_comments : HasNoComments edition t
-  has_no_comments = λ tiles a. body_bare tiles (bare_runtime edition t 0 tiles a) ∙ sym (bare_body tiles)
+  has_no_comments = λ tiles a. body_of_bare_tiles_is_bare_tiles tiles (runtime_tiles_are_bare edition t 0 tiles a)
+      ∙ sym (bare_body tiles)
 
   pub same_messages_and_terms : SameMessagesAndTerms edition t
   same_messages_and_terms = λ xs ys a b.
-      ap messages_and_terms (body_bare ys (bare_runtime edition t 0 ys b))
+      ap messages_and_terms (body_of_bare_tiles_is_bare_tiles ys (runtime_tiles_are_bare edition t 0 ys b))
       ∙ (aligned_keep_names xs ys (aligned edition t xs ys a b) ∙ sym (ap messages_and_terms (bare_body xs)))
 
   pub no_new_errors : NoNewErrors edition t
-  no_new_errors = λ xs ys a b e. aligned_faults xs ys (aligned edition t xs ys a b) e
+  no_new_errors = λ xs ys a b e. aligned_is_faultless xs ys (aligned edition t xs ys a b) e
 
   pub same_without_comments : SameWithoutComments edition t
   same_without_comments = λ xs ys a b e.
-      body_bare ys (bare_runtime edition t 0 ys b)
-      ∙ (aligned_bare xs ys (aligned edition t xs ys a b) e ∙ sym (bare_body xs))
+      body_of_bare_tiles_is_bare_tiles ys (runtime_tiles_are_bare edition t 0 ys b)
+      ∙ (aligned_is_equally_bare xs ys (aligned edition t xs ys a b) e ∙ sym (bare_body xs))

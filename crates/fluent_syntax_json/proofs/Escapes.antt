@@ -36,9 +36,9 @@ plain_byte_is_not_escaped b h =
 
 -- The bytes before the place represent themselves.
 module _ (bs : List ℕ) where
-  pub plain_more : (end : ℕ) → end < length bs → is_plain (get_or bs end 0) ≡ true → IsPlainBefore bs end
-      → IsPlainBefore bs (end + 1)
-  plain_more end within plain before =
+  pub plain_bytes_extend_by_plain_byte : (end : ℕ) → end < length bs → is_plain (get_or bs end 0) ≡ true
+      → IsPlainBefore bs end → IsPlainBefore bs (end + 1)
+  plain_bytes_extend_by_plain_byte end within plain before =
       let b = get_or bs end 0 in
       let rest = escape (drop (end + 1) bs) in
       before ∙ ap (λ t. take end bs ++ escape t) (drop_more bs end 0 within)
@@ -55,4 +55,4 @@ module _ (bs : List ℕ) where
       let next : start + n + 1 ≡ start + suc n = omega arith in
       let shorter = plain_block start n (omega arith) (λ k from to. plain k from (omega arith)) before in
       let last = plain (start + n) (omega arith) (omega arith) in
-      subst (IsPlainBefore bs) next (plain_more (start + n) (omega arith) last shorter)
+      subst (IsPlainBefore bs) next (plain_bytes_extend_by_plain_byte (start + n) (omega arith) last shorter)

@@ -48,26 +48,27 @@ module _ {A : Type 0} (v : Vec Value Global) (items xs : List A) (n : ℕ) where
   abbrev Made : (A → Data) → Type 0
   Made form = map view v.items ≡ map form (take n items)
 
-  whole : (form : A → Data) → Made form → length items ≤ n → items ≡ xs →
+  items_written_give_whole_array : (form : A → Data) → Made form → length items ≤ n → items ≡ xs →
       view (Array v) ≡ array (items_of (map form xs))
-  whole form e h same = view-Array v ∙ ap (λ l. array (items_of l)) (maps_agree view form v.items xs items n e h same)
+  items_written_give_whole_array form e h same =
+      view-Array v ∙ ap (λ l. array (items_of l)) (maps_agree view form v.items xs items n e h same)
 
   pub list-made : {B : Type 0} (g : B → Data) (f : A → B) → Made (λ x. g (f x)) → length items ≤ n → items ≡ xs →
       view (Array v) ≡ list_form g (map f xs)
-  list-made g f e h same = whole _ e h same ∙ ap array (items_of-map g f xs)
+  list-made g f e h same = items_written_give_whole_array _ e h same ∙ ap array (items_of-map g f xs)
 
   pub elements-made : (f : A → ElementTree Text) → Made (λ x. element_form (f x)) → length items ≤ n → items ≡ xs →
       view (Array v) ≡ array (element_forms (elements_of (map f xs)))
-  elements-made f e h same = whole _ e h same ∙ ap array (element_forms-map f xs)
+  elements-made f e h same = items_written_give_whole_array _ e h same ∙ ap array (element_forms-map f xs)
 
   pub variants-made : (f : A → VariantTree Text) → Made (λ x. variant_form (f x)) → length items ≤ n → items ≡ xs →
       view (Array v) ≡ array (variant_forms (variants_of (map f xs)))
-  variants-made f e h same = whole _ e h same ∙ ap array (variant_forms-map f xs)
+  variants-made f e h same = items_written_give_whole_array _ e h same ∙ ap array (variant_forms-map f xs)
 
   pub inlines-made : (f : A → InlineTree Text) → Made (λ x. inline_form (f x)) → length items ≤ n → items ≡ xs →
       view (Array v) ≡ array (inline_forms (inlines_of (map f xs)))
-  inlines-made f e h same = whole _ e h same ∙ ap array (inline_forms-map f xs)
+  inlines-made f e h same = items_written_give_whole_array _ e h same ∙ ap array (inline_forms-map f xs)
 
   pub nameds-made : (f : A → NamedTree Text) → Made (λ x. named_form (f x)) → length items ≤ n → items ≡ xs →
       view (Array v) ≡ array (named_forms (nameds_of (map f xs)))
-  nameds-made f e h same = whole _ e h same ∙ ap array (named_forms-map f xs)
+  nameds-made f e h same = items_written_give_whole_array _ e h same ∙ ap array (named_forms-map f xs)

@@ -33,11 +33,11 @@ joins-one_more (Some x) (Some ys) None = refl
 joins-one_more (Some x) (Some ys) (Some zs) = refl
 
 module _ {A : Type 0} (read : Data → Option A) where
-  joined : (cs bs : List Data) →
+  items_of_append_are_joined : (cs bs : List Data) →
       items_by read (items_of (cs ++ bs)) ≡ joins (items_by read (items_of cs)) (items_by read (items_of bs))
-  joined [] bs = joins-nothing (items_by read (items_of bs))
-  joined (a ∷ cs) bs =
-      ap (one_more (read a)) (joined cs bs)
+  items_of_append_are_joined [] bs = joins-nothing (items_by read (items_of bs))
+  items_of_append_are_joined (a ∷ cs) bs =
+      ap (one_more (read a)) (items_of_append_are_joined cs bs)
       ∙ joins-one_more (read a) (items_by read (items_of cs)) (items_by read (items_of bs))
 
   -- what the values spell that were read so far
@@ -51,30 +51,32 @@ module _ {A : Type 0} (read : Data → Option A) where
   pushed f ys zs y xs i v e made h is one =
       let here : read (view (get_or xs i v)) ≡ Some (f y) = ap (λ x. read (view x)) (sym is) ∙ one in
       ap (λ l. items_by read (items_of l)) (map_more view xs i v h)
-      ∙ joined (map view (take i xs)) (view (get_or xs i v) ∷ []) ∙ rw (e, here, made, map-append f ys (y ∷ []))
+      ∙ items_of_append_are_joined (map view (take i xs)) (view (get_or xs i v) ∷ [])
+      ∙ rw (e, here, made, map-append f ys (y ∷ []))
 
   pub finished : {T : Type 0} (f : T → A) (ys : List T) (xs items : List Value) (n : ℕ) →
       so_far items n ≡ Some (map f ys) → length items ≤ n → items ≡ xs → items_by read (items_view xs) ≡ Some (map f ys)
   finished f ys xs items n e h same =
       ap (λ l. items_by read (items_of (map view l))) (sym same ∙ sym (take_all n items h)) ∙ e
 
-  cut : (xs : List Value) (i : ℕ) (v : Value) → i < length xs → xs ≡ take i xs ++ get_or xs i v ∷ drop (suc i) xs
-  cut [] i v h = absurd (omega arith)
-  cut (x ∷ xs) zero v h = refl
-  cut (x ∷ xs) (suc i) v h = ap (λ l. x ∷ l) (cut xs i v (omega arith))
+  list_splits_at_its_item : (xs : List Value) (i : ℕ) (v : Value) → i < length xs →
+      xs ≡ take i xs ++ get_or xs i v ∷ drop (suc i) xs
+  list_splits_at_its_item [] i v h = absurd (omega arith)
+  list_splits_at_its_item (x ∷ xs) zero v h = refl
+  list_splits_at_its_item (x ∷ xs) (suc i) v h = ap (λ l. x ∷ l) (list_splits_at_its_item xs i v (omega arith))
 
-  none_after : (p : Option (List A)) → joins p None ≡ None
+  joining_with_none_is_none : (p : Option (List A)) → joins p None ≡ None
   unfolding joins
-  none_after None = refl
-  none_after (Some x) = refl
+  joining_with_none_is_none None = refl
+  joining_with_none_is_none (Some x) = refl
 
   pub stopped : (xs items : List Value) (i : ℕ) (v : Value) → i < length items → v ≡ get_or items i v → items ≡ xs →
       read (view v) ≡ None → items_by read (items_view xs) ≡ None
   stopped xs items i v h is same none =
       let here : read (view (get_or items i v)) ≡ None = ap (λ x. read (view x)) (sym is) ∙ none in
       let apart =
-      ap (map view) (sym same ∙ cut items i v h)
+      ap (map view) (sym same ∙ list_splits_at_its_item items i v h)
       ∙ map-append view (take i items) (get_or items i v ∷ drop (suc i) items) in
       ap (λ l. items_by read (items_of l)) apart
-      ∙ joined (map view (take i items)) (view (get_or items i v) ∷ map view (drop (suc i) items))
-      ∙ rw here (none_after (items_by read (items_of (map view (take i items)))))
+      ∙ items_of_append_are_joined (map view (take i items)) (view (get_or items i v) ∷ map view (drop (suc i) items))
+      ∙ rw here (joining_with_none_is_none (items_by read (items_of (map view (take i items)))))

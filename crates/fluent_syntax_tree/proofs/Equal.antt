@@ -79,8 +79,8 @@ use denote.Hole.Carrier as carrier
 use mathlib.Core.Logic.{inl as left, inr}
 use mir.Syntax.{Dict}
 
-abbrev Such : {A : Type 0} → (A → Type 0) → Type 0
-Such {A} P = (a : A) × P a
+abbrev WithClaim : {A : Type 0} → (A → Type 0) → Type 0
+WithClaim {A} P = (a : A) × P a
 
 false_decides_refuted : {Q : Type 0} (r : Bool) → r ≡ false → (Q → ⊥) → Decides r Q
 false_decides_refuted r e refused = (λ h. absurd (true≢false (sym h ∙ e)), λ q. absurd (refused q))
@@ -282,43 +282,48 @@ module _ {X : Type 0} (S : RattleType) (E : Ghosts S.Denot) (dict : Dict) (lawfu
       (b : Variant S.Denot) → Decides ((variant_eq.ghosts S E dict).eq a b) (variant_view text a ≡ variant_view text b)
 
   abbrev Held : (F : (A B C D E G H : Type 0) → Type 0) → Type 0
-  Held F = F (Such ClaimX) (Such ClaimI) (Such ClaimE) (Such ClaimA) (Such ClaimN) (Such ClaimP) (Such ClaimV)
+  Held F = F (WithClaim ClaimX) (WithClaim ClaimI) (WithClaim ClaimE) (WithClaim ClaimA) (WithClaim ClaimN)
+      (WithClaim ClaimP) (WithClaim ClaimV)
 
-  inlines_decide : (ps : List (Such ClaimI)) (bs : List (InlineExpression S.Denot)) →
+  equality_of_inlines_decides : (ps : List (WithClaim ClaimI)) (bs : List (InlineExpression S.Denot)) →
       Decides (pointwise (inline_eq.ghosts S E dict).eq (map (λ p. p.0) ps) bs)
       (inlines_of (map (inline_view text) (map (λ p. p.0) ps)) ≡ inlines_of (map (inline_view text) bs))
-  inlines_decide [] [] = true_decides_proved _ refl refl
-  inlines_decide [] (b ∷ bs) = false_decides_refuted _ refl (λ q. cc)
-  inlines_decide (p ∷ ps) [] = false_decides_refuted _ refl (λ q. cc)
-  inlines_decide (p ∷ ps) (b ∷ bs) =
-      decides_as _ _ refl (decides_and _ _ (p.1 b) (inlines_decide ps bs)) (λ h. rw (h.0, h.1)) (λ q. (cc, cc))
+  equality_of_inlines_decides [] [] = true_decides_proved _ refl refl
+  equality_of_inlines_decides [] (b ∷ bs) = false_decides_refuted _ refl (λ q. cc)
+  equality_of_inlines_decides (p ∷ ps) [] = false_decides_refuted _ refl (λ q. cc)
+  equality_of_inlines_decides (p ∷ ps) (b ∷ bs) =
+      decides_as _ _ refl (decides_and _ _ (p.1 b) (equality_of_inlines_decides ps bs)) (λ h. rw (h.0, h.1))
+      (λ q. (cc, cc))
 
-  nameds_decide : (ps : List (Such ClaimN)) (bs : List (NamedArgument S.Denot)) →
+  equality_of_named_arguments_decides : (ps : List (WithClaim ClaimN)) (bs : List (NamedArgument S.Denot)) →
       Decides (pointwise (named_eq.ghosts S E dict).eq (map (λ p. p.0) ps) bs)
       (nameds_of (map (named_view text) (map (λ p. p.0) ps)) ≡ nameds_of (map (named_view text) bs))
-  nameds_decide [] [] = true_decides_proved _ refl refl
-  nameds_decide [] (b ∷ bs) = false_decides_refuted _ refl (λ q. cc)
-  nameds_decide (p ∷ ps) [] = false_decides_refuted _ refl (λ q. cc)
-  nameds_decide (p ∷ ps) (b ∷ bs) =
-      decides_as _ _ refl (decides_and _ _ (p.1 b) (nameds_decide ps bs)) (λ h. rw (h.0, h.1)) (λ q. (cc, cc))
+  equality_of_named_arguments_decides [] [] = true_decides_proved _ refl refl
+  equality_of_named_arguments_decides [] (b ∷ bs) = false_decides_refuted _ refl (λ q. cc)
+  equality_of_named_arguments_decides (p ∷ ps) [] = false_decides_refuted _ refl (λ q. cc)
+  equality_of_named_arguments_decides (p ∷ ps) (b ∷ bs) =
+      decides_as _ _ refl (decides_and _ _ (p.1 b) (equality_of_named_arguments_decides ps bs)) (λ h. rw (h.0, h.1))
+      (λ q. (cc, cc))
 
-  elements_decide : (ps : List (Such ClaimE)) (bs : List (PatternElement S.Denot)) →
+  equality_of_elements_decides : (ps : List (WithClaim ClaimE)) (bs : List (PatternElement S.Denot)) →
       Decides (pointwise (element_eq.ghosts S E dict).eq (map (λ p. p.0) ps) bs)
       (elements_of (map (element_view text) (map (λ p. p.0) ps)) ≡ elements_of (map (element_view text) bs))
-  elements_decide [] [] = true_decides_proved _ refl refl
-  elements_decide [] (b ∷ bs) = false_decides_refuted _ refl (λ q. cc)
-  elements_decide (p ∷ ps) [] = false_decides_refuted _ refl (λ q. cc)
-  elements_decide (p ∷ ps) (b ∷ bs) =
-      decides_as _ _ refl (decides_and _ _ (p.1 b) (elements_decide ps bs)) (λ h. rw (h.0, h.1)) (λ q. (cc, cc))
+  equality_of_elements_decides [] [] = true_decides_proved _ refl refl
+  equality_of_elements_decides [] (b ∷ bs) = false_decides_refuted _ refl (λ q. cc)
+  equality_of_elements_decides (p ∷ ps) [] = false_decides_refuted _ refl (λ q. cc)
+  equality_of_elements_decides (p ∷ ps) (b ∷ bs) =
+      decides_as _ _ refl (decides_and _ _ (p.1 b) (equality_of_elements_decides ps bs)) (λ h. rw (h.0, h.1))
+      (λ q. (cc, cc))
 
-  variants_decide : (ps : List (Such ClaimV)) (bs : List (Variant S.Denot)) →
+  equality_of_variants_decides : (ps : List (WithClaim ClaimV)) (bs : List (Variant S.Denot)) →
       Decides (pointwise (variant_eq.ghosts S E dict).eq (map (λ p. p.0) ps) bs)
       (variants_of (map (variant_view text) (map (λ p. p.0) ps)) ≡ variants_of (map (variant_view text) bs))
-  variants_decide [] [] = true_decides_proved _ refl refl
-  variants_decide [] (b ∷ bs) = false_decides_refuted _ refl (λ q. cc)
-  variants_decide (p ∷ ps) [] = false_decides_refuted _ refl (λ q. cc)
-  variants_decide (p ∷ ps) (b ∷ bs) =
-      decides_as _ _ refl (decides_and _ _ (p.1 b) (variants_decide ps bs)) (λ h. rw (h.0, h.1)) (λ q. (cc, cc))
+  equality_of_variants_decides [] [] = true_decides_proved _ refl refl
+  equality_of_variants_decides [] (b ∷ bs) = false_decides_refuted _ refl (λ q. cc)
+  equality_of_variants_decides (p ∷ ps) [] = false_decides_refuted _ refl (λ q. cc)
+  equality_of_variants_decides (p ∷ ps) (b ∷ bs) =
+      decides_as _ _ refl (decides_and _ _ (p.1 b) (equality_of_variants_decides ps bs)) (λ h. rw (h.0, h.1))
+      (λ q. (cc, cc))
 
   decide-Element :
       (y : Held (PatternElement-F S.Denot))
@@ -362,7 +367,7 @@ module _ {X : Type 0} (S : RattleType) (E : Ghosts S.Denot) (dict : Dict) (lawfu
       (expression_view text a ≡ expression_view text (roll-Expression S.Denot z))
   unfolding roll-Expression carrier.roll out-Expression carrier.out
   decide-Expression (layer.Select e vs) (layer.Select d ws) =
-      decides_as _ _ (eq-Select e.0 d _ ws) (decides_and _ _ (e.1 d) (variants_decide vs.items ws.items))
+      decides_as _ _ (eq-Select e.0 d _ ws) (decides_and _ _ (e.1 d) (equality_of_variants_decides vs.items ws.items))
       (λ h. view-Select text e.0 _
       ∙ ap (λ k. select k (variants_of (map (variant_view text) (map (λ p. p.0) vs.items)))) h.0
       ∙ ap (select (inline_view text d)) h.1 ∙ sym (view-Select text d ws))
@@ -381,14 +386,14 @@ module _ {X : Type 0} (S : RattleType) (E : Ghosts S.Denot) (dict : Dict) (lawfu
       (map-Expression S.Denot _ _ _ _ _ _ _ _ _ _ _ _ _ _ (λ e. e.0) (λ e. e.0) (λ e. e.0) (λ e. e.0) (λ e. e.0)
       (λ e. e.0) (λ e. e.0) y)) ∙ q ∙ view-roll-Expression text z))
 
-  arguments_decide : (o : Option (Such ClaimA)) (b : Option (CallArguments S.Denot)) →
+  equality_of_arguments_decides : (o : Option (WithClaim ClaimA)) (b : Option (CallArguments S.Denot)) →
       Decides (option_eq (arguments_eq.ghosts S E dict).eq (option_map (λ p. p.0) o) b)
       (arguments_of (option_map (arguments_view text) (option_map (λ p. p.0) o))
       ≡ arguments_of (option_map (arguments_view text) b))
-  arguments_decide None None = true_decides_proved _ refl refl
-  arguments_decide None (Some b) = false_decides_refuted _ refl (λ q. cc)
-  arguments_decide (Some p) None = false_decides_refuted _ refl (λ q. cc)
-  arguments_decide (Some p) (Some b) = decides_as _ _ refl (p.1 b) (λ h. ap some_arguments h) (λ q. cc)
+  equality_of_arguments_decides None None = true_decides_proved _ refl refl
+  equality_of_arguments_decides None (Some b) = false_decides_refuted _ refl (λ q. cc)
+  equality_of_arguments_decides (Some p) None = false_decides_refuted _ refl (λ q. cc)
+  equality_of_arguments_decides (Some p) (Some b) = decides_as _ _ refl (p.1 b) (λ h. ap some_arguments h) (λ q. cc)
 
   decide-Inline :
       (y : Held (InlineExpression-F S.Denot))
@@ -432,7 +437,7 @@ module _ {X : Type 0} (S : RattleType) (E : Ghosts S.Denot) (dict : Dict) (lawfu
       decides_as _ _ (eq-TermReference i j o p None b)
       (decides_and _ _ (by_text i.name j.name)
       (decides_and _ _ (option_decide _ (identifier_view text) decides_by_view-Identifier o p)
-      (arguments_decide None b)))
+      (equality_of_arguments_decides None b)))
       (λ h. view-TermReference text i o None
       ∙ ap (λ x. term_reference x (option_map (identifier_view text) o)
       (arguments_of (option_map (arguments_view text) None))) h.0
@@ -449,7 +454,7 @@ module _ {X : Type 0} (S : RattleType) (E : Ghosts S.Denot) (dict : Dict) (lawfu
       decides_as _ _ (eq-TermReference i j o p (Some a.0) b)
       (decides_and _ _ (by_text i.name j.name)
       (decides_and _ _ (option_decide _ (identifier_view text) decides_by_view-Identifier o p)
-      (arguments_decide (Some a) b)))
+      (equality_of_arguments_decides (Some a) b)))
       (λ h. view-TermReference text i o (Some a.0)
       ∙ ap (λ x. term_reference x (option_map (identifier_view text) o)
       (arguments_of (option_map (arguments_view text) (Some a.0)))) h.0
@@ -492,8 +497,8 @@ module _ {X : Type 0} (S : RattleType) (E : Ghosts S.Denot) (dict : Dict) (lawfu
       (arguments_view text a ≡ arguments_view text (roll-CallArguments S.Denot z))
   decide-Arguments y z =
       decides_as _ _ (eq-CallArguments _ z)
-      (decides_and _ _ (inlines_decide y.positional.items z.positional.items)
-      (nameds_decide y.named.items z.named.items))
+      (decides_and _ _ (equality_of_inlines_decides y.positional.items z.positional.items)
+      (equality_of_named_arguments_decides y.named.items z.named.items))
       (λ h. view-roll-CallArguments text _
       ∙ ap (λ x. arguments x (nameds_of (map (named_view text) (map (λ p. p.0) y.named.items)))) h.0
       ∙ ap (arguments (inlines_of (map (inline_view text) z.positional.items))) h.1
@@ -526,7 +531,8 @@ module _ {X : Type 0} (S : RattleType) (E : Ghosts S.Denot) (dict : Dict) (lawfu
       (λ e. e.0) (λ e. e.0) y) in
       Decides ((pattern_eq.ghosts S E dict).eq a b) (pattern_view text a ≡ pattern_view text b)
   decide-Pattern y b =
-      decides_as _ _ (pattern_laws.is S E dict lawful _ b) (elements_decide y.elements.items b.elements.items)
+      decides_as _ _ (pattern_laws.is S E dict lawful _ b)
+      (equality_of_elements_decides y.elements.items b.elements.items)
       (λ p. view-Pattern text _ ∙ p ∙ sym (view-Pattern text b))
       (λ q. sym (view-Pattern text _) ∙ q ∙ view-Pattern text b)
 
@@ -582,30 +588,32 @@ module _ {X : Type 0} (S : RattleType) (E : Ghosts S.Denot) (dict : Dict) (lawfu
       (λ h. cc)
       (λ q. (ap (λ x. x.id) q, ap (λ x. x.value) q))
 
-  value_decide : (o p : Option (Pattern S.Denot)) →
+  equality_of_values_decides : (o p : Option (Pattern S.Denot)) →
       Decides (option_eq (pattern_eq.ghosts S E dict).eq o p)
       (option_map (pattern_view text) o ≡ option_map (pattern_view text) p)
-  value_decide o p = option_decide (pattern_eq.ghosts S E dict).eq (pattern_view text) decides_by_view-Pattern o p
+  equality_of_values_decides o p =
+      option_decide (pattern_eq.ghosts S E dict).eq (pattern_view text) decides_by_view-Pattern o p
 
-  attributes_decide : (xs ys : List (Attribute S.Denot)) →
+  equality_of_attributes_decides : (xs ys : List (Attribute S.Denot)) →
       Decides (pointwise (attribute_eq.ghosts S E dict).eq xs ys)
       (map (attribute_view text) xs ≡ map (attribute_view text) ys)
-  attributes_decide xs ys =
+  equality_of_attributes_decides xs ys =
       list_decide (attribute_eq.ghosts S E dict).eq (attribute_view text) decides_by_view-Attribute xs ys
 
-  attached_decide : (o p : Option (Comment S.Denot)) →
+  equality_of_comments_decides : (o p : Option (Comment S.Denot)) →
       Decides (option_eq (comment_eq.ghosts S E dict).eq o p)
       (option_map (comment_view text) o ≡ option_map (comment_view text) p)
-  attached_decide o p = option_decide (comment_eq.ghosts S E dict).eq (comment_view text) decides_by_view-Comment o p
+  equality_of_comments_decides o p =
+      option_decide (comment_eq.ghosts S E dict).eq (comment_view text) decides_by_view-Comment o p
 
   pub decides_by_view-Message : (a b : Message S.Denot) →
       Decides ((message_eq.ghosts S E dict).eq a b) (message_view text a ≡ message_view text b)
   decides_by_view-Message a b =
       decides_as _ _ refl
       (decides_and _ _ (by_text a.id.name b.id.name)
-      (decides_and _ _ (value_decide a.value b.value)
-      (decides_and _ _ (attributes_decide a.attributes.items b.attributes.items)
-      (attached_decide a.comment b.comment))))
+      (decides_and _ _ (equality_of_values_decides a.value b.value)
+      (decides_and _ _ (equality_of_attributes_decides a.attributes.items b.attributes.items)
+      (equality_of_comments_decides a.comment b.comment))))
       (λ h. cc) (λ q. (ap (λ x. x.id) q, (ap (λ x. x.value) q, (ap (λ x. x.attributes) q, ap (λ x. x.comment) q))))
 
   pub decides_by_view-Term : (a b : Term S.Denot) →
@@ -614,8 +622,8 @@ module _ {X : Type 0} (S : RattleType) (E : Ghosts S.Denot) (dict : Dict) (lawfu
       decides_as _ _ refl
       (decides_and _ _ (by_text a.id.name b.id.name)
       (decides_and _ _ (decides_by_view-Pattern a.value b.value)
-      (decides_and _ _ (attributes_decide a.attributes.items b.attributes.items)
-      (attached_decide a.comment b.comment))))
+      (decides_and _ _ (equality_of_attributes_decides a.attributes.items b.attributes.items)
+      (equality_of_comments_decides a.comment b.comment))))
       (λ h. cc) (λ q. (ap (λ x. x.id) q, (ap (λ x. x.value) q, (ap (λ x. x.attributes) q, ap (λ x. x.comment) q))))
 
   pub decides_by_view-Entry : (a b : Entry S.Denot) →

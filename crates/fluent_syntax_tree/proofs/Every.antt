@@ -33,42 +33,43 @@ use Rattle.fluent_syntax_tree.proofs.Views.{view-NamedArgument, view-CallArgumen
 
 -- ---- lists
 
-pub every_at : {A X : Type 0} (P : X → Type 0) (v : A → X) (xs : List A) (i : ℕ) (d : A) → list_every P (map v xs) →
-    i < length xs → P (v (get_or xs i d))
-every_at P v [] i d h l = absurd (omega arith)
-every_at P v (x ∷ xs) zero d h l = h.0
-every_at P v (x ∷ xs) (suc i) d h l = every_at P v xs i d h.1 (omega arith)
+pub every_holds_of_item_at_index : {A X : Type 0} (P : X → Type 0) (v : A → X) (xs : List A) (i : ℕ) (d : A) →
+    list_every P (map v xs) → i < length xs → P (v (get_or xs i d))
+every_holds_of_item_at_index P v [] i d h l = absurd (omega arith)
+every_holds_of_item_at_index P v (x ∷ xs) zero d h l = h.0
+every_holds_of_item_at_index P v (x ∷ xs) (suc i) d h l = every_holds_of_item_at_index P v xs i d h.1 (omega arith)
 
 -- of the element that a loop is at
 pub every_item : {A X : Type 0} (P : X → Type 0) (v : A → X) (xs items : List A) (i : ℕ) (d : A) →
     list_every P (map v xs) → items ≡ xs → i < length items → d ≡ get_or items i d → P (v d)
 every_item P v xs items i d h e l is =
-    subst (λ x. P (v x)) (sym is) (every_at P v items i d (subst (λ ys. list_every P (map v ys)) (sym e) h) l)
+    subst (λ x. P (v x)) (sym is)
+    (every_holds_of_item_at_index P v items i d (subst (λ ys. list_every P (map v ys)) (sym e) h) l)
 
 pub list_every-append : {X : Type 0} (P : X → Type 0) (xs ys : List X) → list_every P xs → list_every P ys →
     list_every P (xs ++ ys)
 list_every-append P [] ys h k = k
 list_every-append P (x ∷ xs) ys h k = (h.0, list_every-append P xs ys h.1 k)
 
-pub list_every_inline : {X : Type 0} (P : X → Type 0) (xs : List (InlineTree X)) → inlines_every P (inlines_of xs) →
-    list_every (inline_every P) xs
-list_every_inline P [] h = tt
-list_every_inline P (x ∷ xs) h = (h.0, list_every_inline P xs h.1)
+pub every_of_inlines_is_every_of_list : {X : Type 0} (P : X → Type 0) (xs : List (InlineTree X)) →
+    inlines_every P (inlines_of xs) → list_every (inline_every P) xs
+every_of_inlines_is_every_of_list P [] h = tt
+every_of_inlines_is_every_of_list P (x ∷ xs) h = (h.0, every_of_inlines_is_every_of_list P xs h.1)
 
-pub list_every_named : {X : Type 0} (P : X → Type 0) (xs : List (NamedTree X)) → nameds_every P (nameds_of xs) →
-    list_every (named_every P) xs
-list_every_named P [] h = tt
-list_every_named P (x ∷ xs) h = (h.0, list_every_named P xs h.1)
+pub every_of_nameds_is_every_of_list : {X : Type 0} (P : X → Type 0) (xs : List (NamedTree X)) →
+    nameds_every P (nameds_of xs) → list_every (named_every P) xs
+every_of_nameds_is_every_of_list P [] h = tt
+every_of_nameds_is_every_of_list P (x ∷ xs) h = (h.0, every_of_nameds_is_every_of_list P xs h.1)
 
-pub list_every_element : {X : Type 0} (P : X → Type 0) (xs : List (ElementTree X)) → pattern_every P (elements_of xs) →
-    list_every (element_every P) xs
-list_every_element P [] h = tt
-list_every_element P (x ∷ xs) h = (h.0, list_every_element P xs h.1)
+pub every_of_pattern_is_every_of_list : {X : Type 0} (P : X → Type 0) (xs : List (ElementTree X)) →
+    pattern_every P (elements_of xs) → list_every (element_every P) xs
+every_of_pattern_is_every_of_list P [] h = tt
+every_of_pattern_is_every_of_list P (x ∷ xs) h = (h.0, every_of_pattern_is_every_of_list P xs h.1)
 
-pub list_every_variant : {X : Type 0} (P : X → Type 0) (xs : List (VariantTree X)) → variants_every P (variants_of xs) →
-    list_every (variant_every P) xs
-list_every_variant P [] h = tt
-list_every_variant P (x ∷ xs) h = (h.0, list_every_variant P xs h.1)
+pub every_of_variants_is_every_of_list : {X : Type 0} (P : X → Type 0) (xs : List (VariantTree X)) →
+    variants_every P (variants_of xs) → list_every (variant_every P) xs
+every_of_variants_is_every_of_list P [] h = tt
+every_of_variants_is_every_of_list P (x ∷ xs) h = (h.0, every_of_variants_is_every_of_list P xs h.1)
 
 -- ---- the parts of a value
 
@@ -78,7 +79,7 @@ module _ {S X : Type 0} (text : S → X) (P : X → Type 0) where
       list_every (variant_every P) (map (variant_view text) vs.items)
   every-Select d e vs e' all =
       let h = subst (expression_every P) (ap (expression_view text) e' ∙ view-Select text e vs) all in
-      (h.0, list_every_variant P _ h.1)
+      (h.0, every_of_variants_is_every_of_list P _ h.1)
 
   pub every-Inline : (d : Expression S) (e : InlineExpression S) → d ≡ Inline e →
       expression_every P (expression_view text d) → inline_every P (inline_view text e)
@@ -119,26 +120,26 @@ module _ {S X : Type 0} (text : S → X) (P : X → Type 0) where
 
   pub every-Pattern : (p : Pattern S) → pattern_every P (pattern_view text p) →
       list_every (element_every P) (map (element_view text) p.elements.items)
-  every-Pattern p h = list_every_element P _ (subst (pattern_every P) (view-Pattern text p) h)
+  every-Pattern p h = every_of_pattern_is_every_of_list P _ (subst (pattern_every P) (view-Pattern text p) h)
 
   pub every-CallArguments : (a : CallArguments S) → arguments_every P (arguments_view text a) →
       list_every (inline_every P) (map (inline_view text) (out-CallArguments S a).positional.items) ×
       list_every (named_every P) (map (named_view text) (out-CallArguments S a).named.items)
   every-CallArguments a all = let h = subst (arguments_every P) (view-CallArguments text a) all in
-      (list_every_inline P _ h.0, list_every_named P _ h.1)
+      (every_of_inlines_is_every_of_list P _ h.0, every_of_nameds_is_every_of_list P _ h.1)
 
 -- ---- what always holds
 
 abbrev Always : {X : Type 0} → X → Type 0
 Always x = Unit {0}
 
-pub option_always : {X : Type 0} (o : Option X) → option_every Always o
-option_always None = tt
-option_always (Some x) = tt
+pub always_holds_of_option : {X : Type 0} (o : Option X) → option_every Always o
+always_holds_of_option None = tt
+always_holds_of_option (Some x) = tt
 
-pub key_always : {X : Type 0} (k : KeyTree X) → key_every Always k
-key_always (name_key x) = tt
-key_always (number_key x) = tt
+pub always_holds_of_key : {X : Type 0} (k : KeyTree X) → key_every Always k
+always_holds_of_key (name_key x) = tt
+always_holds_of_key (number_key x) = tt
 
 -- of each element, where it holds of every value
 pub list_every-universal : {X : Type 0} (P : X → Type 0) (xs : List X) → ((x : X) → P x) → list_every P xs
@@ -150,97 +151,97 @@ option_every-universal P None h = tt
 option_every-universal P (Some x) h = h x
 
 mutual
-  pub expression_always : {X : Type 0} (e : ExpressionTree X) → expression_every Always e
-  expression_always (select e vs) = (inline_always e, variants_always vs)
-  expression_always (inline e) = inline_always e
+  pub always_holds_of_expression : {X : Type 0} (e : ExpressionTree X) → expression_every Always e
+  always_holds_of_expression (select e vs) = (always_holds_of_inline e, always_holds_of_variants vs)
+  always_holds_of_expression (inline e) = always_holds_of_inline e
 
-  pub inline_always : {X : Type 0} (e : InlineTree X) → inline_every Always e
-  inline_always (string_literal x) = tt
-  inline_always (number_literal x) = tt
-  inline_always (function_reference x a) = (tt, arguments_always a)
-  inline_always (message_reference x a) = (tt, option_always a)
-  inline_always (term_reference x a c) = (tt, option_always a, maybe_always c)
-  inline_always (variable_reference x) = tt
-  inline_always (inline_placeable e) = expression_always e
+  pub always_holds_of_inline : {X : Type 0} (e : InlineTree X) → inline_every Always e
+  always_holds_of_inline (string_literal x) = tt
+  always_holds_of_inline (number_literal x) = tt
+  always_holds_of_inline (function_reference x a) = (tt, always_holds_of_arguments a)
+  always_holds_of_inline (message_reference x a) = (tt, always_holds_of_option a)
+  always_holds_of_inline (term_reference x a c) = (tt, always_holds_of_option a, always_holds_of_optional_arguments c)
+  always_holds_of_inline (variable_reference x) = tt
+  always_holds_of_inline (inline_placeable e) = always_holds_of_expression e
 
-  pub arguments_always : {X : Type 0} (a : ArgumentsTree X) → arguments_every Always a
-  arguments_always (arguments ps ns) = (inlines_always ps, nameds_always ns)
+  pub always_holds_of_arguments : {X : Type 0} (a : ArgumentsTree X) → arguments_every Always a
+  always_holds_of_arguments (arguments ps ns) = (always_holds_of_inlines ps, always_holds_of_named_arguments ns)
 
-  maybe_always : {X : Type 0} (a : MaybeArguments X) → maybe_every Always a
-  maybe_always no_arguments = tt
-  maybe_always (some_arguments a) = arguments_always a
+  always_holds_of_optional_arguments : {X : Type 0} (a : MaybeArguments X) → maybe_every Always a
+  always_holds_of_optional_arguments no_arguments = tt
+  always_holds_of_optional_arguments (some_arguments a) = always_holds_of_arguments a
 
-  inlines_always : {X : Type 0} (es : InlineTrees X) → inlines_every Always es
-  inlines_always no_inlines = tt
-  inlines_always (inlines e es) = (inline_always e, inlines_always es)
+  always_holds_of_inlines : {X : Type 0} (es : InlineTrees X) → inlines_every Always es
+  always_holds_of_inlines no_inlines = tt
+  always_holds_of_inlines (inlines e es) = (always_holds_of_inline e, always_holds_of_inlines es)
 
-  pub named_always : {X : Type 0} (a : NamedTree X) → named_every Always a
-  named_always (named_argument x e) = (tt, inline_always e)
+  pub always_holds_of_named_argument : {X : Type 0} (a : NamedTree X) → named_every Always a
+  always_holds_of_named_argument (named_argument x e) = (tt, always_holds_of_inline e)
 
-  nameds_always : {X : Type 0} (a : NamedTrees X) → nameds_every Always a
-  nameds_always no_named = tt
-  nameds_always (nameds x xs) = (named_always x, nameds_always xs)
+  always_holds_of_named_arguments : {X : Type 0} (a : NamedTrees X) → nameds_every Always a
+  always_holds_of_named_arguments no_named = tt
+  always_holds_of_named_arguments (nameds x xs) = (always_holds_of_named_argument x, always_holds_of_named_arguments xs)
 
-  pub element_always : {X : Type 0} (e : ElementTree X) → element_every Always e
-  element_always (text_element x) = tt
-  element_always (placeable e) = expression_always e
+  pub always_holds_of_element : {X : Type 0} (e : ElementTree X) → element_every Always e
+  always_holds_of_element (text_element x) = tt
+  always_holds_of_element (placeable e) = always_holds_of_expression e
 
-  pub pattern_always : {X : Type 0} (p : PatternTree X) → pattern_every Always p
-  pattern_always no_elements = tt
-  pattern_always (elements x xs) = (element_always x, pattern_always xs)
+  pub always_holds_of_pattern : {X : Type 0} (p : PatternTree X) → pattern_every Always p
+  always_holds_of_pattern no_elements = tt
+  always_holds_of_pattern (elements x xs) = (always_holds_of_element x, always_holds_of_pattern xs)
 
-  pub variant_always : {X : Type 0} (v : VariantTree X) → variant_every Always v
-  variant_always (variant k p d) = (key_always k, pattern_always p)
+  pub always_holds_of_variant : {X : Type 0} (v : VariantTree X) → variant_every Always v
+  always_holds_of_variant (variant k p d) = (always_holds_of_key k, always_holds_of_pattern p)
 
-  variants_always : {X : Type 0} (vs : VariantTrees X) → variants_every Always vs
-  variants_always no_variants = tt
-  variants_always (variants x xs) = (variant_always x, variants_always xs)
+  always_holds_of_variants : {X : Type 0} (vs : VariantTrees X) → variants_every Always vs
+  always_holds_of_variants no_variants = tt
+  always_holds_of_variants (variants x xs) = (always_holds_of_variant x, always_holds_of_variants xs)
 
-pub lines_always : {X : Type 0} (xs : List X) → list_every Always xs
-lines_always xs = list_every-universal Always xs (λ _. tt)
+pub always_holds_of_lines : {X : Type 0} (xs : List X) → list_every Always xs
+always_holds_of_lines xs = list_every-universal Always xs (λ _. tt)
 
-pub attribute_always : {X : Type 0} (a : AttributeTree X) → attribute_every Always a
-attribute_always a = (tt, pattern_always a.value)
+pub always_holds_of_attribute : {X : Type 0} (a : AttributeTree X) → attribute_every Always a
+always_holds_of_attribute a = (tt, always_holds_of_pattern a.value)
 
-pub message_always : {X : Type 0} (m : MessageTree X) → message_every Always m
-message_always m = (
+pub always_holds_of_message : {X : Type 0} (m : MessageTree X) → message_every Always m
+always_holds_of_message m = (
   tt,
-  option_every-universal (pattern_every Always) m.value pattern_always,
-  list_every-universal (attribute_every Always) m.attributes attribute_always,
-  option_every-universal (list_every Always) m.comment lines_always,
+  option_every-universal (pattern_every Always) m.value always_holds_of_pattern,
+  list_every-universal (attribute_every Always) m.attributes always_holds_of_attribute,
+  option_every-universal (list_every Always) m.comment always_holds_of_lines,
 )
 
-pub term_always : {X : Type 0} (m : TermTree X) → term_every Always m
-term_always m = (
+pub always_holds_of_term : {X : Type 0} (m : TermTree X) → term_every Always m
+always_holds_of_term m = (
   tt,
-  pattern_always m.value,
-  list_every-universal (attribute_every Always) m.attributes attribute_always,
-  option_every-universal (list_every Always) m.comment lines_always,
+  always_holds_of_pattern m.value,
+  list_every-universal (attribute_every Always) m.attributes always_holds_of_attribute,
+  option_every-universal (list_every Always) m.comment always_holds_of_lines,
 )
 
-pub entry_always : {X : Type 0} (e : EntryTree X) → entry_every Always e
-entry_always (message m) = message_always m
-entry_always (term m) = term_always m
-entry_always (comment level lines) = lines_always lines
-entry_always (junk x) = tt
+pub always_holds_of_entry : {X : Type 0} (e : EntryTree X) → entry_every Always e
+always_holds_of_entry (message m) = always_holds_of_message m
+always_holds_of_entry (term m) = always_holds_of_term m
+always_holds_of_entry (comment level lines) = always_holds_of_lines lines
+always_holds_of_entry (junk x) = tt
 
-pub body_always : {X : Type 0} (b : BodyTree X) → body_every Always b
-body_always b = list_every-universal (entry_every Always) b entry_always
+pub always_holds_of_body : {X : Type 0} (b : BodyTree X) → body_every Always b
+always_holds_of_body b = list_every-universal (entry_every Always) b always_holds_of_entry
 
 pub ruleset always = (
-  option_always,
-  key_always,
-  expression_always,
-  inline_always,
-  arguments_always,
-  named_always,
-  element_always,
-  pattern_always,
-  variant_always,
-  lines_always,
-  attribute_always,
-  message_always,
-  term_always,
-  entry_always,
-  body_always,
+  always_holds_of_option,
+  always_holds_of_key,
+  always_holds_of_expression,
+  always_holds_of_inline,
+  always_holds_of_arguments,
+  always_holds_of_named_argument,
+  always_holds_of_element,
+  always_holds_of_pattern,
+  always_holds_of_variant,
+  always_holds_of_lines,
+  always_holds_of_attribute,
+  always_holds_of_message,
+  always_holds_of_term,
+  always_holds_of_entry,
+  always_holds_of_body,
 )

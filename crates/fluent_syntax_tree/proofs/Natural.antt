@@ -40,18 +40,18 @@ use Rattle.fluent_syntax_tree.proofs.Views.{view-Placeable, view-Pattern, view-V
 use Rattle.fluent_syntax_tree.proofs.Views.{view-roll-CallArguments}
 use denote.Hole.Carrier as carrier
 
-abbrev Such : {A : Type 0} → (A → Type 0) → Type 0
-Such {A} P = (a : A) × P a
+abbrev WithClaim : {A : Type 0} → (A → Type 0) → Type 0
+WithClaim {A} P = (a : A) × P a
 
 pub map_fuses : {A B C : Type 0} (f : A → C) (g : A → B) (h : B → C) (xs : List A) → ((x : A) → f x ≡ h (g x)) →
     map f xs ≡ map h (map g xs)
 map_fuses f g h [] e = refl
 map_fuses f g h (x ∷ xs) e = rw (e x, map_fuses f g h xs e)
 
-pub option_map_fuses : {A B C : Type 0} (f : A → C) (g : A → B) (h : B → C) (o : Option A) → ((x : A) → f x ≡ h (g x)) →
-    option_map f o ≡ option_map h (option_map g o)
-option_map_fuses f g h None e = refl
-option_map_fuses f g h (Some x) e = ap Some (e x)
+pub option_maps_fuse_into_one : {A B C : Type 0} (f : A → C) (g : A → B) (h : B → C) (o : Option A) →
+    ((x : A) → f x ≡ h (g x)) → option_map f o ≡ option_map h (option_map g o)
+option_maps_fuse_into_one f g h None e = refl
+option_maps_fuse_into_one f g h (Some x) e = ap Some (e x)
 
 module _ {S X Y : Type 0} (g : S → X) (f : X → Y) where
   -- the text of a text
@@ -79,41 +79,42 @@ module _ {S X Y : Type 0} (g : S → X) (f : X → Y) where
   abbrev ClaimV : Variant S → Type 0
   ClaimV e = variant_view fg e ≡ variant_map f (variant_view g e)
 
-  inlines_claimed : (ps : List (Such ClaimI)) →
+  view_of_inlines_is_natural : (ps : List (WithClaim ClaimI)) →
       inlines_of (map (inline_view fg) (map (λ p. p.0) ps))
       ≡ inlines_map f (inlines_of (map (inline_view g) (map (λ p. p.0) ps)))
-  inlines_claimed [] = refl
-  inlines_claimed (p ∷ ps) = rw (p.1, inlines_claimed ps)
+  view_of_inlines_is_natural [] = refl
+  view_of_inlines_is_natural (p ∷ ps) = rw (p.1, view_of_inlines_is_natural ps)
 
-  nameds_claimed : (ps : List (Such ClaimN)) →
+  view_of_named_arguments_is_natural : (ps : List (WithClaim ClaimN)) →
       nameds_of (map (named_view fg) (map (λ p. p.0) ps))
       ≡ nameds_map f (nameds_of (map (named_view g) (map (λ p. p.0) ps)))
-  nameds_claimed [] = refl
-  nameds_claimed (p ∷ ps) = rw (p.1, nameds_claimed ps)
+  view_of_named_arguments_is_natural [] = refl
+  view_of_named_arguments_is_natural (p ∷ ps) = rw (p.1, view_of_named_arguments_is_natural ps)
 
-  elements_claimed : (ps : List (Such ClaimE)) →
+  view_of_elements_is_natural : (ps : List (WithClaim ClaimE)) →
       elements_of (map (element_view fg) (map (λ p. p.0) ps))
       ≡ pattern_map f (elements_of (map (element_view g) (map (λ p. p.0) ps)))
-  elements_claimed [] = refl
-  elements_claimed (p ∷ ps) = rw (p.1, elements_claimed ps)
+  view_of_elements_is_natural [] = refl
+  view_of_elements_is_natural (p ∷ ps) = rw (p.1, view_of_elements_is_natural ps)
 
-  variants_claimed : (ps : List (Such ClaimV)) →
+  view_of_variants_is_natural : (ps : List (WithClaim ClaimV)) →
       variants_of (map (variant_view fg) (map (λ p. p.0) ps))
       ≡ variants_map f (variants_of (map (variant_view g) (map (λ p. p.0) ps)))
-  variants_claimed [] = refl
-  variants_claimed (p ∷ ps) = rw (p.1, variants_claimed ps)
+  view_of_variants_is_natural [] = refl
+  view_of_variants_is_natural (p ∷ ps) = rw (p.1, view_of_variants_is_natural ps)
 
-  names_claimed : (o : Option (Identifier S)) →
+  view_of_optional_name_is_natural : (o : Option (Identifier S)) →
       option_map (identifier_view fg) o ≡ option_texts f (option_map (identifier_view g) o)
-  names_claimed None = refl
-  names_claimed (Some i) = refl
+  view_of_optional_name_is_natural None = refl
+  view_of_optional_name_is_natural (Some i) = refl
 
-  key_claimed : (k : VariantKey S) → key_view fg k ≡ key_map f (key_view g k)
-  key_claimed (key.Identifier x) = refl
-  key_claimed (key.NumberLiteral x) = refl
+  view_of_key_is_natural : (k : VariantKey S) → key_view fg k ≡ key_map f (key_view g k)
+  view_of_key_is_natural (key.Identifier x) = refl
+  view_of_key_is_natural (key.NumberLiteral x) = refl
 
   abbrev Held : (F : (A B C D E G H : Type 0) → Type 0) → Type 0
-  Held F = F (Such ClaimX) (Such ClaimI) (Such ClaimE) (Such ClaimA) (Such ClaimN) (Such ClaimP) (Such ClaimV)
+  Held F = F (WithClaim ClaimX) (WithClaim ClaimI) (WithClaim ClaimE) (WithClaim ClaimA) (WithClaim ClaimN)
+      (WithClaim ClaimP) (WithClaim ClaimV)
 
   step-Expression : (y : Held (Expression-F S)) →
       ClaimX (roll-Expression S
@@ -122,7 +123,7 @@ module _ {S X Y : Type 0} (g : S → X) (f : X → Y) where
   unfolding roll-Expression carrier.roll
   step-Expression (layer.Select e vs) =
       view-Select _ e.0 _ ∙ ap (λ x. select x (variants_of (map (variant_view fg) (map (λ p. p.0) vs.items)))) e.1
-      ∙ ap (select (inline_map f (inline_view g e.0))) (variants_claimed vs.items)
+      ∙ ap (select (inline_map f (inline_view g e.0))) (view_of_variants_is_natural vs.items)
       ∙ sym (ap (expression_map f) (view-Select g e.0 _))
   step-Expression (layer.Inline e) = view-Inline _ e.0 ∙ ap inline e.1 ∙ sym (ap (expression_map f) (view-Inline g e.0))
 
@@ -137,14 +138,16 @@ module _ {S X Y : Type 0} (g : S → X) (f : X → Y) where
       view-FunctionReference _ i a.0 ∙ ap (function_reference (fg i.name)) a.1
       ∙ sym (ap (inline_map f) (view-FunctionReference g i a.0))
   step-Inline (layer.MessageReference i o) =
-      view-MessageReference _ i o ∙ ap (message_reference (fg i.name)) (names_claimed o)
+      view-MessageReference _ i o ∙ ap (message_reference (fg i.name)) (view_of_optional_name_is_natural o)
       ∙ sym (ap (inline_map f) (view-MessageReference g i o))
   step-Inline (layer.TermReference i o None) =
-      view-TermReference _ i o None ∙ ap (λ x. term_reference (fg i.name) x no_arguments) (names_claimed o)
+      view-TermReference _ i o None
+      ∙ ap (λ x. term_reference (fg i.name) x no_arguments) (view_of_optional_name_is_natural o)
       ∙ sym (ap (inline_map f) (view-TermReference g i o None))
   step-Inline (layer.TermReference i o (Some a)) =
       view-TermReference _ i o (Some a.0)
-      ∙ ap (λ x. term_reference (fg i.name) x (some_arguments (arguments_view fg a.0))) (names_claimed o)
+      ∙ ap (λ x. term_reference (fg i.name) x (some_arguments (arguments_view fg a.0)))
+      (view_of_optional_name_is_natural o)
       ∙ ap (λ x. term_reference (fg i.name) (option_texts f (option_map (identifier_view g) o)) (some_arguments x))
       a.1 ∙ sym (ap (inline_map f) (view-TermReference g i o (Some a.0)))
   step-Inline (layer.VariableReference i) =
@@ -168,9 +171,9 @@ module _ {S X Y : Type 0} (g : S → X) (f : X → Y) where
   step-Arguments y =
       view-roll-CallArguments _ _
       ∙ ap (λ x. arguments x (nameds_of (map (named_view fg) (map (λ p. p.0) y.named.items))))
-      (inlines_claimed y.positional.items)
+      (view_of_inlines_is_natural y.positional.items)
       ∙ ap (arguments (inlines_map f (inlines_of (map (inline_view g) (map (λ p. p.0) y.positional.items)))))
-      (nameds_claimed y.named.items) ∙ sym (ap (arguments_map f) (view-roll-CallArguments g _))
+      (view_of_named_arguments_is_natural y.named.items) ∙ sym (ap (arguments_map f) (view-roll-CallArguments g _))
 
   step-Named : (y : Held (NamedArgument-F S)) →
       ClaimN (roll-NamedArgument S
@@ -184,14 +187,15 @@ module _ {S X Y : Type 0} (g : S → X) (f : X → Y) where
       ClaimP (roll-Pattern S
       (map-Pattern S _ _ _ _ _ _ _ _ _ _ _ _ _ _ (λ e. e.0) (λ e. e.0) (λ e. e.0) (λ e. e.0) (λ e. e.0) (λ e. e.0)
       (λ e. e.0) y))
-  step-Pattern y = view-Pattern _ _ ∙ elements_claimed y.elements.items ∙ sym (ap (pattern_map f) (view-Pattern g _))
+  step-Pattern y =
+      view-Pattern _ _ ∙ view_of_elements_is_natural y.elements.items ∙ sym (ap (pattern_map f) (view-Pattern g _))
 
   step-Variant : (y : Held (Variant-F S)) →
       ClaimV (roll-Variant S
       (map-Variant S _ _ _ _ _ _ _ _ _ _ _ _ _ _ (λ e. e.0) (λ e. e.0) (λ e. e.0) (λ e. e.0) (λ e. e.0) (λ e. e.0)
       (λ e. e.0) y))
   step-Variant y =
-      view-Variant _ _ ∙ ap (λ k. variant k (pattern_view fg y.value.0) y.default) (key_claimed y.key)
+      view-Variant _ _ ∙ ap (λ k. variant k (pattern_view fg y.value.0) y.default) (view_of_key_is_natural y.key)
       ∙ ap (λ p. variant (key_map f (key_view g y.key)) p y.default) y.value.1
       ∙ sym (ap (variant_map f) (view-Variant g _))
 
@@ -209,29 +213,31 @@ module _ {S X Y : Type 0} (g : S → X) (f : X → Y) where
   pub natural-Attribute : (a : Attribute S) → attribute_view fg a ≡ attribute_map f (attribute_view g a)
   natural-Attribute a = let e = natural-Pattern a.value in cc
 
-  lines_claimed : (c : Comment S) → comment_view fg c ≡ map f (comment_view g c)
-  lines_claimed c = map_fuses fg g f c.content.items (λ x. refl)
+  view_of_comment_is_natural : (c : Comment S) → comment_view fg c ≡ map f (comment_view g c)
+  view_of_comment_is_natural c = map_fuses fg g f c.content.items (λ x. refl)
 
   pub natural-Message : (m : Message S) → message_view fg m ≡ message_map f (message_view g m)
   natural-Message m =
-      let v = option_map_fuses (pattern_view fg) (pattern_view g) (pattern_map f) m.value natural-Pattern in
+      let v = option_maps_fuse_into_one (pattern_view fg) (pattern_view g) (pattern_map f) m.value natural-Pattern in
       let a = map_fuses (attribute_view fg) (attribute_view g) (attribute_map f) m.attributes.items natural-Attribute in
-      let c = option_map_fuses (comment_view fg) (comment_view g) (map f) m.comment lines_claimed in
+      let c = option_maps_fuse_into_one (comment_view fg) (comment_view g)
+      (map f) m.comment view_of_comment_is_natural in
       cc
 
   pub natural-Term : (m : Term S) → term_view fg m ≡ term_map f (term_view g m)
   natural-Term m =
       let v = natural-Pattern m.value in
       let a = map_fuses (attribute_view fg) (attribute_view g) (attribute_map f) m.attributes.items natural-Attribute in
-      let c = option_map_fuses (comment_view fg) (comment_view g) (map f) m.comment lines_claimed in
+      let c = option_maps_fuse_into_one (comment_view fg) (comment_view g)
+      (map f) m.comment view_of_comment_is_natural in
       cc
 
   pub natural-Entry : (e : Entry S) → entry_view fg e ≡ entry_map f (entry_view g e)
   natural-Entry (entries.Message m) = ap message (natural-Message m)
   natural-Entry (entries.Term m) = ap term (natural-Term m)
-  natural-Entry (entries.Comment c) = ap (comment regular) (lines_claimed c)
-  natural-Entry (entries.GroupComment c) = ap (comment group) (lines_claimed c)
-  natural-Entry (entries.ResourceComment c) = ap (comment resource) (lines_claimed c)
+  natural-Entry (entries.Comment c) = ap (comment regular) (view_of_comment_is_natural c)
+  natural-Entry (entries.GroupComment c) = ap (comment group) (view_of_comment_is_natural c)
+  natural-Entry (entries.ResourceComment c) = ap (comment resource) (view_of_comment_is_natural c)
   natural-Entry (entries.Junk x) = refl
 
   pub natural-Resource : (r : Resource S) → resource_view fg r ≡ body_map f (resource_view g r)

@@ -20,25 +20,26 @@ module _ (edition : Edition) (t : List ℕ) where
     pub rest : (entries : BodyTree Span) (others : List (Option Fault)) → Rest Kept edition t i entries others →
         Rest Kept edition t 0 (spans ++ entries) (map fault_of errors ++ others)
 
-  pub no_errors : ErrorsTo 0 []
-  no_errors = record { spans = []; rest = λ entries others rest. rest }
+  pub no_errors_are_before_start : ErrorsTo 0 []
+  no_errors_are_before_start = record { spans = []; rest = λ entries others rest. rest }
 
   -- with nothing left, they are all errors
-  pub all_errors : (i : ℕ) (errors : List ParserError) → ErrorsTo i errors → Rest Kept edition t i [] [] →
-      HasErrors edition t errors
-  all_errors i errors so_far none =
+  pub errors_before_end_are_all : (i : ℕ) (errors : List ParserError) → ErrorsTo i errors →
+      Rest Kept edition t i [] [] → HasErrors edition t errors
+  errors_before_end_are_all i errors so_far none =
       let whole = so_far.rest [] [] none in
       (whole.tiles, whole.tiled, sym (whole.errors_are ∙ append-nil (map fault_of errors)))
 
   -- with the next one, if there is one, they are those up to where that entry ends
-  pub errors_on : (i j : ℕ) (errors : List ParserError) (e : EntryTree Span) (error : Option ParserError) →
+  pub errors_grow_by_those_of_entry : (i j : ℕ) (errors : List ParserError) (e : EntryTree Span)
+      (error : Option ParserError) →
       ErrorsTo i errors → EntryTo Kept edition t i j e (faults_of error) → ErrorsTo j (with_error errors error)
-  errors_on i j errors e None so_far next = record {
+  errors_grow_by_those_of_entry i j errors e None so_far next = record {
     spans = so_far.spans ++ e ∷ [];
     rest = λ entries others rest. rw (append_assoc so_far.spans (e ∷ []) entries)
         (so_far.rest _ _ (next entries others rest));
   }
-  errors_on i j errors e (Some error) so_far next = record {
+  errors_grow_by_those_of_entry i j errors e (Some error) so_far next = record {
     spans = so_far.spans ++ e ∷ [];
     rest = λ entries others rest. rw (
       append_assoc so_far.spans (e ∷ []) entries,
@@ -49,7 +50,7 @@ module _ (edition : Edition) (t : List ℕ) where
   }
 
 -- what holds of all errors and of the next one, if there is one, holds of all with it
-pub all_with_error : (P : ParserError → Type 0) (errors : List ParserError) (error : Option ParserError) →
+pub all_hold_with_one_more_error : (P : ParserError → Type 0) (errors : List ParserError) (error : Option ParserError) →
     All P errors → IfSome error P → All P (with_error errors error)
-all_with_error P errors None all next = all
-all_with_error P errors (Some error) all next = All-push P errors error all next
+all_hold_with_one_more_error P errors None all next = all
+all_hold_with_one_more_error P errors (Some error) all next = All-push P errors error all next

@@ -24,23 +24,24 @@ fault_of_junk_is_made : {R : Type 0} (kind : Kind) (pos : R) (junk : Option R) (
 fault_of_junk_is_made kind pos None start end f e = absurd cc
 fault_of_junk_is_made kind pos (Some s) start end f e = cc
 
-error_fault_is : (e : ParserError) (f : Fault) → fault_of e ≡ Some f → error_fault e ≡ f
-error_fault_is e f h = fault_of_junk_is_made (kind_of e.kind) e.pos e.slice (λ r. r.start) (λ r. r.end) f h
+fault_of_error_is_its_fault : (e : ParserError) (f : Fault) → fault_of e ≡ Some f → error_fault e ≡ f
+fault_of_error_is_its_fault e f h = fault_of_junk_is_made (kind_of e.kind) e.pos e.slice (λ r. r.start) (λ r. r.end) f h
 
 -- errors report just the faults that they are of
-pub faults_of_errors : (errors : List ParserError) (fs : List Fault) → map fault_of errors ≡ map Some fs →
+pub faults_of_errors_are_faults : (errors : List ParserError) (fs : List Fault) → map fault_of errors ≡ map Some fs →
     map error_fault errors ≡ fs
-faults_of_errors [] [] h = refl
-faults_of_errors [] (f ∷ fs) h = absurd cc
-faults_of_errors (e ∷ errors) [] h = absurd cc
-faults_of_errors (e ∷ errors) (f ∷ fs) h =
+faults_of_errors_are_faults [] [] h = refl
+faults_of_errors_are_faults [] (f ∷ fs) h = absurd cc
+faults_of_errors_are_faults (e ∷ errors) [] h = absurd cc
+faults_of_errors_are_faults (e ∷ errors) (f ∷ fs) h =
     let first : fault_of e ≡ Some f = cc in
     let others : map fault_of errors ≡ map Some fs = cc in
-    let same = error_fault_is e f first in
-    let rest = faults_of_errors errors fs others in
+    let same = fault_of_error_is_its_fault e f first in
+    let rest = faults_of_errors_are_faults errors fs others in
     cc
 
 -- what is made of what errors report is what is made of the faults
 pub made_of_faults : {X : Type 0} (made : Fault → X) (errors : List ParserError) (fs : List Fault) →
     map fault_of errors ≡ map Some fs → map (λ e. made (error_fault e)) errors ≡ map made fs
-made_of_faults made errors fs h = sym (map-map made error_fault errors) ∙ ap (map made) (faults_of_errors errors fs h)
+made_of_faults made errors fs h =
+    sym (map-map made error_fault errors) ∙ ap (map made) (faults_of_errors_are_faults errors fs h)

@@ -30,17 +30,17 @@ clean_outcome_has_no_faults (f ∷ fs) h = absurd cc
 -- of a text that reads as the tree
 module _ (t : Text) (tree : BodyTree Text) (reads : ReadsAs One t tree) (text : Text) (outcome : Outcome)
     (answer : IsAnswer Format t text outcome) where
-  same_tiles : answer.tiles ≡ reads.tiles
-  same_tiles = same_tilings One t answer.tiles reads.tiles answer.has_tiles reads.tiling
+  answer_has_tiles_of_reading : answer.tiles ≡ reads.tiles
+  answer_has_tiles_of_reading = same_tilings One t answer.tiles reads.tiles answer.has_tiles reads.tiling
 
-  answered_clean : outcome ≡ Clean
-  answered_clean = answer.outcome_is ∙ ap outcome_with (ap faults same_tiles ∙ reads.no_faults)
+  answer_is_clean : outcome ≡ Clean
+  answer_is_clean = answer.outcome_is ∙ ap outcome_with (ap faults answer_has_tiles_of_reading ∙ reads.no_faults)
 
-  answered_tree : tree_of t answer.tiles ≡ tree
-  answered_tree = ap (tree_of t) same_tiles ∙ reads.same
+  answer_has_tree_of_reading : tree_of t answer.tiles ≡ tree
+  answer_has_tree_of_reading = ap (tree_of t) answer_has_tiles_of_reading ∙ reads.same
 
-  answered_text : text ≡ written false tree
-  answered_text = answer.text_is ∙ ap (written false) answered_tree
+  answer_is_written_tree : text ≡ written false tree
+  answer_is_written_tree = answer.text_is ∙ ap (written false) answer_has_tree_of_reading
 
 pub formatting_is_idempotent : (t : Text) → FormatsAgain t
 formatting_is_idempotent t formatted again outcome next first second canonical =
@@ -49,12 +49,12 @@ formatting_is_idempotent t formatted again outcome next first second canonical =
     let law = written_again t first.tiles first.has_tiles canonical in
     let reads : ReadsAs One formatted whole =
     subst (λ x. ReadsAs One x whole) (sym first.text_is) law.0 in
-    let is_written : again ≡ written false whole = answered_text formatted whole reads again next second in
+    let is_written : again ≡ written false whole = answer_is_written_tree formatted whole reads again next second in
     let reads_again : ReadsAs One again whole =
     subst (λ x. ReadsAs One x whole) (sym is_written) law.1 in
-    let reads_as = answered_tree formatted whole reads again next second in
+    let reads_as = answer_has_tree_of_reading formatted whole reads again next second in
     record {
-      is_clean = answered_clean formatted whole reads again next second;
+      is_clean = answer_is_clean formatted whole reads again next second;
       reads_as = reads_as;
       same_names = ap names reads_as ∙ joining_keeps_names tree;
       is_written = is_written;
@@ -62,7 +62,7 @@ formatting_is_idempotent t formatted again outcome next first second canonical =
           is_written ∙ (law.2 (clean_outcome_has_no_faults (faults first.tiles) (sym first.outcome_is ∙ clean))
           ∙ sym first.text_is);
       is_settled = λ third last answer. (
-        answered_clean again whole reads_again third last answer,
-        answered_text again whole reads_again third last answer ∙ sym is_written,
+        answer_is_clean again whole reads_again third last answer,
+        answer_is_written_tree again whole reads_again third last answer ∙ sym is_written,
       );
     }

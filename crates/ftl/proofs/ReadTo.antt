@@ -42,8 +42,8 @@ module _ (comments : Comments) (edition : Edition) (t : List ℕ) where
     pub rest : (entries : BodyTree Span) (others : List (Option Fault)) → Rest comments edition t i entries others →
         Rest comments edition t 0 (spans ++ entries) (errors ++ others)
 
-  pub nothing_read : ReadTo 0 [] Clean
-  nothing_read = record {
+  pub nothing_is_read_before_start : ReadTo 0 [] Clean
+  nothing_is_read_before_start = record {
     spans = [];
     errors = [];
     tree_is = refl;
@@ -53,10 +53,10 @@ module _ (comments : Comments) (edition : Edition) (t : List ℕ) where
 
   module _ (i : ℕ) (tree : BodyTree Text) (outcome : Outcome) (before : ReadTo i tree outcome) where
     -- with nothing left, this is the tree of the text
-    pub all_read : Rest comments edition t i [] [] →
+    pub all_is_read_before_end : Rest comments edition t i [] [] →
         (tiles : List Tile) × Tiled t (TileIn comments edition t (family edition t)) 0 tiles ×
         (tree ≡ body_map (bytes_at t) (body tiles)) × (outcome ≡ outcome_of tiles)
-    all_read none =
+    all_is_read_before_end none =
         let whole = before.rest [] [] none in
         let gives = whole.yields ∙ append-nil before.spans in
         let errors_are = whole.errors_are ∙ append-nil before.errors in (
@@ -67,10 +67,10 @@ module _ (comments : Comments) (edition : Edition) (t : List ℕ) where
         )
 
     -- with the next entry, the text is read up to where that ends
-    pub read_on : (j : ℕ) (e : EntryTree Span) (error : Option ParserError) →
+    pub reading_goes_on_by_entry : (j : ℕ) (e : EntryTree Span) (error : Option ParserError) →
         EntryTo comments edition t i j e (faults_of error) →
         ReadTo j (tree ++ entry_map (bytes_at t) e ∷ []) (outcome_after outcome error)
-    read_on j e error next = record {
+    reading_goes_on_by_entry j e error next = record {
       spans = before.spans ++ e ∷ [];
       errors = before.errors ++ faults_of error;
       tree_is = ap (λ es. es ++ entry_map (bytes_at t) e ∷ []) before.tree_is

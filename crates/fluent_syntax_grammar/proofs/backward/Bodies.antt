@@ -20,10 +20,10 @@ use Rattle.fluent_syntax_grammar.specs.Readable.{readable_rules}
 use Rattle.fluent_syntax_grammar.specs.Joined.{joined_message, joined_term, joined_body}
 use Rattle.fluent_syntax_grammar.specs.RoundTrip.{HasNoBareCr, HasNoCr, JoinedIsReadable, JoinedIsSame}
 use Rattle.fluent_syntax_grammar.specs.RoundTrip.{JoinedIsCanonical, tree_of}
-use Rattle.fluent_syntax_grammar.proofs.FurtherRules.{readable_further}
+use Rattle.fluent_syntax_grammar.proofs.FurtherRules.{readable_is_canonical_by_further_rules}
 use Rattle.fluent_syntax_grammar.proofs.Facts.{differs}
 use Rattle.fluent_syntax_grammar.proofs.Tests.{both_true}
-use Rattle.fluent_syntax_grammar.proofs.backward.Entries.{IsLines, IsMessage, IsTerm, IsNotJunk, ensures_entry}
+use Rattle.fluent_syntax_grammar.proofs.backward.Entries.{IsLines, IsMessage, IsTerm, IsNotJunk, entry_reads_no_junk}
 
 module _ (t : List ℕ) (Joins Junk : Type 0) where
   -- an entry of a body: one that was read, or junk where it is allowed
@@ -38,110 +38,119 @@ module _ (t : List ℕ) (Joins Junk : Type 0) where
   IsTile (refused f) = Junk
   IsTile dropped = Unit {0}
 
-  part_of : (e : EntryTree Span) → IsNotJunk t Joins e → IsBodyEntry e
-  part_of (message m) g = g
-  part_of (term m) g = g
-  part_of (comment level content) g = g
-  part_of (junk s) g = absurd g
+  entry_but_junk_is_body_entry : (e : EntryTree Span) → IsNotJunk t Joins e → IsBodyEntry e
+  entry_but_junk_is_body_entry (message m) g = g
+  entry_but_junk_is_body_entry (term m) g = g
+  entry_but_junk_is_body_entry (comment level content) g = g
+  entry_but_junk_is_body_entry (junk s) g = absurd g
 
   -- ---- attaching
 
-  attached_part : (content : List Span) (e : EntryTree Span) → IsLines t content → IsBodyEntry e →
+  attached_entry_is_body_entry : (content : List Span) (e : EntryTree Span) → IsLines t content → IsBodyEntry e →
       option_every IsBodyEntry (attached content e)
-  attached_part content (message m) l g =
+  attached_entry_is_body_entry content (message m) l g =
       record { name = g.name; field = g.field; value = g.value; attributes = g.attributes; comment = l }
-  attached_part content (term m) l g = record { name = g.name; value = g.value; attributes = g.attributes; comment = l }
-  attached_part content (comment level c) l g = tt
-  attached_part content (junk s) l g = tt
+  attached_entry_is_body_entry content (term m) l g =
+      record { name = g.name; value = g.value; attributes = g.attributes; comment = l }
+  attached_entry_is_body_entry content (comment level c) l g = tt
+  attached_entry_is_body_entry content (junk s) l g = tt
 
-  attached_if : (b : Bool) (content : List Span) (e : EntryTree Span) → IsLines t content → IsBodyEntry e →
-      option_every IsBodyEntry (if b then attached content e else None)
-  attached_if true content e l g = attached_part content e l g
-  attached_if false content e l g = tt
+  entry_attached_if_is_body_entry : (b : Bool) (content : List Span) (e : EntryTree Span) → IsLines t content →
+      IsBodyEntry e → option_every IsBodyEntry (if b then attached content e else None)
+  entry_attached_if_is_body_entry true content e l g = attached_entry_is_body_entry content e l g
+  entry_attached_if_is_body_entry false content e l g = tt
 
-  attaches_part : (x y : Tile) → IsTile x → IsTile y → option_every IsBodyEntry (attached_entry x y)
-  attaches_part (entry s (comment regular content)) (entry r e) g h = attached_if (s.end == r.start) content e g h
-  attaches_part (entry s (comment regular content)) (refused f) g h = tt
-  attaches_part (entry s (comment regular content)) dropped g h = tt
-  attaches_part (entry s (comment group content)) y g h = tt
-  attaches_part (entry s (comment resource content)) y g h = tt
-  attaches_part (entry s (message m)) y g h = tt
-  attaches_part (entry s (term m)) y g h = tt
-  attaches_part (entry s (junk j)) y g h = tt
-  attaches_part (refused f) y g h = tt
-  attaches_part dropped y g h = tt
+  entry_of_attached_tiles_is_body_entry : (x y : Tile) → IsTile x → IsTile y →
+      option_every IsBodyEntry (attached_entry x y)
+  entry_of_attached_tiles_is_body_entry (entry s (comment regular content)) (entry r e) g h =
+      entry_attached_if_is_body_entry (s.end == r.start) content e g h
+  entry_of_attached_tiles_is_body_entry (entry s (comment regular content)) (refused f) g h = tt
+  entry_of_attached_tiles_is_body_entry (entry s (comment regular content)) dropped g h = tt
+  entry_of_attached_tiles_is_body_entry (entry s (comment group content)) y g h = tt
+  entry_of_attached_tiles_is_body_entry (entry s (comment resource content)) y g h = tt
+  entry_of_attached_tiles_is_body_entry (entry s (message m)) y g h = tt
+  entry_of_attached_tiles_is_body_entry (entry s (term m)) y g h = tt
+  entry_of_attached_tiles_is_body_entry (entry s (junk j)) y g h = tt
+  entry_of_attached_tiles_is_body_entry (refused f) y g h = tt
+  entry_of_attached_tiles_is_body_entry dropped y g h = tt
 
-  alone_part : (x : Tile) → IsTile x → list_every IsBodyEntry (alone x)
-  alone_part (entry s e) g = (g, tt)
-  alone_part (refused f) g = (g, tt)
-  alone_part dropped g = tt
+  lone_tile_has_body_entries : (x : Tile) → IsTile x → list_every IsBodyEntry (alone x)
+  lone_tile_has_body_entries (entry s e) g = (g, tt)
+  lone_tile_has_body_entries (refused f) g = (g, tt)
+  lone_tile_has_body_entries dropped g = tt
 
-  parts_append : (xs ys : List (EntryTree Span)) → list_every IsBodyEntry xs → list_every IsBodyEntry ys →
-      list_every IsBodyEntry (xs ++ ys)
-  parts_append [] ys g h = h
-  parts_append (x ∷ xs) ys (g, k) h = (g, parts_append xs ys k h)
+  appended_entries_are_body_entries : (xs ys : List (EntryTree Span)) → list_every IsBodyEntry xs →
+      list_every IsBodyEntry ys → list_every IsBodyEntry (xs ++ ys)
+  appended_entries_are_body_entries [] ys g h = h
+  appended_entries_are_body_entries (x ∷ xs) ys (g, k) h = (g, appended_entries_are_body_entries xs ys k h)
 
-  joined_part : (o : Option (EntryTree Span)) (first others after : List (EntryTree Span)) →
+  joined_tiles_have_body_entries : (o : Option (EntryTree Span)) (first others after : List (EntryTree Span)) →
       option_every IsBodyEntry o →
       list_every IsBodyEntry first → list_every IsBodyEntry others → list_every IsBodyEntry after →
       list_every IsBodyEntry (or_attached o first others after)
-  joined_part None first others after g h k l = parts_append first others h k
-  joined_part (Some e) first others after g h k l = (g, l)
+  joined_tiles_have_body_entries None first others after g h k l = appended_entries_are_body_entries first others h k
+  joined_tiles_have_body_entries (Some e) first others after g h k l = (g, l)
 
-  body_part : (tiles : List Tile) → list_every IsTile tiles → list_every IsBodyEntry (body tiles)
-  body_part [] g = tt
-  body_part (x ∷ []) (g, h) = alone_part x g
-  body_part (x ∷ y ∷ tiles) (g, (h, k)) =
-      joined_part (attached_entry x y) (alone x) (body (y ∷ tiles)) (body tiles) (attaches_part x y g h)
-      (alone_part x g)
-      (body_part (y ∷ tiles) (h, k)) (body_part tiles k)
+  body_of_tiles_has_body_entries : (tiles : List Tile) → list_every IsTile tiles → list_every IsBodyEntry (body tiles)
+  body_of_tiles_has_body_entries [] g = tt
+  body_of_tiles_has_body_entries (x ∷ []) (g, h) = lone_tile_has_body_entries x g
+  body_of_tiles_has_body_entries (x ∷ y ∷ tiles) (g, (h, k)) =
+      joined_tiles_have_body_entries (attached_entry x y) (alone x) (body (y ∷ tiles)) (body tiles)
+      (entry_of_attached_tiles_is_body_entry x y g h)
+      (lone_tile_has_body_entries x g)
+      (body_of_tiles_has_body_entries (y ∷ tiles) (h, k)) (body_of_tiles_has_body_entries tiles k)
 
   -- ---- the tests
 
-  message_obeying : (m : MessageTree Span) → IsMessage t Joins m →
+  joined_message_obeys_readable_rules : (m : MessageTree Span) → IsMessage t Joins m →
       message_obeys (readable_rules One) (joined_message (message_map (bytes_at t) m)) ≡ true
-  message_obeying m g = let v = g.value in let a = g.attributes in
+  joined_message_obeys_readable_rules m g = let v = g.value in let a = g.attributes in
       both_true g.field (both_true g.comment (both_true g.name (both_true v.obeys a.obeys)))
 
-  term_obeying : (m : TermTree Span) → IsTerm t Joins m →
+  joined_term_obeys_readable_rules : (m : TermTree Span) → IsTerm t Joins m →
       term_obeys (readable_rules One) (joined_term (term_map (bytes_at t) m)) ≡ true
-  term_obeying m g = let v = g.value in let a = g.attributes in both_true g.comment
+  joined_term_obeys_readable_rules m g = let v = g.value in let a = g.attributes in both_true g.comment
       (both_true g.name (both_true v.obeys a.obeys))
 
-  body_obeying : (es : BodyTree Span) → list_every IsBodyEntry es →
+  joined_body_obeys_readable_rules : (es : BodyTree Span) → list_every IsBodyEntry es →
       body_obeys (readable_rules One) (joined_body (body_map (bytes_at t) es)) ≡ true
-  body_obeying [] g = refl
-  body_obeying (message m ∷ es) (g, h) = both_true (message_obeying m g) (body_obeying es h)
-  body_obeying (term m ∷ es) (g, h) = both_true (term_obeying m g) (body_obeying es h)
-  body_obeying (comment level content ∷ es) (g, h) = both_true g (body_obeying es h)
-  body_obeying (junk s ∷ es) (g, h) = body_obeying es h
+  joined_body_obeys_readable_rules [] g = refl
+  joined_body_obeys_readable_rules (message m ∷ es) (g, h) =
+      both_true (joined_message_obeys_readable_rules m g) (joined_body_obeys_readable_rules es h)
+  joined_body_obeys_readable_rules (term m ∷ es) (g, h) =
+      both_true (joined_term_obeys_readable_rules m g) (joined_body_obeys_readable_rules es h)
+  joined_body_obeys_readable_rules (comment level content ∷ es) (g, h) =
+      both_true g (joined_body_obeys_readable_rules es h)
+  joined_body_obeys_readable_rules (junk s ∷ es) (g, h) = joined_body_obeys_readable_rules es h
 
-  message_same :
+  equal_messages_begin_equal_bodies :
       (id : Text) (c : Option (List Text)) {v w : Option (PatternTree Text)} {a b : List (AttributeTree Text)}
       {es fs : BodyTree Text} → v ≡ w → a ≡ b → es ≡ fs →
       message (record { id = id; value = v; attributes = a; comment = c }) ∷ es
       ≡ message (record { id = id; value = w; attributes = b; comment = c }) ∷ fs
-  message_same id c e f g = cc (e, f, g)
+  equal_messages_begin_equal_bodies id c e f g = cc (e, f, g)
 
-  term_same :
+  equal_terms_begin_equal_bodies :
       (id : Text) (c : Option (List Text)) {v w : PatternTree Text} {a b : List (AttributeTree Text)}
       {es fs : BodyTree Text} → v ≡ w → a ≡ b → es ≡ fs →
       term (record { id = id; value = v; attributes = a; comment = c }) ∷ es
       ≡ term (record { id = id; value = w; attributes = b; comment = c }) ∷ fs
-  term_same id c e f g = cc (e, f, g)
+  equal_terms_begin_equal_bodies id c e f g = cc (e, f, g)
 
-  body_same : (Joins → ⊥) → (Junk → ⊥) → (es : BodyTree Span) → list_every IsBodyEntry es →
+  body_of_entries_is_joined : (Joins → ⊥) → (Junk → ⊥) → (es : BodyTree Span) → list_every IsBodyEntry es →
       joined_body (body_map (bytes_at t) es) ≡ body_map (bytes_at t) es
-  body_same none clean [] g = refl
-  body_same none clean (message m ∷ es) (g, h) = let v = g.value in let a = g.attributes in
-      message_same (bytes_at t m.id) (option_map (map (bytes_at t)) m.comment) (v.same none) (a.same none)
-      (body_same none clean es h)
-  body_same none clean (term m ∷ es) (g, h) = let v = g.value in let a = g.attributes in
-      term_same (bytes_at t m.id) (option_map (map (bytes_at t)) m.comment) (v.same none) (a.same none)
-      (body_same none clean es h)
-  body_same none clean (comment level content ∷ es) (g, h) =
-      ap (λ es. comment level (map (bytes_at t) content) ∷ es) (body_same none clean es h)
-  body_same none clean (junk s ∷ es) (g, h) = absurd (clean g)
+  body_of_entries_is_joined none clean [] g = refl
+  body_of_entries_is_joined none clean (message m ∷ es) (g, h) = let v = g.value in let a = g.attributes in
+      equal_messages_begin_equal_bodies (bytes_at t m.id) (option_map (map (bytes_at t)) m.comment) (v.same none)
+      (a.same none)
+      (body_of_entries_is_joined none clean es h)
+  body_of_entries_is_joined none clean (term m ∷ es) (g, h) = let v = g.value in let a = g.attributes in
+      equal_terms_begin_equal_bodies (bytes_at t m.id) (option_map (map (bytes_at t)) m.comment) (v.same none)
+      (a.same none)
+      (body_of_entries_is_joined none clean es h)
+  body_of_entries_is_joined none clean (comment level content ∷ es) (g, h) =
+      ap (λ es. comment level (map (bytes_at t) content) ∷ es) (body_of_entries_is_joined none clean es h)
+  body_of_entries_is_joined none clean (junk s ∷ es) (g, h) = absurd (clean g)
 
 module _ (t : List ℕ) (bare : HasNoBareCr t) (Joins Junk : Type 0) (crs : (i : ℕ) → has_byte t cr i ≡ true → Joins)
   where
@@ -149,8 +158,10 @@ module _ (t : List ℕ) (bare : HasNoBareCr t) (Joins Junk : Type 0) (crs : (i :
     tiles_obey_joined : (i : ℕ) (tiles : List Tile) → Junk ⊎ (faults tiles ≡ []) → Tiled t (TileAt One t) i tiles →
         list_every (IsTile t Joins Junk) tiles
     tiles_obey_joined i tiles j (done b) = tt
-    tiles_obey_joined i tiles j (next {start = start} {end = end} b l (reads {e = e} x) r) =
-        (part_of t Joins Junk e ((ensures_entry t bare Joins crs).on_read start end e x), tiles_obey_joined end _ j r)
+    tiles_obey_joined i tiles j (next {start = start} {end = end} b l (reads {e = e} x) r) = (
+      entry_but_junk_is_body_entry t Joins Junk e ((entry_reads_no_junk t bare Joins crs).on_read start end e x),
+      tiles_obey_joined end _ j r,
+    )
     tiles_obey_joined i tiles (inl j) (next {end = end} b l (refuses x e) r) = (j, tiles_obey_joined end _ (inl j) r)
     tiles_obey_joined i tiles (inr f) (next {end = end} b l (refuses x e) r) = absurd cc
 
@@ -160,18 +171,18 @@ no_cr_has_no_bare_cr t no_cr i e = differs e (no_cr i)
 -- The joined tree of a text's tiling is readable.
 pub joined_is_readable : (t : List ℕ) → JoinedIsReadable t
 joined_is_readable t tiles bare tiling =
-    body_obeying t (Unit {0}) (Unit {0}) (body tiles)
-    (body_part t (Unit {0}) (Unit {0}) tiles
+    joined_body_obeys_readable_rules t (Unit {0}) (Unit {0}) (body tiles)
+    (body_of_tiles_has_body_entries t (Unit {0}) (Unit {0}) tiles
     (tiles_obey_joined t bare (Unit {0}) (Unit {0}) (λ i e. tt) 0 tiles (inl tt) tiling))
 
 -- So it is canonical exactly where the four rules more hold of it.
 pub joined_is_canonical : (t : List ℕ) → JoinedIsCanonical t
 joined_is_canonical t tiles bare tiling =
-    readable_further One (joined_body (tree_of t tiles)) (joined_is_readable t tiles bare tiling)
+    readable_is_canonical_by_further_rules One (joined_body (tree_of t tiles)) (joined_is_readable t tiles bare tiling)
 
 -- Where the text has no CR and the tiling no error, the tree is joined already.
 pub joined_is_same : (t : List ℕ) → JoinedIsSame t
 joined_is_same t tiles no_cr tiling f =
-    body_same t ⊥ ⊥ (λ x. x) (λ x. x) (body tiles)
-    (body_part t ⊥ ⊥ tiles
+    body_of_entries_is_joined t ⊥ ⊥ (λ x. x) (λ x. x) (body tiles)
+    (body_of_tiles_has_body_entries t ⊥ ⊥ tiles
     (tiles_obey_joined t (no_cr_has_no_bare_cr t no_cr) ⊥ ⊥ (λ i e. differs e (no_cr i)) 0 tiles (inr f) tiling))

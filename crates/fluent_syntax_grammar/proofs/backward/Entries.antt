@@ -28,14 +28,15 @@ use Rattle.fluent_syntax_grammar.specs.Joined.{joined_pattern, joined_attribute}
 use Rattle.fluent_syntax_grammar.specs.RoundTrip.{HasNoBareCr}
 use Rattle.fluent_syntax_grammar.proofs.Facts.{left_true, right_true}
 use Rattle.fluent_syntax_grammar.proofs.Tests.{both_true}
-use Rattle.fluent_syntax_grammar.proofs.backward.Lines.{range_none, range_all}
+use Rattle.fluent_syntax_grammar.proofs.backward.Lines.{empty_range_is_empty, range_all}
 use Rattle.fluent_syntax_grammar.proofs.backward.Words.{IsNameSpan}
 use Rattle.fluent_syntax_grammar.proofs.backward.Rules.{Ensures, ensures_bind, second_ensures, ensures_yields}
-use Rattle.fluent_syntax_grammar.proofs.backward.Rules.{ensures_fails, ensures_peek, ensures_branch_on, ObeysJoined}
-use Rattle.fluent_syntax_grammar.proofs.backward.Rules.{IsPattern, ensures_name}
+use Rattle.fluent_syntax_grammar.proofs.backward.Rules.{fails_ensures_anything, peek_ensures_by_its_part}
+use Rattle.fluent_syntax_grammar.proofs.backward.Rules.{ensures_branch_on, ObeysJoined}
+use Rattle.fluent_syntax_grammar.proofs.backward.Rules.{IsPattern, identifier_reads_name_span}
 use Rattle.fluent_syntax_grammar.proofs.backward.Family as family_back
 use Rattle.fluent_syntax_grammar.proofs.backward.Family.{family_obeys_joined}
-use Rattle.fluent_syntax_grammar.proofs.Tests.{neither_left, not_false, not_true}
+use Rattle.fluent_syntax_grammar.proofs.Tests.{neither_left, not_false, not_true_is_false}
 
 -- ---- comments
 
@@ -51,49 +52,53 @@ module _ (t : List ℕ) where
   abbrev pub IsLines : List Span → Type 0
   IsLines content = are_lines (map (bytes_at t) content) ≡ true
 
-  line_byte : (o : Option ℕ) → is_some o ≡ true → holds (λ b. b == lf) o ≡ false → holds (λ b. not (b == lf)) o ≡ true
-  line_byte None e f = cc
-  line_byte (Some b) e f = not_false (b == lf) f
+  byte_but_lf_passes_line_test : (o : Option ℕ) → is_some o ≡ true → holds (λ b. b == lf) o ≡ false →
+      holds (λ b. not (b == lf)) o ≡ true
+  byte_but_lf_passes_line_test None e f = cc
+  byte_but_lf_passes_line_test (Some b) e f = not_false (b == lf) f
 
   -- a place within a line holds no LF
-  line_place : (k : ℕ) → is_line_place t k ≡ true → has t (λ b. not (b == lf)) k ≡ true
-  line_place k e =
-      line_byte (slice_get t k) (left_true (is_some (slice_get t k)) (not (has_eol t k)) e)
+  line_place_has_no_lf : (k : ℕ) → is_line_place t k ≡ true → has t (λ b. not (b == lf)) k ≡ true
+  line_place_has_no_lf k e =
+      byte_but_lf_passes_line_test (slice_get t k) (left_true (is_some (slice_get t k)) (not (has_eol t k)) e)
       (neither_left (has_byte t lf k)
-      _ (not_true (has_eol t k) (right_true (is_some (slice_get t k)) (not (has_eol t k)) e)))
+      _ (not_true_is_false (has_eol t k) (right_true (is_some (slice_get t k)) (not (has_eol t k)) e)))
 
-  line_read : (i j : ℕ) (s : Span) → rest_of_line t i (Read s j) → IsLines (s ∷ [])
-  line_read i j s (goes_on at_place (goes_on (passed w) (goes_on at_place given))) =
+  read_rest_of_line_is_one_line : (i j : ℕ) (s : Span) → rest_of_line t i (Read s j) → IsLines (s ∷ [])
+  read_rest_of_line_is_one_line i j s (goes_on at_place (goes_on (passed w) (goes_on at_place given))) =
       both_true (not_false (has_lf (slice_range t i j))
       (no_lf_byte_has_no_lf (slice_range t i j)
-      (range_all t (λ b. not (b == lf)) i j w.forward (λ k x y. line_place k (w.each k x y))))) refl
+      (range_all t (λ b. not (b == lf)) i j w.forward (λ k x y. line_place_has_no_lf k (w.each k x y))))) refl
 
-  empty_read : (i j : ℕ) (s : Span) → comment_text t true i (Read s j) → IsLines (s ∷ [])
-  empty_read i j s (goes_on at_place (goes_on at_place given)) =
-      both_true (not_false (has_lf (slice_range t j j)) (ap has_lf (range_none t j))) refl
+  empty_comment_text_is_one_line : (i j : ℕ) (s : Span) → comment_text t true i (Read s j) → IsLines (s ∷ [])
+  empty_comment_text_is_one_line i j s (goes_on at_place (goes_on at_place given)) =
+      both_true (not_false (has_lf (slice_range t j j)) (ap has_lf (empty_range_is_empty t j))) refl
 
-  ensures_text : (eol : Bool) → Ensures (comment_text t eol) (λ s. IsLines (s ∷ []))
-  ensures_text true = record { on_read = empty_read }
-  ensures_text false = second_ensures (λ u. record { on_read = line_read })
+  comment_text_reads_one_line : (eol : Bool) → Ensures (comment_text t eol) (λ s. IsLines (s ∷ []))
+  comment_text_reads_one_line true = record { on_read = empty_comment_text_is_one_line }
+  comment_text_reads_one_line false = second_ensures (λ u. record { on_read = read_rest_of_line_is_one_line })
 
-  ensures_rest : (o : Option ℕ) → Ensures (comment_rest t o) IsLines
-  ensures_rest None = ensures_yields refl
-  ensures_rest (Some b) = ensures_bind (ensures_peek ensures_text) (λ s g. second_ensures (λ u. ensures_yields g))
+  comment_rest_reads_lines : (o : Option ℕ) → Ensures (comment_rest t o) IsLines
+  comment_rest_reads_lines None = ensures_yields refl
+  comment_rest_reads_lines (Some b) = ensures_bind (peek_ensures_by_its_part comment_text_reads_one_line)
+      (λ s g. second_ensures (λ u. ensures_yields g))
 
-  ensures_line : (level : ℕ) → Ensures (comment_line t level) IsLines
-  ensures_line level = second_ensures (λ u. ensures_peek ensures_rest)
+  comment_line_reads_lines : (level : ℕ) → Ensures (comment_line t level) IsLines
+  comment_line_reads_lines level = second_ensures (λ u. peek_ensures_by_its_part comment_rest_reads_lines)
 
-  lines_append : (xs ys : List Span) → IsLines xs → IsLines ys → IsLines (xs ++ ys)
-  lines_append [] ys e f = f
-  lines_append (x ∷ xs) ys e f =
+  appended_lines_are_lines : (xs ys : List Span) → IsLines xs → IsLines ys → IsLines (xs ++ ys)
+  appended_lines_are_lines [] ys e f = f
+  appended_lines_are_lines (x ∷ xs) ys e f =
       both_true (left_true (not (has_lf (bytes_at t x))) _ e)
-      (lines_append xs ys (right_true (not (has_lf (bytes_at t x))) _ e) f)
+      (appended_lines_are_lines xs ys (right_true (not (has_lf (bytes_at t x))) _ e) f)
 
-  lines_read : (level i j : ℕ) (content : List Span) → comment_lines t level i (Read content j) → IsLines content
-  lines_read level i j content (other_level e) = refl
-  lines_read level i j content (no_comment_line e x) = refl
-  lines_read level i j content (comments.one_more {j = m} {content = c} {rest = rest} e x y) =
-      lines_append c rest ((ensures_line level).on_read i m c x) (lines_read level m j rest y)
+  read_comment_lines_are_lines : (level i j : ℕ) (content : List Span) → comment_lines t level i (Read content j) →
+      IsLines content
+  read_comment_lines_are_lines level i j content (other_level e) = refl
+  read_comment_lines_are_lines level i j content (no_comment_line e x) = refl
+  read_comment_lines_are_lines level i j content (comments.one_more {j = m} {content = c} {rest = rest} e x y) =
+      appended_lines_are_lines c rest ((comment_line_reads_lines level).on_read i m c x)
+      (read_comment_lines_are_lines level m j rest y)
 
 -- ---- messages and terms
 
@@ -132,9 +137,9 @@ module _ (t : List ℕ) (Joins : Type 0) where
   IsNotJunk (comment level content) = IsLines t content
   IsNotJunk (junk s) = ⊥
 
-  value_of : (o : Option (PatternTree Span)) → option_every (IsPattern t Joins) o → IsValue o
-  value_of None g = record { obeys = refl; same = λ none. refl }
-  value_of (Some p) g = record { obeys = g.obeys; same = λ none. ap Some (g.same none) }
+  read_pattern_is_value : (o : Option (PatternTree Span)) → option_every (IsPattern t Joins) o → IsValue o
+  read_pattern_is_value None g = record { obeys = refl; same = λ none. refl }
+  read_pattern_is_value (Some p) g = record { obeys = g.obeys; same = λ none. ap Some (g.same none) }
 
   attribute_obeys_joined : (id : Span) (p : PatternTree Span) → IsNameSpan t id → IsPattern t Joins p →
       ObeysJoined Joins (attribute_obeys (readable_rules One)) joined_attribute
@@ -146,17 +151,21 @@ module _ (t : List ℕ) (Joins : Type 0) where
             none);
       }
 
-  no_attributes : IsAttributes []
-  no_attributes = record { obeys = refl; same = λ none. refl }
+  empty_list_is_attributes : IsAttributes []
+  empty_list_is_attributes = record { obeys = refl; same = λ none. refl }
 
-  more_attributes : (a : AttributeTree Span) (rest : List (AttributeTree Span)) →
+  list_with_one_more_is_attributes : (a : AttributeTree Span) (rest : List (AttributeTree Span)) →
       ObeysJoined Joins (attribute_obeys (readable_rules One)) joined_attribute (attribute_map (bytes_at t) a) →
       IsAttributes rest → IsAttributes (a ∷ rest)
-  more_attributes a rest f g =
-      record { obeys = both_true f.obeys g.obeys; same = λ none. cons_same (f.same none) (g.same none) }
+  list_with_one_more_is_attributes a rest f g =
+      record {
+        obeys = both_true f.obeys g.obeys;
+        same =
+            λ none. equal_parts_make_equal_lists (f.same none) (g.same none);
+      }
     where
-      cons_same : {X : Type 0} {a b : X} {xs ys : List X} → a ≡ b → xs ≡ ys → a ∷ xs ≡ b ∷ ys
-      cons_same e f = cc (e, f)
+      equal_parts_make_equal_lists : {X : Type 0} {a b : X} {xs ys : List X} → a ≡ b → xs ≡ ys → a ∷ xs ≡ b ∷ ys
+      equal_parts_make_equal_lists e f = cc (e, f)
 
 module _ (t : List ℕ) (bare : HasNoBareCr t) (Joins : Type 0) (crs : (i : ℕ) → has_byte t cr i ≡ true → Joins) where
   ensures_pattern : Ensures (pattern One t) (option_every (IsPattern t Joins))
@@ -166,72 +175,82 @@ module _ (t : List ℕ) (bare : HasNoBareCr t) (Joins : Type 0) (crs : (i : ℕ)
   IsAttribute a =
       ObeysJoined Joins (attribute_obeys (readable_rules One)) joined_attribute (attribute_map (bytes_at t) a)
 
-  ensures_with : (id : Span) (o : Option (PatternTree Span)) → IsNameSpan t id → option_every (IsPattern t Joins) o →
-      Ensures (attribute_with id o) IsAttribute
-  ensures_with id None n g = ensures_fails
-  ensures_with id (Some p) n g = ensures_yields (attribute_obeys_joined t Joins id p n g)
+  attribute_with_reads_attribute : (id : Span) (o : Option (PatternTree Span)) → IsNameSpan t id →
+      option_every (IsPattern t Joins) o → Ensures (attribute_with id o) IsAttribute
+  attribute_with_reads_attribute id None n g = fails_ensures_anything
+  attribute_with_reads_attribute id (Some p) n g = ensures_yields (attribute_obeys_joined t Joins id p n g)
 
-  ensures_attribute : Ensures (attribute One t) IsAttribute
-  ensures_attribute =
+  attribute_reads_good_attribute : Ensures (attribute One t) IsAttribute
+  attribute_reads_good_attribute =
       second_ensures (λ u.
       second_ensures (λ u.
-      ensures_bind (ensures_name t Joins)
+      ensures_bind (identifier_reads_name_span t Joins)
       (λ id n. second_ensures
-      (λ u. second_ensures (λ u. ensures_bind ensures_pattern (λ o g. ensures_with id o n g))))))
+      (λ u. second_ensures (λ u. ensures_bind ensures_pattern (λ o g. attribute_with_reads_attribute id o n g))))))
 
-  attributes_read : (i j : ℕ) (rest : List (AttributeTree Span)) → attributes One t i (Read rest j) →
+  read_attributes_are_attributes : (i j : ℕ) (rest : List (AttributeTree Span)) → attributes One t i (Read rest j) →
       IsAttributes t Joins rest
-  attributes_read i j rest (no_more x) = no_attributes t Joins
-  attributes_read i j rest (one_more {j = m} {a = a} {rest = more} x y) =
-      more_attributes t Joins a more (ensures_attribute.on_read i m a x) (attributes_read m j more y)
+  read_attributes_are_attributes i j rest (no_more x) = empty_list_is_attributes t Joins
+  read_attributes_are_attributes i j rest (one_more {j = m} {a = a} {rest = more} x y) =
+      list_with_one_more_is_attributes t Joins a more (attribute_reads_good_attribute.on_read i m a x)
+      (read_attributes_are_attributes m j more y)
 
-  ensures_attributes : Ensures (attributes One t) (IsAttributes t Joins)
-  ensures_attributes = record { on_read = attributes_read }
+  attributes_read_good_attributes : Ensures (attributes One t) (IsAttributes t Joins)
+  attributes_read_good_attributes = record { on_read = read_attributes_are_attributes }
 
-  ensures_message_with : (start : ℕ) (id : Span) (o : Option (PatternTree Span)) (rest : List (AttributeTree Span)) →
+  message_with_reads_no_junk : (start : ℕ) (id : Span) (o : Option (PatternTree Span))
+      (rest : List (AttributeTree Span)) →
       IsNameSpan t id → option_every (IsPattern t Joins) o → IsAttributes t Joins rest →
       Ensures (message_with t start id o rest) (IsNotJunk t Joins)
-  ensures_message_with start id None [] n g k = record { on_read = λ i j a x. elim x [ ] }
-  ensures_message_with start id None (a ∷ rest) n g k =
+  message_with_reads_no_junk start id None [] n g k = record { on_read = λ i j a x. elim x [ ] }
+  message_with_reads_no_junk start id None (a ∷ rest) n g k =
       ensures_yields
-      (record { name = n; field = refl; value = value_of t Joins None g; attributes = k; comment = refl })
-  ensures_message_with start id (Some p) rest n g k =
+      (record { name = n; field = refl; value = read_pattern_is_value t Joins None g; attributes = k; comment = refl })
+  message_with_reads_no_junk start id (Some p) rest n g k =
       ensures_yields
-      (record { name = n; field = refl; value = value_of t Joins (Some p) g; attributes = k; comment = refl })
+      (record {
+        name = n;
+        field = refl;
+        value = read_pattern_is_value t Joins (Some p) g;
+        attributes = k;
+        comment =
+            refl;
+      })
 
-  ensures_term_with : (start : ℕ) (id : Span) (o : Option (PatternTree Span)) (rest : List (AttributeTree Span)) →
+  term_with_reads_no_junk : (start : ℕ) (id : Span) (o : Option (PatternTree Span)) (rest : List (AttributeTree Span)) →
       IsNameSpan t id → option_every (IsPattern t Joins) o → IsAttributes t Joins rest →
       Ensures (term_with t start id o rest) (IsNotJunk t Joins)
-  ensures_term_with start id None rest n g k = record { on_read = λ i j a x. elim x [ ] }
-  ensures_term_with start id (Some p) rest n g k =
+  term_with_reads_no_junk start id None rest n g k = record { on_read = λ i j a x. elim x [ ] }
+  term_with_reads_no_junk start id (Some p) rest n g k =
       ensures_yields (record { name = n; value = g; attributes = k; comment = refl })
 
-  ensures_message : Ensures (message_entry One t) (IsNotJunk t Joins)
-  ensures_message =
+  message_reads_no_junk : Ensures (message_entry One t) (IsNotJunk t Joins)
+  message_reads_no_junk =
       second_ensures (λ start.
-      ensures_bind (ensures_name t Joins)
+      ensures_bind (identifier_reads_name_span t Joins)
       (λ id n. second_ensures (λ u. second_ensures (λ u. ensures_bind ensures_pattern (λ o g. second_ensures (λ u.
-      ensures_bind ensures_attributes (λ rest k. ensures_message_with start id o rest n g k)))))))
+      ensures_bind attributes_read_good_attributes (λ rest k. message_with_reads_no_junk start id o rest n g k)))))))
 
-  ensures_term : Ensures (term_entry One t) (IsNotJunk t Joins)
-  ensures_term =
+  term_reads_no_junk : Ensures (term_entry One t) (IsNotJunk t Joins)
+  term_reads_no_junk =
       second_ensures (λ start.
       second_ensures (λ u.
-      ensures_bind (ensures_name t Joins)
+      ensures_bind (identifier_reads_name_span t Joins)
       (λ id n. second_ensures (λ u. second_ensures (λ u. ensures_bind ensures_pattern (λ o g. second_ensures (λ u.
-      ensures_bind ensures_attributes (λ rest k. ensures_term_with start id o rest n g k))))))))
+      ensures_bind attributes_read_good_attributes (λ rest k. term_with_reads_no_junk start id o rest n g k))))))))
 
-  ensures_comment : Ensures (comment_entry t) (IsNotJunk t Joins)
-  ensures_comment =
-      ensures_peek
-      (λ level. ensures_bind (ensures_line t level)
-      (λ c g. ensures_bind {Mid = IsLines t} (record { on_read = lines_read t level })
-      (λ rest k. ensures_yields (lines_append t c rest g k))))
+  comment_reads_no_junk : Ensures (comment_entry t) (IsNotJunk t Joins)
+  comment_reads_no_junk =
+      peek_ensures_by_its_part
+      (λ level. ensures_bind (comment_line_reads_lines t level)
+      (λ c g. ensures_bind {Mid = IsLines t} (record { on_read = read_comment_lines_are_lines t level })
+      (λ rest k. ensures_yields (appended_lines_are_lines t c rest g k))))
 
-  ensures_entry_of : (o : Option ℕ) → Ensures (entry_of One t (family One t) o) (IsNotJunk t Joins)
-  ensures_entry_of None = ensures_message
-  ensures_entry_of (Some b) =
-      ensures_branch_on (λ e. ensures_comment) (λ e. ensures_branch_on (λ e. ensures_term) (λ e. ensures_message))
+  entry_of_byte_reads_no_junk : (o : Option ℕ) → Ensures (entry_of One t (family One t) o) (IsNotJunk t Joins)
+  entry_of_byte_reads_no_junk None = message_reads_no_junk
+  entry_of_byte_reads_no_junk (Some b) =
+      ensures_branch_on (λ e. comment_reads_no_junk)
+      (λ e. ensures_branch_on (λ e. term_reads_no_junk) (λ e. message_reads_no_junk))
 
-  pub ensures_entry : Ensures (entry_at One t) (IsNotJunk t Joins)
-  ensures_entry = ensures_peek ensures_entry_of
+  pub entry_reads_no_junk : Ensures (entry_at One t) (IsNotJunk t Joins)
+  entry_reads_no_junk = peek_ensures_by_its_part entry_of_byte_reads_no_junk

@@ -33,29 +33,34 @@ use Rattle.fluent_syntax_grammar.specs.Readable.{opening, defaults, readable_rul
 use Rattle.fluent_syntax_grammar.specs.Joined.{is_joined, joined_pattern, joined_after, joined_variants}
 use Rattle.fluent_syntax_grammar.specs.RoundTrip.{HasNoBareCr}
 use Rattle.fluent_syntax_grammar.proofs.HoareTriple.{yields_value}
-use Rattle.fluent_syntax_grammar.proofs.Cuts.{eol_cases}
+use Rattle.fluent_syntax_grammar.proofs.Cuts.{eol_is_lf_or_crlf}
 use Rattle.fluent_syntax_grammar.proofs.Functional.{longest_run_is_functional}
-use Rattle.fluent_syntax_grammar.proofs.Facts.{holds-some, differs, two_on_is_not_next, not_next, longest_run_nonempty}
+use Rattle.fluent_syntax_grammar.proofs.Facts.{holds-some, differs, two_on_is_not_next, next_number_passes_its_test}
+use Rattle.fluent_syntax_grammar.proofs.Facts.{longest_run_nonempty}
 use Rattle.fluent_syntax_grammar.proofs.Tests.{both_true}
-use Rattle.fluent_syntax_grammar.proofs.backward.Shapes.{LastItemStays, kept_cut, shape_cut, items_tree, Well}
-use Rattle.fluent_syntax_grammar.proofs.backward.Shapes.{items_well, items_same, Shape}
+use Rattle.fluent_syntax_grammar.proofs.backward.Shapes.{LastItemStays, last_item_of_cut_stays, cut_items_have_shape}
+use Rattle.fluent_syntax_grammar.proofs.backward.Shapes.{items_tree, IsWellPlaced}
+use Rattle.fluent_syntax_grammar.proofs.backward.Shapes.{items_are_well_placed, items_same, Shape}
 use Rattle.fluent_syntax_grammar.proofs.backward.Lines.{IsEnd, PiecesAt, no_piece, a_run, a_placeable, EndingAt}
 use Rattle.fluent_syntax_grammar.proofs.backward.Lines.{lf_ends, crlf_ends, text_ends, LineAt, LinesAt}
 use Rattle.fluent_syntax_grammar.proofs.backward.Lines.{no_line as no_lines, a_line, LayoutAt, on_line, below}
-use Rattle.fluent_syntax_grammar.proofs.backward.Layouts.{layout_shape}
-use Rattle.fluent_syntax_grammar.proofs.backward.FirstLines.{spare}
-use Rattle.fluent_syntax_grammar.proofs.backward.Words.{number_inversion}
+use Rattle.fluent_syntax_grammar.proofs.backward.Layouts.{items_of_layout_have_shape}
+use Rattle.fluent_syntax_grammar.proofs.backward.FirstLines.{layout_there_is_spare}
+use Rattle.fluent_syntax_grammar.proofs.backward.Words.{read_number_is_number}
 use Rattle.fluent_syntax_grammar.proofs.backward.Rules.{Ensures, ensures_bind, second_ensures, ensures_yields}
-use Rattle.fluent_syntax_grammar.proofs.backward.Rules.{ensures_fails, ensures_peek, ensures_branch_on, ObeysJoined}
-use Rattle.fluent_syntax_grammar.proofs.backward.Rules.{IsPattern, IsKey, IsVariants, ObeysJoinedFamily, ensures_name}
-use Rattle.fluent_syntax_grammar.proofs.backward.Rules.{IsInline, ensures_placeable, inline_inversion}
-use Rattle.fluent_syntax_grammar.proofs.backward.Rules.{ensures_arguments, Adds, ensures_many, select_obeys_joined}
+use Rattle.fluent_syntax_grammar.proofs.backward.Rules.{fails_ensures_anything, peek_ensures_by_its_part}
+use Rattle.fluent_syntax_grammar.proofs.backward.Rules.{ensures_branch_on, ObeysJoined}
+use Rattle.fluent_syntax_grammar.proofs.backward.Rules.{IsPattern, IsKey, IsVariants, ObeysJoinedFamily}
+use Rattle.fluent_syntax_grammar.proofs.backward.Rules.{identifier_reads_name_span}
+use Rattle.fluent_syntax_grammar.proofs.backward.Rules.{IsInline, placeable_reads_good_expression, inline_inversion}
+use Rattle.fluent_syntax_grammar.proofs.backward.Rules.{more_arguments_read_arguments, Adds, many_ensures_by_its_items}
+use Rattle.fluent_syntax_grammar.proofs.backward.Rules.{select_obeys_joined}
 use Rattle.fluent_syntax_grammar.proofs.backward.Rules.{inline_obeys_joined}
 use Rattle.fluent_syntax_grammar.proofs.backward.Shapes.{IsReadExpression}
 use Rattle.fluent_syntax_tree.specs.Tree.{InlineTree, VariantTree}
 use Rattle.fluent_syntax_tree.specs.Kind.{Kind}
 use Rattle.fluent_syntax_grammar.proofs.Tests.{neither_left, not_false}
-use Rattle.fluent_syntax_grammar.proofs.LineEnds.{after_none}
+use Rattle.fluent_syntax_grammar.proofs.LineEnds.{no_eol_end_means_no_eol}
 
 -- ---- the pattern that a layout gives
 
@@ -74,20 +79,23 @@ joined_after_has_elements v (elements (text_element w) es) = whichever (is_joine
     whichever true = refl
     whichever false = refl
 
-joined_elements : (e : ElementTree Text) (es : PatternTree Text) → has_elements (joined_pattern (elements e es)) ≡ true
-joined_elements (placeable e) es = refl
-joined_elements (text_element v) es = joined_after_has_elements v es
+joined_pattern_has_elements : (e : ElementTree Text) (es : PatternTree Text) →
+    has_elements (joined_pattern (elements e es)) ≡ true
+joined_pattern_has_elements (placeable e) es = refl
+joined_pattern_has_elements (text_element v) es = joined_after_has_elements v es
 
-well_pattern_obeys_rules : (p : PatternTree Text) → has_elements p ≡ true → Well (is_multiline p) opening p →
+well_pattern_obeys_rules : (p : PatternTree Text) → has_elements p ≡ true → IsWellPlaced (is_multiline p) opening p →
     pattern_obeys (readable_rules One) p ≡ true
 well_pattern_obeys_rules no_elements e w = cc
 well_pattern_obeys_rules (elements x xs) e w = both_true w.position w.obey
 
 module _ (t : List ℕ) (bare : HasNoBareCr t) (Joins : Type 0) (crs : (i : ℕ) → has_byte t cr i ≡ true → Joins) where
-  tree_elements : (x : Item) (xs : List Item) → has_elements (joined_pattern (items_tree t (x ∷ xs))) ≡ true
-  tree_elements (text from to) [] = refl
-  tree_elements (text from to) (y ∷ ys) = joined_elements (text_element _) (items_tree t (y ∷ ys))
-  tree_elements (placeable_item e) xs = refl
+  tree_of_items_has_elements : (x : Item) (xs : List Item) →
+      has_elements (joined_pattern (items_tree t (x ∷ xs))) ≡ true
+  tree_of_items_has_elements (text from to) [] = refl
+  tree_of_items_has_elements (text from to) (y ∷ ys) =
+      joined_pattern_has_elements (text_element _) (items_tree t (y ∷ ys))
+  tree_of_items_has_elements (placeable_item e) xs = refl
 
   tree_obeys_joined : (x : Item) (xs : List Item) →
       Shape t Joins (is_multiline (joined_pattern (items_tree t (x ∷ xs)))) opening (x ∷ xs) → LastItemStays t (x ∷ xs)
@@ -96,8 +104,8 @@ module _ (t : List ℕ) (bare : HasNoBareCr t) (Joins : Type 0) (crs : (i : ℕ)
       let m = is_multiline (joined_pattern (items_tree t (x ∷ xs))) in
       record {
         obeys =
-            well_pattern_obeys_rules (joined_pattern (items_tree t (x ∷ xs))) (tree_elements x xs)
-            (items_well t Joins m opening (x ∷ xs) tt s k);
+            well_pattern_obeys_rules (joined_pattern (items_tree t (x ∷ xs))) (tree_of_items_has_elements x xs)
+            (items_are_well_placed t Joins m opening (x ∷ xs) tt s k);
         same = λ none. items_same t Joins m none opening (x ∷ xs) s;
       }
 
@@ -114,48 +122,52 @@ module _ (t : List ℕ) (bare : HasNoBareCr t) (Joins : Type 0) (crs : (i : ℕ)
   pattern_obeys_joined y x =
       let m = is_multiline (joined_pattern (items_tree t (cut t (items One y)))) in
       spelled_obeys_joined (cut t (items One y))
-      (shape_cut t Joins m opening (items One y)
-      (layout_shape t bare Joins crs m y x (spare t bare Joins crs m y x))) (kept_cut t (items One y))
+      (cut_items_have_shape t Joins m opening (items One y)
+      (items_of_layout_have_shape t bare Joins crs m y x (layout_there_is_spare t bare Joins crs m y x)))
+      (last_item_of_cut_stays t (items One y))
 
 module _ (t : List ℕ) where
-  block_stop : (i j : ℕ) → BlankBlock t i j → (k : ℕ) × InlineBlank t j k × (after_eol t k ≡ None)
-  block_stop i j (no_line {k = k} w e) = (k, w, e)
-  block_stop i j (line {m = m} w e b) = block_stop m j b
+  block_ends_before_line_without_eol : (i j : ℕ) → BlankBlock t i j →
+      (k : ℕ) × InlineBlank t j k × (after_eol t k ≡ None)
+  block_ends_before_line_without_eol i j (no_line {k = k} w e) = (k, w, e)
+  block_ends_before_line_without_eol i j (line {m = m} w e b) = block_ends_before_line_without_eol m j b
 
 module _ (t : List ℕ) (Joins : Type 0) where
-  good_ending_if : (i k j : ℕ) (test : Bool) → (k == i + 1) ≡ test → after_eol t i ≡ Some k → k ≡ j →
+  ending_by_test_is_lf_or_crlf : (i k j : ℕ) (test : Bool) → (k == i + 1) ≡ test → after_eol t i ≡ Some k → k ≡ j →
       EndingAt t Joins i (if test then lf_at i else crlf_at i) j
-  good_ending_if i k j true f e s = elim (eol_cases t i k e) [
+  ending_by_test_is_lf_or_crlf i k j true f e s = elim (eol_is_lf_or_crlf t i k e) [
     | inl x ↦ subst (EndingAt t Joins i (lf_at i)) (sym x.1 ∙ s) (lf_ends x.0)
     | inr x ↦ absurd (two_on_is_not_next i k x.2 f)
   ]
-  good_ending_if i k j false f e s = elim (eol_cases t i k e) [
-    | inl x ↦ absurd (not_next i k x.1 f)
+  ending_by_test_is_lf_or_crlf i k j false f e s = elim (eol_is_lf_or_crlf t i k e) [
+    | inl x ↦ absurd (next_number_passes_its_test i k x.1 f)
     | inr x ↦ subst (EndingAt t Joins i (crlf_at i)) (sym x.2 ∙ s) (crlf_ends x.0 x.1)
   ]
 
-  end_none : (i : ℕ) → IsEnd t i → after_eol t i ≡ None → slice_get t i ≡ None
-  end_none i (inl e) f = differs e (after_none t i f)
-  end_none i (inr e) f = e
+  end_without_eol_has_no_byte : (i : ℕ) → IsEnd t i → after_eol t i ≡ None → slice_get t i ≡ None
+  end_without_eol_has_no_byte i (inl e) f = differs e (no_eol_end_means_no_eol t i f)
+  end_without_eol_has_no_byte i (inr e) f = e
 
-  ending_at : (i j : ℕ) (x : Ending) (o : Option ℕ) → IsEnd t i → after_eol t i ≡ o → ending_of t i o i (Read x j) →
-      EndingAt t Joins i x j
-  ending_at i j x None n e given = text_ends (end_none i n e)
-  ending_at i j x (Some k) n e (goes_on {j = m} (passed w) y) =
+  read_ending_by_eol_is_ending : (i j : ℕ) (x : Ending) (o : Option ℕ) → IsEnd t i → after_eol t i ≡ o →
+      ending_of t i o i (Read x j) → EndingAt t Joins i x j
+  read_ending_by_eol_is_ending i j x None n e given = text_ends (end_without_eol_has_no_byte i n e)
+  read_ending_by_eol_is_ending i j x (Some k) n e (goes_on {j = m} (passed w) y) =
       let value = yields_value (if k == i + 1 then lf_at i else crlf_at i) x m j y in
-      subst (λ x. EndingAt t Joins i x j) value.0 (good_ending_if i k j (k == i + 1) refl e (sym w.there ∙ value.1))
+      subst (λ x. EndingAt t Joins i x j) value.0
+      (ending_by_test_is_lf_or_crlf i k j (k == i + 1) refl e (sym w.there ∙ value.1))
 
-  pub ending_inversion : (i j : ℕ) (x : Ending) → IsEnd t i → ending t i (Read x j) → EndingAt t Joins i x j
-  ending_inversion i j x n (goes_on at_place (chosen y)) = ending_at i j x (after_eol t i) n refl y
+  pub read_ending_is_ending_there : (i j : ℕ) (x : Ending) → IsEnd t i → ending t i (Read x j) → EndingAt t Joins i x j
+  read_ending_is_ending_there i j x n (goes_on at_place (chosen y)) =
+      read_ending_by_eol_is_ending i j x (after_eol t i) n refl y
 
-  pub pieces_end : (i : ℕ) (ps : List Piece) (j : ℕ) → PiecesAt t Joins i ps j → IsEnd t j
-  pieces_end i [] j (no_piece e) = e
-  pieces_end i (run from to ∷ ps) j (a_run l w x) = pieces_end to ps j x
-  pieces_end i (placed e ∷ ps) j (a_placeable {m = m} g x) = pieces_end m ps j x
+  pub pieces_end_where_a_line_ends : (i : ℕ) (ps : List Piece) (j : ℕ) → PiecesAt t Joins i ps j → IsEnd t j
+  pieces_end_where_a_line_ends i [] j (no_piece e) = e
+  pieces_end_where_a_line_ends i (run from to ∷ ps) j (a_run l w x) = pieces_end_where_a_line_ends to ps j x
+  pieces_end_where_a_line_ends i (placed e ∷ ps) j (a_placeable {m = m} g x) = pieces_end_where_a_line_ends m ps j x
 
-  run_begins : (i b : ℕ) → slice_get t i ≡ Some b → has_eol t i ≡ false → (b == 125) ≡ false → (b == 123) ≡ false →
-      is_run_place t i ≡ true
-  run_begins i b e f g h =
+  plain_byte_begins_run : (i b : ℕ) → slice_get t i ≡ Some b → has_eol t i ≡ false → (b == 125) ≡ false →
+      (b == 123) ≡ false → is_run_place t i ≡ true
+  plain_byte_begins_run i b e f g h =
       let no_lf : (b == lf) ≡ false =
       ap (holds (λ c. c == lf)) (sym e) ∙ neither_left (has_byte t lf i) (has_byte t cr i && has_byte t lf (i + 1)) f in
       both_true (holds-some (λ b. not (b == lf || b == 123 || b == 125)) (slice_get t i) b e (rw (no_lf, h, g) refl))
@@ -168,35 +180,38 @@ module _ (t : List ℕ) (bare : HasNoBareCr t) (Joins : Type 0) (crs : (i : ℕ)
   AddsPiece i no_item j = PiecesAt t Joins i [] j
   AddsPiece i (item p u) j = (ps : List Piece) (k : ℕ) → PiecesAt t Joins j ps k → PiecesAt t Joins i (p ∷ ps) k
 
-  piece_was_at : (i j : ℕ) (p : More Piece (Unit {0})) (o : Option ℕ) → slice_get t i ≡ o →
+  read_piece_by_byte_adds_piece : (i j : ℕ) (p : More Piece (Unit {0})) (o : Option ℕ) → slice_get t i ≡ o →
       next_piece_at t R o i (Read p j) → AddsPiece i p j
-  piece_was_at i j p None e given = no_piece (inr e)
-  piece_was_at i j p (Some b) e (chosen (first f given)) = no_piece (inl f)
-  piece_was_at i j p (Some b) e (chosen (second f (first g x))) = elim x [ ]
-  piece_was_at i j p (Some b) e (chosen (second f (second g (first k (goes_on {j = m} {a = x} y given))))) =
-      λ ps n z. a_placeable ((ensures_placeable t Joins R h).on_read i m x y) z
-  piece_was_at i j p (Some b) e
+  read_piece_by_byte_adds_piece i j p None e given = no_piece (inr e)
+  read_piece_by_byte_adds_piece i j p (Some b) e (chosen (first f given)) = no_piece (inl f)
+  read_piece_by_byte_adds_piece i j p (Some b) e (chosen (second f (first g x))) = elim x [ ]
+  read_piece_by_byte_adds_piece i j p (Some b) e
+      (chosen (second f (second g (first k (goes_on {j = m} {a = x} y given))))) =
+      λ ps n z. a_placeable ((placeable_reads_good_expression t Joins R h).on_read i m x y) z
+  read_piece_by_byte_adds_piece i j p (Some b) e
       (chosen (second f
       (second g (second k
       (goes_on (goes_on at_place (goes_on (passed {j = to} w) (goes_on at_place given))) given))))) =
-      λ ps n z. a_run (longest_run_nonempty (is_run_place t) i to (run_begins t Joins i b e f g k) w) w z
+      λ ps n z. a_run (longest_run_nonempty (is_run_place t) i to (plain_byte_begins_run t Joins i b e f g k) w) w z
 
-  piece_inversion : (i j : ℕ) (p : More Piece (Unit {0})) → next_piece t R i (Read p j) → AddsPiece i p j
-  piece_inversion i j p (chosen x) = piece_was_at i j p (slice_get t i) refl x
+  read_piece_adds_piece : (i j : ℕ) (p : More Piece (Unit {0})) → next_piece t R i (Read p j) → AddsPiece i p j
+  read_piece_adds_piece i j p (chosen x) = read_piece_by_byte_adds_piece i j p (slice_get t i) refl x
 
-  pieces_from : (u : Unit {0}) (i j : ℕ) (ps : List Piece) →
+  read_list_of_pieces_is_pieces : (u : Unit {0}) (i j : ℕ) (ps : List Piece) →
       many (λ u. next_piece t R) (λ p ps. p ∷ ps) [] u i (Read ps j) → PiecesAt t Joins i ps j
-  pieces_from u i j ps (list_ends x) = piece_inversion i j no_item x
-  pieces_from u i j ps (item_and_more {later = v} {j = m} {a = p} {rest = rest} x y) =
-      piece_inversion i m (item p v) x rest j (pieces_from v m j rest y)
+  read_list_of_pieces_is_pieces u i j ps (list_ends x) = read_piece_adds_piece i j no_item x
+  read_list_of_pieces_is_pieces u i j ps (item_and_more {later = v} {j = m} {a = p} {rest = rest} x y) =
+      read_piece_adds_piece i m (item p v) x rest j (read_list_of_pieces_is_pieces v m j rest y)
 
-  pieces_inversion : (i j : ℕ) (ps : List Piece) → lines.more_pieces t R i (Read ps j) → PiecesAt t Joins i ps j
-  pieces_inversion i j ps x = pieces_from tt i j ps x
+  read_pieces_are_pieces_there : (i j : ℕ) (ps : List Piece) → lines.more_pieces t R i (Read ps j) →
+      PiecesAt t Joins i ps j
+  read_pieces_are_pieces_there i j ps x = read_list_of_pieces_is_pieces tt i j ps x
 
-  line_made : (i k b start m n : ℕ) (ps : List Piece) (e' : Ending) → InlineBlank t i k → slice_get t k ≡ Some b →
+  line_of_its_parts_is_line_there : (i k b start m n : ℕ) (ps : List Piece) (e' : Ending) → InlineBlank t i k →
+      slice_get t k ≡ Some b →
       belongs t (nat_lt i k) k ≡ true → InlineBlank t i start → PiecesAt t Joins start ps m → EndingAt t Joins m e' n →
       LineAt t Joins i (record { start = i; spaces = start - i; pieces = ps; ending = e' }) n
-  line_made i k b start m n ps e' w e f v p q =
+  line_of_its_parts_is_line_there i k b start m n ps e' w e f v p q =
       let same : k ≡ start = longest_run_is_functional.same i k start w v in
       record {
         first = start;
@@ -211,16 +226,17 @@ module _ (t : List ℕ) (bare : HasNoBareCr t) (Joins : Type 0) (crs : (i : ℕ)
         ending = q;
       }
 
-  line_inversion : (i k b j : ℕ) (l : Line) → InlineBlank t i k → slice_get t k ≡ Some b →
+  read_line_is_line_there : (i k b j : ℕ) (l : Line) → InlineBlank t i k → slice_get t k ≡ Some b →
       belongs t (nat_lt i k) k ≡ true →
       lines.line t R i (Read l j) → LineAt t Joins i l j
-  line_inversion i k b j l w e f
+  read_line_is_line_there i k b j l w e f
       (goes_on at_place
       (goes_on (passed {j = start} v)
       (goes_on at_place (goes_on {j = m} {a = ps} x (goes_on {j = n} {a = e'} y z))))) =
-      let p = pieces_inversion start m ps x in
+      let p = read_pieces_are_pieces_there start m ps x in
       let made =
-      line_made i k b start m n ps e' w e f v p (ending_inversion t Joins m n e' (pieces_end t Joins start ps m p) y) in
+      line_of_its_parts_is_line_there i k b start m n ps e' w e f v p
+      (read_ending_is_ending_there t Joins m n e' (pieces_end_where_a_line_ends t Joins start ps m p) y) in
       let value = yields_value (record { start = i; spaces = start - i; pieces = ps; ending = e' }) l n j z in
       subst (λ l. LineAt t Joins i l j) value.0
       (subst (λ j. LineAt t Joins i (record { start = i; spaces = start - i; pieces = ps; ending = e' }) j) value.1
@@ -231,98 +247,101 @@ module _ (t : List ℕ) (bare : HasNoBareCr t) (Joins : Type 0) (crs : (i : ℕ)
   AddsLine i no_item j = LinesAt t Joins i []
   AddsLine i (item l u) j = (ls : List Line) → LinesAt t Joins j ls → LinesAt t Joins i (l ∷ ls)
 
-  next_inversion : (i j : ℕ) (l : More Line (Unit {0})) → next_line t R i (Read l j) → AddsLine i l j
-  next_inversion i j l (no_byte w e) = no_lines
-  next_inversion i j l (other_line w e f) = no_lines
-  next_inversion i j l (own_line {k = k} {b = b} w e f (goes_on {j = m} {a = x} y given)) =
-      λ ls z. a_line (line_inversion i k b m x w e f y) z
+  read_next_line_adds_line : (i j : ℕ) (l : More Line (Unit {0})) → next_line t R i (Read l j) → AddsLine i l j
+  read_next_line_adds_line i j l (no_byte w e) = no_lines
+  read_next_line_adds_line i j l (other_line w e f) = no_lines
+  read_next_line_adds_line i j l (own_line {k = k} {b = b} w e f (goes_on {j = m} {a = x} y given)) =
+      λ ls z. a_line (read_line_is_line_there i k b m x w e f y) z
 
-  lines_from : (u : Unit {0}) (i j : ℕ) (ls : List Line) →
+  read_list_of_lines_is_lines : (u : Unit {0}) (i j : ℕ) (ls : List Line) →
       many (λ u. next_line t R) (λ l ls. l ∷ ls) [] u i (Read ls j) → LinesAt t Joins i ls
-  lines_from u i j ls (list_ends x) = next_inversion i j no_item x
-  lines_from u i j ls (item_and_more {later = v} {j = m} {a = l} {rest = rest} x y) =
-      next_inversion i m (item l v) x rest (lines_from v m j rest y)
+  read_list_of_lines_is_lines u i j ls (list_ends x) = read_next_line_adds_line i j no_item x
+  read_list_of_lines_is_lines u i j ls (item_and_more {later = v} {j = m} {a = l} {rest = rest} x y) =
+      read_next_line_adds_line i m (item l v) x rest (read_list_of_lines_is_lines v m j rest y)
 
-  lines_inversion : (i j : ℕ) (ls : List Line) → lines.more_lines t R i (Read ls j) → LinesAt t Joins i ls
-  lines_inversion i j ls x = lines_from tt i j ls x
+  read_lines_are_lines_there : (i j : ℕ) (ls : List Line) → lines.more_lines t R i (Read ls j) → LinesAt t Joins i ls
+  read_lines_are_lines_there i j ls x = read_list_of_lines_is_lines tt i j ls x
 
-  layout_was_at : (i j : ℕ) (y : Layout) (o : Option ℕ) → has t is_space i ≡ false → after_eol t i ≡ o →
+  read_layout_by_eol_is_layout : (i j : ℕ) (y : Layout) (o : Option ℕ) → has t is_space i ≡ false → after_eol t i ≡ o →
       layout_at t R o i (Read y j) → LayoutAt t Joins y
-  layout_was_at i j y None s e
+  read_layout_by_eol_is_layout i j y None s e
       (goes_on at_place (goes_on {j = m} {a = ps} x (goes_on {j = n} {a = z} w (goes_on {a = ls} v given)))) =
-      let p = pieces_inversion i m ps x in
-      on_line s (after_none t i e) p (ending_inversion t Joins m n z (pieces_end t Joins i ps m p) w)
-      (lines_inversion n j ls v)
-  layout_was_at i j y (Some k) s e
+      let p = read_pieces_are_pieces_there i m ps x in
+      on_line s (no_eol_end_means_no_eol t i e) p
+      (read_ending_is_ending_there t Joins m n z (pieces_end_where_a_line_ends t Joins i ps m p) w)
+      (read_lines_are_lines_there n j ls v)
+  read_layout_by_eol_is_layout i j y (Some k) s e
       (goes_on (passed {j = m} r) (goes_on (passed {j = n} b) (goes_on {a = ls} v given))) =
-      let c = block_stop t m n b in
-      below c.1 (after_none t c.0 c.2) (lines_inversion n j ls v)
+      let c = block_ends_before_line_without_eol t m n b in
+      below c.1 (no_eol_end_means_no_eol t c.0 c.2) (read_lines_are_lines_there n j ls v)
 
-  layout_inversion : (i j : ℕ) (y : Layout) → layout t R i (Read y j) → LayoutAt t Joins y
-  layout_inversion i j y (goes_on (passed {j = m} w) (chosen x)) = layout_was_at m j y (after_eol t m) w.longest refl x
+  read_layout_is_layout_there : (i j : ℕ) (y : Layout) → layout t R i (Read y j) → LayoutAt t Joins y
+  read_layout_is_layout_there i j y (goes_on (passed {j = m} w) (chosen x)) =
+      read_layout_by_eol_is_layout m j y (after_eol t m) w.longest refl x
 
   pub ensures_pattern : Ensures (pattern One t R) (option_every (IsPattern t Joins))
   ensures_pattern =
-      ensures_bind (record { on_read = λ i j y x. layout_inversion i j y x })
+      ensures_bind (record { on_read = λ i j y x. read_layout_is_layout_there i j y x })
       (λ y g. ensures_yields (pattern_obeys_joined t bare Joins crs y g))
 
   -- ---- variants
 
-  number_key_inversion : (i j : ℕ) (k : KeyTree Span) → (number t >>= λ v. yields (number_key v)) i (Read k j) →
+  read_number_key_is_key : (i j : ℕ) (k : KeyTree Span) → (number t >>= λ v. yields (number_key v)) i (Read k j) →
       IsKey t Joins k
-  number_key_inversion i j k (goes_on {j = m} {a = v} x given) = (number_inversion t i m v x).number
+  read_number_key_is_key i j k (goes_on {j = m} {a = v} x given) = (read_number_is_number t i m v x).number
 
-  ensures_key : Ensures (variant_key t) (IsKey t Joins)
-  ensures_key =
-      ensures_peek
-      (λ n. ensures_branch_on (λ e. record { on_read = number_key_inversion })
-      (λ e. ensures_bind (ensures_name t Joins) (λ v g. ensures_yields g)))
+  variant_key_reads_key : Ensures (variant_key t) (IsKey t Joins)
+  variant_key_reads_key =
+      peek_ensures_by_its_part
+      (λ n. ensures_branch_on (λ e. record { on_read = read_number_key_is_key })
+      (λ e. ensures_bind (identifier_reads_name_span t Joins) (λ v g. ensures_yields g)))
 
-  no_variant : (starred : Bool) → IsVariants t Joins starred no_variants
-  no_variant starred = record { fine = record { obeys = refl; same = λ none. refl }; none = λ e. refl; one = refl }
+  empty_variants_are_variants : (starred : Bool) → IsVariants t Joins starred no_variants
+  empty_variants_are_variants starred =
+      record { fine = record { obeys = refl; same = λ none. refl }; none = λ e. refl; one = refl }
 
-  one_less : (n : ℕ) → n ≡ 0 → nat_le (1 + n) 1 ≡ true
-  one_less n e = rw e refl
+  one_is_at_most_one : (n : ℕ) → n ≡ 0 → nat_le (1 + n) 1 ≡ true
+  one_is_at_most_one n e = rw e refl
 
-  pair_same : (key : KeyTree Span) (default : Bool) {p q : PatternTree Text} {us vs : VariantTrees Text} → p ≡ q →
-      us ≡ vs →
+  equal_parts_make_equal_variants : (key : KeyTree Span)
+      (default : Bool) {p q : PatternTree Text} {us vs : VariantTrees Text} → p ≡ q → us ≡ vs →
       variants (variant (key_map (bytes_at t) key) p default) us
       ≡ variants (variant (key_map (bytes_at t) key) q default) vs
-  pair_same key default e f = cc (e, f)
+  equal_parts_make_equal_variants key default e f = cc (e, f)
 
-  add_variant : (starred star : Bool) (key : KeyTree Span) (value : PatternTree Span) (vs : VariantTrees Span) →
-      (starred && star) ≡ false → IsKey t Joins key → IsPattern t Joins value →
+  variants_with_one_more_are_variants : (starred star : Bool) (key : KeyTree Span) (value : PatternTree Span)
+      (vs : VariantTrees Span) → (starred && star) ≡ false → IsKey t Joins key → IsPattern t Joins value →
       IsVariants t Joins (starred || star) vs → IsVariants t Joins starred (variants (variant key value star) vs)
-  add_variant true true key value vs e k p g = absurd cc
-  add_variant false true key value vs e k p g =
+  variants_with_one_more_are_variants true true key value vs e k p g = absurd cc
+  variants_with_one_more_are_variants false true key value vs e k p g =
       let f = g.fine in
       record {
         fine =
             record {
               obeys = both_true (both_true k p.obeys) f.obeys;
-              same = λ none. pair_same key true (p.same none) (f.same none);
+              same = λ none. equal_parts_make_equal_variants key true (p.same none) (f.same none);
             };
         none = λ y. absurd cc;
-        one = one_less (defaults (joined_variants (variants_map (bytes_at t) vs))) (g.none refl);
+        one = one_is_at_most_one (defaults (joined_variants (variants_map (bytes_at t) vs))) (g.none refl);
       }
-  add_variant true false key value vs e k p g =
+  variants_with_one_more_are_variants true false key value vs e k p g =
       let f = g.fine in
       record {
         fine =
             record {
               obeys = both_true (both_true k p.obeys) f.obeys;
-              same = λ none. pair_same key false (p.same none) (f.same none);
+              same = λ none. equal_parts_make_equal_variants key false (p.same none) (f.same none);
             };
         none = λ y. g.none refl;
         one = g.one;
       }
-  add_variant false false key value vs e k p g =
+  variants_with_one_more_are_variants false false key value vs e k p g =
       let f = g.fine in
       record {
         fine =
             record {
               obeys = both_true (both_true k p.obeys) f.obeys;
-              same = λ none. pair_same key false (p.same none) (f.same none);
+              same = λ none. equal_parts_make_equal_variants key false (p.same none) (f.same none);
             };
         none = λ y. absurd cc;
         one = g.one;
@@ -332,72 +351,84 @@ module _ (t : List ℕ) (bare : HasNoBareCr t) (Joins : Type 0) (crs : (i : ℕ)
   abbrev IsNext : Bool → More (VariantTree Span) Bool → Type 0
   IsNext = Adds (next_variant One t R) variants no_variants (IsVariants t Joins)
 
-  ensures_variant : (starred star : Bool) (key : KeyTree Span) (o : Option (PatternTree Span)) →
+  variant_of_reads_next_variant : (starred star : Bool) (key : KeyTree Span) (o : Option (PatternTree Span)) →
       (starred && star) ≡ false → IsKey t Joins key → option_every (IsPattern t Joins) o →
       Ensures (variant_of t starred star key o) (IsNext starred)
-  ensures_variant starred star key None e k p = ensures_fails
-  ensures_variant starred star key (Some value) e k p =
-      second_ensures (λ u. ensures_yields (λ vs g. add_variant starred star key value vs e k p g))
+  variant_of_reads_next_variant starred star key None e k p = fails_ensures_anything
+  variant_of_reads_next_variant starred star key (Some value) e k p =
+      second_ensures
+      (λ u. ensures_yields (λ vs g. variants_with_one_more_are_variants starred star key value vs e k p g))
 
-  ensures_after : (starred star : Bool) → (starred && star) ≡ false →
+  variant_after_reads_next_variant : (starred star : Bool) → (starred && star) ≡ false →
       Ensures (variant_after One t R starred star) (IsNext starred)
-  ensures_after starred star e =
+  variant_after_reads_next_variant starred star e =
       second_ensures (λ u.
-      ensures_bind ensures_key
+      ensures_bind variant_key_reads_key
       (λ key k. second_ensures
-      (λ u. second_ensures (λ u. ensures_bind ensures_pattern (λ o p. ensures_variant starred star key o e k p)))))
+      (λ u. second_ensures
+      (λ u. ensures_bind ensures_pattern (λ o p. variant_of_reads_next_variant starred star key o e k p)))))
 
-  ensures_only : (starred star : Bool) → Ensures (only_star starred star) (λ u. (starred && star) ≡ false)
-  ensures_only starred star = ensures_branch_on (λ e. ensures_fails) (λ e. ensures_yields e)
+  only_star_reads_one_star : (starred star : Bool) → Ensures (only_star starred star) (λ u. (starred && star) ≡ false)
+  only_star_reads_one_star starred star = ensures_branch_on (λ e. fails_ensures_anything) (λ e. ensures_yields e)
 
-  ensures_end : (starred star : Bool) → Ensures (variants_end One starred star) (IsNext starred)
-  ensures_end starred star = ensures_branch_on (λ e. ensures_yields (no_variant starred)) (λ e. ensures_fails)
+  variants_end_reads_next_variant : (starred star : Bool) → Ensures (variants_end One starred star) (IsNext starred)
+  variants_end_reads_next_variant starred star =
+      ensures_branch_on (λ e. ensures_yields (empty_variants_are_variants starred)) (λ e. fails_ensures_anything)
 
-  ensures_variants : (starred : Bool) → Ensures (more_variants One t R starred) (IsVariants t Joins starred)
-  ensures_variants = ensures_many (next_variant One t R) variants no_variants (IsVariants t Joins)
+  more_variants_read_variants : (starred : Bool) → Ensures (more_variants One t R starred) (IsVariants t Joins starred)
+  more_variants_read_variants =
+      many_ensures_by_its_items (next_variant One t R) variants no_variants (IsVariants t Joins)
       (λ starred. second_ensures (λ star.
-      ensures_bind (ensures_only starred star)
+      ensures_bind (only_star_reads_one_star starred star)
       (λ u e. second_ensures
-      (λ bracket. ensures_branch_on (λ y. ensures_after starred star e) (λ y. ensures_end starred star)))))
+      (λ bracket. ensures_branch_on (λ y. variant_after_reads_next_variant starred star e)
+      (λ y. variants_end_reads_next_variant starred star)))))
 
   -- ---- expressions
 
-  ensures_variants_of : Ensures (variants_of_select One t R) (IsVariants t Joins false)
-  ensures_variants_of =
-      second_ensures (λ u. second_ensures (λ u. second_ensures (λ u. second_ensures (λ u. ensures_variants false))))
+  variants_of_select_read_variants : Ensures (variants_of_select One t R) (IsVariants t Joins false)
+  variants_of_select_read_variants =
+      second_ensures
+      (λ u. second_ensures (λ u. second_ensures (λ u. second_ensures (λ u. more_variants_read_variants false))))
 
-  ensures_select : (e : InlineTree Span) (o : Option Kind) → IsInline t Joins e → selector_fault e ≡ o →
+  select_reads_good_expression : (e : InlineTree Span) (o : Option Kind) → IsInline t Joins e → selector_fault e ≡ o →
       Ensures (select_with One t R e o) (IsReadExpression t Joins)
-  ensures_select e None f k =
-      ensures_bind ensures_variants_of (λ vs g. ensures_yields (select_obeys_joined t Joins R h e vs f k g))
-  ensures_select e (Some x) f k = ensures_fails
+  select_reads_good_expression e None f k =
+      ensures_bind variants_of_select_read_variants
+      (λ vs g. ensures_yields (select_obeys_joined t Joins R h e vs f k g))
+  select_reads_good_expression e (Some x) f k = fails_ensures_anything
 
-  pub ensures_expression : Ensures (expression One t R) (IsReadExpression t Joins)
-  ensures_expression =
+  pub expression_reads_good_expression : Ensures (expression One t R) (IsReadExpression t Joins)
+  expression_reads_good_expression =
       ensures_bind (record { on_read = λ i j e x. (inline_inversion t Joins R h i j e x).0 })
       (λ e f. second_ensures (λ u. second_ensures (λ arrow. ensures_branch_on
-      (λ y. ensures_select e (selector_fault e) f refl)
-      (λ y. ensures_branch_on (λ z. ensures_fails) (λ z. ensures_yields (inline_obeys_joined t Joins R h e f z))))))
+      (λ y. select_reads_good_expression e (selector_fault e) f refl)
+      (λ y. ensures_branch_on (λ z. fails_ensures_anything)
+      (λ z. ensures_yields (inline_obeys_joined t Joins R h e f z))))))
 
   next_obeys_joined : ObeysJoinedFamily t Joins (next One t R)
-  next_obeys_joined = record { expression = ensures_expression; argument_list = ensures_arguments t Joins R h [] }
+  next_obeys_joined = record {
+    expression = expression_reads_good_expression;
+    argument_list =
+        more_arguments_read_arguments t Joins R h [];
+  }
 
 module _ (t : List ℕ) (bare : HasNoBareCr t) (Joins : Type 0) (crs : (i : ℕ) → has_byte t cr i ≡ true → Joins) where
-  nothing_obeys_joined : ObeysJoinedFamily t Joins (within One t zero)
+  depth_zero_obeys_joined : ObeysJoinedFamily t Joins (within One t zero)
   unfolding within
-  nothing_obeys_joined = record {
+  depth_zero_obeys_joined = record {
     expression = record { on_read = λ i j a x. absurd x };
     argument_list = record { on_read = λ i j a x. absurd x };
   }
 
-  suc_obeys_joined : (n : ℕ) → ObeysJoinedFamily t Joins (within One t n) →
+  next_depth_obeys_joined : (n : ℕ) → ObeysJoinedFamily t Joins (within One t n) →
       ObeysJoinedFamily t Joins (within One t (suc n))
   unfolding within
-  suc_obeys_joined n h = next_obeys_joined t bare Joins crs (within One t n) h
+  next_depth_obeys_joined n h = next_obeys_joined t bare Joins crs (within One t n) h
 
   within_obeys_joined : (n : ℕ) → ObeysJoinedFamily t Joins (within One t n)
-  within_obeys_joined zero = nothing_obeys_joined
-  within_obeys_joined (suc n) = suc_obeys_joined n (within_obeys_joined n)
+  within_obeys_joined zero = depth_zero_obeys_joined
+  within_obeys_joined (suc n) = next_depth_obeys_joined n (within_obeys_joined n)
 
   -- what nests is fine, to any depth
   pub family_obeys_joined : ObeysJoinedFamily t Joins (family One t)

@@ -16,17 +16,18 @@ use Rattle.fluent_syntax_grammar.specs.Written.{begins_with_mark, is_leading_mar
 use Rattle.fluent_syntax_grammar.specs.Readable.{ElementPosition, opening, after_line, after_placeable}
 use Rattle.fluent_syntax_grammar.specs.RoundTrip.{HasNoBareCr}
 use Rattle.fluent_syntax_grammar.proofs.Facts.{byte_exists, holds-some, tests_imply, left_true, right_true, differs}
-use Rattle.fluent_syntax_grammar.proofs.Facts.{equal, two_on, lt_or_le, byte_passes}
+use Rattle.fluent_syntax_grammar.proofs.Facts.{equal, one_and_one_on_is_two_on, lt_or_le, byte_passes}
 use Rattle.fluent_syntax_grammar.proofs.Tests.{or_cases}
 use Rattle.fluent_syntax_grammar.proofs.Functional.{longest_run_is_functional}
 use Rattle.fluent_syntax_grammar.proofs.backward.Texts.{is_plain, shows, BeginsElement}
 use Rattle.fluent_syntax_grammar.proofs.backward.Shapes.{places, runs, ends_line, blank_line, joins, Shape, done, more}
 use Rattle.fluent_syntax_grammar.proofs.backward.Shapes.{space_is_plain}
-use Rattle.fluent_syntax_grammar.proofs.backward.Lines.{range_first, range_last, range_byte, range_all, byte_at}
+use Rattle.fluent_syntax_grammar.proofs.backward.Lines.{range_first, range_ends_with_its_last_byte}
+use Rattle.fluent_syntax_grammar.proofs.backward.Lines.{range_of_one_byte_is_that_byte, range_all, byte_at}
 use Rattle.fluent_syntax_grammar.proofs.backward.Lines.{PiecesAt, no_piece, a_run, a_placeable, EndingAt, lf_ends}
 use Rattle.fluent_syntax_grammar.proofs.backward.Lines.{crlf_ends, text_ends, LineAt, LinesAt, a_line, LayoutAt}
 use Rattle.fluent_syntax_grammar.proofs.backward.Lines.{on_line, below}
-use Rattle.fluent_syntax_grammar.proofs.Tests.{not_true, or_true}
+use Rattle.fluent_syntax_grammar.proofs.Tests.{not_true_is_false, or_with_true_is_true}
 
 -- a byte that is no LF and no brace, and no CR, is plain
 no_brace_is_plain : (b : ℕ) → not (b == lf || b == 123 || b == 125) ≡ true → (b == cr) ≡ false → is_plain b ≡ true
@@ -49,8 +50,9 @@ byte_is_no_mark b e = bools (b == 46) (b == 125) (b == 91) (b == 42) e
     bools false false true w e = cc
     bools false false false true e = cc
 
-plain_not : (b c : ℕ) → is_plain c ≡ false → (b == c) ≡ true → is_plain b ≡ true → ⊥
-plain_not b c e f g = let same = equal b c f in let h : is_plain c ≡ true = subst (λ b. is_plain b ≡ true) same g in cc
+plain_byte_is_no_other_byte : (b c : ℕ) → is_plain c ≡ false → (b == c) ≡ true → is_plain b ≡ true → ⊥
+plain_byte_is_no_other_byte b c e f g =
+    let same = equal b c f in let h : is_plain c ≡ true = subst (λ b. is_plain b ≡ true) same g in cc
 
 -- what may follow an ending
 abbrev pub MayFollowEnding : (t : List ℕ) (Joins : Type 0) (m : Bool) → Ending → List Item → Type 0
@@ -59,61 +61,64 @@ MayFollowEnding t Joins m (crlf_at p) rest = Shape t Joins m after_line rest
 MayFollowEnding t Joins m text_end rest = rest ≡ []
 
 module _ (t : List ℕ) (bare : HasNoBareCr t) where
-  eol_of : (i : ℕ) → has_byte t cr i ≡ true → has_byte t lf (i + 1) ≡ true → has_eol t i ≡ true
-  eol_of i e f = rw (e, f) (or_true (has_byte t lf i))
+  cr_before_lf_is_eol : (i : ℕ) → has_byte t cr i ≡ true → has_byte t lf (i + 1) ≡ true → has_eol t i ≡ true
+  cr_before_lf_is_eol i e f = rw (e, f) (or_with_true_is_true (has_byte t lf i))
 
-  no_cr : (i b : ℕ) (x : Bool) → (b == cr) ≡ x → slice_get t i ≡ Some b → has_eol t i ≡ false → (b == cr) ≡ false
-  no_cr i b false e f g = e
-  no_cr i b true e f g = let h = holds-some (λ c. c == cr) (slice_get t i) b f e in differs (eol_of i h (bare i h)) g
+  byte_off_eol_is_no_cr : (i b : ℕ) (x : Bool) → (b == cr) ≡ x → slice_get t i ≡ Some b → has_eol t i ≡ false →
+      (b == cr) ≡ false
+  byte_off_eol_is_no_cr i b false e f g = e
+  byte_off_eol_is_no_cr i b true e f g =
+      let h = holds-some (λ c. c == cr) (slice_get t i) b f e in differs (cr_before_lf_is_eol i h (bare i h)) g
 
   -- a byte of a run is plain
-  run_plain : (i : ℕ) → is_run_place t i ≡ true → has t is_plain i ≡ true
-  run_plain i e =
+  run_place_has_plain_byte : (i : ℕ) → is_run_place t i ≡ true → has t is_plain i ≡ true
+  run_place_has_plain_byte i e =
       let b =
       byte_exists (λ b. not (b == lf || b == 123 || b == 125)) (slice_get t i) (left_true _ (not (has_eol t i)) e) in
       let f =
-      not_true (has_eol t i)
+      not_true_is_false (has_eol t i)
       (right_true (has t (λ b. not (b == lf || b == 123 || b == 125)) i) (not (has_eol t i)) e) in
-      holds-some is_plain (slice_get t i) b.0 b.1 (no_brace_is_plain b.0 b.2 (no_cr i b.0 (b.0 == cr) refl b.1 f))
+      holds-some is_plain (slice_get t i) b.0 b.1
+      (no_brace_is_plain b.0 b.2 (byte_off_eol_is_no_cr i b.0 (b.0 == cr) refl b.1 f))
 
   -- where a run begins a later line, it begins with no mark
-  own_mark : (indented : Bool) (i b : ℕ) → belongs t indented i ≡ true → is_run_place t i ≡ true →
-      slice_get t i ≡ Some b → is_leading_mark b ≡ false
-  own_mark true i b e f g = elim (or_cases (has_eol t i) _ e) [
+  run_of_own_line_begins_with_no_mark : (indented : Bool) (i b : ℕ) → belongs t indented i ≡ true →
+      is_run_place t i ≡ true → slice_get t i ≡ Some b → is_leading_mark b ≡ false
+  run_of_own_line_begins_with_no_mark true i b e f g = elim (or_cases (has_eol t i) _ e) [
     | inl h ↦ differs h
-        (not_true (has_eol t i)
+        (not_true_is_false (has_eol t i)
         (right_true (has t (λ b. not (b == lf || b == 123 || b == 125)) i) (not (has_eol t i)) f))
     | inr h ↦ byte_is_no_mark b (byte_passes _ (slice_get t i) b g h)
   ]
-  own_mark false i b e f g =
-      let plain = byte_passes is_plain (slice_get t i) b g (run_plain i f) in
+  run_of_own_line_begins_with_no_mark false i b e f g =
+      let plain = byte_passes is_plain (slice_get t i) b g (run_place_has_plain_byte i f) in
       elim (or_cases (has_eol t i || has_byte t 123 i) (has_byte t cr i) e) [
         | inl h ↦ elim (or_cases (has_eol t i) (has_byte t 123 i) h) [
           | inl k ↦ differs k
-              (not_true (has_eol t i)
+              (not_true_is_false (has_eol t i)
               (right_true (has t (λ b. not (b == lf || b == 123 || b == 125)) i) (not (has_eol t i)) f))
-          | inr k ↦ absurd (plain_not b 123 refl (byte_passes _ (slice_get t i) b g k) plain)
+          | inr k ↦ absurd (plain_byte_is_no_other_byte b 123 refl (byte_passes _ (slice_get t i) b g k) plain)
         ]
-        | inr h ↦ absurd (plain_not b cr refl (byte_passes _ (slice_get t i) b g h) plain)
+        | inr h ↦ absurd (plain_byte_is_no_other_byte b cr refl (byte_passes _ (slice_get t i) b g h) plain)
       ]
 
   -- spaces and then a byte that is none
-  head_of : (n i j b : ℕ) → i + n < j → ((k : ℕ) → i ≤ k → k < i + n → has t is_space k ≡ true) →
-      slice_get t (i + n) ≡ Some b → is_space b ≡ false →
+  range_after_spaces_begins_with_byte : (n i j b : ℕ) → i + n < j →
+      ((k : ℕ) → i ≤ k → k < i + n → has t is_space k ≡ true) → slice_get t (i + n) ≡ Some b → is_space b ≡ false →
       (shows (slice_range t i j) ≡ true) × (after_spaces (slice_range t i j) ≡ b ∷ slice_range t ((i + n) + 1) j)
-  head_of zero i j b l e f g =
+  range_after_spaces_begins_with_byte zero i j b l e f g =
       let s : i + 0 ≡ i = omega arith in
       let h : slice_get t i ≡ Some b = subst (λ k. slice_get t k ≡ Some b) s f in
       let r : slice_range t i j ≡ b ∷ slice_range t (i + 1) j = range_first t i j b (omega arith) h in
       let r' : slice_range t i j ≡ b ∷ slice_range t ((i + 0) + 1) j =
       subst (λ k. slice_range t i j ≡ b ∷ slice_range t (k + 1) j) (sym s) r in
       rw (r', g) (refl, refl)
-  head_of (suc n) i j b l e f g =
+  range_after_spaces_begins_with_byte (suc n) i j b l e f g =
       let c = byte_exists is_space (slice_get t i) (e i (omega arith) (omega arith)) in
       let s : (i + 1) + n ≡ i + suc n = omega arith in
       let r : slice_range t i j ≡ c.0 ∷ slice_range t (i + 1) j = range_first t i j c.0 (omega arith) c.1 in
       let q =
-      head_of n (i + 1) j b (omega arith) (λ k x y. e k (omega arith) (omega arith))
+      range_after_spaces_begins_with_byte n (i + 1) j b (omega arith) (λ k x y. e k (omega arith) (omega arith))
       (subst (λ k. slice_get t k ≡ Some b) (sym s) f) g in
       let q' : after_spaces (slice_range t (i + 1) j) ≡ b ∷ slice_range t ((i + suc n) + 1) j =
       subst (λ k. after_spaces (slice_range t (i + 1) j) ≡ b ∷ slice_range t (k + 1) j) s q.1 in
@@ -126,97 +131,104 @@ module _ (t : List ℕ) (bare : HasNoBareCr t) where
     pub shown : shows (slice_range t kept to) ≡ true
     pub after : after_spaces (slice_range t kept to) ≡ b ∷ slice_range t (first + 1) to
 
-  shown_some : (u : List ℕ) → shows u ≡ true → is_empty u ≡ false
-  shown_some [] e = cc
-  shown_some (x ∷ u) e = refl
+  shown_text_is_not_empty : (u : List ℕ) → shows u ≡ true → is_empty u ≡ false
+  shown_text_is_not_empty [] e = cc
+  shown_text_is_not_empty (x ∷ u) e = refl
 
-  kept_plain : (kept first to : ℕ) → ((k : ℕ) → kept ≤ k → k < first → has t is_space k ≡ true) →
+  kept_run_has_plain_bytes : (kept first to : ℕ) → ((k : ℕ) → kept ≤ k → k < first → has t is_space k ≡ true) →
       LongestRun (is_run_place t) first to → (k : ℕ) → kept ≤ k → k < to → has t is_plain k ≡ true
-  kept_plain kept first to e w k l n = elim (lt_or_le k first) [
+  kept_run_has_plain_bytes kept first to e w k l n = elim (lt_or_le k first) [
     | inl x ↦ tests_imply is_space is_plain (slice_get t k) space_is_plain (e k l x)
-    | inr x ↦ run_plain k (w.each k x n)
+    | inr x ↦ run_place_has_plain_byte k (w.each k x n)
   ]
 
-  line_text : (kept first to b : ℕ) → kept ≤ first → first < to →
+  run_after_kept_indent_is_line_text : (kept first to b : ℕ) → kept ≤ first → first < to →
       ((k : ℕ) → kept ≤ k → k < first → has t is_space k ≡ true) → LongestRun (is_run_place t) first to →
       slice_get t first ≡ Some b → is_space b ≡ false → LineText kept first to b
-  line_text kept first to b l n e w f g =
+  run_after_kept_indent_is_line_text kept first to b l n e w f g =
       let s : kept + (first - kept) ≡ first = omega arith in
       let h =
-      head_of (first - kept) kept to b (omega arith) (λ k x y. e k x (omega arith))
+      range_after_spaces_begins_with_byte (first - kept) kept to b (omega arith) (λ k x y. e k x (omega arith))
       (subst (λ k. slice_get t k ≡ Some b) (sym s) f) g in
       record {
-        plain = range_all t is_plain kept to (omega arith) (kept_plain kept first to e w);
-        some = shown_some (slice_range t kept to) h.0;
+        plain = range_all t is_plain kept to (omega arith) (kept_run_has_plain_bytes kept first to e w);
+        some = shown_text_is_not_empty (slice_range t kept to) h.0;
         shown = h.0;
         after = subst (λ k. after_spaces (slice_range t kept to) ≡ b ∷ slice_range t (k + 1) to) s h.1;
       }
 
 module _ (t : List ℕ) (bare : HasNoBareCr t) (Joins : Type 0) (crs : (i : ℕ) → has_byte t cr i ≡ true → Joins)
     (m : Bool) where
-  pub lone_lf : (p : ℕ) → has_byte t lf (p + 1) ≡ true → slice_range t (p + 1) (p + 2) ≡ lf ∷ []
-  lone_lf p e =
-      subst (λ k. slice_range t (p + 1) k ≡ lf ∷ []) (two_on p) (range_byte t (p + 1) lf (byte_at t lf (p + 1) e))
+  pub range_of_lone_lf_is_lf : (p : ℕ) → has_byte t lf (p + 1) ≡ true → slice_range t (p + 1) (p + 2) ≡ lf ∷ []
+  range_of_lone_lf_is_lf p e =
+      subst (λ k. slice_range t (p + 1) k ≡ lf ∷ []) (one_and_one_on_is_two_on p)
+      (range_of_one_byte_is_that_byte t (p + 1) lf (byte_at t lf (p + 1) e))
 
   -- a run that ends its line
-  run_end : (s : ElementPosition) (kept to : ℕ) (e : Ending) (j : ℕ) (rest : List Item) → kept ≤ to →
+  run_at_end_has_shape : (s : ElementPosition) (kept to : ℕ) (e : Ending) (j : ℕ) (rest : List Item) → kept ≤ to →
       list_all is_plain (slice_range t kept to) ≡ true → is_empty (slice_range t kept to) ≡ false →
       BeginsElement m s (slice_range t kept to) → EndingAt t Joins to e j → MayFollowEnding t Joins m e rest →
       Shape t Joins m s (with_ending (run kept to ∷ []) e ++ rest)
-  run_end s kept to e j rest l p n b (lf_ends h) a =
-      more (ends_line (slice_range t kept to) (range_last t kept to lf l (byte_at t lf to h)) p b) a
-  run_end s kept to e j rest l p n b (crlf_ends c h) a =
-      more (runs (slice_range t kept to) refl p n b) (more (joins (lone_lf to h) (crs to c)) a)
-  run_end s kept to e j rest l p n b (text_ends h) a =
+  run_at_end_has_shape s kept to e j rest l p n b (lf_ends h) a =
+      more (ends_line (slice_range t kept to) (range_ends_with_its_last_byte t kept to lf l (byte_at t lf to h)) p b) a
+  run_at_end_has_shape s kept to e j rest l p n b (crlf_ends c h) a =
+      more (runs (slice_range t kept to) refl p n b) (more (joins (range_of_lone_lf_is_lf to h) (crs to c)) a)
+  run_at_end_has_shape s kept to e j rest l p n b (text_ends h) a =
       subst (λ rest. Shape t Joins m s (text kept to ∷ rest)) (sym a)
       (more (runs (slice_range t kept to) refl p n b) done)
 
-  no_run_after : (i to j : ℕ) (ps : List Piece) → is_run_place t i ≡ false → i < to → LongestRun (is_run_place t) i to
-      → ⊥
-  no_run_after i to j ps e l w = differs (w.each i (omega arith) l) e
+  no_run_starts_off_run_place : (i to j : ℕ) (ps : List Piece) → is_run_place t i ≡ false → i < to
+      → LongestRun (is_run_place t) i to → ⊥
+  no_run_starts_off_run_place i to j ps e l w = differs (w.each i (omega arith) l) e
 
-  run_some : (i to : ℕ) → i < to → LongestRun (is_run_place t) i to → is_empty (slice_range t i to) ≡ false
-  run_some i to l w =
-      let b = byte_exists is_plain (slice_get t i) (run_plain t bare i (w.each i (omega arith) l)) in
+  nonempty_run_has_bytes : (i to : ℕ) → i < to → LongestRun (is_run_place t) i to →
+      is_empty (slice_range t i to) ≡ false
+  nonempty_run_has_bytes i to l w =
+      let b = byte_exists is_plain (slice_get t i) (run_place_has_plain_byte t bare i (w.each i (omega arith) l)) in
       ap is_empty (range_first t i to b.0 l b.1)
 
-  run_all : (i to : ℕ) → i < to → LongestRun (is_run_place t) i to → list_all is_plain (slice_range t i to) ≡ true
-  run_all i to l w = range_all t is_plain i to (omega arith) (λ k x y. run_plain t bare k (w.each k x y))
+  bytes_of_run_are_plain : (i to : ℕ) → i < to → LongestRun (is_run_place t) i to →
+      list_all is_plain (slice_range t i to) ≡ true
+  bytes_of_run_are_plain i to l w =
+      range_all t is_plain i to (omega arith) (λ k x y. run_place_has_plain_byte t bare k (w.each k x y))
 
   -- after a placeable
   placed_then : (i : ℕ) (ps : List Piece) (n : ℕ) (e : Ending) (j : ℕ) (rest : List Item) → PiecesAt t Joins i ps n →
       EndingAt t Joins n e j → MayFollowEnding t Joins m e rest → Shape t Joins m after_placeable
       (with_ending ps e ++ rest)
   placed_then i [] n e j rest (no_piece x) (lf_ends h) a =
-      more (ends_line [] (range_byte t n lf (byte_at t lf n h)) refl tt) a
-  placed_then i [] n e j rest (no_piece x) (crlf_ends c h) a = more (ends_line [] (lone_lf n h) refl tt) a
+      more (ends_line [] (range_of_one_byte_is_that_byte t n lf (byte_at t lf n h)) refl tt) a
+  placed_then i [] n e j rest (no_piece x) (crlf_ends c h) a =
+      more (ends_line [] (range_of_lone_lf_is_lf n h) refl tt) a
   placed_then i [] n e j rest (no_piece x) (text_ends h) a = subst (Shape t Joins m after_placeable) (sym a) done
   placed_then i (run from to ∷ []) n e j rest (a_run l w (no_piece x)) y a =
-      run_end after_placeable i n e j rest (omega arith) (run_all i n l w) (run_some i n l w) tt y a
+      run_at_end_has_shape after_placeable i n e j rest (omega arith) (bytes_of_run_are_plain i n l w)
+      (nonempty_run_has_bytes i n l w) tt y a
   placed_then i (run from to ∷ placed z ∷ ps) n e j rest (a_run l w (a_placeable {m = k} g h)) y a =
-      more (runs (slice_range t i to) refl (run_all i to l w) (run_some i to l w) tt)
+      more (runs (slice_range t i to) refl (bytes_of_run_are_plain i to l w) (nonempty_run_has_bytes i to l w) tt)
       (more (places g) (placed_then k ps n e j rest h y a))
   placed_then i (run from to ∷ run from' to' ∷ ps) n e j rest (a_run l w (a_run l' w' h)) y a =
-      absurd (no_run_after to to' j ps w.longest l' w')
+      absurd (no_run_starts_off_run_place to to' j ps w.longest l' w')
   placed_then i (placed z ∷ ps) n e j rest (a_placeable {m = k} g h) y a =
       more (places g) (placed_then k ps n e j rest h y a)
 
   -- a line that begins with a run, with the spaces that are kept before it
-  run_first : (s : ElementPosition) (kept first to : ℕ) (ps : List Piece) (n : ℕ) (e : Ending) (j : ℕ)
+  run_before_pieces_has_shape : (s : ElementPosition) (kept first to : ℕ) (ps : List Piece) (n : ℕ) (e : Ending) (j : ℕ)
       (rest : List Item) →
       kept ≤ to → list_all is_plain (slice_range t kept to) ≡ true → is_empty (slice_range t kept to) ≡ false →
       BeginsElement m s (slice_range t kept to) →
       is_run_place t to ≡ false → PiecesAt t Joins to ps n → EndingAt t Joins n e j → MayFollowEnding t Joins m e rest →
       Shape t Joins m s (with_ending (run kept to ∷ ps) e ++ rest)
-  run_first s kept first to [] n e j rest l p o b z (no_piece x) y a = run_end s kept n e j rest l p o b y a
-  run_first s kept first to (placed v ∷ ps) n e j rest l p o b z (a_placeable {m = k} g h) y a =
+  run_before_pieces_has_shape s kept first to [] n e j rest l p o b z (no_piece x) y a =
+      run_at_end_has_shape s kept n e j rest l p o b y a
+  run_before_pieces_has_shape s kept first to (placed v ∷ ps) n e j rest l p o b z (a_placeable {m = k} g h) y a =
       more (runs (slice_range t kept to) refl p o b) (more (places g) (placed_then k ps n e j rest h y a))
-  run_first s kept first to (run from' to' ∷ ps) n e j rest l p o b z (a_run l' w' h) y a =
-      absurd (no_run_after to to' j ps z l' w')
+  run_before_pieces_has_shape s kept first to (run from' to' ∷ ps) n e j rest l p o b z (a_run l' w' h) y a =
+      absurd (no_run_starts_off_run_place to to' j ps z l' w')
 
   -- the bytes of an ending say that a line end begins there
-  lf_eol : (i : ℕ) → has_byte t lf i ≡ true → has_eol t i ≡ true
-  lf_eol i e = rw e refl
+  byte_lf_is_eol : (i : ℕ) → has_byte t lf i ≡ true → has_eol t i ≡ true
+  byte_lf_is_eol i e = rw e refl
 
   -- where the spaces of a line and its first byte are
   pub record HeadAt (kept first byte : ℕ) : Type 0 where
@@ -225,28 +237,29 @@ module _ (t : List ℕ) (bare : HasNoBareCr t) (Joins : Type 0) (crs : (i : ℕ)
     pub in_place : slice_get t first ≡ Some byte
     pub shown : is_space byte ≡ false
 
-  pub run_text : (kept first byte to : ℕ) → HeadAt kept first byte → first < to → LongestRun (is_run_place t) first to →
-      LineText t bare kept first to byte
-  run_text kept first byte to h l w = line_text t bare kept first to byte h.on l h.leading w h.in_place h.shown
+  pub run_at_head_is_line_text : (kept first byte to : ℕ) → HeadAt kept first byte → first < to →
+      LongestRun (is_run_place t) first to → LineText t bare kept first to byte
+  run_at_head_is_line_text kept first byte to h l w =
+      run_after_kept_indent_is_line_text t bare kept first to byte h.on l h.leading w h.in_place h.shown
 
   -- a later line
-  later_shape : (kept first byte : ℕ) (ps : List Piece) (n : ℕ) (e : Ending) (j : ℕ) (rest : List Item) →
-      HeadAt kept first byte → (is_run_place t first ≡ true → is_leading_mark byte ≡ false) →
+  items_of_later_line_have_shape : (kept first byte : ℕ) (ps : List Piece) (n : ℕ) (e : Ending) (j : ℕ)
+      (rest : List Item) → HeadAt kept first byte → (is_run_place t first ≡ true → is_leading_mark byte ≡ false) →
       PiecesAt t Joins first ps n → EndingAt t Joins n e j → MayFollowEnding t Joins m e rest →
       (at : ℕ) → Shape t Joins m after_line (items_from One kept at ps e ++ rest)
-  later_shape kept first byte [] n e j rest h o (no_piece x) (lf_ends y) a at =
-      more (blank_line (slice_range t kept n) (range_last t kept n lf h.on (byte_at t lf n y))
+  items_of_later_line_have_shape kept first byte [] n e j rest h o (no_piece x) (lf_ends y) a at =
+      more (blank_line (slice_range t kept n) (range_ends_with_its_last_byte t kept n lf h.on (byte_at t lf n y))
       (range_all t is_space kept n h.on h.leading)) a
-  later_shape kept first byte [] n e j rest h o (no_piece x) (crlf_ends c y) a at =
-      more (blank_line [] (lone_lf n y) refl) a
-  later_shape kept first byte [] n e j rest h o (no_piece x) (text_ends y) a at =
+  items_of_later_line_have_shape kept first byte [] n e j rest h o (no_piece x) (crlf_ends c y) a at =
+      more (blank_line [] (range_of_lone_lf_is_lf n y) refl) a
+  items_of_later_line_have_shape kept first byte [] n e j rest h o (no_piece x) (text_ends y) a at =
       subst (Shape t Joins m after_line) (sym a) done
-  later_shape kept first byte (run from to ∷ ps) n e j rest h o (a_run l w g) y a at =
-      let x = run_text kept first byte to h l w in
+  items_of_later_line_have_shape kept first byte (run from to ∷ ps) n e j rest h o (a_run l w g) y a at =
+      let x = run_at_head_is_line_text kept first byte to h l w in
       let on = h.on in
-      run_first after_line kept first to ps n e j rest (omega arith) x.plain x.some
+      run_before_pieces_has_shape after_line kept first to ps n e j rest (omega arith) x.plain x.some
       (x.shown, ap begins_with_mark x.after ∙ o (w.each first (omega arith) l)) w.longest g y a
-  later_shape kept first byte (placed z ∷ ps) n e j rest h o (a_placeable {m = k} g x) y a at =
+  items_of_later_line_have_shape kept first byte (placed z ∷ ps) n e j rest h o (a_placeable {m = k} g x) y a at =
       more (places g) (placed_then k ps n e j rest x y a)
 
   -- the first line, where there is nothing on the line above it
@@ -255,13 +268,14 @@ module _ (t : List ℕ) (bare : HasNoBareCr t) (Joins : Type 0) (crs : (i : ℕ)
       ((from to : ℕ) (qs : List Piece) → ps ≡ run from to ∷ qs → (m ≡ true) ⊎ (kept ≡ first)) →
       PiecesAt t Joins first ps n → EndingAt t Joins n e j → MayFollowEnding t Joins m e rest →
       (at : ℕ) → Shape t Joins m opening (items_from One kept at ps e ++ rest)
-  first_shape kept first byte [] n e j rest h o s (no_piece x) (lf_ends y) a at = differs (lf_eol n y) o
-  first_shape kept first byte [] n e j rest h o s (no_piece x) (crlf_ends c y) a at = differs (eol_of t bare n c y) o
+  first_shape kept first byte [] n e j rest h o s (no_piece x) (lf_ends y) a at = differs (byte_lf_is_eol n y) o
+  first_shape kept first byte [] n e j rest h o s (no_piece x) (crlf_ends c y) a at =
+      differs (cr_before_lf_is_eol t bare n c y) o
   first_shape kept first byte [] n e j rest h o s (no_piece x) (text_ends y) a at = let f = h.in_place in absurd cc
   first_shape kept first byte (run from to ∷ ps) n e j rest h o s (a_run l w g) y a at =
-      let x = run_text kept first byte to h l w in
+      let x = run_at_head_is_line_text kept first byte to h l w in
       let on = h.on in
-      run_first opening kept first to ps n e j rest (omega arith) x.plain x.some
+      run_before_pieces_has_shape opening kept first to ps n e j rest (omega arith) x.plain x.some
       (x.shown, begins kept first byte to h l (s from to ps refl)) w.longest g y a
     where
       begins : (kept first byte to : ℕ) → HeadAt kept first byte → first < to → (m ≡ true) ⊎ (kept ≡ first) →
@@ -284,25 +298,25 @@ module _ (t : List ℕ) (bare : HasNoBareCr t) (Joins : Type 0) (crs : (i : ℕ)
       here_or : (i k : ℕ) → i ≤ k → (i ≡ k) ⊎ (i < k)
       here_or i k l = grind arith
 
-  after_of : (common : Option ℕ) (n : ℕ) (e : Ending) (j : ℕ) (ls : List Line) → EndingAt t Joins n e j →
-      LinesAt t Joins j ls → Shape t Joins m after_line (flat_map (line_items One common) ls) →
+  items_after_ending_have_shape : (common : Option ℕ) (n : ℕ) (e : Ending) (j : ℕ) (ls : List Line) →
+      EndingAt t Joins n e j → LinesAt t Joins j ls → Shape t Joins m after_line (flat_map (line_items One common) ls) →
       MayFollowEnding t Joins m e (flat_map (line_items One common) ls)
-  after_of common n e j ls (lf_ends y) x s = s
-  after_of common n e j ls (crlf_ends c y) x s = s
-  after_of common n e j [] (text_ends y) x s = refl
-  after_of common n e j (l ∷ ls) (text_ends y) (a_line x z) s =
+  items_after_ending_have_shape common n e j ls (lf_ends y) x s = s
+  items_after_ending_have_shape common n e j ls (crlf_ends c y) x s = s
+  items_after_ending_have_shape common n e j [] (text_ends y) x s = refl
+  items_after_ending_have_shape common n e j (l ∷ ls) (text_ends y) (a_line x z) s =
       absurd (no_line_at_end j x.first x.byte y x.leading x.in_place)
 
-  kept_between : (common : Option ℕ) (l : Line) (i first : ℕ) → l.start ≡ i → l.spaces ≡ first - i → i ≤ first →
-      (i ≤ common_indent_end common l) × (common_indent_end common l ≤ first)
-  kept_between None l i first e f g = (omega arith, omega arith)
-  kept_between (Some c) l i first e f g = (omega arith, omega arith)
+  kept_indent_is_inside_blank : (common : Option ℕ) (l : Line) (i first : ℕ) → l.start ≡ i → l.spaces ≡ first - i →
+      i ≤ first → (i ≤ common_indent_end common l) × (common_indent_end common l ≤ first)
+  kept_indent_is_inside_blank None l i first e f g = (omega arith, omega arith)
+  kept_indent_is_inside_blank (Some c) l i first e f g = (omega arith, omega arith)
 
-  pub head_at : (common : Option ℕ) (i j : ℕ) (l : Line) → (x : LineAt t Joins i l j) →
+  pub line_has_head_at_kept_indent : (common : Option ℕ) (i j : ℕ) (l : Line) → (x : LineAt t Joins i l j) →
       HeadAt (common_indent_end common l) x.first x.byte
-  head_at common i j l x =
+  line_has_head_at_kept_indent common i j l x =
       let w = x.leading in
-      let k = kept_between common l i x.first x.start x.spaces w.forward in
+      let k = kept_indent_is_inside_blank common l i x.first x.start x.spaces w.forward in
       let k0 = k.0 in
       record {
         on = k.1;
@@ -314,14 +328,17 @@ module _ (t : List ℕ) (bare : HasNoBareCr t) (Joins : Type 0) (crs : (i : ℕ)
       no_space : (i b : ℕ) → slice_get t i ≡ Some b → has t is_space i ≡ false → is_space b ≡ false
       no_space i b e f = ap (holds is_space) (sym e) ∙ f
 
-  lines_shape : (common : Option ℕ) (i : ℕ) (ls : List Line) → LinesAt t Joins i ls →
+  items_of_lines_have_shape : (common : Option ℕ) (i : ℕ) (ls : List Line) → LinesAt t Joins i ls →
       Shape t Joins m after_line (flat_map (line_items One common) ls)
-  lines_shape common i [] h = done
-  lines_shape common i (l ∷ ls) (a_line {j = j} x h) =
+  items_of_lines_have_shape common i [] h = done
+  items_of_lines_have_shape common i (l ∷ ls) (a_line {j = j} x h) =
       let rest = flat_map (line_items One common) ls in
-      let a = after_of common x.end l.ending j ls x.ending h (lines_shape common j ls h) in
-      later_shape (common_indent_end common l) x.first x.byte l.pieces x.end l.ending j rest (head_at common i j l x)
-      (λ e. own_mark t bare (nat_lt i x.first) x.first x.byte x.own e x.in_place) x.pieces x.ending a
+      let a = items_after_ending_have_shape common x.end l.ending j ls x.ending h
+      (items_of_lines_have_shape common j ls h) in
+      items_of_later_line_have_shape (common_indent_end common l) x.first x.byte l.pieces x.end l.ending j rest
+      (line_has_head_at_kept_indent common i j l x)
+      (λ e. run_of_own_line_begins_with_no_mark t bare (nat_lt i x.first) x.first x.byte x.own e x.in_place) x.pieces
+      x.ending a
       (l.start + l.spaces)
 
   -- The first of the lines below may keep spaces only where the pattern spans lines.
@@ -344,35 +361,37 @@ module _ (t : List ℕ) (bare : HasNoBareCr t) (Joins : Type 0) (crs : (i : ℕ)
   opened_shape : (i : ℕ) (ps : List Piece) (n : ℕ) (e : Ending) (j : ℕ) (rest : List Item) → has t is_space i ≡ false →
       has_eol t i ≡ false → PiecesAt t Joins i ps n → EndingAt t Joins n e j → MayFollowEnding t Joins m e rest →
       Shape t Joins m opening (with_ending ps e ++ rest)
-  opened_shape i [] n e j rest f g (no_piece x) (lf_ends y) a = differs (lf_eol n y) g
-  opened_shape i [] n e j rest f g (no_piece x) (crlf_ends c y) a = differs (eol_of t bare n c y) g
+  opened_shape i [] n e j rest f g (no_piece x) (lf_ends y) a = differs (byte_lf_is_eol n y) g
+  opened_shape i [] n e j rest f g (no_piece x) (crlf_ends c y) a = differs (cr_before_lf_is_eol t bare n c y) g
   opened_shape i [] n e j rest f g (no_piece x) (text_ends y) a = subst (Shape t Joins m opening) (sym a) done
   opened_shape i (run from to ∷ ps) n e j rest f g (a_run l w x) y a =
-      let b = byte_exists is_plain (slice_get t i) (run_plain t bare i (w.each i (omega arith) l)) in
+      let b = byte_exists is_plain (slice_get t i) (run_place_has_plain_byte t bare i (w.each i (omega arith) l)) in
       let shown : is_space b.0 ≡ false = ap (holds is_space) (sym b.1) ∙ f in
       let h : HeadAt i i b.0 =
       record { on = omega arith; leading = λ k x y. absurd (omega arith); in_place = b.1; shown = shown } in
-      let x' = run_text i i b.0 to h l w in
-      run_first opening i i to ps n e j rest (omega arith) x'.plain x'.some
+      let x' = run_at_head_is_line_text i i b.0 to h l w in
+      run_before_pieces_has_shape opening i i to ps n e j rest (omega arith) x'.plain x'.some
       (x'.shown, inr (ap begins_with_space (range_first t i to b.0 l b.1) ∙ shown)) w.longest x y a
   opened_shape i (placed z ∷ ps) n e j rest f g (a_placeable {m = k} h x) y a =
       more (places h) (placed_then k ps n e j rest x y a)
 
-  below_shape : (common : Option ℕ) (i k j : ℕ) (l : Line) (ls : List Line) → InlineBlank t i k → has_eol t k ≡ false →
-      (x : LineAt t Joins i l j) → LinesAt t Joins j ls →
+  items_of_layout_below_have_shape : (common : Option ℕ) (i k j : ℕ) (l : Line) (ls : List Line) → InlineBlank t i k →
+      has_eol t k ≡ false → (x : LineAt t Joins i l j) → LinesAt t Joins j ls →
       ((from to : ℕ) (qs : List Piece) → l.pieces ≡ run from to ∷ qs → (m ≡ true) ⊎
       (common_indent_end common l ≡ l.start + l.spaces)) →
       Shape t Joins m opening (line_items One common l ++ flat_map (line_items One common) ls)
-  below_shape common i k j l ls w e x h s =
+  items_of_layout_below_have_shape common i k j l ls w e x h s =
       let rest = flat_map (line_items One common) ls in
-      let a = after_of common x.end l.ending j ls x.ending h (lines_shape common j ls h) in
+      let a = items_after_ending_have_shape common x.end l.ending j ls x.ending h
+      (items_of_lines_have_shape common j ls h) in
       let v = x.leading in
       let on = v.forward in
       let start = x.start in
       let spaces = x.spaces in
-      let same : k ≡ x.first = same_word i k x.first w v in
+      let same : k ≡ x.first = inline_blank_end_is_unique i k x.first w v in
       let whole : l.start + l.spaces ≡ x.first = omega arith in
-      first_shape (common_indent_end common l) x.first x.byte l.pieces x.end l.ending j rest (head_at common i j l x)
+      first_shape (common_indent_end common l) x.first x.byte l.pieces x.end l.ending j rest
+      (line_has_head_at_kept_indent common i j l x)
       (subst (λ k. has_eol t k ≡ false) same e) (λ from to qs f. keeps x.first whole (s from to qs f)) x.pieces
       x.ending a (l.start + l.spaces)
     where
@@ -381,14 +400,14 @@ module _ (t : List ℕ) (bare : HasNoBareCr t) (Joins : Type 0) (crs : (i : ℕ)
       keeps first e (inl f) = inl f
       keeps first e (inr f) = inr (f ∙ e)
 
-      same_word : (i j k : ℕ) → InlineBlank t i j → InlineBlank t i k → j ≡ k
-      same_word i j k w v = longest_run_is_functional.same i j k w v
+      inline_blank_end_is_unique : (i j k : ℕ) → InlineBlank t i j → InlineBlank t i k → j ≡ k
+      inline_blank_end_is_unique i j k w v = longest_run_is_functional.same i j k w v
 
-  pub layout_shape : (y : Layout) → LayoutAt t Joins y → IsSpare y → Shape t Joins m opening (items One y)
-  layout_shape y (on_line {i = i} {m = n} {j = j} {ps = ps} {e = e} {ls = ls} f g x z h) s =
+  pub items_of_layout_have_shape : (y : Layout) → LayoutAt t Joins y → IsSpare y → Shape t Joins m opening (items One y)
+  items_of_layout_have_shape y (on_line {i = i} {m = n} {j = j} {ps = ps} {e = e} {ls = ls} f g x z h) s =
       let common = common_indent One (On i ps e ls) in
       opened_shape i ps n e j (flat_map (line_items One common) ls) f g x z
-      (after_of common n e j ls z h (lines_shape common j ls h))
-  layout_shape y (below {ls = []} w e h) s = done
-  layout_shape y (below {i = i} {k = k} {ls = l ∷ ls} w e (a_line {j = j} x h)) s =
-      below_shape (common_indent One (Below (l ∷ ls))) i k j l ls w e x h s
+      (items_after_ending_have_shape common n e j ls z h (items_of_lines_have_shape common j ls h))
+  items_of_layout_have_shape y (below {ls = []} w e h) s = done
+  items_of_layout_have_shape y (below {i = i} {k = k} {ls = l ∷ ls} w e (a_line {j = j} x h)) s =
+      items_of_layout_below_have_shape (common_indent One (Below (l ∷ ls))) i k j l ls w e x h s

@@ -18,8 +18,8 @@ use Rattle.fluent_syntax_grammar.proofs.backward.Shapes.{IsReadExpression}
 -- ---- ranges
 
 module _ (t : List ℕ) where
-  drop_at : (i b : ℕ) → slice_get t i ≡ Some b → SuffixAt t i (b ∷ drop (i + 1) t)
-  drop_at i b e =
+  suffix_at_byte_begins_with_it : (i b : ℕ) → slice_get t i ≡ Some b → SuffixAt t i (b ∷ drop (i + 1) t)
+  suffix_at_byte_begins_with_it i b e =
       let l = slice_get_within t i b e in
       let here : SuffixAt t i (drop i t) = record { within = omega arith; rest = refl } in
       let f : first (drop i t) ≡ Some b = sym (suffix_first here) ∙ e in
@@ -34,45 +34,46 @@ module _ (t : List ℕ) where
   pub range_first : (i j b : ℕ) → i < j → slice_get t i ≡ Some b → slice_range t i j ≡ b ∷ slice_range t (i + 1) j
   range_first i j b l e =
       let n : j - i ≡ suc (j - (i + 1)) = omega arith in
-      ap (λ n. take n (drop i t)) n ∙ ap (take (suc (j - (i + 1)))) ((drop_at i b e).rest)
+      ap (λ n. take n (drop i t)) n ∙ ap (take (suc (j - (i + 1)))) ((suffix_at_byte_begins_with_it i b e).rest)
 
-  pub range_none : (i : ℕ) → slice_range t i i ≡ []
-  range_none i = let n : i - i ≡ 0 = omega arith in ap (λ n. take n (drop i t)) n
+  pub empty_range_is_empty : (i : ℕ) → slice_range t i i ≡ []
+  empty_range_is_empty i = let n : i - i ≡ 0 = omega arith in ap (λ n. take n (drop i t)) n
 
   -- and ends with the byte before its end
-  range_next : (n i b : ℕ) → slice_get t (i + n) ≡ Some b →
+  longer_range_ends_with_next_byte : (n i b : ℕ) → slice_get t (i + n) ≡ Some b →
       slice_range t i ((i + n) + 1) ≡ slice_range t i (i + n) ++ (b ∷ [])
-  range_next zero i b e =
+  longer_range_ends_with_next_byte zero i b e =
       let s : i + 0 ≡ i = omega arith in
       let f : slice_get t i ≡ Some b = subst (λ k. slice_get t k ≡ Some b) s e in
       subst (λ k. slice_range t i (k + 1) ≡ slice_range t i k ++ (b ∷ [])) (sym s)
       (range_first i (i + 1) b (omega arith) f
-      ∙ (ap (λ bs. b ∷ bs) (range_none (i + 1)) ∙ ap (λ bs. bs ++ (b ∷ [])) (sym (range_none i))))
-  range_next (suc n) i b e =
+      ∙ (ap (λ bs. b ∷ bs) (empty_range_is_empty (i + 1)) ∙ ap (λ bs. bs ++ (b ∷ [])) (sym (empty_range_is_empty i))))
+  longer_range_ends_with_next_byte (suc n) i b e =
       let l = slice_get_within t (i + suc n) b e in
       let s : (i + 1) + n ≡ i + suc n = omega arith in
       let f : slice_get t ((i + 1) + n) ≡ Some b = subst (λ k. slice_get t k ≡ Some b) (sym s) e in
       let far : i < (i + suc n) + 1 = omega arith in
       let on : i < i + suc n = omega arith in
       let near : i < length t = omega arith in
-      let c = byte_within i near in
+      let c = place_in_text_has_some_byte i near in
       let r : slice_range t (i + 1) ((i + suc n) + 1) ≡ slice_range t (i + 1) (i + suc n) ++ (b ∷ []) =
       subst (λ k. slice_range t (i + 1) (k + 1) ≡ slice_range t (i + 1) k ++ (b ∷ [])) s
-      (range_next n (i + 1) b f) in
+      (longer_range_ends_with_next_byte n (i + 1) b f) in
       range_first i ((i + suc n) + 1) c.0 far c.1
       ∙ (ap (λ bs. c.0 ∷ bs) r ∙ ap (λ bs. bs ++ (b ∷ [])) (sym (range_first i (i + suc n) c.0 on c.1)))
     where
-      byte_within : (k : ℕ) → k < length t → (b : ℕ) × (slice_get t k ≡ Some b)
-      byte_within k l = (get_or t k 0, slice_get-get_or t k 0 l)
+      place_in_text_has_some_byte : (k : ℕ) → k < length t → (b : ℕ) × (slice_get t k ≡ Some b)
+      place_in_text_has_some_byte k l = (get_or t k 0, slice_get-get_or t k 0 l)
 
-  pub range_last : (i j b : ℕ) → i ≤ j → slice_get t j ≡ Some b →
+  pub range_ends_with_its_last_byte : (i j b : ℕ) → i ≤ j → slice_get t j ≡ Some b →
       slice_range t i (j + 1) ≡ slice_range t i j ++ (b ∷ [])
-  range_last i j b l e = let s : i + (j - i) ≡ j = omega arith in
+  range_ends_with_its_last_byte i j b l e = let s : i + (j - i) ≡ j = omega arith in
       subst (λ k. slice_range t i (k + 1) ≡ slice_range t i k ++ (b ∷ [])) s
-      (range_next (j - i) i b (subst (λ k. slice_get t k ≡ Some b) (sym s) e))
+      (longer_range_ends_with_next_byte (j - i) i b (subst (λ k. slice_get t k ≡ Some b) (sym s) e))
 
-  pub range_byte : (i b : ℕ) → slice_get t i ≡ Some b → slice_range t i (i + 1) ≡ b ∷ []
-  range_byte i b e = range_first i (i + 1) b (omega arith) e ∙ ap (λ bs. b ∷ bs) (range_none (i + 1))
+  pub range_of_one_byte_is_that_byte : (i b : ℕ) → slice_get t i ≡ Some b → slice_range t i (i + 1) ≡ b ∷ []
+  range_of_one_byte_is_that_byte i b e =
+      range_first i (i + 1) b (omega arith) e ∙ ap (λ bs. b ∷ bs) (empty_range_is_empty (i + 1))
 
   -- each byte of a range is in a set
   pub range_all : (set : ℕ → Bool) (i j : ℕ) → i ≤ j → ((k : ℕ) → i ≤ k → k < j → has t set k ≡ true) →

@@ -39,7 +39,8 @@ use Rattle.fluent_syntax_grammar.specs.Joined.{joined_nameds, joined_variants, j
 use Rattle.fluent_syntax_grammar.proofs.Facts.{left_true}
 use Rattle.fluent_syntax_grammar.proofs.Tests.{both_true}
 use Rattle.fluent_syntax_grammar.proofs.backward.Shapes.{IsReadExpression}
-use Rattle.fluent_syntax_grammar.proofs.backward.Words.{IsNameSpan, name_inversion, number_inversion, string_inversion}
+use Rattle.fluent_syntax_grammar.proofs.backward.Words.{IsNameSpan, read_identifier_is_name_span, read_number_is_number}
+use Rattle.fluent_syntax_grammar.proofs.backward.Words.{read_string_is_string}
 use Rattle.fluent_syntax_grammar.proofs.Tests.{not_false}
 
 -- ---- what a construct gives is good, wherever it is read
@@ -69,16 +70,17 @@ ensures_yields {Good = Good} {a = a} g = record { on_read = λ i j b x. yields_r
 fails_reads_nothing : {A : Type 0} (X : Type 0) (k : Kind) (i j : ℕ) (a : A) → fails k i (Read a j) → X
 fails_reads_nothing X k i j a x = elim x [ ]
 
-pub ensures_fails : {A : Type 0} {Good : A → Type 0} {k : Kind} → Ensures (fails k) Good
-ensures_fails {Good = Good} {k = k} = record { on_read = λ i j a x. fails_reads_nothing (Good a) k i j a x }
+pub fails_ensures_anything : {A : Type 0} {Good : A → Type 0} {k : Kind} → Ensures (fails k) Good
+fails_ensures_anything {Good = Good} {k = k} = record { on_read = λ i j a x. fails_reads_nothing (Good a) k i j a x }
 
 peek_reads_good : {A B : Type 0} (Good : B → Type 0) (look : ℕ → A) (part : A → Construct B) →
     ((a : A) → Ensures (part a) Good) → (i j : ℕ) (b : B) → peek look part i (Read b j) → Good b
 peek_reads_good Good look part g i j b (chosen x) = (g (look i)).on_read i j b x
 
-pub ensures_peek : {A B : Type 0} {Good : B → Type 0} {look : ℕ → A} {part : A → Construct B} →
+pub peek_ensures_by_its_part : {A B : Type 0} {Good : B → Type 0} {look : ℕ → A} {part : A → Construct B} →
     ((a : A) → Ensures (part a) Good) → Ensures (peek look part) Good
-ensures_peek {Good = Good} {look = look} {part = part} g = record { on_read = peek_reads_good Good look part g }
+peek_ensures_by_its_part {Good = Good} {look = look} {part = part} g =
+    record { on_read = peek_reads_good Good look part g }
 
 branch_on_read : {A : Type 0} (Good : A → Type 0) (test : Bool) (c d : Construct A) → (test ≡ true → Ensures c Good) →
     (test ≡ false → Ensures d Good) → (i j : ℕ) (a : A) → branch_on test c d i (Read a j) → Good a
@@ -96,14 +98,15 @@ module _ {A S B : Type 0} (next : S → Construct (More A S)) (add : A → B →
   Adds s no_item = Good s none
   Adds s (item a r) = (b : B) → Good r b → Good s (add a b)
 
-  many_read : ((s : S) → Ensures (next s) (Adds s)) → (s : S) (i j : ℕ) (b : B) → many next add none s i (Read b j) →
-      Good s b
-  many_read h s i j b (list_ends x) = (h s).on_read i j no_item x
-  many_read h s i j b (item_and_more {later = r} {j = m} {a = a} {rest = rest} x y) =
-      (h s).on_read i m (item a r) x rest (many_read h r m j rest y)
+  read_list_is_good : ((s : S) → Ensures (next s) (Adds s)) → (s : S) (i j : ℕ) (b : B) →
+      many next add none s i (Read b j) → Good s b
+  read_list_is_good h s i j b (list_ends x) = (h s).on_read i j no_item x
+  read_list_is_good h s i j b (item_and_more {later = r} {j = m} {a = a} {rest = rest} x y) =
+      (h s).on_read i m (item a r) x rest (read_list_is_good h r m j rest y)
 
-  pub ensures_many : ((s : S) → Ensures (next s) (Adds s)) → (s : S) → Ensures (many next add none s) (Good s)
-  ensures_many h s = record { on_read = many_read h s }
+  pub many_ensures_by_its_items : ((s : S) → Ensures (next s) (Adds s)) → (s : S) →
+      Ensures (many next add none s) (Good s)
+  many_ensures_by_its_items h s = record { on_read = read_list_is_good h s }
 
 -- ---- what is fine
 
@@ -116,8 +119,9 @@ module _ (t : List ℕ) (Joins : Type 0) where
   abbrev pub IsInline : InlineTree Span → Type 0
   IsInline e = ObeysJoined Joins (inline_obeys (readable_rules One)) joined_inline (inline_map (bytes_at t) e)
 
-  abbrev pub IsMaybe : MaybeArguments Span → Type 0
-  IsMaybe a = ObeysJoined Joins (optional_arguments_obey (readable_rules One)) joined_maybe (maybe_map (bytes_at t) a)
+  abbrev pub IsOptionalArguments : MaybeArguments Span → Type 0
+  IsOptionalArguments a =
+      ObeysJoined Joins (optional_arguments_obey (readable_rules One)) joined_maybe (maybe_map (bytes_at t) a)
 
   abbrev pub IsPattern : PatternTree Span → Type 0
   IsPattern p = ObeysJoined Joins (pattern_obeys (readable_rules One)) joined_pattern (pattern_map (bytes_at t) p)
@@ -149,35 +153,36 @@ module _ (t : List ℕ) (Joins : Type 0) where
     pub expression : Ensures R.expression (IsReadExpression t Joins)
     pub argument_list : Ensures R.argument_list (IsArguments [])
 
-  pub ensures_name : Ensures (identifier t) (IsNameSpan t)
-  ensures_name = record { on_read = λ i j s x. name_inversion t i j s x }
+  pub identifier_reads_name_span : Ensures (identifier t) (IsNameSpan t)
+  identifier_reads_name_span = record { on_read = λ i j s x. read_identifier_is_name_span t i j s x }
 
   abbrev IsOptionName : Option Span → Type 0
   IsOptionName o = option_obeys is_name (option_texts (bytes_at t) o) ≡ true
 
-  pub ensures_accessor : Ensures (accessor t) IsOptionName
-  ensures_accessor =
+  pub accessor_reads_option_name : Ensures (accessor t) IsOptionName
+  accessor_reads_option_name =
       second_ensures (λ dot.
-      ensures_branch_on (λ e. ensures_bind ensures_name (λ a g. ensures_yields g)) (λ e. ensures_yields refl))
+      ensures_branch_on (λ e. ensures_bind identifier_reads_name_span (λ a g. ensures_yields g))
+      (λ e. ensures_yields refl))
 
   arguments_obey_joined : (a : ArgumentsTree Span) → IsArguments [] a →
       ObeysJoined Joins (arguments_obey (readable_rules One)) joined_arguments (arguments_map (bytes_at t) a)
   arguments_obey_joined (arguments ps ns) (f, g, h) =
       record { obeys = both_true h (both_true f.obeys g.obeys); same = λ none. cc (f.same none, g.same none) }
 
-  some_obeys_joined : (a : ArgumentsTree Span) →
+  some_arguments_obey_joined : (a : ArgumentsTree Span) →
       ObeysJoined Joins (arguments_obey (readable_rules One)) joined_arguments (arguments_map (bytes_at t) a) →
-      IsMaybe (some_arguments a)
-  some_obeys_joined a f = record { obeys = f.obeys; same = λ none. ap some_arguments (f.same none) }
+      IsOptionalArguments (some_arguments a)
+  some_arguments_obey_joined a f = record { obeys = f.obeys; same = λ none. ap some_arguments (f.same none) }
 
   function_obeys_joined : (id : Span) (a : ArgumentsTree Span) → IsNameSpan t id →
       list_all is_callee_byte (bytes_at t id) ≡ true →
-      IsMaybe (some_arguments a) → IsInline (function_reference id a)
+      IsOptionalArguments (some_arguments a) → IsInline (function_reference id a)
   function_obeys_joined id a n c f = record
       { obeys = both_true n (both_true c f.obeys); same = λ none. cc (f.same none) }
 
   term_obeys_joined : (id : Span) (o : Option Span) (a : MaybeArguments Span) → IsNameSpan t id → IsOptionName o →
-      IsMaybe a →
+      IsOptionalArguments a →
       IsInline (term_reference id o a)
   term_obeys_joined id o a n p f =
       record {
@@ -189,37 +194,38 @@ module _ (t : List ℕ) (Joins : Type 0) where
   abbrev IsValue : InlineTree Span → Type 0
   IsValue e = IsInline e × (is_argument_value (joined_inline (inline_map (bytes_at t) e)) ≡ true)
 
-  ensures_reference : (id : Span) (a : MaybeArguments Span) → IsNameSpan t id → IsMaybe a →
+  named_reference_reads_value : (id : Span) (a : MaybeArguments Span) → IsNameSpan t id → IsOptionalArguments a →
       Ensures (named_reference t id a) IsValue
-  ensures_reference id no_arguments n f =
-      ensures_bind ensures_accessor (λ o g. ensures_yields (
+  named_reference_reads_value id no_arguments n f =
+      ensures_bind accessor_reads_option_name (λ o g. ensures_yields (
         record { obeys = both_true n g; same = λ none. refl },
         refl,
       ))
-  ensures_reference id (some_arguments a) n f =
-      ensures_branch_on (λ e. ensures_yields (function_obeys_joined id a n e f, refl)) (λ e. ensures_fails)
+  named_reference_reads_value id (some_arguments a) n f =
+      ensures_branch_on (λ e. ensures_yields (function_obeys_joined id a n e f, refl)) (λ e. fails_ensures_anything)
 
-  selector_same : (e : InlineTree Span) → selector_fault (joined_inline (inline_map (bytes_at t) e)) ≡ selector_fault e
-  selector_same (string_literal v) = refl
-  selector_same (number_literal v) = refl
-  selector_same (function_reference id a) = refl
-  selector_same (message_reference id None) = refl
-  selector_same (message_reference id (Some a)) = refl
-  selector_same (term_reference id None a) = refl
-  selector_same (term_reference id (Some attribute) a) = refl
-  selector_same (variable_reference id) = refl
-  selector_same (inline_placeable e) = refl
+  joining_keeps_selector_fault_of_span : (e : InlineTree Span) →
+      selector_fault (joined_inline (inline_map (bytes_at t) e)) ≡ selector_fault e
+  joining_keeps_selector_fault_of_span (string_literal v) = refl
+  joining_keeps_selector_fault_of_span (number_literal v) = refl
+  joining_keeps_selector_fault_of_span (function_reference id a) = refl
+  joining_keeps_selector_fault_of_span (message_reference id None) = refl
+  joining_keeps_selector_fault_of_span (message_reference id (Some a)) = refl
+  joining_keeps_selector_fault_of_span (term_reference id None a) = refl
+  joining_keeps_selector_fault_of_span (term_reference id (Some attribute) a) = refl
+  joining_keeps_selector_fault_of_span (variable_reference id) = refl
+  joining_keeps_selector_fault_of_span (inline_placeable e) = refl
 
-  attribute_same : (e : InlineTree Span) →
+  joining_keeps_is_term_attribute : (e : InlineTree Span) →
       is_term_attribute (joined_inline (inline_map (bytes_at t) e)) ≡ is_term_attribute e
-  attribute_same (string_literal v) = refl
-  attribute_same (number_literal v) = refl
-  attribute_same (function_reference id a) = refl
-  attribute_same (message_reference id a) = refl
-  attribute_same (term_reference id None a) = refl
-  attribute_same (term_reference id (Some attribute) a) = refl
-  attribute_same (variable_reference id) = refl
-  attribute_same (inline_placeable e) = refl
+  joining_keeps_is_term_attribute (string_literal v) = refl
+  joining_keeps_is_term_attribute (number_literal v) = refl
+  joining_keeps_is_term_attribute (function_reference id a) = refl
+  joining_keeps_is_term_attribute (message_reference id a) = refl
+  joining_keeps_is_term_attribute (term_reference id None a) = refl
+  joining_keeps_is_term_attribute (term_reference id (Some attribute) a) = refl
+  joining_keeps_is_term_attribute (variable_reference id) = refl
+  joining_keeps_is_term_attribute (inline_placeable e) = refl
 
 -- ---- starts
 
@@ -235,15 +241,16 @@ digit_is_chosen false false false l false true b x e = cc
 digit_is_chosen false false false l false false true x e = cc
 digit_is_chosen false false false l false false false x e = cc
 
-start_digit : (o : Option ℕ) (l : Bool) → start_of o l ≡ digit → holds is_digit o ≡ true
-start_digit None l e = cc
-start_digit (Some b) l e = digit_is_chosen (b == 34) (is_digit b) (b == 45) l (b == 36) (is_letter b) (b == 123) other e
+digit_start_has_digit : (o : Option ℕ) (l : Bool) → start_of o l ≡ digit → holds is_digit o ≡ true
+digit_start_has_digit None l e = cc
+digit_start_has_digit (Some b) l e =
+    digit_is_chosen (b == 34) (is_digit b) (b == 45) l (b == 36) (is_letter b) (b == 123) other e
 
 module _ (t : List ℕ) (Joins : Type 0) (R : Family) (h : ObeysJoinedFamily t Joins R) where
-  pub ensures_call : Ensures (call_arguments t R) (IsMaybe t Joins)
-  ensures_call = second_ensures (λ u. second_ensures (λ bracket. ensures_branch_on
+  pub call_reads_optional_arguments : Ensures (call_arguments t R) (IsOptionalArguments t Joins)
+  call_reads_optional_arguments = second_ensures (λ u. second_ensures (λ bracket. ensures_branch_on
       (λ e. ensures_bind (second_ensures (λ u. h.argument_list))
-      (λ a g. ensures_yields (some_obeys_joined t Joins a (arguments_obey_joined t Joins a g))))
+      (λ a g. ensures_yields (some_arguments_obey_joined t Joins a (arguments_obey_joined t Joins a g))))
       (λ e. ensures_yields (record { obeys = refl; same = λ none. refl }))))
 
   -- ---- expressions
@@ -254,7 +261,8 @@ module _ (t : List ℕ) (Joins : Type 0) (R : Family) (h : ObeysJoinedFamily t J
   select_obeys_joined e vs f k g =
       let v = g.fine in
       record {
-        obeys = both_true (both_true (ap is_none (selector_same t Joins e ∙ k)) g.one) (both_true f.obeys v.obeys);
+        obeys = both_true (both_true (ap is_none (joining_keeps_selector_fault_of_span t Joins e ∙ k)) g.one)
+            (both_true f.obeys v.obeys);
         same = λ none. cc (f.same none, v.same none);
       }
 
@@ -264,81 +272,86 @@ module _ (t : List ℕ) (Joins : Type 0) (R : Family) (h : ObeysJoinedFamily t J
       record {
         obeys =
             both_true (not_false (is_term_attribute (joined_inline (inline_map (bytes_at t) e)))
-            (attribute_same t Joins e ∙ k))
+            (joining_keeps_is_term_attribute t Joins e ∙ k))
             f.obeys;
         same = λ none. ap inline (f.same none);
       }
 
-  pub ensures_placeable : Ensures (placeable t R) (IsReadExpression t Joins)
-  ensures_placeable =
+  pub placeable_reads_good_expression : Ensures (placeable t R) (IsReadExpression t Joins)
+  placeable_reads_good_expression =
       second_ensures (λ u.
       second_ensures (λ u.
       ensures_bind h.expression (λ e f. second_ensures (λ u. second_ensures (λ u. ensures_yields f)))))
 
   -- ---- inline expressions
 
-  number_read : (i j : ℕ) (a : InlineTree Span) → (number t >>= λ v. yields (number_literal v)) i (Read a j) →
-      IsInline t Joins a ×
+  read_number_literal_is_inline : (i j : ℕ) (a : InlineTree Span) →
+      (number t >>= λ v. yields (number_literal v)) i (Read a j) → IsInline t Joins a ×
       (has t is_digit i ≡ true → is_argument_value (joined_inline (inline_map (bytes_at t) a)) ≡ true)
-  number_read i j a (goes_on {j = m} {a = v} x given) = let n = number_inversion t i m v x in
+  read_number_literal_is_inline i j a (goes_on {j = m} {a = v} x given) = let n = read_number_is_number t i m v x in
       (record { obeys = n.number; same = λ none. refl }, n.unsigned)
 
-  string_read : (i j : ℕ) (a : InlineTree Span) →
+  read_string_literal_is_inline : (i j : ℕ) (a : InlineTree Span) →
       (strings.string_literal t >>= λ v. yields (string_literal v)) i (Read a j) → IsInline t Joins a ×
       (is_argument_value (joined_inline (inline_map (bytes_at t) a)) ≡ true)
-  string_read i j a (goes_on {j = m} {a = v} x given) =
-      (record { obeys = string_inversion t i m v x; same = λ none. refl }, refl)
+  read_string_literal_is_inline i j a (goes_on {j = m} {a = v} x given) =
+      (record { obeys = read_string_is_string t i m v x; same = λ none. refl }, refl)
 
-  inline_read : (s : Start) (i j : ℕ) (e : InlineTree Span) → start t i ≡ s → inline_of t R s i (Read e j) →
-      IsInline t Joins e × FitsStart t Joins s e
-  inline_read quote i j e s x = string_read i j e x
-  inline_read digit i j e s x = let n = number_read i j e x in
-      (n.0, n.1 (start_digit (slice_get t i) (has t is_letter (i + 1)) s))
-  inline_read minus i j e s x = ((number_read i j e x).0, tt)
-  inline_read term i j e s x = (r.on_read i j e x, tt)
+  read_inline_by_start_is_inline : (s : Start) (i j : ℕ) (e : InlineTree Span) → start t i ≡ s →
+      inline_of t R s i (Read e j) → IsInline t Joins e × FitsStart t Joins s e
+  read_inline_by_start_is_inline quote i j e s x = read_string_literal_is_inline i j e x
+  read_inline_by_start_is_inline digit i j e s x = let n = read_number_literal_is_inline i j e x in
+      (n.0, n.1 (digit_start_has_digit (slice_get t i) (has t is_letter (i + 1)) s))
+  read_inline_by_start_is_inline minus i j e s x = ((read_number_literal_is_inline i j e x).0, tt)
+  read_inline_by_start_is_inline term i j e s x = (r.on_read i j e x, tt)
     where
       r : Ensures (inline_of t R term) (IsInline t Joins)
       r = second_ensures
-          (λ u. ensures_bind (ensures_name t Joins)
-          (λ id n. ensures_bind (ensures_accessor t Joins)
-          (λ o p. ensures_bind ensures_call (λ a f. ensures_yields (term_obeys_joined t Joins id o a n p f)))))
-  inline_read dollar i j e s x = (r.on_read i j e x, tt)
+          (λ u. ensures_bind (identifier_reads_name_span t Joins)
+          (λ id n. ensures_bind (accessor_reads_option_name t Joins)
+          (λ o p. ensures_bind call_reads_optional_arguments
+          (λ a f. ensures_yields (term_obeys_joined t Joins id o a n p f)))))
+  read_inline_by_start_is_inline dollar i j e s x = (r.on_read i j e x, tt)
     where
       r : Ensures (inline_of t R dollar) (IsInline t Joins)
       r = second_ensures
-          (λ u. ensures_bind (ensures_name t Joins)
+          (λ u. ensures_bind (identifier_reads_name_span t Joins)
           (λ id n. ensures_yields (record { obeys = n; same = λ none. refl })))
-  inline_read letter i j e s x = r.on_read i j e x
+  read_inline_by_start_is_inline letter i j e s x = r.on_read i j e x
     where
       r : Ensures (inline_of t R letter) (IsValue t Joins)
-      r = ensures_bind (ensures_name t Joins)
-          (λ id n. ensures_bind ensures_call (λ a f. ensures_reference t Joins id a n f))
-  inline_read brace i j e s x = (r.on_read i j e x, tt)
+      r = ensures_bind (identifier_reads_name_span t Joins)
+          (λ id n. ensures_bind call_reads_optional_arguments (λ a f. named_reference_reads_value t Joins id a n f))
+  read_inline_by_start_is_inline brace i j e s x = (r.on_read i j e x, tt)
     where
       r : Ensures (inline_of t R brace) (IsInline t Joins)
-      r = ensures_bind ensures_placeable
+      r = ensures_bind placeable_reads_good_expression
           (λ e f. ensures_yields (record { obeys = f.obeys; same = λ none. ap inline_placeable (f.same none) }))
-  inline_read other i j e s x = elim x [ ]
+  read_inline_by_start_is_inline other i j e s x = elim x [ ]
 
   pub inline_inversion : (i j : ℕ) (e : InlineTree Span) → inline_expression t R i (Read e j) → IsInline t Joins e ×
       FitsStart t Joins (start t i) e
-  inline_inversion i j e (chosen x) = inline_read (start t i) i j e refl x
+  inline_inversion i j e (chosen x) = read_inline_by_start_is_inline (start t i) i j e refl x
 
   -- ---- arguments
 
-  value_read : (s : Start) (i j : ℕ) (e : InlineTree Span) → start t i ≡ s → argument_value t R s i (Read e j) →
-      IsValue t Joins e
-  value_read quote i j e s x = let r = inline_inversion i j e x in (r.0, subst (λ s. FitsStart t Joins s e) s r.1)
-  value_read digit i j e s x = let r = inline_inversion i j e x in (r.0, subst (λ s. FitsStart t Joins s e) s r.1)
-  value_read letter i j e s x = let r = inline_inversion i j e x in (r.0, subst (λ s. FitsStart t Joins s e) s r.1)
-  value_read term i j e s x = elim x [ ]
-  value_read minus i j e s x = elim x [ ]
-  value_read dollar i j e s x = elim x [ ]
-  value_read brace i j e s x = elim x [ ]
-  value_read other i j e s x = elim x [ ]
+  read_value_by_start_is_value : (s : Start) (i j : ℕ) (e : InlineTree Span) → start t i ≡ s →
+      argument_value t R s i (Read e j) → IsValue t Joins e
+  read_value_by_start_is_value quote i j e s x =
+      let r = inline_inversion i j e x in (r.0, subst (λ s. FitsStart t Joins s e) s r.1)
+  read_value_by_start_is_value digit i j e s x =
+      let r = inline_inversion i j e x in (r.0, subst (λ s. FitsStart t Joins s e) s r.1)
+  read_value_by_start_is_value letter i j e s x =
+      let r = inline_inversion i j e x in (r.0, subst (λ s. FitsStart t Joins s e) s r.1)
+  read_value_by_start_is_value term i j e s x = elim x [ ]
+  read_value_by_start_is_value minus i j e s x = elim x [ ]
+  read_value_by_start_is_value dollar i j e s x = elim x [ ]
+  read_value_by_start_is_value brace i j e s x = elim x [ ]
+  read_value_by_start_is_value other i j e s x = elim x [ ]
 
-  value_at : (i j : ℕ) (e : InlineTree Span) → peek (start t) (argument_value t R) i (Read e j) → IsValue t Joins e
-  value_at i j e (chosen x) = value_read (start t i) i j e refl x
+  read_argument_value_is_value : (i j : ℕ) (e : InlineTree Span) → peek (start t) (argument_value t R) i (Read e j) →
+      IsValue t Joins e
+  read_argument_value_is_value i j e (chosen x) = read_value_by_start_is_value (start t i) i j e refl x
 
   add_named_obeys_joined : (names : List Text) (name : Span) (e : InlineTree Span) (a : ArgumentsTree Span) →
       IsNameSpan t name →
@@ -360,46 +373,51 @@ module _ (t : List ℕ) (Joins : Type 0) (R : Family) (h : ObeysJoinedFamily t J
   abbrev IsNext : List Text → More Argument (List Text) → Type 0
   IsNext = Adds (next_argument t R) add_argument (arguments no_inlines no_named) (IsArguments t Joins)
 
-  ensures_named : (names : List Text) (name : Span) → IsNameSpan t name →
+  named_rest_reads_next_argument : (names : List Text) (name : Span) → IsNameSpan t name →
       Ensures (named_rest t R names name) (IsNext names)
-  ensures_named names name n =
-      ensures_branch_on (λ y. ensures_fails)
-      (λ y. second_ensures (λ u. second_ensures (λ u. ensures_bind (record { on_read = value_at }) (λ e f.
+  named_rest_reads_next_argument names name n =
+      ensures_branch_on (λ y. fails_ensures_anything)
+      (λ y. second_ensures
+      (λ u. second_ensures (λ u. ensures_bind (record { on_read = read_argument_value_is_value }) (λ e f.
       second_ensures (λ u. ensures_yields (λ a g. add_named_obeys_joined names name e a n y f g))))))
 
-  ensures_positional : (names : List Text) (e : InlineTree Span) → IsInline t Joins e →
+  positional_rest_reads_next_argument : (names : List Text) (e : InlineTree Span) → IsInline t Joins e →
       Ensures (positional_rest t names e) (IsNext names)
-  ensures_positional [] e f = second_ensures (λ u. ensures_yields (λ a g. add_positional_obeys_joined e a f g))
-  ensures_positional (n ∷ ns) e f = ensures_fails
+  positional_rest_reads_next_argument [] e f =
+      second_ensures (λ u. ensures_yields (λ a g. add_positional_obeys_joined e a f g))
+  positional_rest_reads_next_argument (n ∷ ns) e f = fails_ensures_anything
 
-  name_of : (e : InlineTree Span) (s : Span) → IsInline t Joins e → argument_name e ≡ Some s → IsNameSpan t s
-  name_of (string_literal v) s f k = cc
-  name_of (number_literal v) s f k = cc
-  name_of (function_reference id a) s f k = cc
-  name_of (message_reference id None) s f k = let same : id ≡ s = cc in
+  argument_name_is_name_span : (e : InlineTree Span) (s : Span) → IsInline t Joins e → argument_name e ≡ Some s →
+      IsNameSpan t s
+  argument_name_is_name_span (string_literal v) s f k = cc
+  argument_name_is_name_span (number_literal v) s f k = cc
+  argument_name_is_name_span (function_reference id a) s f k = cc
+  argument_name_is_name_span (message_reference id None) s f k = let same : id ≡ s = cc in
       subst (IsNameSpan t) same (left_true (is_name (bytes_at t id)) true f.obeys)
-  name_of (message_reference id (Some a)) s f k = cc
-  name_of (term_reference id o a) s f k = cc
-  name_of (variable_reference id) s f k = cc
-  name_of (inline_placeable e) s f k = cc
+  argument_name_is_name_span (message_reference id (Some a)) s f k = cc
+  argument_name_is_name_span (term_reference id o a) s f k = cc
+  argument_name_is_name_span (variable_reference id) s f k = cc
+  argument_name_is_name_span (inline_placeable e) s f k = cc
 
-  ensures_argument : (names : List Text) (e : InlineTree Span) (o : Option Span) (colon : Bool) → argument_name e ≡ o →
-      IsInline t Joins e → Ensures (argument_rest t R names e o colon) (IsNext names)
-  ensures_argument names e None colon k f = ensures_positional names e f
-  ensures_argument names e (Some s) true k f = ensures_named names s (name_of e s f k)
-  ensures_argument names e (Some s) false k f = ensures_positional names e f
+  argument_rest_reads_next_argument : (names : List Text) (e : InlineTree Span) (o : Option Span) (colon : Bool) →
+      argument_name e ≡ o → IsInline t Joins e → Ensures (argument_rest t R names e o colon) (IsNext names)
+  argument_rest_reads_next_argument names e None colon k f = positional_rest_reads_next_argument names e f
+  argument_rest_reads_next_argument names e (Some s) true k f =
+      named_rest_reads_next_argument names s (argument_name_is_name_span e s f k)
+  argument_rest_reads_next_argument names e (Some s) false k f = positional_rest_reads_next_argument names e f
 
-  ensures_arguments_at : (names : List Text) (o : Option ℕ) →
+  argument_by_byte_reads_next_argument : (names : List Text) (o : Option ℕ) →
       Ensures (next_argument_at t R names o) (IsNext names)
-  ensures_arguments_at names None = ensures_fails
-  ensures_arguments_at names (Some b) = ensures_branch_on
+  argument_by_byte_reads_next_argument names None = fails_ensures_anything
+  argument_by_byte_reads_next_argument names (Some b) = ensures_branch_on
       (λ y. second_ensures
       (λ u. ensures_yields
       (record { obeys = refl; same = λ none. refl }, record { obeys = refl; same = λ none. refl }, refl)))
       (λ y. ensures_bind (record { on_read = λ i j e x. (inline_inversion i j e x).0 })
-      (λ e f. second_ensures (λ colon. ensures_argument names e (argument_name e) colon refl f)))
+      (λ e f. second_ensures (λ colon. argument_rest_reads_next_argument names e (argument_name e) colon refl f)))
 
-  pub ensures_arguments : (names : List Text) → Ensures (more_arguments t R names) (IsArguments t Joins names)
-  ensures_arguments =
-      ensures_many (next_argument t R) add_argument (arguments no_inlines no_named) (IsArguments t Joins)
-      (λ names. ensures_peek (ensures_arguments_at names))
+  pub more_arguments_read_arguments : (names : List Text) →
+      Ensures (more_arguments t R names) (IsArguments t Joins names)
+  more_arguments_read_arguments =
+      many_ensures_by_its_items (next_argument t R) add_argument (arguments no_inlines no_named) (IsArguments t Joins)
+      (λ names. peek_ensures_by_its_part (argument_by_byte_reads_next_argument names))

@@ -12,7 +12,7 @@ use Rattle.fluent_syntax_grammar.specs.Construct.{second}
 use Rattle.fluent_syntax_grammar.specs.Tokens.{identifier}
 use Rattle.fluent_syntax_grammar.specs.Spellings.{is_name}
 use Rattle.fluent_syntax_grammar.proofs.Facts.{right_true, tests_imply}
-use Rattle.fluent_syntax_grammar.proofs.Tests.{both_true, letter_name}
+use Rattle.fluent_syntax_grammar.proofs.Tests.{both_true, letter_is_name_byte}
 use Rattle.fluent_syntax_grammar.proofs.SuffixAt.{SuffixAt, first, suffix_next, suffix_has}
 
 -- what is left at any place of the text
@@ -40,14 +40,15 @@ letter_first_makes_name [] n e f = absurd cc
 letter_first_makes_name (b ∷ bs) n e f = both_true e (right_true (is_name_byte b) (list_all is_name_byte (take n bs)) f)
 
 module _ (t : List ℕ) where
-  forward_one : (i j : ℕ) → i ≤ j → has t is_name_byte i ≡ true → ByteRun t is_name_byte i j → i < j
-  forward_one i j l e w = grind (arith, w.longest)
+  run_of_name_bytes_goes_on : (i j : ℕ) → i ≤ j → has t is_name_byte i ≡ true → ByteRun t is_name_byte i j → i < j
+  run_of_name_bytes_goes_on i j l e w = grind (arith, w.longest)
 
   -- a name that was read is a name
   pub name_was_read : (i j : ℕ) (s : Span) → i ≤ length t → identifier t i (Read s j) → is_name (bytes_at t s) ≡ true
   name_was_read i j s l
       (goes_on at_place (goes_on (chosen given) (first_of e (goes_on (passed w) (goes_on at_place given))))) =
-      let on = forward_one i j w.forward (tests_imply is_letter is_name_byte (slice_get t i) letter_name e) w in
+      let on = run_of_name_bytes_goes_on i j w.forward
+      (tests_imply is_letter is_name_byte (slice_get t i) letter_is_name_byte e) w in
       let size : suc (j - (i + 1)) ≡ j - i = omega arith in
       subst (λ n. is_name (take n (drop i t)) ≡ true) size
       (letter_first_makes_name (drop i t) (j - (i + 1)) (sym (suffix_has is_letter (drop_is_suffix t i l)) ∙ e)

@@ -28,12 +28,13 @@ use Rattle.fluent_syntax_grammar.specs.Grammar as grammar
 use Rattle.fluent_syntax_grammar.specs.Grammar.{family, inline_expression, call_arguments}
 use Rattle.fluent_syntax_grammar.proofs.Facts.{left_true, equal}
 use Rattle.fluent_syntax_grammar.proofs.Tests.{or_cases, differ}
-use Rattle.fluent_syntax_grammar.proofs.Nesting.{into_argument_list}
+use Rattle.fluent_syntax_grammar.proofs.Nesting.{argument_list_of_family_is_in_family}
 use Rattle.fluent_syntax_grammar.proofs.SuffixAt.{SuffixAt, suffix_as, first, suffix_first, suffix_has}
 use Rattle.fluent_syntax_grammar.proofs.forward.Reading.{Reads, Passes, reads_bind, reads_yields, passes_then}
-use Rattle.fluent_syntax_grammar.proofs.forward.Reading.{reads_peek, reads_look, reads_first, reads_second}
-use Rattle.fluent_syntax_grammar.proofs.forward.Reading.{reads_into, reads_present, reads_absent, passes_token}
-use Rattle.fluent_syntax_grammar.proofs.forward.Reading.{more_map, reads_end, reads_item}
+use Rattle.fluent_syntax_grammar.proofs.forward.Reading.{reads_peek, look_reads_what_follows, reads_first, reads_second}
+use Rattle.fluent_syntax_grammar.proofs.forward.Reading.{including_construct_reads_alike, present_byte_is_read}
+use Rattle.fluent_syntax_grammar.proofs.forward.Reading.{reads_absent, passes_token}
+use Rattle.fluent_syntax_grammar.proofs.forward.Reading.{more_map, list_reads_its_end, list_reads_item_and_rest}
 use Rattle.fluent_syntax_grammar.proofs.marks.WrittenBytes.{inline_bytes, arguments_bytes, positional_bytes}
 use Rattle.fluent_syntax_grammar.proofs.marks.WrittenBytes.{named_bytes, is_none_of}
 use Rattle.fluent_syntax_grammar.proofs.forward.Inline.{Follows, bytes_past, passes_blank, passes_blanks, starts_with}
@@ -111,8 +112,8 @@ module _ (edition : Edition) where
 pub begins_other : (c : ℕ) {bs : List ℕ} → Begins bs → begins_inline c ≡ false → holds (λ b. b == c) (first bs) ≡ false
 begins_other c b e = rw (b.are) (differ begins_inline b.byte c b.start e)
 
-past_no_gap : (e : InlineTree Text) (more : List ℕ) → bytes_past e [] more ≡ more
-past_no_gap e more = same (passes_blank e)
+bytes_past_no_gap_are_the_rest : (e : InlineTree Text) (more : List ℕ) → bytes_past e [] more ≡ more
+bytes_past_no_gap_are_the_rest e more = same (passes_blank e)
   where
     same : (b : Bool) → (if b then more else more) ≡ more
     same true = refl
@@ -153,43 +154,43 @@ module _ (edition : Edition) (t : List ℕ) where
   ReadsNext names i x left = Reads t (next_argument t (family edition t) names) (more_map (said t) (λ ns. ns)) i x left
 
   -- the rest of a list, after these names
-  after_names : (level : ℕ) (names : List Text) (ps : InlineTrees Text) (ns : NamedTrees Text) (tail : List ℕ) →
-      ArgumentListReadsBack edition t level names ps ns → (p : List Text) (j : ℕ) → p ≡ names →
+  arguments_read_back_after_equal_names : (level : ℕ) (names : List Text) (ps : InlineTrees Text) (ns : NamedTrees Text)
+      (tail : List ℕ) → ArgumentListReadsBack edition t level names ps ns → (p : List Text) (j : ℕ) → p ≡ names →
       SuffixAt t j (positional_bytes level true ps (named_bytes level (is_none_of ps) ns (41 ∷ tail))) →
       ReadsMore p j (arguments ps ns) tail
-  after_names level names ps ns tail h p j e m =
+  arguments_read_back_after_equal_names level names ps ns tail h p j e m =
       subst (λ p. ReadsMore p j (arguments ps ns) tail) (sym e) (h.back j tail m)
 
   -- the end of a list
-  pub nothing_reads_back : (level : ℕ) (names : List Text) →
+  pub empty_argument_list_reads_back : (level : ℕ) (names : List Text) →
       ArgumentListReadsBack edition t level names no_inlines no_named
-  nothing_reads_back level names = record {
+  empty_argument_list_reads_back level names = record {
     begins = λ tail. inr (refl, refl);
     back =
-        λ i tail l. reads_end {f = said t} {g = λ ns. ns}
+        λ i tail l. list_reads_its_end {f = said t} {g = λ ns. ns}
         (reads_peek (Some 41) (suffix_first l)
         (reads_first refl (passes_then (passes_token 41 refl l) (λ j m. reads_yields refl m)))) refl;
   }
 
   -- between two arguments, or before the end of the list
-  passes_separator :
+  separator_before_arguments_is_passed :
       (level : ℕ) (names : List Text) (ps : InlineTrees Text) (ns : NamedTrees Text) (i : ℕ) (tail : List ℕ) →
       ArgumentListReadsBack edition t level names ps ns →
       SuffixAt t i (positional_bytes level false ps (named_bytes level false ns (41 ∷ tail))) →
       Passes t (separator t) i (positional_bytes level true ps (named_bytes level (is_none_of ps) ns (41 ∷ tail)))
-  passes_separator level names no_inlines no_named i tail h l =
+  separator_before_arguments_is_passed level names no_inlines no_named i tail h l =
       passes_then (passes_blanks [] (41 ∷ tail) refl refl refl refl l)
       (λ j m. reads_bind (reads_absent 44 refl m) (λ b k e n. passes_blanks [] (41 ∷ tail) refl refl refl refl n))
-  passes_separator level names no_inlines (nameds n ns) i tail h l =
+  separator_before_arguments_is_passed level names no_inlines (nameds n ns) i tail h l =
       passes_then (passes_blanks [] _ refl refl refl refl l)
-      (λ j m. reads_bind (reads_present 44 refl m) (λ b k e n. elim (h.begins (41 ∷ tail)) [
+      (λ j m. reads_bind (present_byte_is_read 44 refl m) (λ b k e n. elim (h.begins (41 ∷ tail)) [
         | inl x ↦ passes_blanks (32 ∷ []) _ refl (begins_other 32 x refl) (begins_other lf x refl)
             (begins_other cr x refl) n
         | inr x ↦ absurd cc
       ]))
-  passes_separator level names (inlines e es) ns i tail h l =
+  separator_before_arguments_is_passed level names (inlines e es) ns i tail h l =
       passes_then (passes_blanks [] _ refl refl refl refl l)
-      (λ j m. reads_bind (reads_present 44 refl m) (λ b k f n. elim (h.begins (41 ∷ tail)) [
+      (λ j m. reads_bind (present_byte_is_read 44 refl m) (λ b k f n. elim (h.begins (41 ∷ tail)) [
         | inl x ↦ passes_blanks (32 ∷ []) _ refl (begins_other 32 x refl) (begins_other lf x refl)
             (begins_other cr x refl) n
         | inr x ↦ absurd cc
@@ -197,9 +198,9 @@ module _ (edition : Edition) (t : List ℕ) where
 
   -- ---- positional arguments
 
-  follows_positional : (level : ℕ) (ps : InlineTrees Text) (ns : NamedTrees Text) (tail : List ℕ) →
+  rest_of_arguments_follows_positional : (level : ℕ) (ps : InlineTrees Text) (ns : NamedTrees Text) (tail : List ℕ) →
       Follows [] (positional_bytes level false ps (named_bytes level false ns (41 ∷ tail)))
-  follows_positional level no_inlines no_named tail =
+  rest_of_arguments_follows_positional level no_inlines no_named tail =
       record {
         spaces = refl;
         no_name = refl;
@@ -211,7 +212,7 @@ module _ (edition : Edition) (t : List ℕ) where
         no_list = refl;
         no_attribute = refl;
       }
-  follows_positional level no_inlines (nameds n ns) tail =
+  rest_of_arguments_follows_positional level no_inlines (nameds n ns) tail =
       record {
         spaces = refl;
         no_name = refl;
@@ -223,7 +224,7 @@ module _ (edition : Edition) (t : List ℕ) where
         no_list = refl;
         no_attribute = refl;
       }
-  follows_positional level (inlines e es) ns tail =
+  rest_of_arguments_follows_positional level (inlines e es) ns tail =
       record {
         spaces = refl;
         no_name = refl;
@@ -236,37 +237,37 @@ module _ (edition : Edition) (t : List ℕ) where
         no_attribute = refl;
       }
 
-  no_colon : (level : ℕ) (ps : InlineTrees Text) (ns : NamedTrees Text) (tail : List ℕ) →
+  no_colon_follows_positional : (level : ℕ) (ps : InlineTrees Text) (ns : NamedTrees Text) (tail : List ℕ) →
       holds (λ b. b == 58) (first (positional_bytes level false ps (named_bytes level false ns (41 ∷ tail)))) ≡ false
-  no_colon level no_inlines no_named tail = refl
-  no_colon level no_inlines (nameds n ns) tail = refl
-  no_colon level (inlines e es) ns tail = refl
+  no_colon_follows_positional level no_inlines no_named tail = refl
+  no_colon_follows_positional level no_inlines (nameds n ns) tail = refl
+  no_colon_follows_positional level (inlines e es) ns tail = refl
 
   -- without a colon an argument is positional
-  as_positional :
+  inline_reads_as_positional_argument :
       (names : List Text) (e : InlineTree Span) (o : Option Span) (colon : Bool) (i : ℕ) (a : More Said (List Text))
       (left : List ℕ) → colon ≡ false →
       Reads t (positional_rest t names e) (more_map (said t) (λ ns. ns)) i a left →
       Reads t (argument_rest t (family edition t) names e o colon) (more_map (said t) (λ ns. ns)) i a left
-  as_positional names e None colon i a left f r = r
-  as_positional names e (Some n) true i a left f r = absurd cc
-  as_positional names e (Some n) false i a left f r = r
+  inline_reads_as_positional_argument names e None colon i a left f r = r
+  inline_reads_as_positional_argument names e (Some n) true i a left f r = absurd cc
+  inline_reads_as_positional_argument names e (Some n) false i a left f r = r
 
-  added_positional :
+  added_positional_spells_its_tree :
       (v : Argument) (a : ArgumentsTree Span) (e : InlineTree Text) (ps : InlineTrees Text)
       (ns : NamedTrees Text) → said t v ≡ says_positional e → arguments_map (bytes_at t) a ≡ arguments ps ns →
       arguments_map (bytes_at t) (add_argument v a) ≡ arguments (inlines e ps) ns
-  added_positional (positional v) (arguments qs ms) e ps ns f g = cc
-  added_positional (named name v) (arguments qs ms) e ps ns f g = absurd cc
+  added_positional_spells_its_tree (positional v) (arguments qs ms) e ps ns f g = cc
+  added_positional_spells_its_tree (named name v) (arguments qs ms) e ps ns f g = absurd cc
 
   -- the rest of a list, at an argument's first byte
-  at_argument : (names : List Text) (i : ℕ) (bs : List ℕ) (a : More Said (List Text)) (left : List ℕ) → Begins bs →
-      SuffixAt t i bs →
+  argument_reads_at_its_first_byte : (names : List Text) (i : ℕ) (bs : List ℕ) (a : More Said (List Text))
+      (left : List ℕ) → Begins bs → SuffixAt t i bs →
       Reads t (grammar.inline_expression edition t >>= λ e. peek (has_byte t 58) yields >>= λ colon.
       argument_rest t (family edition t) names e (argument_name e) colon) (more_map (said t) (λ ns. ns)) i a
       left →
       ReadsNext names i a left
-  at_argument names i bs a left b l r =
+  argument_reads_at_its_first_byte names i bs a left b l r =
       (reads_peek (Some b.byte) (suffix_first l ∙ ap first b.are)
       (reads_second (differ begins_inline b.byte 41 b.start refl) r))
 
@@ -277,16 +278,17 @@ module _ (edition : Edition) (t : List ℕ) where
     begins = λ tail. inl (inline_begins edition level e _ h.obeys);
     back = λ i tail l.
         let rest = positional_bytes level false es (named_bytes level false ns (41 ∷ tail)) in
-        reads_item {c = says_positional e} {q = []}
-        (at_argument [] i _ _ _ (inline_begins edition level e rest h.obeys) l
-        (reads_bind (h.back i [] rest (follows_positional level es ns tail) l) (λ v j f m.
-        let n = suffix_as (past_no_gap e rest) m in
-        reads_look (has_byte t 58 j) refl
-        (as_positional [] v (argument_name v) (has_byte t 58 j) j _ _
-        (suffix_has (λ b. b == 58) n ∙ no_colon level es ns tail)
-        (passes_then (passes_separator level [] es ns j tail more n)
+        list_reads_item_and_rest {c = says_positional e} {q = []}
+        (argument_reads_at_its_first_byte [] i _ _ _ (inline_begins edition level e rest h.obeys) l
+        (reads_bind (h.back i [] rest (rest_of_arguments_follows_positional level es ns tail) l) (λ v j f m.
+        let n = suffix_as (bytes_past_no_gap_are_the_rest e rest) m in
+        look_reads_what_follows (has_byte t 58 j) refl
+        (inline_reads_as_positional_argument [] v (argument_name v) (has_byte t 58 j) j _ _
+        (suffix_has (λ b. b == 58) n ∙ no_colon_follows_positional level es ns tail)
+        (passes_then (separator_before_arguments_is_passed level [] es ns j tail more n)
         (λ k q. reads_yields (ap (λ e. item (says_positional e) []) f) q))))))
-        (after_names level [] es ns tail more) (λ v a f g. added_positional v a e es ns f g);
+        (arguments_read_back_after_equal_names level [] es ns tail more)
+        (λ v a f g. added_positional_spells_its_tree v a e es ns f g);
   }
 
   -- ---- named arguments
@@ -297,60 +299,61 @@ module _ (edition : Edition) (t : List ℕ) where
     pub is : argument_name v ≡ Some id
     pub spells : bytes_at t id ≡ name
 
-  name_of : (v : InlineTree Span) (name : Text) → inline_map (bytes_at t) v ≡ message_reference name None →
-      IsName v name
-  name_of (string_literal v) name e = absurd cc
-  name_of (number_literal v) name e = absurd cc
-  name_of (function_reference id a) name e = absurd cc
-  name_of (message_reference id None) name e = record { id = id; is = refl; spells = cc }
-  name_of (message_reference id (Some a)) name e = absurd cc
-  name_of (term_reference id a c) name e = absurd cc
-  name_of (variable_reference id) name e = absurd cc
-  name_of (inline_placeable x) name e = absurd cc
+  bare_message_reference_is_name : (v : InlineTree Span) (name : Text) →
+      inline_map (bytes_at t) v ≡ message_reference name None → IsName v name
+  bare_message_reference_is_name (string_literal v) name e = absurd cc
+  bare_message_reference_is_name (number_literal v) name e = absurd cc
+  bare_message_reference_is_name (function_reference id a) name e = absurd cc
+  bare_message_reference_is_name (message_reference id None) name e = record { id = id; is = refl; spells = cc }
+  bare_message_reference_is_name (message_reference id (Some a)) name e = absurd cc
+  bare_message_reference_is_name (term_reference id a c) name e = absurd cc
+  bare_message_reference_is_name (variable_reference id) name e = absurd cc
+  bare_message_reference_is_name (inline_placeable x) name e = absurd cc
 
   -- before a colon a name is that of a named argument
-  as_named :
+  name_and_colon_read_as_named_argument :
       (names : List Text) (e : InlineTree Span) (id : Span) (o : Option Span) (colon : Bool) (i : ℕ)
       (a : More Said (List Text)) (left : List ℕ) → o ≡ Some id → colon ≡ true →
       Reads t (named_rest t (family edition t) names id) (more_map (said t) (λ ns. ns)) i a left →
       Reads t (argument_rest t (family edition t) names e o colon) (more_map (said t) (λ ns. ns)) i a left
-  as_named names e id o colon i a left f g r = rw (f, g) r
+  name_and_colon_read_as_named_argument names e id o colon i a left f g r = rw (f, g) r
 
-  added_named :
+  added_named_spells_its_tree :
       (v : Argument) (a : ArgumentsTree Span) (name : Text) (e : InlineTree Text)
       (ps : InlineTrees Text) (ns : NamedTrees Text) → said t v ≡ says_named name e →
       arguments_map (bytes_at t) a ≡ arguments ps ns →
       arguments_map (bytes_at t) (add_argument v a) ≡ arguments ps (nameds (named_argument name e) ns)
-  added_named (positional v) (arguments qs ms) name e ps ns f g = absurd cc
-  added_named (named id v) (arguments qs ms) name e ps ns f g = cc
+  added_named_spells_its_tree (positional v) (arguments qs ms) name e ps ns f g = absurd cc
+  added_named_spells_its_tree (named id v) (arguments qs ms) name e ps ns f g = cc
 
   -- a value that may be one, by its start
-  value_at : (level : ℕ) (e : InlineTree Text) (i : ℕ) (tail left : List ℕ) →
+  argument_value_reads_back : (level : ℕ) (e : InlineTree Text) (i : ℕ) (tail left : List ℕ) →
       inline_obeys (canonical_rules edition) e ≡ true → is_argument_value e ≡ true →
       SuffixAt t i (inline_bytes level e tail) →
       Reads t (grammar.inline_expression edition t) (inline_map (bytes_at t)) i e left →
       Reads t (peek (start t) (argument_value t (family edition t))) (inline_map (bytes_at t)) i e left
-  value_at level (string_literal v) i tail left h a l r = reads_peek quote (starts_with quote refl l) r
-  value_at level (number_literal []) i tail left h a l r = absurd cc
-  value_at level (number_literal (b ∷ bs)) i tail left h a l r =
+  argument_value_reads_back level (string_literal v) i tail left h a l r = reads_peek quote (starts_with quote refl l) r
+  argument_value_reads_back level (number_literal []) i tail left h a l r = absurd cc
+  argument_value_reads_back level (number_literal (b ∷ bs)) i tail left h a l r =
       reads_peek digit (starts_with digit (start_of-digit b _ (left_true (is_digit b) (is_number_rest bs) a)) l) r
-  value_at level (function_reference id c) i tail left h a l r =
+  argument_value_reads_back level (function_reference id c) i tail left h a l r =
       reads_peek letter (name_start edition t i id _ (left_true (is_name id) _ h) l) r
-  value_at level (message_reference id c) i tail left h a l r =
+  argument_value_reads_back level (message_reference id c) i tail left h a l r =
       reads_peek letter (name_start edition t i id _ (left_true (is_name id) _ h) l) r
-  value_at level (term_reference id c d) i tail left h a l r = absurd cc
-  value_at level (variable_reference id) i tail left h a l r = absurd cc
-  value_at level (inline_placeable x) i tail left h a l r = absurd cc
+  argument_value_reads_back level (term_reference id c d) i tail left h a l r = absurd cc
+  argument_value_reads_back level (variable_reference id) i tail left h a l r = absurd cc
+  argument_value_reads_back level (inline_placeable x) i tail left h a l r = absurd cc
 
   -- from the colon on
-  from_colon : (level : ℕ) (names : List Text) (name : Text) (e : InlineTree Text) (ns : NamedTrees Text) →
+  named_argument_reads_back_from_colon : (level : ℕ) (names : List Text) (name : Text) (e : InlineTree Text)
+      (ns : NamedTrees Text) →
       InlineReadsBack edition t level e → is_used name names ≡ false → is_argument_value e ≡ true →
       ArgumentListReadsBack edition t level (name ∷ names) no_inlines ns →
       (id : Span) (i : ℕ) (tail : List ℕ) → bytes_at t id ≡ name →
       SuffixAt t i (58 ∷ 32 ∷ inline_bytes level e (named_bytes level false ns (41 ∷ tail))) →
       Reads t (named_rest t (family edition t) names id) (more_map (said t) (λ ns. ns)) i
       (item (says_named name e) (name ∷ names)) (named_bytes level true ns (41 ∷ tail))
-  from_colon level names name e ns h used value more id i tail f l =
+  named_argument_reads_back_from_colon level names name e ns h used value more id i tail f l =
       let rest = named_bytes level false ns (41 ∷ tail) in
       let b = inline_begins edition level e rest h.obeys in
       reads_second (rw f used)
@@ -358,9 +361,10 @@ module _ (edition : Edition) (t : List ℕ) where
       (λ j m. passes_then
       (passes_blanks (32 ∷ []) _ refl (begins_other 32 b refl) (begins_other lf b refl) (begins_other cr b refl)
       m) (λ k n.
-      reads_bind (value_at level e k rest (bytes_past e [] rest) h.obeys value n
-      (h.back k [] rest (follows_positional level no_inlines ns tail) n)) (λ v p g q.
-      passes_then (passes_separator level (name ∷ names) no_inlines ns p tail more (suffix_as (past_no_gap e rest) q))
+      reads_bind (argument_value_reads_back level e k rest (bytes_past e [] rest) h.obeys value n
+      (h.back k [] rest (rest_of_arguments_follows_positional level no_inlines ns tail) n)) (λ v p g q.
+      passes_then (separator_before_arguments_is_passed level (name ∷ names) no_inlines ns p tail more
+      (suffix_as (bytes_past_no_gap_are_the_rest e rest) q))
       (λ y z. reads_yields (same_item v f g) z)))))
     where
       same_item : (v : InlineTree Span) → bytes_at t id ≡ name → inline_map (bytes_at t) v ≡ e →
@@ -389,15 +393,16 @@ module _ (edition : Edition) (t : List ℕ) where
           no_list = refl;
           no_attribute = refl;
         } in
-        reads_item {c = says_named name e} {q = name ∷ names}
-        (at_argument names i _ _ _ (name_begins_inline name rest is) l
+        list_reads_item_and_rest {c = says_named name e} {q = name ∷ names}
+        (argument_reads_at_its_first_byte names i _ _ _ (name_begins_inline name rest is) l
         (reads_bind (message_name_reads_back edition t i level name [] rest is f l) (λ v j g m.
-        let n = name_of v name g in
-        reads_look (has_byte t 58 j) refl
-        (as_named names v n.id (argument_name v) (has_byte t 58 j) j _ _ n.is (suffix_has (λ b. b == 58) m)
-        (from_colon level names name e ns h used value more n.id j tail n.spells m)))))
-        (after_names level (name ∷ names) no_inlines ns tail more)
-        (λ v a f g. added_named v a name e no_inlines ns f g);
+        let n = bare_message_reference_is_name v name g in
+        look_reads_what_follows (has_byte t 58 j) refl
+        (name_and_colon_read_as_named_argument names v n.id (argument_name v) (has_byte t 58 j) j _ _ n.is
+        (suffix_has (λ b. b == 58) m)
+        (named_argument_reads_back_from_colon level names name e ns h used value more n.id j tail n.spells m)))))
+        (arguments_read_back_after_equal_names level (name ∷ names) no_inlines ns tail more)
+        (λ v a f g. added_named_spells_its_tree v a name e no_inlines ns f g);
   }
 
   -- ---- the whole list
@@ -409,9 +414,9 @@ module _ (edition : Edition) (t : List ℕ) where
       Reads t (call_arguments edition t) (maybe_map (bytes_at t)) i (some_arguments (arguments ps ns)) tail
   call_reads_back level ps ns h i tail l =
       passes_then (passes_blanks [] _ refl refl refl refl l)
-      (λ j m. reads_bind (reads_present 40 refl m) (λ b k e n. reads_first e
+      (λ j m. reads_bind (present_byte_is_read 40 refl m) (λ b k e n. reads_first e
       (reads_bind (passes_then (inside k n) (λ p q.
-      reads_into (λ o x. into_argument_list edition t p o x) (h.back p tail q)))
+      including_construct_reads_alike (λ o x. argument_list_of_family_is_in_family edition t p o x) (h.back p tail q)))
       (λ a w x s. reads_yields (ap some_arguments x) s))))
     where
       at_end : (ps : InlineTrees Text) (ns : NamedTrees Text) (k : ℕ) → (ps ≡ no_inlines) ×

@@ -29,17 +29,17 @@ use Rattle.fluent_syntax_grammar.proofs.Facts.{left_true, right_true, number_eq_
 use Rattle.fluent_syntax_grammar.proofs.Tests.{differ}
 use Rattle.fluent_syntax_grammar.proofs.Cuts.{block_goes_on}
 use Rattle.fluent_syntax_grammar.proofs.SuffixAt.{SuffixAt, suffix_as, whole_text_is_suffix, suffix_first, suffix_next}
-use Rattle.fluent_syntax_grammar.proofs.SuffixAt.{reaches_end}
-use Rattle.fluent_syntax_grammar.proofs.forward.Reading.{Reads, reads_into}
+use Rattle.fluent_syntax_grammar.proofs.SuffixAt.{suffix_reaches_end_of_text}
+use Rattle.fluent_syntax_grammar.proofs.forward.Reading.{Reads, including_construct_reads_alike}
 use Rattle.fluent_syntax_grammar.proofs.forward.Lines.{Ends, stop, blank_line, no_spaces, lf_after}
 use Rattle.fluent_syntax_grammar.proofs.forward.Entries.{EntryStart, no_entry, begins, ends_at_entry, no_block, Tiles}
-use Rattle.fluent_syntax_grammar.proofs.forward.Entries.{tiles_end}
+use Rattle.fluent_syntax_grammar.proofs.forward.Entries.{end_of_text_has_no_tiles}
 use Rattle.fluent_syntax_grammar.proofs.marks.WrittenBytes.{pattern_bytes}
 use Rattle.fluent_syntax_grammar.proofs.marks.WrittenEntries.{after_hashes, comment_bytes, more_attributes}
 use Rattle.fluent_syntax_grammar.proofs.marks.WrittenEntries.{own_comment_bytes, value_bytes, message_bytes, term_bytes}
 use Rattle.fluent_syntax_grammar.proofs.forward.Fields.{message_reads_back, term_reads_back}
 use Rattle.fluent_syntax_grammar.proofs.forward.Comments.{comment_reads_back}
-use Rattle.fluent_syntax_grammar.proofs.LineEnds.{hash_entry, letter_entry}
+use Rattle.fluent_syntax_grammar.proofs.LineEnds.{hash_is_entry_byte, letter_is_entry_byte}
 
 -- ---- what a body is written as
 
@@ -77,18 +77,19 @@ abbrev pub worn : {X : Type 0} → Option (List X) → EntryTree X → EntryTree
 worn None e = e
 worn (Some content) e = with_comment content e
 
-pub takes_map : {X Y : Type 0} (f : X → Y) (e : EntryTree X) → takes_comment (entry_map f e) ≡ takes_comment e
-takes_map f (message m) = refl
-takes_map f (term m) = refl
-takes_map f (comment level c) = refl
-takes_map f (junk x) = refl
+pub mapping_keeps_takes_comment : {X Y : Type 0} (f : X → Y) (e : EntryTree X) →
+    takes_comment (entry_map f e) ≡ takes_comment e
+mapping_keeps_takes_comment f (message m) = refl
+mapping_keeps_takes_comment f (term m) = refl
+mapping_keeps_takes_comment f (comment level c) = refl
+mapping_keeps_takes_comment f (junk x) = refl
 
-pub with_map : {X Y : Type 0} (f : X → Y) (c : List X) (e : EntryTree X) →
+pub mapping_maps_comment_and_entry : {X Y : Type 0} (f : X → Y) (c : List X) (e : EntryTree X) →
     entry_map f (with_comment c e) ≡ with_comment (map f c) (entry_map f e)
-with_map f c (message m) = refl
-with_map f c (term m) = refl
-with_map f c (comment level d) = refl
-with_map f c (junk x) = refl
+mapping_maps_comment_and_entry f c (message m) = refl
+mapping_maps_comment_and_entry f c (term m) = refl
+mapping_maps_comment_and_entry f c (comment level d) = refl
+mapping_maps_comment_and_entry f c (junk x) = refl
 
 pub attached_is_with_comment : (c : List Span) (e : EntryTree Span) → takes_comment e ≡ true
     → attached c e ≡ Some (with_comment c e)
@@ -131,39 +132,49 @@ free_comment_stays edition t i j k regular c (refused x ∷ tiles) n (next b l (
 free_comment_stays edition t i j k regular c (dropped ∷ tiles) n (next b l a m) = elim a [ ]
 
 module _ (edition : Edition) (t : List ℕ) where
-  pub entry_within : (i b : ℕ) (bs : List ℕ) → SuffixAt t i (b ∷ bs) → i < length t
-  entry_within i b bs l = let n = reaches_end l in omega arith
+  pub entry_begins_inside_text : (i b : ℕ) (bs : List ℕ) → SuffixAt t i (b ∷ bs) → i < length t
+  entry_begins_inside_text i b bs l = let n = suffix_reaches_end_of_text l in omega arith
 
   -- a blank line before tiles
-  pub line_before : (i : ℕ) (bs : List ℕ) (tiles : List Tile) → SuffixAt t i (lf ∷ bs) →
+  pub tiles_hold_from_lf_before : (i : ℕ) (bs : List ℕ) (tiles : List Tile) → SuffixAt t i (lf ∷ bs) →
       Tiled t (TileAt edition t) (i + 1) tiles → Tiled t (TileAt edition t) i tiles
-  line_before i bs tiles l (done b) = done (line (no_spaces edition t refl l) (lf_after edition t l) b)
-  line_before i bs tiles l (next b m a n) = next (line (no_spaces edition t refl l) (lf_after edition t l) b) m a n
+  tiles_hold_from_lf_before i bs tiles l (done b) = done (line (no_spaces edition t refl l) (lf_after edition t l) b)
+  tiles_hold_from_lf_before i bs tiles l (next b m a n) =
+      next (line (no_spaces edition t refl l) (lf_after edition t l) b) m a n
 
   -- blank lines before tiles
-  tiles_after : (tail rest : List ℕ) (es : BodyTree Text) (i : ℕ) → Ends tail rest → SuffixAt t i tail →
-      ((j : ℕ) → SuffixAt t j rest → Tiles edition t j es) → Tiles edition t i es
-  tiles_after tail rest es i (stop s) l k = k i l
-  tiles_after tail rest es i (blank_line {tail = more} e) l k =
-      let n = tiles_after more rest es (i + 1) e (suffix_next l) k in
-      record { tiles = n.tiles; tiled = line_before i more n.tiles l n.tiled; no_faults = n.no_faults; same = n.same }
+  tiles_hold_from_end_of_pattern : (tail rest : List ℕ) (es : BodyTree Text) (i : ℕ) → Ends tail rest →
+      SuffixAt t i tail → ((j : ℕ) → SuffixAt t j rest → Tiles edition t j es) → Tiles edition t i es
+  tiles_hold_from_end_of_pattern tail rest es i (stop s) l k = k i l
+  tiles_hold_from_end_of_pattern tail rest es i (blank_line {tail = more} e) l k =
+      let n = tiles_hold_from_end_of_pattern more rest es (i + 1) e (suffix_next l) k in
+      record {
+        tiles = n.tiles;
+        tiled = tiles_hold_from_lf_before i more n.tiles l n.tiled;
+        no_faults =
+            n.no_faults;
+        same = n.same;
+      }
 
-  pub reads_comment : (i b : ℕ) (bs : List ℕ) (e : EntryTree Span) (j : ℕ) → (b == 35) ≡ true → SuffixAt t i (b ∷ bs) →
-      comment_entry t i (Read e j) → entry_at edition t i (Read e j)
-  reads_comment i b bs e j is l r =
+  pub comment_at_hash_reads_as_entry : (i b : ℕ) (bs : List ℕ) (e : EntryTree Span) (j : ℕ) → (b == 35) ≡ true →
+      SuffixAt t i (b ∷ bs) → comment_entry t i (Read e j) → entry_at edition t i (Read e j)
+  comment_at_hash_reads_as_entry i b bs e j is l r =
       chosen (subst (λ o. entry_of edition t (family edition t) o i (Read e j)) (sym (suffix_first l)) (first_of is r))
 
   -- a message or a term
-  tiles_alone : (e : EntryTree Text) (es : BodyTree Text) (i b : ℕ) (bs rest : List ℕ) → takes_comment e ≡ true →
+  entry_alone_is_tiled : (e : EntryTree Text) (es : BodyTree Text) (i b : ℕ) (bs rest : List ℕ) →
+      takes_comment e ≡ true →
       is_entry_byte b ≡ true → SuffixAt t i (b ∷ bs) → Reads t (entry_at edition t) (entry_map (bytes_at t)) i e rest →
       ((j : ℕ) → SuffixAt t j rest → Tiles edition t j es) → Tiles edition t i (e ∷ es)
-  tiles_alone e es i b bs rest h is l r k =
+  entry_alone_is_tiled e es i b bs rest h is l r k =
       let n = k r.end r.rest in
-      let takes : takes_comment r.value ≡ true = sym (takes_map (bytes_at t) r.value) ∙ ap takes_comment r.spells ∙ h in
+      let takes : takes_comment r.value ≡ true =
+      sym (mapping_keeps_takes_comment (bytes_at t) r.value) ∙ ap takes_comment r.spells ∙ h in
       let s : Span = record { start = i; end = r.end } in
       record {
         tiles = entry s r.value ∷ n.tiles;
-        tiled = next (no_block edition t i (b ∷ bs) (begins b bs is) l) (entry_within i b bs l) (reads r.reads) n.tiled;
+        tiled = next (no_block edition t i (b ∷ bs) (begins b bs is) l) (entry_begins_inside_text i b bs l)
+            (reads r.reads) n.tiled;
         no_faults = n.no_faults;
         same =
             ap (map (entry_map (bytes_at t))) (entry_alone_gives_itself s r.value n.tiles takes)
@@ -171,13 +182,13 @@ module _ (edition : Edition) (t : List ℕ) where
       }
 
   -- a message or a term with the comment that is attached to it
-  tiles_attached :
+  entry_with_comment_is_tiled :
       (content : List Text) (e : EntryTree Text) (es : BodyTree Text) (i c : ℕ) (cs : List ℕ) (b : ℕ)
       (bs rest : List ℕ) → takes_comment e ≡ true → (c == 35) ≡ true → SuffixAt t i (c ∷ cs) → is_entry_byte b ≡ true →
       Reads t (comment_entry t) (entry_map (bytes_at t)) i (comment regular content) (b ∷ bs) →
       ((j : ℕ) → SuffixAt t j (b ∷ bs) → Reads t (entry_at edition t) (entry_map (bytes_at t)) j e rest) →
       ((j : ℕ) → SuffixAt t j rest → Tiles edition t j es) → Tiles edition t i (with_comment content e ∷ es)
-  tiles_attached content e es i c cs b bs rest h is l is' q r k = attached_tiles q.value q.spells q.reads
+  entry_with_comment_is_tiled content e es i c cs b bs rest h is l is' q r k = attached_tiles q.value q.spells q.reads
     where
       attached_tiles : (v : EntryTree Span) → entry_map (bytes_at t) v ≡ comment regular content →
           comment_entry t i (Read v q.end) → Tiles edition t i (with_comment content e ∷ es)
@@ -190,20 +201,23 @@ module _ (edition : Edition) (t : List ℕ) where
           let o = r q.end q.rest in
           let n = k o.end o.rest in
           let takes : takes_comment o.value ≡ true =
-          sym (takes_map (bytes_at t) o.value) ∙ ap takes_comment o.spells ∙ h in
+          sym (mapping_keeps_takes_comment (bytes_at t) o.value) ∙ ap takes_comment o.spells ∙ h in
           record {
             tiles =
                 entry (record { start = i; end = q.end }) (comment regular d) ∷
                 entry (record { start = q.end; end = o.end }) o.value ∷ n.tiles;
             tiled =
-                next (no_block edition t i (c ∷ cs) (begins c cs (hash_entry c is)) l) (entry_within i c cs l)
-                (reads (reads_comment i c cs (comment regular d) q.end is l x))
-                (next (no_block edition t q.end (b ∷ bs) (begins b bs is') q.rest) (entry_within q.end b bs q.rest)
+                next (no_block edition t i (c ∷ cs) (begins c cs (hash_is_entry_byte c is)) l)
+                (entry_begins_inside_text i c cs l)
+                (reads (comment_at_hash_reads_as_entry i c cs (comment regular d) q.end is l x))
+                (next (no_block edition t q.end (b ∷ bs) (begins b bs is') q.rest)
+                (entry_begins_inside_text q.end b bs q.rest)
                 (reads o.reads) n.tiled);
             no_faults = n.no_faults;
             same =
                 ap (map (entry_map (bytes_at t))) (body_attaches_comment i q.end o.end d o.value n.tiles takes)
-                ∙ ap (λ y. y ∷ tree_of t n.tiles) (with_map (bytes_at t) d o.value ∙ spelled_with d o.value f o.spells)
+                ∙ ap (λ y. y ∷ tree_of t n.tiles)
+                (mapping_maps_comment_and_entry (bytes_at t) d o.value ∙ spelled_with d o.value f o.spells)
                 ∙ ap (λ ys. with_comment content e ∷ ys) n.same;
           }
         where
@@ -217,11 +231,11 @@ module _ (edition : Edition) (t : List ℕ) where
           spelled_with d v f g = rw (same_content d f, g) refl
 
   -- a free comment and the blank lines after it
-  tiles_free : (level : Level) (content : List Text) (es : BodyTree Text) (i c : ℕ) (cs tail rest : List ℕ) →
+  free_comment_is_tiled : (level : Level) (content : List Text) (es : BodyTree Text) (i c : ℕ) (cs tail rest : List ℕ) →
       (c == 35) ≡ true → is_entry_byte c ≡ true → SuffixAt t i (c ∷ cs) →
       Reads t (comment_entry t) (entry_map (bytes_at t)) i (comment level content) (lf ∷ tail) → Ends tail rest →
       ((j : ℕ) → SuffixAt t j rest → Tiles edition t j es) → Tiles edition t i (comment level content ∷ es)
-  tiles_free level content es i c cs tail rest is is' l q ends k = free_tiles q.value q.spells q.reads
+  free_comment_is_tiled level content es i c cs tail rest is is' l q ends k = free_tiles q.value q.spells q.reads
     where
       same_content : (d : List Span) (v : Level) → entry_map (bytes_at t) (comment v d) ≡ comment level content →
           v ≡ level
@@ -233,13 +247,13 @@ module _ (edition : Edition) (t : List ℕ) where
       free_tiles (term m) f x = absurd cc
       free_tiles (junk m) f x = absurd cc
       free_tiles (comment v d) f x =
-          let n = tiles_after tail rest es (q.end + 1) ends (suffix_next q.rest) k in
+          let n = tiles_hold_from_end_of_pattern tail rest es (q.end + 1) ends (suffix_next q.rest) k in
           record {
             tiles = entry (record { start = i; end = q.end }) (comment v d) ∷ n.tiles;
             tiled =
-                next (no_block edition t i (c ∷ cs) (begins c cs is') l) (entry_within i c cs l)
-                (reads (reads_comment i c cs (comment v d) q.end is l x))
-                (line_before q.end tail n.tiles q.rest n.tiled);
+                next (no_block edition t i (c ∷ cs) (begins c cs is') l) (entry_begins_inside_text i c cs l)
+                (reads (comment_at_hash_reads_as_entry i c cs (comment v d) q.end is l x))
+                (tiles_hold_from_lf_before q.end tail n.tiles q.rest n.tiled);
             no_faults = n.no_faults;
             same =
                 ap (map (entry_map (bytes_at t)))
@@ -249,20 +263,20 @@ module _ (edition : Edition) (t : List ℕ) where
 
   -- ---- entries as they are written
 
-  pub letter_reads : (i b : ℕ) (bs : List ℕ) (e : EntryTree Text) (rest : List ℕ) → is_letter b ≡ true → SuffixAt t i
-      (b ∷ bs) →
+  pub message_at_letter_reads_as_entry : (i b : ℕ) (bs : List ℕ) (e : EntryTree Text) (rest : List ℕ) →
+      is_letter b ≡ true → SuffixAt t i (b ∷ bs) →
       Reads t (message_entry edition t) (entry_map (bytes_at t)) i e rest →
       Reads t (entry_at edition t) (entry_map (bytes_at t)) i e rest
-  letter_reads i b bs e rest is l r =
-      reads_into (λ o x.
+  message_at_letter_reads_as_entry i b bs e rest is l r =
+      including_construct_reads_alike (λ o x.
       chosen (subst (λ b. entry_of edition t (family edition t) b i o) (sym (suffix_first l))
       (second (differ is_letter b 35 is refl) (second (differ is_letter b 45 is refl) x)))) r
 
-  pub minus_reads : (i : ℕ) (bs : List ℕ) (e : EntryTree Text) (rest : List ℕ) → SuffixAt t i (45 ∷ bs) →
-      Reads t (term_entry edition t) (entry_map (bytes_at t)) i e rest →
+  pub term_at_hyphen_reads_as_entry : (i : ℕ) (bs : List ℕ) (e : EntryTree Text) (rest : List ℕ) →
+      SuffixAt t i (45 ∷ bs) → Reads t (term_entry edition t) (entry_map (bytes_at t)) i e rest →
       Reads t (entry_at edition t) (entry_map (bytes_at t)) i e rest
-  minus_reads i bs e rest l r =
-      reads_into (λ o x.
+  term_at_hyphen_reads_as_entry i bs e rest l r =
+      including_construct_reads_alike (λ o x.
       chosen (subst (λ b. entry_of edition t (family edition t) b i o) (sym (suffix_first l))
       (second refl (first_of refl x)))) r
 
@@ -279,40 +293,40 @@ module _ (edition : Edition) (t : List ℕ) where
   begins_there es bs s k = record { rest = bs; ends = stop (ends_at_entry bs s); starts = s; tiles = k }
 
   -- the entry alone, or with its comment
-  field_reads_back : (content : Option (List Text)) (e : EntryTree Text) (es : BodyTree Text) (b : ℕ)
+  entry_with_own_comment_reads_back : (content : Option (List Text)) (e : EntryTree Text) (es : BodyTree Text) (b : ℕ)
       (bs rest : List ℕ) →
       option_obeys (canonical_rules edition).comment content ≡ true → takes_comment e ≡ true → is_entry_byte b ≡ true →
       (b == 35) ≡ false →
       ((j : ℕ) → SuffixAt t j (b ∷ bs) → Reads t (entry_at edition t) (entry_map (bytes_at t)) j e rest) →
       ((j : ℕ) → SuffixAt t j rest → Tiles edition t j es) →
       BodyReadsBack (worn content e ∷ es) (own_comment_bytes content (b ∷ bs))
-  field_reads_back None e es b bs rest o h is n r k =
-      begins_there (e ∷ es) (b ∷ bs) (begins b bs is) (λ j l. tiles_alone e es j b bs rest h is l (r j l) k)
-  field_reads_back (Some []) e es b bs rest o h is n r k = absurd cc
-  field_reads_back (Some (x ∷ xs)) e es b bs rest o h is n r k =
+  entry_with_own_comment_reads_back None e es b bs rest o h is n r k =
+      begins_there (e ∷ es) (b ∷ bs) (begins b bs is) (λ j l. entry_alone_is_tiled e es j b bs rest h is l (r j l) k)
+  entry_with_own_comment_reads_back (Some []) e es b bs rest o h is n r k = absurd cc
+  entry_with_own_comment_reads_back (Some (x ∷ xs)) e es b bs rest o h is n r k =
       begins_there (with_comment (x ∷ xs) e ∷ es) (comment_bytes (35 ∷ []) (x ∷ xs) (b ∷ bs))
       (begins 35 (after_hashes (is_nonblank_line x) x (comment_bytes (35 ∷ []) xs (b ∷ bs))) refl)
-      (λ j l. tiles_attached (x ∷ xs) e es j 35 (after_hashes (is_nonblank_line x) x
+      (λ j l. entry_with_comment_is_tiled (x ∷ xs) e es j 35 (after_hashes (is_nonblank_line x) x
       (comment_bytes (35 ∷ []) xs (b ∷ bs))) b bs
       rest h refl l is
       (comment_reads_back t regular (x ∷ xs) j (b ∷ bs) (right_true (are_lines (x ∷ xs)) _ o)
       (left_true (are_lines (x ∷ xs)) _ o) n l) r k)
 
-  pub worn_message : (m : MessageTree Text) (c : Option (List Text)) → m.comment ≡ c →
+  pub message_wears_its_comment : (m : MessageTree Text) (c : Option (List Text)) → m.comment ≡ c →
       worn c (message (record { id = m.id; value = m.value; attributes = m.attributes; comment = None })) ≡ message m
-  worn_message m None e =
+  message_wears_its_comment m None e =
       ap (λ c. message (record { id = m.id; value = m.value; attributes = m.attributes; comment = c })) (sym e)
-  worn_message m (Some x) e =
+  message_wears_its_comment m (Some x) e =
       ap (λ c. message (record { id = m.id; value = m.value; attributes = m.attributes; comment = c })) (sym e)
 
-  pub worn_term : (m : TermTree Text) (c : Option (List Text)) → m.comment ≡ c →
+  pub term_wears_its_comment : (m : TermTree Text) (c : Option (List Text)) → m.comment ≡ c →
       worn c (term (record { id = m.id; value = m.value; attributes = m.attributes; comment = None })) ≡ term m
-  worn_term m None e =
+  term_wears_its_comment m None e =
       ap (λ c. term (record { id = m.id; value = m.value; attributes = m.attributes; comment = c })) (sym e)
-  worn_term m (Some x) e =
+  term_wears_its_comment m (Some x) e =
       ap (λ c. term (record { id = m.id; value = m.value; attributes = m.attributes; comment = c })) (sym e)
 
-  message_body :
+  body_with_message_reads_back :
       (id : Text) (value : Option (PatternTree Text)) (more : List (AttributeTree Text)) (content : Option (List Text))
       (es : BodyTree Text) (tail : Text) → has_field value more ≡ true →
       option_obeys (canonical_rules edition).comment content ≡ true → is_name id ≡ true →
@@ -321,18 +335,19 @@ module _ (edition : Edition) (t : List ℕ) where
       BodyReadsBack es tail →
       BodyReadsBack (worn content (message (record { id = id; value = value; attributes = more; comment = None })) ∷ es)
       (own_comment_bytes content (message_bytes id value more tail))
-  message_body [] value more content es tail f o is h a k = absurd cc
-  message_body (b ∷ bs) value more content es tail f o is h a k =
+  body_with_message_reads_back [] value more content es tail f o is h a k = absurd cc
+  body_with_message_reads_back (b ∷ bs) value more content es tail f o is h a k =
       let letter = left_true (is_letter b) (list_all is_name_byte bs) is in
       let after = bs ++ (32 ∷ 61 ∷ value_bytes value (lf ∷ more_attributes more tail)) in
-      field_reads_back content (message (record { id = b ∷ bs; value = value; attributes = more; comment = None }))
+      entry_with_own_comment_reads_back content
+      (message (record { id = b ∷ bs; value = value; attributes = more; comment = None }))
       es b after
-      k.rest o refl (letter_entry b letter) (differ is_letter b 35 letter refl)
-      (λ j l. letter_reads j b after
+      k.rest o refl (letter_is_entry_byte b letter) (differ is_letter b 35 letter refl)
+      (λ j l. message_at_letter_reads_as_entry j b after
       (message (record { id = b ∷ bs; value = value; attributes = more; comment = None })) k.rest letter l
       (message_reads_back edition t (b ∷ bs) value more j tail k.rest is f h a k.ends k.starts l)) k.tiles
 
-  term_body :
+  body_with_term_reads_back :
       (id : Text) (value : PatternTree Text) (more : List (AttributeTree Text)) (content : Option (List Text))
       (es : BodyTree Text) (tail : Text) → option_obeys (canonical_rules edition).comment content ≡ true →
       is_name id ≡ true → pattern_obeys (canonical_rules edition) value ≡ true →
@@ -340,35 +355,40 @@ module _ (edition : Edition) (t : List ℕ) where
       BodyReadsBack es tail →
       BodyReadsBack (worn content (term (record { id = id; value = value; attributes = more; comment = None })) ∷ es)
       (own_comment_bytes content (term_bytes id value more tail))
-  term_body id value more content es tail o is h a k =
+  body_with_term_reads_back id value more content es tail o is h a k =
       let after = id ++ (32 ∷ 61 ∷ pattern_bytes 0 value (lf ∷ more_attributes more tail)) in
-      field_reads_back content (term (record { id = id; value = value; attributes = more; comment = None })) es 45 after
+      entry_with_own_comment_reads_back content
+      (term (record { id = id; value = value; attributes = more; comment = None })) es 45 after
       k.rest o refl refl refl
-      (λ j l. minus_reads j after (term (record { id = id; value = value; attributes = more; comment = None })) k.rest l
+      (λ j l. term_at_hyphen_reads_as_entry j after
+      (term (record { id = id; value = value; attributes = more; comment = None })) k.rest l
       (term_reads_back edition t id value more j tail k.rest is h a k.ends k.starts l)) k.tiles
 
-  hashes_from : (level : Level) (content : List Text) (es : BodyTree Text) (tail : Text) (c : ℕ) (cs : List ℕ) →
-      comment_bytes (hashes_of level) content (lf ∷ tail) ≡ c ∷ cs → (c == 35) ≡ true →
+  free_comment_of_hash_reads_back : (level : Level) (content : List Text) (es : BodyTree Text) (tail : Text) (c : ℕ)
+      (cs : List ℕ) → comment_bytes (hashes_of level) content (lf ∷ tail) ≡ c ∷ cs → (c == 35) ≡ true →
       (canonical_rules edition).comment content ≡ true → BodyReadsBack es tail →
       BodyReadsBack (comment level content ∷ es) (comment_bytes (hashes_of level) content (lf ∷ tail))
-  hashes_from level content es tail c cs e is o k =
+  free_comment_of_hash_reads_back level content es tail c cs e is o k =
       begins_there (comment level content ∷ es) (comment_bytes (hashes_of level) content (lf ∷ tail))
-      (subst EntryStart (sym e) (begins c cs (hash_entry c is)))
-      (λ j l. tiles_free level content es j c cs tail k.rest is (hash_entry c is) (suffix_as e l)
+      (subst EntryStart (sym e) (begins c cs (hash_is_entry_byte c is)))
+      (λ j l. free_comment_is_tiled level content es j c cs tail k.rest is (hash_is_entry_byte c is) (suffix_as e l)
       (comment_reads_back t level content j (lf ∷ tail) (right_true (are_lines content) _ o)
       (left_true (are_lines content) _ o) refl l) k.ends k.tiles)
 
-  hashes_begin : (level : Level) (content : List Text) (es : BodyTree Text) (tail : Text) →
+  body_with_free_comment_reads_back : (level : Level) (content : List Text) (es : BodyTree Text) (tail : Text) →
       (canonical_rules edition).comment content ≡ true → BodyReadsBack es tail →
       BodyReadsBack (comment level content ∷ es) (comment_bytes (hashes_of level) content (lf ∷ tail))
-  hashes_begin level [] es tail o k = absurd (right_absurd (are_lines []) o)
+  body_with_free_comment_reads_back level [] es tail o k = absurd (right_absurd (are_lines []) o)
     where
       right_absurd : (b : Bool) → (b && false) ≡ true → ⊥
       right_absurd true e = cc
       right_absurd false e = cc
-  hashes_begin regular (x ∷ xs) es tail o k = hashes_from regular (x ∷ xs) es tail 35 _ refl refl o k
-  hashes_begin group (x ∷ xs) es tail o k = hashes_from group (x ∷ xs) es tail 35 _ refl refl o k
-  hashes_begin resource (x ∷ xs) es tail o k = hashes_from resource (x ∷ xs) es tail 35 _ refl refl o k
+  body_with_free_comment_reads_back regular (x ∷ xs) es tail o k =
+      free_comment_of_hash_reads_back regular (x ∷ xs) es tail 35 _ refl refl o k
+  body_with_free_comment_reads_back group (x ∷ xs) es tail o k =
+      free_comment_of_hash_reads_back group (x ∷ xs) es tail 35 _ refl refl o k
+  body_with_free_comment_reads_back resource (x ∷ xs) es tail o k =
+      free_comment_of_hash_reads_back resource (x ∷ xs) es tail 35 _ refl refl o k
 
   gap_reads_back : (gap : Bool) (es : BodyTree Text) (bs : List ℕ) → BodyReadsBack es bs →
       BodyReadsBack es (gap_bytes gap bs)
@@ -383,7 +403,7 @@ module _ (edition : Edition) (t : List ℕ) where
         rest = [];
         ends = stop (ends_at_entry [] no_entry);
         starts = no_entry;
-        tiles = λ j l. tiles_end edition t j l;
+        tiles = λ j l. end_of_text_has_no_tiles edition t j l;
       }
   body_reads_back (message m ∷ es) tail' h (a_message n fs tail w) =
       let x = left_true (entry_obeys (canonical_rules edition) (message m)) _ h in
@@ -391,8 +411,9 @@ module _ (edition : Edition) (t : List ℕ) where
       let z = right_true (option_obeys (canonical_rules edition).comment m.comment) _ y in
       let q = right_true (is_name m.id) _ z in
       subst (λ e. BodyReadsBack (e ∷ es) (own_comment_bytes m.comment (message_bytes m.id m.value m.attributes tail)))
-      (worn_message m m.comment refl)
-      (message_body m.id m.value m.attributes m.comment es tail (left_true (has_field m.value m.attributes) _ x)
+      (message_wears_its_comment m m.comment refl)
+      (body_with_message_reads_back m.id m.value m.attributes m.comment es tail
+      (left_true (has_field m.value m.attributes) _ x)
       (left_true (option_obeys (canonical_rules edition).comment m.comment) _ y) (left_true (is_name m.id) _ z)
       (left_true (option_obeys (pattern_obeys (canonical_rules edition)) m.value) _ q)
       (right_true (option_obeys (pattern_obeys (canonical_rules edition)) m.value) _ q)
@@ -402,8 +423,8 @@ module _ (edition : Edition) (t : List ℕ) where
       let z = right_true (option_obeys (canonical_rules edition).comment m.comment) _ y in
       let q = right_true (is_name m.id) _ z in
       subst (λ e. BodyReadsBack (e ∷ es) (own_comment_bytes m.comment (term_bytes m.id m.value m.attributes tail)))
-      (worn_term m m.comment refl)
-      (term_body m.id m.value m.attributes m.comment es tail
+      (term_wears_its_comment m m.comment refl)
+      (body_with_term_reads_back m.id m.value m.attributes m.comment es tail
       (left_true (option_obeys (canonical_rules edition).comment m.comment) _ y) (left_true (is_name m.id) _ z)
       (left_true (pattern_obeys (canonical_rules edition) m.value) _ q)
       (right_true (pattern_obeys (canonical_rules edition) m.value) _ q)
@@ -411,7 +432,7 @@ module _ (edition : Edition) (t : List ℕ) where
   body_reads_back (comment level content ∷ es) tail' h (a_comment gap l c fs tail w) =
       let x = left_true (entry_obeys (canonical_rules edition) (comment level content)) _ h in
       gap_reads_back gap (comment level content ∷ es) (comment_bytes (hashes_of level) content (lf ∷ tail))
-      (hashes_begin level content es tail x
+      (body_with_free_comment_reads_back level content es tail x
       (body_reads_back es tail (right_true (entry_obeys (canonical_rules edition) (comment level content)) _ h) w))
   body_reads_back (junk x ∷ es) tail' h w = elim w [ ]
 
@@ -420,5 +441,5 @@ pub reads_back : (edition : Edition) (es : BodyTree Text) (t : Text) → is_cano
     ReadsAs edition t es
 reads_back edition es t h w =
     let k = body_reads_back edition t es t h w in
-    let n = tiles_after edition t t k.rest es 0 k.ends (whole_text_is_suffix t) k.tiles in
+    let n = tiles_hold_from_end_of_pattern edition t t k.rest es 0 k.ends (whole_text_is_suffix t) k.tiles in
     record { tiles = n.tiles; tiling = n.tiled; no_faults = n.no_faults; same = n.same }

@@ -16,14 +16,14 @@ use Rattle.fluent_syntax_grammar.specs.Comments.{other_level, one_more, comment_
 use Rattle.fluent_syntax_grammar.specs.Written.{Text, has_lf, last_of, is_last, is_nonblank_line, hashes_of}
 use Rattle.fluent_syntax_grammar.specs.Readable.{are_lines}
 use Rattle.fluent_syntax_grammar.specs.Canonical.{is_plain_line, is_plain_comment}
-use Rattle.fluent_syntax_grammar.proofs.Facts.{left_true, right_true, two_on}
+use Rattle.fluent_syntax_grammar.proofs.Facts.{left_true, right_true, one_and_one_on_is_two_on}
 use Rattle.fluent_syntax_grammar.proofs.Stretches.{run_ends_here, run_goes_on}
 use Rattle.fluent_syntax_grammar.proofs.SuffixAt.{SuffixAt, first, suffix_first, suffix_next, suffix_past, suffix_has}
 use Rattle.fluent_syntax_grammar.proofs.forward.Reading.{Reads, Passes, reads_bind, reads_yields, reads_peek}
 use Rattle.fluent_syntax_grammar.proofs.forward.Reading.{reads_here, passes_then, passes_over, passes_token}
-use Rattle.fluent_syntax_grammar.proofs.forward.Reading.{reads_spanned}
+use Rattle.fluent_syntax_grammar.proofs.forward.Reading.{span_reads_its_bytes}
 use Rattle.fluent_syntax_grammar.proofs.marks.WrittenEntries.{doubled, after_hashes, comment_bytes}
-use Rattle.fluent_syntax_grammar.proofs.Tests.{neither_left, neither_right, not_true}
+use Rattle.fluent_syntax_grammar.proofs.Tests.{neither_left, neither_right, not_true_is_false}
 
 -- ---- the end of a line
 
@@ -40,7 +40,7 @@ optional_eol_passes_doubled t false i tail l =
 optional_eol_passes_doubled t true i tail l =
     reads_peek (Some (i + 2)) (rw (suffix_first l, suffix_first (suffix_next l)) refl)
     (passes_over {j = i + 2} (record { there = refl })
-    (subst (λ n. SuffixAt t n tail) (two_on i) (suffix_next (suffix_next l))))
+    (subst (λ n. SuffixAt t n tail) (one_and_one_on_is_two_on i) (suffix_next (suffix_next l))))
 
 -- no line end begins at the byte
 byte_is_line_place : (t : List ℕ) (i x : ℕ) (bs : List ℕ) → (x == lf) ≡ false →
@@ -51,9 +51,9 @@ and_with_false_is_false : (b : Bool) (c : Bool) → c ≡ false → (b && c) ≡
 and_with_false_is_false true c e = e
 and_with_false_is_false false c e = refl
 
-last_safe : (b : Bool) (tail : List ℕ) → (b && holds (λ b. b == lf) (first (doubled b tail))) ≡ false
-last_safe true tail = refl
-last_safe false tail = refl
+doubled_lf_begins_with_no_lf : (b : Bool) (tail : List ℕ) → (b && holds (λ b. b == lf) (first (doubled b tail))) ≡ false
+doubled_lf_begins_with_no_lf true tail = refl
+doubled_lf_begins_with_no_lf false tail = refl
 
 -- a line reaches to its end
 suffix_line_is_longest_run : (t line tail : List ℕ) (i : ℕ) → has_lf line ≡ false →
@@ -65,7 +65,8 @@ suffix_line_is_longest_run t [] tail i e l = let s : i ≡ i + 0 = omega arith i
 suffix_line_is_longest_run t (x ∷ []) tail i e l =
     let n = suffix_next l in
     run_goes_on (is_line_place t) i (i + 1)
-    (byte_is_line_place t i x (doubled (x == cr) tail) (neither_left (x == lf) false e) (last_safe (x == cr) tail) l)
+    (byte_is_line_place t i x (doubled (x == cr) tail) (neither_left (x == lf) false e)
+    (doubled_lf_begins_with_no_lf (x == cr) tail) l)
     (run_ends_here (is_line_place t) (i + 1) (doubled_ends_line t (x == cr) (i + 1) tail n))
 suffix_line_is_longest_run t (x ∷ y ∷ xs) tail i e l =
     let s : (i + 1) + length (y ∷ xs) ≡ i + length (x ∷ y ∷ xs) = omega arith in
@@ -82,15 +83,18 @@ suffix_line_is_longest_run t (x ∷ y ∷ xs) tail i e l =
 abbrev pub hashes_in_level : Level → ℕ
 hashes_in_level level = length (hashes_of level)
 
-counts_hashes : (t : List ℕ) (level : Level) (i : ℕ) (more : List ℕ) → holds (λ b. b == 35) (first more) ≡ false →
+hashes_of_level_are_counted : (t : List ℕ) (level : Level) (i : ℕ) (more : List ℕ) →
+    holds (λ b. b == 35) (first more) ≡ false →
     SuffixAt t i (hashes_of level ++ more) → hashes t i ≡ hashes_in_level level
-counts_hashes t regular i more e l = rw (suffix_first l, suffix_has (λ b. b == 35) (suffix_next l), e) refl
-counts_hashes t group i more e l =
-    let two : SuffixAt t (i + 2) more = subst (λ n. SuffixAt t n more) (two_on i) (suffix_next (suffix_next l)) in
+hashes_of_level_are_counted t regular i more e l =
+    rw (suffix_first l, suffix_has (λ b. b == 35) (suffix_next l), e) refl
+hashes_of_level_are_counted t group i more e l =
+    let two : SuffixAt t (i + 2) more =
+    subst (λ n. SuffixAt t n more) (one_and_one_on_is_two_on i) (suffix_next (suffix_next l)) in
     rw (suffix_first l, suffix_first (suffix_next l), suffix_has (λ b. b == 35) two, e) refl
-counts_hashes t resource i more e l =
+hashes_of_level_are_counted t resource i more e l =
     let two : SuffixAt t (i + 2) (35 ∷ more) =
-    subst (λ n. SuffixAt t n (35 ∷ more)) (two_on i) (suffix_next (suffix_next l)) in
+    subst (λ n. SuffixAt t n (35 ∷ more)) (one_and_one_on_is_two_on i) (suffix_next (suffix_next l)) in
     rw (suffix_first l, suffix_first (suffix_next l), suffix_first two) refl
 
 zero_is_not_suc : (n : ℕ) → 0 ≡ suc n → ⊥
@@ -131,74 +135,78 @@ map_of_append_is_append f (x ∷ xs) ys = ap (λ zs. f x ∷ zs) (map_of_append_
 
 module _ (t : List ℕ) where
   -- the rest of a line after its hashes
-  rest_reads_back : (line : Text) (shown : Bool) (i : ℕ) (tail : List ℕ) → LineForm line shown → has_lf line ≡ false →
-      SuffixAt t i (after_hashes shown line tail) →
+  comment_rest_reads_back : (line : Text) (shown : Bool) (i : ℕ) (tail : List ℕ) → LineForm line shown →
+      has_lf line ≡ false → SuffixAt t i (after_hashes shown line tail) →
       Reads t (peek (slice_get t) (comment_rest t)) (map (bytes_at t)) i (line ∷ []) tail
-  rest_reads_back [] false i tail blank_line e l =
+  comment_rest_reads_back [] false i tail blank_line e l =
       reads_peek (Some lf) (suffix_first l)
-      (reads_bind (reads_peek true (rw (suffix_first l) refl) (reads_here (reads_spanned [] (lf ∷ tail) l l)))
+      (reads_bind (reads_peek true (rw (suffix_first l) refl) (reads_here (span_reads_its_bytes [] (lf ∷ tail) l l)))
       (λ x j f m. passes_then (optional_eol_passes_doubled t false j tail m)
       (λ k n. reads_yields (map_of_one_is_one (bytes_at t) x [] f) n)))
-  rest_reads_back (b ∷ line) false i tail x e l = elim x [ ]
-  rest_reads_back line true i tail shown_line e l =
+  comment_rest_reads_back (b ∷ line) false i tail x e l = elim x [ ]
+  comment_rest_reads_back line true i tail shown_line e l =
       let end = doubled (is_last cr (last_of None line)) tail in
       reads_peek (Some space) (suffix_first l)
       (reads_bind (reads_peek false (rw (suffix_first l) refl)
       (passes_then (passes_token 32 refl l)
       (λ j m. reads_here
       (passes_then (passes_over (suffix_line_is_longest_run t line tail j e m) (suffix_past line m))
-      (λ k n. reads_spanned line end m n)))))
+      (λ k n. span_reads_its_bytes line end m n)))))
       (λ x j f m. passes_then (optional_eol_passes_doubled t (is_last cr (last_of None line)) j tail m)
       (λ k n. reads_yields (map_of_one_is_one (bytes_at t) x line f) n)))
 
-  line_reads_back : (level : Level) (line : Text) (i : ℕ) (tail : List ℕ) → is_plain_line line ≡ true →
+  comment_line_reads_back : (level : Level) (line : Text) (i : ℕ) (tail : List ℕ) → is_plain_line line ≡ true →
       has_lf line ≡ false →
       SuffixAt t i (hashes_of level ++ after_hashes (is_nonblank_line line) line tail) →
       Reads t (comment_line t (hashes_in_level level)) (map (bytes_at t)) i (line ∷ []) tail
-  line_reads_back level line i tail p e l =
+  comment_line_reads_back level line i tail p e l =
       passes_then (passes_over {j = i + hashes_in_level level} (record { by = refl }) (suffix_past (hashes_of level) l))
-      (λ j m. rest_reads_back line (is_nonblank_line line) j tail (line_has_form line (is_nonblank_line line) p) e m)
+      (λ j m. comment_rest_reads_back line (is_nonblank_line line) j tail
+      (line_has_form line (is_nonblank_line line) p) e m)
 
-  after_no_hash : (line : Text) (shown : Bool) (tail : List ℕ) →
+  no_hash_is_after_hashes : (line : Text) (shown : Bool) (tail : List ℕ) →
       holds (λ b. b == 35) (first (after_hashes shown line tail)) ≡ false
-  after_no_hash line true tail = refl
-  after_no_hash line false tail = refl
+  no_hash_is_after_hashes line true tail = refl
+  no_hash_is_after_hashes line false tail = refl
 
-  same_lines : (xs ys : List Span) (line : Text) (lines : List Text) → map (bytes_at t) xs ≡ line ∷ [] →
+  spelled_lines_append : (xs ys : List Span) (line : Text) (lines : List Text) → map (bytes_at t) xs ≡ line ∷ [] →
       map (bytes_at t) ys ≡ lines → map (bytes_at t) (xs ++ ys) ≡ line ∷ lines
-  same_lines xs ys line lines e f =
+  spelled_lines_append xs ys line lines e f =
       map_of_append_is_append (bytes_at t) xs ys ∙ ap (λ zs. zs ++ map (bytes_at t) ys) e ∙ ap (λ zs. line ∷ zs) f
 
-  lines_read_back : (level : Level) (lines : List Text) (i : ℕ) (tail : List ℕ) → list_all is_plain_line lines ≡ true →
-      are_lines lines ≡ true → holds (λ b. b == 35) (first tail) ≡ false →
+  comment_lines_read_back : (level : Level) (lines : List Text) (i : ℕ) (tail : List ℕ) →
+      list_all is_plain_line lines ≡ true → are_lines lines ≡ true → holds (λ b. b == 35) (first tail) ≡ false →
       SuffixAt t i (comment_bytes (hashes_of level) lines tail) →
       Reads t (comment_lines t (hashes_in_level level)) (map (bytes_at t)) i lines tail
-  lines_read_back level [] i tail p a e l =
+  comment_lines_read_back level [] i tail p a e l =
       record { value = []; end = i; reads = other_level (no_hash_no_level t level i tail e l); spells = refl; rest = l }
-  lines_read_back level (line ∷ lines) i tail p a e l =
+  comment_lines_read_back level (line ∷ lines) i tail p a e l =
       let one =
-      line_reads_back level line i (comment_bytes (hashes_of level) lines tail) (left_true (is_plain_line line) _ p)
-      (not_true (has_lf line) (left_true (not (has_lf line)) _ a)) l in
+      comment_line_reads_back level line i (comment_bytes (hashes_of level) lines tail)
+      (left_true (is_plain_line line) _ p)
+      (not_true_is_false (has_lf line) (left_true (not (has_lf line)) _ a)) l in
       let others =
-      lines_read_back level lines one.end tail (right_true (is_plain_line line) _ p)
+      comment_lines_read_back level lines one.end tail (right_true (is_plain_line line) _ p)
       (right_true (not (has_lf line)) _ a)
       e one.rest in
       record {
         value = one.value ++ others.value;
         end = others.end;
         reads =
-            one_more (counts_hashes t level i
+            one_more (hashes_of_level_are_counted t level i
             (after_hashes (is_nonblank_line line) line (comment_bytes (hashes_of level) lines tail))
-            (after_no_hash line (is_nonblank_line line) (comment_bytes (hashes_of level) lines tail)) l) one.reads
+            (no_hash_is_after_hashes line (is_nonblank_line line) (comment_bytes (hashes_of level) lines tail)) l)
+            one.reads
             others.reads;
-        spells = same_lines one.value others.value line lines one.spells others.spells;
+        spells = spelled_lines_append one.value others.value line lines one.spells others.spells;
         rest = others.rest;
       }
 
-  same_comment : (level : Level) (xs ys : List Span) (line : Text) (lines : List Text) →
+  spelled_comment_lines_append : (level : Level) (xs ys : List Span) (line : Text) (lines : List Text) →
       map (bytes_at t) xs ≡ line ∷ [] → map (bytes_at t) ys ≡ lines →
       entry_map (bytes_at t) (comment (level_of (hashes_in_level level)) (xs ++ ys)) ≡ comment level (line ∷ lines)
-  same_comment level xs ys line lines e f = rw (level_of_count_is_same level, same_lines xs ys line lines e f) refl
+  spelled_comment_lines_append level xs ys line lines e f =
+      rw (level_of_count_is_same level, spelled_lines_append xs ys line lines e f) refl
 
   -- a comment, before a byte that is no hash
   pub comment_reads_back : (level : Level) (content : List Text) (i : ℕ) (tail : List ℕ) →
@@ -209,11 +217,12 @@ module _ (t : List ℕ) where
   comment_reads_back level [] i tail p a e l = absurd cc
   comment_reads_back level (line ∷ lines) i tail p a e l =
       reads_peek (hashes_in_level level)
-      (counts_hashes t level i (after_hashes (is_nonblank_line line) line (comment_bytes (hashes_of level) lines tail))
-      (after_no_hash line (is_nonblank_line line) (comment_bytes (hashes_of level) lines tail)) l)
-      (reads_bind (line_reads_back level line i (comment_bytes (hashes_of level) lines tail)
-      (left_true (is_plain_line line) _ p) (not_true (has_lf line) (left_true (not (has_lf line)) _ a)) l)
+      (hashes_of_level_are_counted t level i
+      (after_hashes (is_nonblank_line line) line (comment_bytes (hashes_of level) lines tail))
+      (no_hash_is_after_hashes line (is_nonblank_line line) (comment_bytes (hashes_of level) lines tail)) l)
+      (reads_bind (comment_line_reads_back level line i (comment_bytes (hashes_of level) lines tail)
+      (left_true (is_plain_line line) _ p) (not_true_is_false (has_lf line) (left_true (not (has_lf line)) _ a)) l)
       (λ x j f m.
-      reads_bind (lines_read_back level lines j tail (right_true (is_plain_line line) _ p)
+      reads_bind (comment_lines_read_back level lines j tail (right_true (is_plain_line line) _ p)
       (right_true (not (has_lf line)) _ a) e m)
-      (λ y k g n. reads_yields (same_comment level x y line lines f g) n)))
+      (λ y k g n. reads_yields (spelled_comment_lines_append level x y line lines f g) n)))

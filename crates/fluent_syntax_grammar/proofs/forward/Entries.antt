@@ -17,7 +17,8 @@ use Rattle.fluent_syntax_grammar.specs.Grammar as grammar
 use Rattle.fluent_syntax_grammar.specs.Written.{Text}
 use Rattle.fluent_syntax_grammar.specs.RoundTrip.{tree_of}
 use Rattle.fluent_syntax_grammar.proofs.Tests.{differ}
-use Rattle.fluent_syntax_grammar.proofs.SuffixAt.{SuffixAt, first, reaches_end, suffix_has, suffix_has_no_after_eol}
+use Rattle.fluent_syntax_grammar.proofs.SuffixAt.{SuffixAt, first, suffix_reaches_end_of_text, suffix_has}
+use Rattle.fluent_syntax_grammar.proofs.SuffixAt.{suffix_has_no_after_eol}
 use Rattle.fluent_syntax_grammar.proofs.forward.Reading.{Reads}
 use Rattle.fluent_syntax_grammar.proofs.marks.WrittenBytes.{pattern_bytes}
 use Rattle.fluent_syntax_grammar.proofs.forward.Lines.{Ends, EndsPattern, text_ends, column, no_spaces}
@@ -62,21 +63,23 @@ module _ (edition : Edition) (t : List ℕ) where
       no_line (no_spaces edition t (entry_start_is_no_other space rest e refl) l)
       (suffix_has_no_after_eol l (entry_start_is_no_other lf rest e refl) (entry_start_is_no_other cr rest e refl))
 
-  no_token : (i c : ℕ) (rest : List ℕ) → holds (λ b. b == c) (first rest) ≡ false → SuffixAt t i rest →
-      token t c i (Refused (ExpectedToken c) i (i + 1))
-  no_token i c rest e l = goes_on (chosen (second (suffix_has (λ b. b == c) l ∙ e) given)) (second refl (failed refl))
+  token_of_other_byte_is_refused : (i c : ℕ) (rest : List ℕ) → holds (λ b. b == c) (first rest) ≡ false →
+      SuffixAt t i rest → token t c i (Refused (ExpectedToken c) i (i + 1))
+  token_of_other_byte_is_refused i c rest e l =
+      goes_on (chosen (second (suffix_has (λ b. b == c) l ∙ e) given)) (second refl (failed refl))
 
   -- there is no attribute
-  pub no_attributes : (i : ℕ) (rest : List ℕ) → EntryStart rest → SuffixAt t i rest → attributes edition t i (Read [] i)
-  no_attributes i rest e l =
+  pub no_attributes_are_read_at_entry_start : (i : ℕ) (rest : List ℕ) → EntryStart rest → SuffixAt t i rest →
+      attributes edition t i (Read [] i)
+  no_attributes_are_read_at_entry_start i rest e l =
       no_more (goes_on (passed (no_spaces edition t (entry_start_is_no_other space rest e refl) l))
-      (stops (no_token i 46 rest (entry_start_is_no_other 46 rest e refl) l)))
+      (stops (token_of_other_byte_is_refused i 46 rest (entry_start_is_no_other 46 rest e refl) l)))
 
   -- ---- tilings
 
-  pub tiles_end : (i : ℕ) → SuffixAt t i [] → Tiles edition t i []
-  tiles_end i l =
-      let e : i ≡ length t = let n = reaches_end l in omega arith in
+  pub end_of_text_has_no_tiles : (i : ℕ) → SuffixAt t i [] → Tiles edition t i []
+  end_of_text_has_no_tiles i l =
+      let e : i ≡ length t = let n = suffix_reaches_end_of_text l in omega arith in
       record {
         tiles = [];
         tiled = done (subst (λ n. BlankBlock t i n) e (no_block i [] no_entry l));

@@ -19,10 +19,11 @@ use Rattle.fluent_syntax_grammar.specs.Canonical.{canonical_rules}
 use Rattle.fluent_syntax_grammar.specs.Grammar.{inline_expression, expression, placeable}
 use Rattle.fluent_syntax_grammar.proofs.Facts.{left_true, right_true, equal}
 use Rattle.fluent_syntax_grammar.proofs.Tests.{both_true}
-use Rattle.fluent_syntax_grammar.proofs.Nesting.{into_expression}
+use Rattle.fluent_syntax_grammar.proofs.Nesting.{expression_of_family_is_in_family}
 use Rattle.fluent_syntax_grammar.proofs.SuffixAt.{SuffixAt, suffix_first, is_space_or_lf}
 use Rattle.fluent_syntax_grammar.proofs.forward.Reading.{Reads, Passes, reads_bind, reads_yields, passes_then}
-use Rattle.fluent_syntax_grammar.proofs.forward.Reading.{reads_peek, reads_look, reads_second, reads_into}
+use Rattle.fluent_syntax_grammar.proofs.forward.Reading.{reads_peek, look_reads_what_follows, reads_second}
+use Rattle.fluent_syntax_grammar.proofs.forward.Reading.{including_construct_reads_alike}
 use Rattle.fluent_syntax_grammar.proofs.forward.Reading.{passes_token, passes_inline_blank}
 use Rattle.fluent_syntax_grammar.proofs.marks.WrittenBytes.{expression_bytes, element_bytes, closing_indent}
 use Rattle.fluent_syntax_grammar.proofs.forward.Inline.{Follows, bytes_past, passes_blank, passes_blanks, starts_with}
@@ -58,8 +59,8 @@ spaces_are_blank (b ∷ bs) e =
     (spaces_are_blank bs (right_true (is_space b) (list_all is_space bs) e))
 
 -- before the brace that closes a placeable
-brace_follows : (gap more : List ℕ) → list_all is_space gap ≡ true → Follows gap (125 ∷ more)
-brace_follows [] more e =
+closing_brace_follows_spaces : (gap more : List ℕ) → list_all is_space gap ≡ true → Follows gap (125 ∷ more)
+closing_brace_follows_spaces [] more e =
     record {
       spaces = refl;
       no_name = refl;
@@ -71,7 +72,7 @@ brace_follows [] more e =
       no_list = refl;
       no_attribute = refl;
     }
-brace_follows (b ∷ bs) more e =
+closing_brace_follows_spaces (b ∷ bs) more e =
     let s : b ≡ 32 = equal b 32 (left_true (is_space b) (list_all is_space bs) e) in
     record {
       spaces = spaces_are_blank (b ∷ bs) e;
@@ -93,30 +94,31 @@ pub record ExpressionReadsBack (edition : Edition) (t : List ℕ) (level : ℕ) 
       Reads t (expression edition t) (expression_map (bytes_at t)) i e (125 ∷ more)
 
 module _ (edition : Edition) (t : List ℕ) where
-  passes_if : (b : Bool) (gap more : List ℕ) (i : ℕ) → Follows gap more →
+  optional_gap_is_passed : (b : Bool) (gap more : List ℕ) (i : ℕ) → Follows gap more →
       SuffixAt t i (if b then more else gap ++ more) →
       Passes t (blank t) i more
-  passes_if true gap more i f l = passes_blanks [] more refl f.no_space f.no_lf f.no_cr l
-  passes_if false gap more i f l = passes_blanks gap more f.spaces f.no_space f.no_lf f.no_cr l
+  optional_gap_is_passed true gap more i f l = passes_blanks [] more refl f.no_space f.no_lf f.no_cr l
+  optional_gap_is_passed false gap more i f l = passes_blanks gap more f.spaces f.no_space f.no_lf f.no_cr l
 
   -- the blank after an inline expression, which reading it may have passed
-  pub passes_after : (e : InlineTree Text) (gap more : List ℕ) (i : ℕ) → Follows gap more →
+  pub gap_after_inline_is_passed : (e : InlineTree Text) (gap more : List ℕ) (i : ℕ) → Follows gap more →
       SuffixAt t i (bytes_past e gap more) →
       Passes t (blank t) i more
-  passes_after e gap more i f l = passes_if (passes_blank e) gap more i f l
+  gap_after_inline_is_passed e gap more i f l = optional_gap_is_passed (passes_blank e) gap more i f l
 
-  no_arrow : (i : ℕ) (more : List ℕ) → SuffixAt t i (125 ∷ more) → has_arrow t i ≡ false
-  no_arrow i more l = rw (suffix_first l) refl
+  no_arrow_is_at_closing_brace : (i : ℕ) (more : List ℕ) → SuffixAt t i (125 ∷ more) → has_arrow t i ≡ false
+  no_arrow_is_at_closing_brace i more l = rw (suffix_first l) refl
 
   -- an inline expression that was read, before the brace
-  expression_after : (e : InlineTree Text) (gap more : List ℕ) (i : ℕ) → is_term_attribute e ≡ false →
-      list_all is_space gap ≡ true →
+  inline_before_brace_reads_as_expression : (e : InlineTree Text) (gap more : List ℕ) (i : ℕ) →
+      is_term_attribute e ≡ false → list_all is_space gap ≡ true →
       Reads t (inline_expression edition t) (inline_map (bytes_at t)) i e (bytes_past e gap (125 ∷ more)) →
       Reads t (expression edition t) (expression_map (bytes_at t)) i (inline e) (125 ∷ more)
-  expression_after e gap more i a g r =
+  inline_before_brace_reads_as_expression e gap more i a g r =
       reads_bind r
-      (λ v j f m. passes_then (passes_after e gap (125 ∷ more) j (brace_follows gap more g) m) (λ k n.
-      reads_look false (no_arrow k more n)
+      (λ v j f m.
+      passes_then (gap_after_inline_is_passed e gap (125 ∷ more) j (closing_brace_follows_spaces gap more g) m) (λ k n.
+      look_reads_what_follows false (no_arrow_is_at_closing_brace k more n)
       (reads_second refl
       (reads_second (sym (inline_map_keeps_term_attribute (bytes_at t) v) ∙ ap is_term_attribute f ∙ a)
       (reads_yields (ap inline f) n)))))
@@ -126,7 +128,8 @@ module _ (edition : Edition) (t : List ℕ) where
       ExpressionReadsBack edition t level (inline e)
   inline_expression_reads_back level e a h = record {
     begins = λ tail. inline_begins edition level e tail h.obeys;
-    back = λ i gap more g l. expression_after e gap more i a g (h.back i gap (125 ∷ more) (brace_follows gap more g) l);
+    back = λ i gap more g l. inline_before_brace_reads_as_expression e gap more i a g
+        (h.back i gap (125 ∷ more) (closing_brace_follows_spaces gap more g) l);
   }
 
   -- ---- placeables
@@ -142,16 +145,17 @@ module _ (edition : Edition) (t : List ℕ) where
       (λ j m. passes_then
       (passes_blanks before _ (spaces_are_blank before a) (begins_other 32 b refl) (begins_other lf b refl)
       (begins_other cr b refl) m) (λ k n.
-      reads_bind (reads_into (λ o x. into_expression edition t k o x) (h.back k gap more g n))
+      reads_bind (including_construct_reads_alike (λ o x. expression_of_family_is_in_family edition t k o x)
+      (h.back k gap more g n))
       (λ v p f o. passes_then (passes_inline_blank [] (125 ∷ more) refl refl o)
       (λ q r. passes_then (passes_token 125 refl r) (λ y z. reads_yields f z)))))
 
   -- the same as an inline expression
-  braced : (level : ℕ) (e : ExpressionTree Text) (before gap more : List ℕ) (i : ℕ) → list_all is_space before ≡ true →
-      list_all is_space gap ≡ true → ExpressionReadsBack edition t level e →
+  expression_in_braces_reads_as_placeable : (level : ℕ) (e : ExpressionTree Text) (before gap more : List ℕ) (i : ℕ) →
+      list_all is_space before ≡ true → list_all is_space gap ≡ true → ExpressionReadsBack edition t level e →
       SuffixAt t i (123 ∷ (before ++ expression_bytes level e (closing_indent level e ++ (gap ++ (125 ∷ more))))) →
       Reads t (inline_expression edition t) (inline_map (bytes_at t)) i (inline_placeable e) more
-  braced level e before gap more i a g h l =
+  expression_in_braces_reads_as_placeable level e before gap more i a g h l =
       reads_peek brace (starts_with brace refl l)
       (reads_bind (placeable_reads_back level e before gap more i a g h l)
       (λ v j f m. reads_yields (ap inline_placeable f) m))
@@ -160,19 +164,23 @@ module _ (edition : Edition) (t : List ℕ) where
       inline_obeys (canonical_rules edition) (inline_placeable e) ≡ true → ExpressionReadsBack edition t level e →
       InlineReadsBack edition t level (inline_placeable e)
   inline_placeable_reads_back level e o h =
-      record { obeys = o; back = λ i gap more f l. braced level e [] [] (gap ++ more) i refl refl h l }
+      record {
+        obeys = o;
+        back =
+            λ i gap more f l. expression_in_braces_reads_as_placeable level e [] [] (gap ++ more) i refl refl h l;
+      }
 
   -- ---- placeables that are elements
 
   -- a placeable as an element of a pattern is read back
-  pub double_reads_back : (level : ℕ) (e : ExpressionTree Text) (i : ℕ) (tail : List ℕ) →
+  pub double_placeable_reads_back : (level : ℕ) (e : ExpressionTree Text) (i : ℕ) (tail : List ℕ) →
       ExpressionReadsBack edition t level e →
       SuffixAt t i (element_bytes level (placeable_element (inline (inline_placeable e))) tail) →
       Reads t (placeable edition t) (expression_map (bytes_at t)) i (inline (inline_placeable e)) tail
-  double_reads_back level e i tail h l =
+  double_placeable_reads_back level e i tail h l =
       passes_then (passes_token 123 refl l) (λ j m. passes_then (passes_blanks [] _ refl refl refl refl m) (λ k n.
-      reads_bind (reads_into (λ o x. into_expression edition t k o x)
-      (expression_after (inline_placeable e) [] tail k refl refl
-      (braced level e (32 ∷ []) (32 ∷ []) (125 ∷ tail) k refl refl h n)))
+      reads_bind (including_construct_reads_alike (λ o x. expression_of_family_is_in_family edition t k o x)
+      (inline_before_brace_reads_as_expression (inline_placeable e) [] tail k refl refl
+      (expression_in_braces_reads_as_placeable level e (32 ∷ []) (32 ∷ []) (125 ∷ tail) k refl refl h n)))
       (λ v p f o. passes_then (passes_inline_blank [] (125 ∷ tail) refl refl o) (λ q r.
       passes_then (passes_token 125 refl r) (λ y z. reads_yields f z)))))

@@ -19,7 +19,7 @@ use Rattle.fluent_syntax_grammar.specs.Spellings.{is_name}
 use Rattle.fluent_syntax_grammar.specs.Rules.{option_obeys, pattern_obeys, attribute_obeys}
 use Rattle.fluent_syntax_grammar.specs.Readable.{has_field}
 use Rattle.fluent_syntax_grammar.specs.Canonical.{canonical_rules}
-use Rattle.fluent_syntax_grammar.proofs.Facts.{left_true, right_true, some_same}
+use Rattle.fluent_syntax_grammar.proofs.Facts.{left_true, right_true, equal_somes_have_equal_items}
 use Rattle.fluent_syntax_grammar.proofs.SuffixAt.{SuffixAt, suffix_next, suffix_past, suffix_has_no_after_eol}
 use Rattle.fluent_syntax_grammar.proofs.SuffixAt.{suffix_byte_run}
 use Rattle.fluent_syntax_grammar.proofs.forward.Reading.{Reads, reads_bind, reads_yields, reads_here, passes_then}
@@ -27,8 +27,8 @@ use Rattle.fluent_syntax_grammar.proofs.forward.Reading.{passes_over, passes_tok
 use Rattle.fluent_syntax_grammar.proofs.forward.Words.{reads_name}
 use Rattle.fluent_syntax_grammar.proofs.marks.WrittenBytes.{pattern_bytes}
 use Rattle.fluent_syntax_grammar.proofs.marks.WrittenEntries.{more_attributes, value_bytes, message_bytes, term_bytes}
-use Rattle.fluent_syntax_grammar.proofs.forward.Lines.{Ends, stop, indented, no_spaces, lf_after, mark_stops}
-use Rattle.fluent_syntax_grammar.proofs.forward.Entries.{EntryStart, no_block, no_attributes}
+use Rattle.fluent_syntax_grammar.proofs.forward.Lines.{Ends, stop, indented, no_spaces, lf_after, lines_stop_at_mark}
+use Rattle.fluent_syntax_grammar.proofs.forward.Entries.{EntryStart, no_block, no_attributes_are_read_at_entry_start}
 use Rattle.fluent_syntax_grammar.proofs.forward.Trees.{pattern_reads_back}
 
 -- what is left after a pattern before these attributes: where there is none, the blank lines are passed
@@ -40,10 +40,10 @@ before (a ∷ more) tail rest = more_attributes (a ∷ more) tail
 abbrev pub deep : Text
 deep = 32 ∷ 32 ∷ 32 ∷ 32 ∷ []
 
-attributes_end : (more : List (AttributeTree Text)) (tail rest : Text) → Ends tail rest →
+attributes_end_a_pattern : (more : List (AttributeTree Text)) (tail rest : Text) → Ends tail rest →
     Ends (more_attributes more tail) (before more tail rest)
-attributes_end [] tail rest e = e
-attributes_end (a ∷ more) tail rest e =
+attributes_end_a_pattern [] tail rest e = e
+attributes_end_a_pattern (a ∷ more) tail rest e =
     stop (indented (32 ∷ 32 ∷ 32 ∷ []) 46 (a.id ++ (32 ∷ 61 ∷ pattern_bytes 1 a.value (lf ∷ more_attributes more tail)))
     refl refl)
 
@@ -53,7 +53,7 @@ module _ (edition : Edition) (t : List ℕ) where
       bytes_at t id ≡ a.id → option_map (pattern_map (bytes_at t)) v ≡ Some a.value → SuffixAt t i bs →
       Reads t (attribute_with id v) (attribute_map (bytes_at t)) i a bs
   attribute_with_reads_back id a None i bs e f l = absurd cc
-  attribute_with_reads_back id a (Some p) i bs e f l = reads_yields (same_attribute (some_same f)) l
+  attribute_with_reads_back id a (Some p) i bs e f l = reads_yields (same_attribute (equal_somes_have_equal_items f)) l
     where
       same_attribute : pattern_map (bytes_at t) p ≡ a.value →
           attribute_map (bytes_at t) (record { id = id; value = p }) ≡ a
@@ -78,11 +78,18 @@ module _ (edition : Edition) (t : List ℕ) where
       SuffixAt t i (before more tail rest) →
       Reads t (attributes edition t) (map (attribute_map (bytes_at t))) i more rest
   attributes_read_back [] i tail rest h e s l =
-      record { value = []; end = i; reads = no_attributes edition t i rest s l; spells = refl; rest = l }
+      record {
+        value = [];
+        end = i;
+        reads = no_attributes_are_read_at_entry_start edition t i rest s l;
+        spells =
+            refl;
+        rest = l;
+      }
   attributes_read_back (a ∷ more) i tail rest h e s l =
       let one =
       attribute_reads_back a i (more_attributes more tail) (before more tail rest)
-      (left_true (attribute_obeys (canonical_rules edition) a) _ h) (attributes_end more tail rest e) l in
+      (left_true (attribute_obeys (canonical_rules edition) a) _ h) (attributes_end_a_pattern more tail rest e) l in
       let others =
       attributes_read_back more one.end tail rest (right_true (attribute_obeys (canonical_rules edition) a) _ h) e s
       one.rest in
@@ -99,19 +106,19 @@ module _ (edition : Edition) (t : List ℕ) where
       same_list b bs f g = rw (f, g) refl
 
   -- there is no blank line
-  no_block_before : (more : List (AttributeTree Text)) (i : ℕ) (tail rest : List ℕ) → EntryStart rest →
+  no_block_is_before_attributes : (more : List (AttributeTree Text)) (i : ℕ) (tail rest : List ℕ) → EntryStart rest →
       SuffixAt t i (before more tail rest) → BlankBlock t i i
-  no_block_before [] i tail rest s l = no_block edition t i rest s l
-  no_block_before (a ∷ more) i tail rest s l =
+  no_block_is_before_attributes [] i tail rest s l = no_block edition t i rest s l
+  no_block_is_before_attributes (a ∷ more) i tail rest s l =
       let bs = 46 ∷ (a.id ++ (32 ∷ 61 ∷ pattern_bytes 1 a.value (lf ∷ more_attributes more tail))) in
       no_line (suffix_byte_run is_space deep bs refl refl l) (suffix_has_no_after_eol (suffix_past deep l) refl refl)
 
   -- no value, before an attribute
-  no_value : (a : AttributeTree Text) (more : List (AttributeTree Text)) (i : ℕ) (tail rest : List ℕ) →
-      EntryStart rest → SuffixAt t i (lf ∷ more_attributes (a ∷ more) tail) →
+  no_value_is_read_before_attributes : (a : AttributeTree Text) (more : List (AttributeTree Text)) (i : ℕ)
+      (tail rest : List ℕ) → EntryStart rest → SuffixAt t i (lf ∷ more_attributes (a ∷ more) tail) →
       Reads t (grammar.pattern edition t) (option_map (pattern_map (bytes_at t))) i None
       (more_attributes (a ∷ more) tail)
-  no_value a more i tail rest s l =
+  no_value_is_read_before_attributes a more i tail rest s l =
       let m = suffix_next l in
       record {
         value = None;
@@ -122,8 +129,8 @@ module _ (edition : Edition) (t : List ℕ) where
             (λ o. layout_at t (grammar.family edition t) o i (Read (record { opening = None; lines = [] }) (i + 1)))
             (sym (lf_after edition t l))
             (goes_on (passed (record { there = refl }))
-            (goes_on (passed (no_block_before (a ∷ more) (i + 1) tail rest s m))
-            (goes_on (mark_stops edition t (i + 1) 46 (32 ∷ 32 ∷ 32 ∷ [])
+            (goes_on (passed (no_block_is_before_attributes (a ∷ more) (i + 1) tail rest s m))
+            (goes_on (lines_stop_at_mark edition t (i + 1) 46 (32 ∷ 32 ∷ 32 ∷ [])
             (a.id ++ (32 ∷ 61 ∷ pattern_bytes 1 a.value (lf ∷ more_attributes more tail))) refl refl m)
             given)))))) given;
         spells = refl;
@@ -137,10 +144,10 @@ module _ (edition : Edition) (t : List ℕ) where
       Ends tail rest → EntryStart rest → SuffixAt t i (value_bytes value (lf ∷ more_attributes more tail)) →
       Reads t (grammar.pattern edition t) (option_map (pattern_map (bytes_at t))) i value (before more tail rest)
   value_reads_back None [] i tail rest f h e s l = absurd cc
-  value_reads_back None (a ∷ more) i tail rest f h e s l = no_value a more i tail rest s l
+  value_reads_back None (a ∷ more) i tail rest f h e s l = no_value_is_read_before_attributes a more i tail rest s l
   value_reads_back (Some p) more i tail rest f h e s l =
       (pattern_reads_back edition t p h 0).back i (more_attributes more tail) (before more tail rest)
-      (attributes_end more tail rest e) l
+      (attributes_end_a_pattern more tail rest e) l
 
   message_with_reads_back :
       (start : ℕ) (id : Text) (value : Option (PatternTree Text)) (more : List (AttributeTree Text)) (x : Span)
@@ -161,7 +168,7 @@ module _ (edition : Edition) (t : List ℕ) where
       same_message e g = rw (e, g) refl
   message_with_reads_back start id (Some q) more x None as' i rest h e f g l = absurd cc
   message_with_reads_back start id (Some q) more x (Some p) as' i rest h e f g l = reads_yields
-      (same_message e (some_same f) g) l
+      (same_message e (equal_somes_have_equal_items f) g) l
     where
       same_message : bytes_at t x ≡ id → pattern_map (bytes_at t) p ≡ q → map (attribute_map (bytes_at t)) as' ≡ more →
           entry_map (bytes_at t) (message (record { id = x; value = Some p; attributes = as'; comment = None }))
@@ -183,7 +190,7 @@ module _ (edition : Edition) (t : List ℕ) where
       (passes_inline_blank (32 ∷ []) (61 ∷ value_bytes value (lf ∷ more_attributes more tail)) refl refl m)
       (λ k n. passes_then (passes_token 61 refl n) (λ p o.
       reads_bind (value_reads_back value more p tail rest f h e s o)
-      (λ v q c r. passes_then (passes_over (no_block_before more q tail rest s r) r) (λ y z.
+      (λ v q c r. passes_then (passes_over (no_block_is_before_attributes more q tail rest s r) r) (λ y z.
       reads_bind (attributes_read_back more y tail rest a e s z)
       (λ bs w d u. message_with_reads_back i id value more x v bs w rest f g c d u)))))))
 
@@ -195,7 +202,8 @@ module _ (edition : Edition) (t : List ℕ) where
       Reads t (term_with t start x v as') (entry_map (bytes_at t)) i
       (term (record { id = id; value = value; attributes = more; comment = None })) rest
   term_with_reads_back start id value more x None as' i rest e f g l = absurd cc
-  term_with_reads_back start id value more x (Some p) as' i rest e f g l = reads_yields (same_term e (some_same f) g) l
+  term_with_reads_back start id value more x (Some p) as' i rest e f g l =
+      reads_yields (same_term e (equal_somes_have_equal_items f) g) l
     where
       same_term : bytes_at t x ≡ id → pattern_map (bytes_at t) p ≡ value → map (attribute_map (bytes_at t)) as' ≡ more →
           entry_map (bytes_at t) (term (record { id = x; value = p; attributes = as'; comment = None }))
@@ -218,7 +226,7 @@ module _ (edition : Edition) (t : List ℕ) where
       (passes_inline_blank (32 ∷ []) (61 ∷ pattern_bytes 0 value (lf ∷ more_attributes more tail)) refl refl
       m) (λ k n. passes_then (passes_token 61 refl n) (λ p o.
       reads_bind ((pattern_reads_back edition t value h 0).back p (more_attributes more tail) (before more tail rest)
-      (attributes_end more tail rest e) o)
-      (λ v q d r. passes_then (passes_over (no_block_before more q tail rest s r) r) (λ y z.
+      (attributes_end_a_pattern more tail rest e) o)
+      (λ v q d r. passes_then (passes_over (no_block_is_before_attributes more q tail rest s r) r) (λ y z.
       reads_bind (attributes_read_back more y tail rest a e s z)
       (λ bs w f u. term_with_reads_back i id value more x v bs w rest g d f u))))))))

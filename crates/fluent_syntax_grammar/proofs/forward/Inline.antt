@@ -23,13 +23,14 @@ use Rattle.fluent_syntax_grammar.specs.Inline as rules'
 use Rattle.fluent_syntax_grammar.specs.Grammar.{inline_expression, call_arguments}
 use Rattle.fluent_syntax_grammar.proofs.Facts.{left_true, right_true, equal}
 use Rattle.fluent_syntax_grammar.proofs.Tests.{or_cases, differ}
-use Rattle.fluent_syntax_grammar.proofs.SuffixAt.{SuffixAt, first, suffix_first, suffix_next, suffix_past, suffix_blank}
+use Rattle.fluent_syntax_grammar.proofs.SuffixAt.{SuffixAt, first, suffix_first, suffix_next, suffix_past}
+use Rattle.fluent_syntax_grammar.proofs.SuffixAt.{prefix_of_spaces_and_lfs_is_blank}
 use Rattle.fluent_syntax_grammar.proofs.SuffixAt.{is_space_or_lf}
 use Rattle.fluent_syntax_grammar.proofs.forward.Reading.{Reads, Passes, reads_bind, reads_yields, passes_then}
 use Rattle.fluent_syntax_grammar.proofs.forward.Reading.{passes_over, reads_peek, reads_first, reads_second}
-use Rattle.fluent_syntax_grammar.proofs.forward.Reading.{reads_present, reads_absent, passes_token}
-use Rattle.fluent_syntax_grammar.proofs.forward.Words.{reads_name, reads_number}
-use Rattle.fluent_syntax_grammar.proofs.forward.Strings.{reads_string}
+use Rattle.fluent_syntax_grammar.proofs.forward.Reading.{present_byte_is_read, reads_absent, passes_token}
+use Rattle.fluent_syntax_grammar.proofs.forward.Words.{reads_name, number_reads_back_its_bytes}
+use Rattle.fluent_syntax_grammar.proofs.forward.Strings.{string_literal_reads_back_its_bytes}
 use Rattle.fluent_syntax_grammar.proofs.marks.WrittenBytes.{inline_bytes}
 
 -- What may follow an inline expression: spaces and then a byte that goes on with none of its forms.
@@ -87,10 +88,12 @@ module _ {t : List ℕ} where
       holds is_space (first more) ≡ false → holds (λ b. b == lf) (first more) ≡ false →
       holds (λ b. b == cr) (first more) ≡ false →
       SuffixAt t i (gap ++ more) → Passes t (blank t) i more
-  passes_blanks gap more a d e f l = passes_over (suffix_blank gap more a d e f l) (suffix_past gap l)
+  passes_blanks gap more a d e f l =
+      passes_over (prefix_of_spaces_and_lfs_is_blank gap more a d e f l) (suffix_past gap l)
 
-  passes_gap : {i : ℕ} (gap more : List ℕ) → Follows gap more → SuffixAt t i (gap ++ more) → Passes t (blank t) i more
-  passes_gap gap more f l = passes_blanks gap more f.spaces f.no_space f.no_lf f.no_cr l
+  gap_before_rest_is_passed : {i : ℕ} (gap more : List ℕ) → Follows gap more → SuffixAt t i (gap ++ more) →
+      Passes t (blank t) i more
+  gap_before_rest_is_passed gap more f l = passes_blanks gap more f.spaces f.no_space f.no_lf f.no_cr l
 
   -- the start that a byte makes
   pub starts_with : {i b : ℕ} {bs : List ℕ} (s : Start) → start_of (Some b) (holds is_letter (first bs)) ≡ s →
@@ -105,7 +108,7 @@ module _ (edition : Edition) (t : List ℕ) where
       SuffixAt t i (inline_bytes level (string_literal v) more) → ReadsInline i (string_literal v) more
   string_reads_back i level v more e l =
       reads_peek quote (starts_with quote refl l)
-      (reads_bind (reads_string v more e l) (λ s j f m. reads_yields (ap string_literal f) m))
+      (reads_bind (string_literal_reads_back_its_bytes v more e l) (λ s j f m. reads_yields (ap string_literal f) m))
 
   pub variable_reads_back : (i level : ℕ) (id gap more : List ℕ) → is_name id ≡ true → Follows gap more →
       SuffixAt t i (inline_bytes level (variable_reference id) (gap ++ more)) →
@@ -116,21 +119,22 @@ module _ (edition : Edition) (t : List ℕ) where
       (λ j m. reads_bind (reads_name id (gap ++ more) e f.no_name m)
       (λ s j g n. reads_yields (ap variable_reference g) n)))
 
-  number_as : (i : ℕ) (v gap more : List ℕ) → is_number v ≡ true → Follows gap more →
+  number_reads_as_number_literal : (i : ℕ) (v gap more : List ℕ) → is_number v ≡ true → Follows gap more →
       SuffixAt t i (v ++ (gap ++ more)) →
       Reads t (number t >>= λ v. yields (number_literal v)) (inline_map (bytes_at t)) i (number_literal v) (gap ++ more)
-  number_as i v gap more e f l =
-      reads_bind (reads_number v (gap ++ more) e f.no_digit f.no_point l)
+  number_reads_as_number_literal i v gap more e f l =
+      reads_bind (number_reads_back_its_bytes v (gap ++ more) e f.no_digit f.no_point l)
       (λ s j g m. reads_yields (ap number_literal g) m)
 
-  number_start : (i : ℕ) (v more : List ℕ) → is_number v ≡ true → SuffixAt t i (v ++ more) → (start t i ≡ digit) ⊎
-      (start t i ≡ minus)
-  number_start i [] more e l = cc
-  number_start i (b ∷ []) more e l = elim (or_cases (b == 45 && is_unsigned []) (is_unsigned (b ∷ [])) e) [
-    | inl h ↦ absurd (false≢true (right_true (b == 45) false h))
-    | inr h ↦ inl (starts_with digit (start_of-digit b _ (left_true (is_digit b) true h)) l)
-  ]
-  number_start i (b ∷ c ∷ bs) more e l =
+  number_starts_with_digit_or_minus : (i : ℕ) (v more : List ℕ) → is_number v ≡ true → SuffixAt t i (v ++ more) →
+      (start t i ≡ digit) ⊎ (start t i ≡ minus)
+  number_starts_with_digit_or_minus i [] more e l = cc
+  number_starts_with_digit_or_minus i (b ∷ []) more e l =
+      elim (or_cases (b == 45 && is_unsigned []) (is_unsigned (b ∷ [])) e) [
+        | inl h ↦ absurd (false≢true (right_true (b == 45) false h))
+        | inr h ↦ inl (starts_with digit (start_of-digit b _ (left_true (is_digit b) true h)) l)
+      ]
+  number_starts_with_digit_or_minus i (b ∷ c ∷ bs) more e l =
       elim (or_cases (b == 45 && is_unsigned (c ∷ bs)) (is_unsigned (b ∷ c ∷ bs)) e) [
         | inl h ↦ inr
             (starts_with minus
@@ -145,9 +149,9 @@ module _ (edition : Edition) (t : List ℕ) where
   pub number_reads_back : (i level : ℕ) (v gap more : List ℕ) → is_number v ≡ true → Follows gap more →
       SuffixAt t i (inline_bytes level (number_literal v) (gap ++ more)) →
       ReadsInline i (number_literal v) (gap ++ more)
-  number_reads_back i level v gap more e f l = elim (number_start i v (gap ++ more) e l) [
-    | inl s ↦ reads_peek digit s (number_as i v gap more e f l)
-    | inr s ↦ reads_peek minus s (number_as i v gap more e f l)
+  number_reads_back i level v gap more e f l = elim (number_starts_with_digit_or_minus i v (gap ++ more) e l) [
+    | inl s ↦ reads_peek digit s (number_reads_as_number_literal i v gap more e f l)
+    | inr s ↦ reads_peek minus s (number_reads_as_number_literal i v gap more e f l)
   ]
 
   -- ---- names and arguments
@@ -156,18 +160,18 @@ module _ (edition : Edition) (t : List ℕ) where
   ReadsCall i a left = Reads t (call_arguments edition t) (maybe_map (bytes_at t)) i a left
 
   -- no argument list
-  pub call_none : (i : ℕ) (gap more : List ℕ) → Follows gap more → SuffixAt t i (gap ++ more) →
+  pub no_arguments_are_read_without_list : (i : ℕ) (gap more : List ℕ) → Follows gap more → SuffixAt t i (gap ++ more) →
       ReadsCall i no_arguments more
-  call_none i gap more f l =
-      passes_then (passes_gap gap more f l)
+  no_arguments_are_read_without_list i gap more f l =
+      passes_then (gap_before_rest_is_passed gap more f l)
       (λ j m. reads_bind (reads_absent 40 f.no_list m) (λ b k e n. reads_second e (reads_yields refl n)))
 
   -- no argument list, and no blank to pass
-  no_list_here : (i : ℕ) (more : List ℕ) → holds is_space (first more) ≡ false →
+  no_argument_list_is_read_here : (i : ℕ) (more : List ℕ) → holds is_space (first more) ≡ false →
       holds (λ b. b == lf) (first more) ≡ false → holds (λ b. b == cr) (first more) ≡ false →
       holds (λ b. b == 40) (first more) ≡ false →
       SuffixAt t i more → ReadsCall i no_arguments more
-  no_list_here i more a d e f l =
+  no_argument_list_is_read_here i more a d e f l =
       passes_then (passes_blanks [] more refl a d e l)
       (λ j m. reads_bind (reads_absent 40 f m) (λ b k h n. reads_second h (reads_yields refl n)))
 
@@ -182,34 +186,36 @@ module _ (edition : Edition) (t : List ℕ) where
       Reads t (rules.accessor t) (option_texts (bytes_at t)) i None more
   no_accessor i more e l = reads_bind (reads_absent 46 e l) (λ b j f m. reads_second f (reads_yields refl m))
 
-  pub some_accessor : (i : ℕ) (a more : List ℕ) → is_name a ≡ true → holds is_name_byte (first more) ≡ false →
+  pub accessor_is_read_after_point : (i : ℕ) (a more : List ℕ) → is_name a ≡ true →
+      holds is_name_byte (first more) ≡ false →
       SuffixAt t i (46 ∷ (a ++ more)) → Reads t (rules.accessor t) (option_texts (bytes_at t)) i (Some a) more
-  some_accessor i a more e f l =
-      reads_bind (reads_present 46 refl l)
+  accessor_is_read_after_point i a more e f l =
+      reads_bind (present_byte_is_read 46 refl l)
       (λ b j g m. reads_first g (reads_bind (reads_name a more e f m) (λ s k h n. reads_yields (ap Some h) n)))
 
   -- a name without arguments is a message reference
-  message_after :
+  message_reference_reads_after_its_name :
       (id : Span) (name : List ℕ) (attribute : Option Text) (i : ℕ) (left : List ℕ) (v : MaybeArguments Span) →
       bytes_at t id ≡ name → maybe_map (bytes_at t) v ≡ no_arguments →
       Reads t (rules.accessor t) (option_texts (bytes_at t)) i attribute left →
       Reads t (rules'.named_reference t id v) (inline_map (bytes_at t)) i (message_reference name attribute) left
-  message_after id name attribute i left no_arguments e f r = reads_bind r (λ a j g m. reads_yields (cc) m)
-  message_after id name attribute i left (some_arguments a) e f r = absurd cc
+  message_reference_reads_after_its_name id name attribute i left no_arguments e f r =
+      reads_bind r (λ a j g m. reads_yields (cc) m)
+  message_reference_reads_after_its_name id name attribute i left (some_arguments a) e f r = absurd cc
 
   pub message_name_reads_back : (i level : ℕ) (id gap more : List ℕ) → is_name id ≡ true → Follows gap more →
       SuffixAt t i (id ++ (gap ++ more)) → ReadsInline i (message_reference id None) more
   message_name_reads_back i level id gap more e f l =
       reads_peek letter (name_start i id (gap ++ more) e l)
       (reads_bind (reads_name id (gap ++ more) e f.no_name l) (λ s j g m.
-      reads_bind (call_none j gap more f m)
-      (λ a k h n. message_after s id None k more a g h (no_accessor k more f.no_attribute n))))
+      reads_bind (no_arguments_are_read_without_list j gap more f m)
+      (λ a k h n. message_reference_reads_after_its_name s id None k more a g h (no_accessor k more f.no_attribute n))))
 
   pub message_attribute_reads_back : (i level : ℕ) (id a gap more : List ℕ) → is_name id ≡ true → is_name a ≡ true →
       Follows gap more → SuffixAt t i (id ++ (46 ∷ (a ++ (gap ++ more)))) →
       ReadsInline i (message_reference id (Some a)) (gap ++ more)
   message_attribute_reads_back i level id a gap more e e' f l =
       reads_peek letter (name_start i id _ e l) (reads_bind (reads_name id _ e refl l) (λ s j g m.
-      reads_bind (no_list_here j _ refl refl refl refl m)
-      (λ v k h n. message_after s id (Some a) k (gap ++ more) v g h
-      (some_accessor k a (gap ++ more) e' f.no_name n))))
+      reads_bind (no_argument_list_is_read_here j _ refl refl refl refl m)
+      (λ v k h n. message_reference_reads_after_its_name s id (Some a) k (gap ++ more) v g h
+      (accessor_is_read_after_point k a (gap ++ more) e' f.no_name n))))

@@ -16,10 +16,11 @@ use Rattle.fluent_syntax_grammar.specs.Written.{Text}
 use Rattle.fluent_syntax_grammar.proofs.SuffixAt.{SuffixAt, first, suffix_first, suffix_next, suffix_past}
 use Rattle.fluent_syntax_grammar.proofs.SuffixAt.{suffix_byte_run}
 use Rattle.fluent_syntax_grammar.proofs.forward.Spells.{Spells, spells_text}
-use Rattle.fluent_syntax_grammar.proofs.forward.Lines.{is_mark_byte, line_of, reads_own, reads_no_pieces, lf_eol}
-use Rattle.fluent_syntax_grammar.proofs.forward.Lines.{belongs_eol}
+use Rattle.fluent_syntax_grammar.proofs.forward.Lines.{is_mark_byte, line_of, reads_own, reads_no_pieces}
+use Rattle.fluent_syntax_grammar.proofs.forward.Lines.{suffix_of_lf_has_eol}
+use Rattle.fluent_syntax_grammar.proofs.forward.Lines.{line_of_eol_belongs_to_pattern}
 use Rattle.fluent_syntax_grammar.proofs.forward.Pieces.{ReadsMidLine, Starts, Run}
-use Rattle.fluent_syntax_grammar.proofs.Tests.{or_true}
+use Rattle.fluent_syntax_grammar.proofs.Tests.{or_with_true_is_true}
 
 place_is_before_later : (i n : ℕ) → 1 ≤ n → nat_lt i (i + n) ≡ true
 place_is_before_later i n l = grind (arith, nat_tests)
@@ -28,17 +29,17 @@ module _ (edition : Edition) (t : List ℕ) where
   -- after leading spaces a byte that is no mark begins a line that belongs
   belongs_text : (i n b : ℕ) (bs : List ℕ) → 1 ≤ n → not (is_mark_byte b) ≡ true → SuffixAt t (i + n) (b ∷ bs) →
       belongs t (nat_lt i (i + n)) (i + n) ≡ true
-  belongs_text i n b bs l e m = rw (place_is_before_later i n l, suffix_first m, e) (or_true _)
+  belongs_text i n b bs l e m = rw (place_is_before_later i n l, suffix_first m, e) (or_with_true_is_true _)
 
   -- a line that begins with a run
-  pub start_run :
+  pub run_starts_line :
       (ind sp : List ℕ) (b : ℕ) (bs source : List ℕ) (es : PatternTree Text) (numbers rest : List ℕ) (i : ℕ) →
       list_all is_space (ind ++ sp) ≡ true → 1 ≤ length (ind ++ sp) → is_space b ≡ false → not (is_mark_byte b) ≡ true →
       SuffixAt t i ((ind ++ sp) ++ (b ∷ (bs ++ source))) → SuffixAt t (i + length ind) ((sp ++ (b ∷ bs)) ++ source) →
       Run edition t (Some (length ind)) (sp ++ (b ∷ bs)) es numbers (i + length (ind ++ sp)) source rest →
       Starts edition t (Some (length ind)) (elements (text_element (sp ++ (b ∷ bs))) es) (length (ind ++ sp) ∷ numbers)
       i rest
-  start_run ind sp b bs source es numbers rest i a n s e l k r =
+  run_starts_line ind sp b bs source es numbers rest i a n s e l k r =
       let m = suffix_past (ind ++ sp) l in
       let size = length-append ind sp in
       let kept : i + length ind ≡ i + min ((i + length (ind ++ sp)) - i) (length ind) = omega arith in
@@ -59,14 +60,14 @@ module _ (edition : Edition) (t : List ℕ) where
       }
 
   -- a blank line
-  pub start_blank :
+  pub blank_text_starts_line :
       (common : Option ℕ) (gap v more : List ℕ) (e : ElementTree Text) (es : PatternTree Text) (numbers rest : List ℕ)
       (i : ℕ) → list_all is_space gap ≡ true →
       SuffixAt t i (gap ++ (lf ∷ more)) →
       SuffixAt t (common_indent_end common (line_of edition t i (i + length gap) [] (i + length gap))) (v ++ more) →
       ((j : ℕ) → SuffixAt t j more → Starts edition t common (elements e es) numbers j rest) →
       Starts edition t common (elements (text_element v) (elements e es)) numbers i rest
-  start_blank common gap v more e es numbers rest i a l k next =
+  blank_text_starts_line common gap v more e es numbers rest i a l k next =
       let m = suffix_past gap l in
       let r = next (i + length gap + 1) (suffix_next m) in
       record {
@@ -74,7 +75,8 @@ module _ (edition : Edition) (t : List ℕ) where
         end = r.end;
         reads =
             reads_own edition t [] r.lines r.end (suffix_byte_run is_space gap (lf ∷ more) a refl l) (suffix_first m)
-            (belongs_eol edition t (nat_lt i (i + length gap)) (i + length gap) (lf_eol edition t m))
+            (line_of_eol_belongs_to_pattern edition t (nat_lt i (i + length gap)) (i + length gap)
+            (suffix_of_lf_has_eol edition t m))
             (reads_no_pieces edition t m) m r.reads;
         left = r.left;
         spells = spells_text k (suffix_next m) r.spells;
@@ -85,43 +87,45 @@ module _ (edition : Edition) (t : List ℕ) where
 
 module _ (t : List ℕ) where
   -- In edition one the leading spaces before a placeable are dropped, and the line does not count.
-  one_items : (kept first at : ℕ) (ps : List Piece) (xs : List Item) (e : ExpressionTree Text) (es : PatternTree Text) →
+  items_of_placeable_line_spell_in_one : (kept first at : ℕ) (ps : List Piece) (xs : List Item)
+      (e : ExpressionTree Text) (es : PatternTree Text) →
       Spells t (with_ending ps (lf_at at) ++ xs) (elements (placeable e) es) →
       Spells t (items_from One kept first ps (lf_at at) ++ xs) (elements (placeable e) es)
-  one_items kept first at [] xs e es s = elim s [ ]
-  one_items kept first at (run from to ∷ []) xs e es s = elim s [ ]
-  one_items kept first at (run from to ∷ p ∷ ps) xs e es s = elim s [ ]
-  one_items kept first at (placed x ∷ ps) xs e es s = s
+  items_of_placeable_line_spell_in_one kept first at [] xs e es s = elim s [ ]
+  items_of_placeable_line_spell_in_one kept first at (run from to ∷ []) xs e es s = elim s [ ]
+  items_of_placeable_line_spell_in_one kept first at (run from to ∷ p ∷ ps) xs e es s = elim s [ ]
+  items_of_placeable_line_spell_in_one kept first at (placed x ∷ ps) xs e es s = s
 
-  one_counts : (spaces at : ℕ) (ps : List Piece) (xs : List Item) (e : ExpressionTree Text) (es : PatternTree Text) →
-      1 ≤ spaces → Spells t (with_ending ps (lf_at at) ++ xs) (elements (placeable e) es) →
+  placeable_line_counts_no_indent_in_one : (spaces at : ℕ) (ps : List Piece) (xs : List Item) (e : ExpressionTree Text)
+      (es : PatternTree Text) → 1 ≤ spaces → Spells t (with_ending ps (lf_at at) ++ xs) (elements (placeable e) es) →
       counted_spaces One spaces ps ≡ []
-  one_counts spaces at [] xs e es n s = elim s [ ]
-  one_counts spaces at (run from to ∷ []) xs e es n s = elim s [ ]
-  one_counts spaces at (run from to ∷ p ∷ ps) xs e es n s = elim s [ ]
-  one_counts spaces at (placed x ∷ ps) xs e es n s = rw (not_zero spaces n) refl
+  placeable_line_counts_no_indent_in_one spaces at [] xs e es n s = elim s [ ]
+  placeable_line_counts_no_indent_in_one spaces at (run from to ∷ []) xs e es n s = elim s [ ]
+  placeable_line_counts_no_indent_in_one spaces at (run from to ∷ p ∷ ps) xs e es n s = elim s [ ]
+  placeable_line_counts_no_indent_in_one spaces at (placed x ∷ ps) xs e es n s = rw (not_zero spaces n) refl
     where
       not_zero : (n : ℕ) → 1 ≤ n → (n == 0) ≡ false
       not_zero n l = grind (arith, nat_tests)
 
   -- In edition two those beyond the common indent are a text before it, and the line counts.
-  two_items : (kept first at : ℕ) (ps : List Piece) (xs : List Item) (e : ExpressionTree Text) (es : PatternTree Text) →
+  items_of_placeable_line_spell_in_two : (kept first at : ℕ) (ps : List Piece) (xs : List Item)
+      (e : ExpressionTree Text) (es : PatternTree Text) →
       nat_lt kept first ≡ false → Spells t (with_ending ps (lf_at at) ++ xs) (elements (placeable e) es) →
       Spells t (items_from Two kept first ps (lf_at at) ++ xs) (elements (placeable e) es)
-  two_items kept first at [] xs e es n s = elim s [ ]
-  two_items kept first at (run from to ∷ []) xs e es n s = elim s [ ]
-  two_items kept first at (run from to ∷ p ∷ ps) xs e es n s = elim s [ ]
-  two_items kept first at (placed x ∷ ps) xs e es n s = rw n s
+  items_of_placeable_line_spell_in_two kept first at [] xs e es n s = elim s [ ]
+  items_of_placeable_line_spell_in_two kept first at (run from to ∷ []) xs e es n s = elim s [ ]
+  items_of_placeable_line_spell_in_two kept first at (run from to ∷ p ∷ ps) xs e es n s = elim s [ ]
+  items_of_placeable_line_spell_in_two kept first at (placed x ∷ ps) xs e es n s = rw n s
 
-  two_spaces :
+  spaces_before_placeable_spell_in_two :
       (kept first at : ℕ) (ps : List Piece) (xs : List Item) (e : ExpressionTree Text) (es : PatternTree Text)
       (v source : List ℕ) → nat_lt kept first ≡ true → SuffixAt t kept (v ++ source) → SuffixAt t first source →
       Spells t (with_ending ps (lf_at at) ++ xs) (elements (placeable e) es) →
       Spells t (items_from Two kept first ps (lf_at at) ++ xs) (elements (text_element v) (elements (placeable e) es))
-  two_spaces kept first at [] xs e es v source n k l s = elim s [ ]
-  two_spaces kept first at (run from to ∷ []) xs e es v source n k l s = elim s [ ]
-  two_spaces kept first at (run from to ∷ p ∷ ps) xs e es v source n k l s = elim s [ ]
-  two_spaces kept first at (placed x ∷ ps) xs e es v source n k l s = rw n (spells_text k l s)
+  spaces_before_placeable_spell_in_two kept first at [] xs e es v source n k l s = elim s [ ]
+  spaces_before_placeable_spell_in_two kept first at (run from to ∷ []) xs e es v source n k l s = elim s [ ]
+  spaces_before_placeable_spell_in_two kept first at (run from to ∷ p ∷ ps) xs e es v source n k l s = elim s [ ]
+  spaces_before_placeable_spell_in_two kept first at (placed x ∷ ps) xs e es v source n k l s = rw n (spells_text k l s)
 
   two_counts : (spaces at : ℕ) (ps : List Piece) (xs : List Item) (e : ExpressionTree Text) (es : PatternTree Text) →
       Spells t (with_ending ps (lf_at at) ++ xs) (elements (placeable e) es) →
@@ -131,16 +135,16 @@ module _ (t : List ℕ) where
   two_counts spaces at (run from to ∷ p ∷ ps) xs e es s = elim s [ ]
   two_counts spaces at (placed x ∷ ps) xs e es s = refl
 
-  no_less : (a b : ℕ) → a ≡ b → nat_lt a b ≡ false
-  no_less a b e = grind (arith, nat_tests)
+  equal_number_is_not_less : (a b : ℕ) → a ≡ b → nat_lt a b ≡ false
+  equal_number_is_not_less a b e = grind (arith, nat_tests)
 
   -- the line, in edition one
-  pub start_placeable_one :
+  pub placeable_starts_line_in_edition_one :
       (common : Option ℕ) (ind bs : List ℕ) (e : ExpressionTree Text) (es : PatternTree Text) (numbers rest : List ℕ)
       (i : ℕ) → list_all is_space ind ≡ true → 1 ≤ length ind → SuffixAt t i (ind ++ (123 ∷ bs)) →
       ReadsMidLine One t common (elements (placeable e) es) numbers (i + length ind) rest →
       Starts One t common (elements (placeable e) es) numbers i rest
-  start_placeable_one common ind bs e es numbers rest i a n l m =
+  placeable_starts_line_in_edition_one common ind bs e es numbers rest i a n l m =
       let k = suffix_past ind l in
       let line = line_of One t i (i + length ind) m.pieces m.at in
       record {
@@ -151,21 +155,23 @@ module _ (t : List ℕ) where
             (belongs_text One t i (length ind) 123 bs n refl k) m.reads_pieces m.ends m.reads_lines;
         left = m.left;
         spells =
-            one_items (common_indent_end common line) (i + ((i + length ind) - i)) m.at m.pieces
+            items_of_placeable_line_spell_in_one (common_indent_end common line)
+            (i + ((i + length ind) - i)) m.at m.pieces
             (flat_map (line_items One common) m.lines) e es m.spells;
         counts =
             ap (λ ns. ns ++ flat_map (counted One) m.lines)
-            (one_counts ((i + length ind) - i) m.at m.pieces (flat_map (line_items One common) m.lines) e es
+            (placeable_line_counts_no_indent_in_one ((i + length ind) - i) m.at m.pieces
+            (flat_map (line_items One common) m.lines) e es
             (omega arith) m.spells) ∙ m.counts;
       }
 
   -- the line, in edition two
-  pub start_placeable_two :
+  pub placeable_starts_line_in_edition_two :
       (ind bs : List ℕ) (e : ExpressionTree Text) (es : PatternTree Text) (numbers rest : List ℕ) (i : ℕ) →
       list_all is_space ind ≡ true → 1 ≤ length ind → SuffixAt t i (ind ++ (123 ∷ bs)) →
       ReadsMidLine Two t (Some (length ind)) (elements (placeable e) es) numbers (i + length ind) rest →
       Starts Two t (Some (length ind)) (elements (placeable e) es) (length ind ∷ numbers) i rest
-  start_placeable_two ind bs e es numbers rest i a n l m =
+  placeable_starts_line_in_edition_two ind bs e es numbers rest i a n l m =
       let k = suffix_past ind l in
       let line = line_of Two t i (i + length ind) m.pieces m.at in
       let spaces : (i + length ind) - i ≡ length ind = omega arith in
@@ -177,8 +183,10 @@ module _ (t : List ℕ) where
             (belongs_text Two t i (length ind) 123 bs n refl k) m.reads_pieces m.ends m.reads_lines;
         left = m.left;
         spells =
-            two_items (common_indent_end (Some (length ind)) line) (i + ((i + length ind) - i)) m.at m.pieces
-            (flat_map (line_items Two (Some (length ind))) m.lines) e es (no_less _ _ (omega arith)) m.spells;
+            items_of_placeable_line_spell_in_two (common_indent_end (Some (length ind)) line)
+            (i + ((i + length ind) - i)) m.at m.pieces
+            (flat_map (line_items Two (Some (length ind))) m.lines) e es
+            (equal_number_is_not_less _ _ (omega arith)) m.spells;
         counts =
             ap (λ ns. ns ++ flat_map (counted Two) m.lines)
             (two_counts ((i + length ind) - i) m.at m.pieces (flat_map (line_items Two (Some (length ind))) m.lines) e
@@ -186,18 +194,18 @@ module _ (t : List ℕ) where
             ∙ ap (λ ns. length ind ∷ ns) m.counts;
       }
 
-  less_true : (a b : ℕ) → a < b → nat_lt a b ≡ true
-  less_true a b l = grind (arith, nat_tests)
+  less_number_passes_its_test : (a b : ℕ) → a < b → nat_lt a b ≡ true
+  less_number_passes_its_test a b l = grind (arith, nat_tests)
 
   -- in edition two, with more spaces than the common indent
-  pub start_spaces_two :
+  pub spaces_start_line_in_edition_two :
       (ind sp bs : List ℕ) (e : ExpressionTree Text) (es : PatternTree Text) (numbers rest : List ℕ) (i : ℕ) →
       list_all is_space (ind ++ sp) ≡ true → 1 ≤ length sp → SuffixAt t i ((ind ++ sp) ++ (123 ∷ bs)) →
       SuffixAt t (i + length ind) (sp ++ (123 ∷ bs)) →
       ReadsMidLine Two t (Some (length ind)) (elements (placeable e) es) numbers (i + length (ind ++ sp)) rest →
       Starts Two t (Some (length ind)) (elements (text_element sp) (elements (placeable e) es))
       (length (ind ++ sp) ∷ numbers) i rest
-  start_spaces_two ind sp bs e es numbers rest i a n l k m =
+  spaces_start_line_in_edition_two ind sp bs e es numbers rest i a n l k m =
       let size = length-append ind sp in
       let whole = i + length (ind ++ sp) in
       let there = suffix_past (ind ++ sp) l in
@@ -214,8 +222,9 @@ module _ (t : List ℕ) where
             m.reads_pieces m.ends m.reads_lines;
         left = m.left;
         spells =
-            two_spaces (i + min (whole - i) (length ind)) (i + (whole - i)) m.at m.pieces
-            (flat_map (line_items Two (Some (length ind))) m.lines) e es sp (123 ∷ bs) (less_true _ _ (omega arith))
+            spaces_before_placeable_spell_in_two (i + min (whole - i) (length ind)) (i + (whole - i)) m.at m.pieces
+            (flat_map (line_items Two (Some (length ind))) m.lines) e es sp (123 ∷ bs)
+            (less_number_passes_its_test _ _ (omega arith))
             (subst (λ p. SuffixAt t p (sp ++ (123 ∷ bs))) kept k) (subst (λ p. SuffixAt t p (123 ∷ bs)) first_at there)
             m.spells;
         counts =

@@ -17,27 +17,32 @@ use Rattle.fluent_syntax_grammar.specs.Readable.{ElementPosition, after_line, wi
 use Rattle.fluent_syntax_grammar.specs.Readable.{is_text, are_elements, may_occur_at, position_after, indents}
 use Rattle.fluent_syntax_grammar.specs.Canonical.{line_indents, are_lone, text_indents, placeable_indents}
 use Rattle.fluent_syntax_grammar.specs.Elements.{is_nonblank}
-use Rattle.fluent_syntax_grammar.proofs.Facts.{differs, left_true, right_true, equal, add_one}
+use Rattle.fluent_syntax_grammar.proofs.Facts.{differs, left_true, right_true, equal, plus_one_is_successor}
 use Rattle.fluent_syntax_grammar.proofs.Tests.{both_true}
 use Rattle.fluent_syntax_grammar.proofs.SuffixAt.{SuffixAt, suffix_as, first, suffix_next, suffix_past}
 use Rattle.fluent_syntax_grammar.proofs.marks.LastBytes.{last_append}
 use Rattle.fluent_syntax_grammar.proofs.forward.Spells.{spells_text}
 use Rattle.fluent_syntax_grammar.proofs.marks.WrittenBytes.{element_bytes, elements_bytes, line_indent}
-use Rattle.fluent_syntax_grammar.proofs.forward.Runs.{lf_is_taken_off, is_run_byte, TextForm, alone, with_lf, text_form}
-use Rattle.fluent_syntax_grammar.proofs.forward.Runs.{run_no_lf}
+use Rattle.fluent_syntax_grammar.proofs.forward.Runs.{lf_is_taken_off, is_run_byte, TextForm, alone, with_lf}
+use Rattle.fluent_syntax_grammar.proofs.forward.Runs.{text_is_run_or_run_with_lf}
+use Rattle.fluent_syntax_grammar.proofs.forward.Runs.{run_byte_is_no_lf}
 use Rattle.fluent_syntax_grammar.proofs.forward.Lines.{Ends, reads_no_pieces, is_mark_byte}
-use Rattle.fluent_syntax_grammar.proofs.forward.Pieces.{ReadsMidLine, Starts, Run, mid_end, mid_placeable, mid_run}
-use Rattle.fluent_syntax_grammar.proofs.forward.Pieces.{run_end, run_more, run_line}
-use Rattle.fluent_syntax_grammar.proofs.forward.LineStarts.{start_run, start_blank, start_placeable_one}
-use Rattle.fluent_syntax_grammar.proofs.forward.LineStarts.{start_placeable_two, start_spaces_two}
-use Rattle.fluent_syntax_grammar.proofs.forward.Selects.{all_append, spaces_of}
-use Rattle.fluent_syntax_grammar.proofs.forward.OneLine.{ElementReadsBack, ElementsReadBack, element_brace, plain_no_cr}
-use Rattle.fluent_syntax_grammar.proofs.Tests.{and_false, not_true, or_true}
+use Rattle.fluent_syntax_grammar.proofs.forward.Pieces.{ReadsMidLine, Starts, Run, mid_end, placeable_reads_mid_line}
+use Rattle.fluent_syntax_grammar.proofs.forward.Pieces.{mid_run}
+use Rattle.fluent_syntax_grammar.proofs.forward.Pieces.{run_end, run_before_placeable_is_run, run_at_end_of_line_is_run}
+use Rattle.fluent_syntax_grammar.proofs.forward.LineStarts.{run_starts_line, blank_text_starts_line}
+use Rattle.fluent_syntax_grammar.proofs.forward.LineStarts.{placeable_starts_line_in_edition_one}
+use Rattle.fluent_syntax_grammar.proofs.forward.LineStarts.{placeable_starts_line_in_edition_two}
+use Rattle.fluent_syntax_grammar.proofs.forward.LineStarts.{spaces_start_line_in_edition_two}
+use Rattle.fluent_syntax_grammar.proofs.forward.Selects.{appended_spaces_are_spaces, spaces_of}
+use Rattle.fluent_syntax_grammar.proofs.forward.OneLine.{ElementReadsBack, ElementsReadBack}
+use Rattle.fluent_syntax_grammar.proofs.forward.OneLine.{bytes_of_placeable_begin_with_brace, plain_no_cr}
+use Rattle.fluent_syntax_grammar.proofs.Tests.{and_with_false_is_false, not_true_is_false, or_with_true_is_true}
 
 -- ---- the ends of texts
 
 run_ends_no_line : (c : ℕ) (v : List ℕ) → list_all is_run_byte (c ∷ v) ≡ true → is_last lf (last_of (Some c) v) ≡ false
-run_ends_no_line c [] e = run_no_lf c (left_true (is_run_byte c) true e)
+run_ends_no_line c [] e = run_byte_is_no_lf c (left_true (is_run_byte c) true e)
 run_ends_no_line c (b ∷ v) e = run_ends_no_line b v (right_true (is_run_byte c) (list_all is_run_byte (b ∷ v)) e)
 
 -- a run does not end in LF
@@ -49,27 +54,27 @@ no_lf_ends_run (c ∷ v) e = run_ends_no_line c v e
 lf_after_ends_in_lf : (v body : List ℕ) → v ≡ body ++ (lf ∷ []) → ends_in_lf v ≡ true
 lf_after_ends_in_lf v body e = rw (e, last_append body None lf []) refl
 
-rest_is_none : (xs ys : List ℕ) → xs ++ ys ≡ [] → ys ≡ []
-rest_is_none [] ys e = e
-rest_is_none (x ∷ xs) ys e = absurd cc
+rest_of_empty_append_is_empty : (xs ys : List ℕ) → xs ++ ys ≡ [] → ys ≡ []
+rest_of_empty_append_is_empty [] ys e = e
+rest_of_empty_append_is_empty (x ∷ xs) ys e = absurd cc
 
 -- ---- numbers and lone texts within a line
 
 module _ (edition : Edition) where
-  numbers_within : (es : PatternTree Text) →
+  indents_in_line_are_those_after_placeable : (es : PatternTree Text) →
       line_indents edition within_line es ≡ line_indents edition after_placeable es
-  numbers_within no_elements = refl
-  numbers_within (elements (text_element v) es) = refl
-  numbers_within (elements (placeable e) es) = refl
+  indents_in_line_are_those_after_placeable no_elements = refl
+  indents_in_line_are_those_after_placeable (elements (text_element v) es) = refl
+  indents_in_line_are_those_after_placeable (elements (placeable e) es) = refl
 
-  lone_within : (es : PatternTree Text) → are_lone within_line es ≡ are_lone after_placeable es
-  lone_within no_elements = refl
-  lone_within (elements (text_element v) es) = refl
-  lone_within (elements (placeable e) es) = refl
+  lone_in_line_is_lone_after_placeable : (es : PatternTree Text) → are_lone within_line es ≡ are_lone after_placeable es
+  lone_in_line_is_lone_after_placeable no_elements = refl
+  lone_in_line_is_lone_after_placeable (elements (text_element v) es) = refl
+  lone_in_line_is_lone_after_placeable (elements (placeable e) es) = refl
 
-  numbers_no_line : (v : Text) (es : PatternTree Text) → ends_in_lf v ≡ false →
+  indents_after_text_are_those_after_placeable : (v : Text) (es : PatternTree Text) → ends_in_lf v ≡ false →
       line_indents edition (position_after v) es ≡ line_indents edition after_placeable es
-  numbers_no_line v es e = rw e (numbers_within es)
+  indents_after_text_are_those_after_placeable v es e = rw e (indents_in_line_are_those_after_placeable es)
 
   numbers_line : (v : Text) (es : PatternTree Text) → ends_in_lf v ≡ true →
       line_indents edition (position_after v) es ≡ line_indents edition after_line es
@@ -83,47 +88,54 @@ module _ (edition : Edition) where
         Fit shift None s es
 
   -- what fits a text and more, fits the elements after it
-  fit_no_line : (shift : ℕ) (common : Option ℕ) (v : Text) (es : PatternTree Text) → ends_in_lf v ≡ false →
+  fit_goes_on_after_text_in_line : (shift : ℕ) (common : Option ℕ) (v : Text) (es : PatternTree Text) →
+      ends_in_lf v ≡ false →
       Fit shift common after_placeable (elements (text_element v) es) → Fit shift common after_placeable es
-  fit_no_line shift common v es e fixed = fixed
-  fit_no_line shift common v es e (lone a b) =
-      lone (sym (ap (λ b. are_lone (if b then after_line else within_line) es) e ∙ lone_within es) ∙ a)
-      (sym (numbers_no_line v es e) ∙ b)
+  fit_goes_on_after_text_in_line shift common v es e fixed = fixed
+  fit_goes_on_after_text_in_line shift common v es e (lone a b) =
+      lone (sym (ap (λ b. are_lone (if b then after_line else within_line) es) e
+      ∙ lone_in_line_is_lone_after_placeable es) ∙ a)
+      (sym (indents_after_text_are_those_after_placeable v es e) ∙ b)
 
-  fit_line : (shift : ℕ) (common : Option ℕ) (v : Text) (es : PatternTree Text) → ends_in_lf v ≡ true →
+  fit_goes_on_after_text_with_lf : (shift : ℕ) (common : Option ℕ) (v : Text) (es : PatternTree Text) →
+      ends_in_lf v ≡ true →
       Fit shift common after_placeable (elements (text_element v) es) → Fit shift common after_line es
-  fit_line shift common v es e fixed = fixed
-  fit_line shift common v es e (lone a b) =
+  fit_goes_on_after_text_with_lf shift common v es e fixed = fixed
+  fit_goes_on_after_text_with_lf shift common v es e (lone a b) =
       lone (sym (ap (λ b. are_lone (if b then after_line else within_line) es) e) ∙ a) (sym (numbers_line v es e) ∙ b)
 
   -- the same of a text that begins a line
-  fit_no_line_start : (shift : ℕ) (common : Option ℕ) (v : Text) (es : PatternTree Text) → ends_in_lf v ≡ false →
+  fit_goes_on_after_text_at_line : (shift : ℕ) (common : Option ℕ) (v : Text) (es : PatternTree Text) →
+      ends_in_lf v ≡ false →
       Fit shift common after_line (elements (text_element v) es) → Fit shift common after_placeable es
-  fit_no_line_start shift common v es e fixed = fixed
-  fit_no_line_start shift common v es e (lone a b) =
-      lone (sym (ap (λ b. are_lone (if b then after_line else within_line) es) e ∙ lone_within es)
+  fit_goes_on_after_text_at_line shift common v es e fixed = fixed
+  fit_goes_on_after_text_at_line shift common v es e (lone a b) =
+      lone (sym (ap (λ b. are_lone (if b then after_line else within_line) es) e
+      ∙ lone_in_line_is_lone_after_placeable es)
       ∙ right_true (is_lone_lf v) (are_lone (position_after v) es) a)
-      (sym (numbers_no_line v es e)
-      ∙ rest_is_none (text_indents edition v) (line_indents edition (position_after v) es) b)
+      (sym (indents_after_text_are_those_after_placeable v es e)
+      ∙ rest_of_empty_append_is_empty (text_indents edition v) (line_indents edition (position_after v) es) b)
 
-  fit_line_start : (shift : ℕ) (common : Option ℕ) (v : Text) (es : PatternTree Text) → ends_in_lf v ≡ true →
-      Fit shift common after_line (elements (text_element v) es) → Fit shift common after_line es
-  fit_line_start shift common v es e fixed = fixed
-  fit_line_start shift common v es e (lone a b) =
+  fit_goes_on_after_whole_line : (shift : ℕ) (common : Option ℕ) (v : Text) (es : PatternTree Text) →
+      ends_in_lf v ≡ true → Fit shift common after_line (elements (text_element v) es) → Fit shift common after_line es
+  fit_goes_on_after_whole_line shift common v es e fixed = fixed
+  fit_goes_on_after_whole_line shift common v es e (lone a b) =
       lone (sym (ap (λ b. are_lone (if b then after_line else within_line) es) e)
       ∙ right_true (is_lone_lf v) (are_lone (position_after v) es) a)
-      (sym (numbers_line v es e) ∙ rest_is_none (text_indents edition v) (line_indents edition (position_after v) es) b)
+      (sym (numbers_line v es e)
+      ∙ rest_of_empty_append_is_empty (text_indents edition v) (line_indents edition (position_after v) es) b)
 
-  fit_placeable_line : (shift : ℕ) (common : Option ℕ) (e : ExpressionTree Text) (es : PatternTree Text) →
+  fit_goes_on_after_placeable_at_line : (shift : ℕ) (common : Option ℕ) (e : ExpressionTree Text)
+      (es : PatternTree Text) →
       Fit shift common after_line (elements (placeable e) es) → Fit shift common after_placeable es
-  fit_placeable_line shift common e es fixed = fixed
-  fit_placeable_line shift common e es (lone a b) =
-      lone a (rest_is_none (placeable_indents edition) (line_indents edition after_placeable es) b)
+  fit_goes_on_after_placeable_at_line shift common e es fixed = fixed
+  fit_goes_on_after_placeable_at_line shift common e es (lone a b) =
+      lone a (rest_of_empty_append_is_empty (placeable_indents edition) (line_indents edition after_placeable es) b)
 
-  fit_placeable : (shift : ℕ) (common : Option ℕ) (e : ExpressionTree Text) (es : PatternTree Text) →
+  fit_goes_on_after_placeable : (shift : ℕ) (common : Option ℕ) (e : ExpressionTree Text) (es : PatternTree Text) →
       Fit shift common after_placeable (elements (placeable e) es) → Fit shift common after_placeable es
-  fit_placeable shift common e es fixed = fixed
-  fit_placeable shift common e es (lone a b) = lone a b
+  fit_goes_on_after_placeable shift common e es fixed = fixed
+  fit_goes_on_after_placeable shift common e es (lone a b) = lone a b
 
 -- ---- spaces that begin a text
 
@@ -146,9 +158,10 @@ split_goes_on_after_byte b v true e s =
     }
 split_goes_on_after_byte b v false e s = record { gap = []; more = b ∷ v; are = refl; spaces = refl; plain = e }
 
-pub text_splits : (v : List ℕ) → Split v
-text_splits [] = record { gap = []; more = []; are = refl; spaces = refl; plain = refl }
-text_splits (b ∷ v) = split_goes_on_after_byte b v (is_space b) refl (text_splits v)
+pub text_splits_into_spaces_and_rest : (v : List ℕ) → Split v
+text_splits_into_spaces_and_rest [] = record { gap = []; more = []; are = refl; spaces = refl; plain = refl }
+text_splits_into_spaces_and_rest (b ∷ v) =
+    split_goes_on_after_byte b v (is_space b) refl (text_splits_into_spaces_and_rest v)
 
 cons_is_not_empty : {m : ℕ} {ns : List ℕ} → m ∷ ns ≡ [] → ⊥
 cons_is_not_empty e = cc
@@ -160,67 +173,71 @@ leading_spaces-gap [] b bs a e = rw e refl
 leading_spaces-gap (x ∷ gap) b bs a e =
     rw (left_true (is_space x) (list_all is_space gap) a)
     (ap (λ n. n + 1) (leading_spaces-gap gap b bs (right_true (is_space x) (list_all is_space gap) a) e)
-    ∙ add_one (length gap))
+    ∙ plus_one_is_successor (length gap))
 
 -- such a text is nonblank
 byte_is_nonblank : (gap : List ℕ) (b : ℕ) (bs : List ℕ) → is_space b ≡ false → (b == lf) ≡ false →
     is_nonblank (gap ++ (b ∷ bs)) ≡ true
 byte_is_nonblank [] b [] e f = rw (f, e) refl
 byte_is_nonblank [] b (c ∷ bs) e f = rw e refl
-byte_is_nonblank (x ∷ []) b bs e f = rw (byte_is_nonblank [] b bs e f) (or_true (not (is_space x)))
-byte_is_nonblank (x ∷ y ∷ gap) b bs e f = rw (byte_is_nonblank (y ∷ gap) b bs e f) (or_true (not (is_space x)))
+byte_is_nonblank (x ∷ []) b bs e f = rw (byte_is_nonblank [] b bs e f) (or_with_true_is_true (not (is_space x)))
+byte_is_nonblank (x ∷ y ∷ gap) b bs e f =
+    rw (byte_is_nonblank (y ∷ gap) b bs e f) (or_with_true_is_true (not (is_space x)))
 
-numbers_shown : (edition : Edition) (v : Text) → is_nonblank v ≡ true → text_indents edition v ≡ leading_spaces v ∷ []
-numbers_shown One v e = rw e refl
-numbers_shown Two v e = rw e refl
+indent_of_shown_text_is_its_spaces : (edition : Edition) (v : Text) → is_nonblank v ≡ true →
+    text_indents edition v ≡ leading_spaces v ∷ []
+indent_of_shown_text_is_its_spaces One v e = rw e refl
+indent_of_shown_text_is_its_spaces Two v e = rw e refl
 
 module _ (edition : Edition) (t : List ℕ) (level : ℕ) (common : Option ℕ) (tail rest : List ℕ) (ends : Ends tail rest)
   where
     abbrev pub shifted : ElementPosition → PatternTree Text → List ℕ
     shifted s es = map (λ n. length (indent level) + n) (line_indents edition s es)
 
-    pub plain_not_line : (v body : List ℕ) → v ≡ body ++ (lf ∷ []) → ends_plainly v ≡ true → ⊥
-    plain_not_line v body e p =
+    pub text_with_lf_ends_not_plainly : (v body : List ℕ) → v ≡ body ++ (lf ∷ []) → ends_plainly v ≡ true → ⊥
+    text_with_lf_ends_not_plainly v body e p =
         false≢true (sym
         (ap (holds (λ b. not (Rattle.fluent_syntax_tree.specs.Text.is_trimmed b)))
         (ap (last_of None) e ∙ last_append body None lf [])) ∙ p)
 
     -- ---- a text within a line
 
-    text_last : (v : Text) (i : ℕ) → is_text v ≡ true → ends_plainly v ≡ true → SuffixAt t i (v ++ (lf ∷ tail)) →
+    last_text_reads_mid_line : (v : Text) (i : ℕ) → is_text v ≡ true → ends_plainly v ≡ true →
+        SuffixAt t i (v ++ (lf ∷ tail)) →
         ReadsMidLine edition t common (elements (text_element v) no_elements) [] i rest
-    text_last v i e p l = at_form v i e p l (text_form v e)
+    last_text_reads_mid_line v i e p l = at_form v i e p l (text_is_run_or_run_with_lf v e)
       where
         at_form : (v : Text) (i : ℕ) → is_text v ≡ true → ends_plainly v ≡ true → SuffixAt t i (v ++ (lf ∷ tail)) →
             TextForm v → ReadsMidLine edition t common (elements (text_element v) no_elements) [] i rest
-        at_form v i e p l (with_lf body is a c) = absurd (plain_not_line v body is p)
+        at_form v i e p l (with_lf body is a c) = absurd (text_with_lf_ends_not_plainly v body is p)
         at_form [] i e p l (alone a) = absurd cc
         at_form (b ∷ bs) i e p l (alone a) =
             mid_run edition t common (b ∷ bs) no_elements [] (lf ∷ tail) rest i
             (run_end edition t common (b ∷ bs) tail rest i b bs p ends a (rw (plain_no_cr (b ∷ bs) p) refl) l) l
 
     -- before a placeable
-    text_then : (v : Text) (e : ExpressionTree Text) (es : PatternTree Text) (numbers : List ℕ) (i : ℕ) →
-        is_text v ≡ true → list_all is_run_byte v ≡ true →
+    text_before_placeable_reads_mid_line : (v : Text) (e : ExpressionTree Text) (es : PatternTree Text)
+        (numbers : List ℕ) (i : ℕ) → is_text v ≡ true → list_all is_run_byte v ≡ true →
         SuffixAt t i (v ++ element_bytes level (placeable e) (elements_bytes level false es (lf ∷ tail))) →
         ((j : ℕ) → SuffixAt t j (element_bytes level (placeable e) (elements_bytes level false es (lf ∷ tail))) →
         ReadsMidLine edition t common (elements (placeable e) es) numbers j rest) →
         ReadsMidLine edition t common (elements (text_element v) (elements (placeable e) es)) numbers i rest
-    text_then [] e es numbers i g a l k = absurd cc
-    text_then (b ∷ bs) e es numbers i g a l k =
-        let x = element_brace level e (elements_bytes level false es (lf ∷ tail)) in
+    text_before_placeable_reads_mid_line [] e es numbers i g a l k = absurd cc
+    text_before_placeable_reads_mid_line (b ∷ bs) e es numbers i g a l k =
+        let x = bytes_of_placeable_begin_with_brace level e (elements_bytes level false es (lf ∷ tail)) in
         let m = suffix_as (ap (λ xs. b ∷ (bs ++ xs)) x.are) l in
         let r =
-        run_more edition t common (b ∷ bs) e es numbers rest i b bs x.rest a m (λ j n. k j (suffix_as (sym x.are) n)) in
+        run_before_placeable_is_run edition t common (b ∷ bs) e es numbers rest i b bs x.rest a m
+        (λ j n. k j (suffix_as (sym x.are) n)) in
         mid_run edition t common (b ∷ bs) (elements (placeable e) es) numbers (123 ∷ x.rest) rest i r m
 
     -- that ends its line
-    text_line : (v body : Text) (e : ElementTree Text) (es : PatternTree Text) (numbers : List ℕ) (i : ℕ) →
-        v ≡ body ++ (lf ∷ []) → list_all is_run_byte body ≡ true → is_last cr (last_of None body) ≡ false →
+    text_with_lf_reads_mid_line : (v body : Text) (e : ElementTree Text) (es : PatternTree Text) (numbers : List ℕ)
+        (i : ℕ) → v ≡ body ++ (lf ∷ []) → list_all is_run_byte body ≡ true → is_last cr (last_of None body) ≡ false →
         (more : List ℕ) → SuffixAt t i (v ++ more) →
         ((j : ℕ) → SuffixAt t j more → Starts edition t common (elements e es) numbers j rest) →
         ReadsMidLine edition t common (elements (text_element v) (elements e es)) numbers i rest
-    text_line v [] e es numbers i is a c more l k =
+    text_with_lf_reads_mid_line v [] e es numbers i is a c more l k =
         let n : SuffixAt t i (lf ∷ more) = suffix_as (ap (λ v. v ++ more) is) l in
         let m = k (i + 1) (suffix_next n) in
         record {
@@ -236,38 +253,39 @@ module _ (edition : Edition) (t : List ℕ) (level : ℕ) (common : Option ℕ) 
           spells = spells_text l (suffix_next n) m.spells;
           counts = m.counts;
         }
-    text_line v (b ∷ bs) e es numbers i is a c more l k =
+    text_with_lf_reads_mid_line v (b ∷ bs) e es numbers i is a c more l k =
         let m = suffix_as (ap (λ v. v ++ more) is ∙ ap (λ xs. b ∷ xs) (append_assoc bs (lf ∷ []) more)) l in
         mid_run edition t common v (elements e es) numbers more rest i
-        (run_line edition t common v e es numbers rest i b bs more a c m k) l
+        (run_at_end_of_line_is_run edition t common v e es numbers rest i b bs more a c m k) l
 
 -- ---- a text that begins a line
 
 module _ (edition : Edition) (t : List ℕ) (level : ℕ) (tail rest : List ℕ) where
   -- A run after the indent and perhaps more spaces: the line counts with these spaces.
-  start_shown : (gap : List ℕ) (b : ℕ) (bs source : List ℕ) (es : PatternTree Text) (numbers : List ℕ) (i : ℕ) →
+  shown_text_after_gap_starts_line : (gap : List ℕ) (b : ℕ) (bs source : List ℕ) (es : PatternTree Text)
+      (numbers : List ℕ) (i : ℕ) →
       1 ≤ length (indent level) → list_all is_space gap ≡ true → is_space b ≡ false → not (is_mark_byte b) ≡ true →
       SuffixAt t i (indent level ++ ((gap ++ (b ∷ bs)) ++ source)) →
       ((j : ℕ) → SuffixAt t j (b ∷ (bs ++ source)) →
       Run edition t (Some (length (indent level))) (gap ++ (b ∷ bs)) es numbers j source rest) →
       Starts edition t (Some (length (indent level))) (elements (text_element (gap ++ (b ∷ bs))) es)
       ((length (indent level) + length gap) ∷ numbers) i rest
-  start_shown gap b bs source es numbers i deep a s e l k =
+  shown_text_after_gap_starts_line gap b bs source es numbers i deep a s e l k =
       let ind = indent level in
       let size = length-append ind gap in
-      let all : list_all is_space (ind ++ gap) ≡ true = all_append ind gap (spaces_of (4 * level)) a in
+      let all : list_all is_space (ind ++ gap) ≡ true = appended_spaces_are_spaces ind gap (spaces_of (4 * level)) a in
       let whole : ind ++ ((gap ++ (b ∷ bs)) ++ source) ≡ (ind ++ gap) ++ (b ∷ (bs ++ source)) =
       ap (λ v. ind ++ v) (append_assoc gap (b ∷ bs) source) ∙ sym (append_assoc ind gap (b ∷ (bs ++ source))) in
       let m = suffix_as whole l in
       let r = k (i + length (ind ++ gap)) (suffix_past (ind ++ gap) m) in
       subst (λ n. Starts edition t (Some (length ind)) (elements (text_element (gap ++ (b ∷ bs))) es) (n ∷ numbers) i
-      rest) size (start_run edition t ind gap b bs source es numbers rest i all (omega arith) s e m
+      rest) size (run_starts_line edition t ind gap b bs source es numbers rest i all (omega arith) s e m
       (suffix_past ind l) r)
 
 -- ---- a placeable that begins a line
 
 -- with the level's indent before it
-placeable_starts :
+placeable_after_indent_starts_line :
     (edition : Edition) (t : List ℕ) (level : ℕ) (common : Option ℕ) (tail rest : List ℕ) (e : ExpressionTree Text)
     (es : PatternTree Text) → 1 ≤ length (indent level) → ElementReadsBack edition t level e →
     Fit edition (length (indent level)) common after_line (elements (placeable e) es) →
@@ -277,23 +295,24 @@ placeable_starts :
     (i : ℕ) → SuffixAt t i (elements_bytes level true (elements (placeable e) es) (lf ∷ tail)) →
     Starts edition t common (elements (placeable e) es)
     (map (λ n. length (indent level) + n) (line_indents edition after_line (elements (placeable e) es))) i rest
-placeable_starts One t level common tail rest e es deep h f mid i l =
-    let x = element_brace level e (elements_bytes level false es (lf ∷ tail)) in
+placeable_after_indent_starts_line One t level common tail rest e es deep h f mid i l =
+    let x = bytes_of_placeable_begin_with_brace level e (elements_bytes level false es (lf ∷ tail)) in
     let m = suffix_as (ap (λ v. indent level ++ v) x.are) l in
     let n = suffix_past (indent level) l in
-    start_placeable_one t common (indent level) x.rest e es _ rest i (spaces_of (4 * level)) deep m
-    (mid_placeable One t common e es _ (i + length (indent level)) x.rest (elements_bytes level false es (lf ∷ tail))
+    placeable_starts_line_in_edition_one t common (indent level) x.rest e es _ rest i (spaces_of (4 * level)) deep m
+    (placeable_reads_mid_line One t common e es _ (i + length (indent level)) x.rest
+    (elements_bytes level false es (lf ∷ tail))
     rest (suffix_as x.are n) (h.back (i + length (indent level)) (elements_bytes level false es (lf ∷ tail)) n) mid)
-placeable_starts Two t level common tail rest e es deep h (lone a b) mid i l = absurd cc
-placeable_starts Two t level common tail rest e es deep h fixed mid i l =
-    let x = element_brace level e (elements_bytes level false es (lf ∷ tail)) in
+placeable_after_indent_starts_line Two t level common tail rest e es deep h (lone a b) mid i l = absurd cc
+placeable_after_indent_starts_line Two t level common tail rest e es deep h fixed mid i l =
+    let x = bytes_of_placeable_begin_with_brace level e (elements_bytes level false es (lf ∷ tail)) in
     let m = suffix_as (ap (λ v. indent level ++ v) x.are) l in
     let n = suffix_past (indent level) l in
     let zero_more : length (indent level) ≡ length (indent level) + 0 = omega arith in
     let ns = map (λ n. length (indent level) + n) (line_indents Two after_placeable es) in
     subst (λ k. Starts Two t (Some (length (indent level))) (elements (placeable e) es) (k ∷ ns) i rest) zero_more
-    (start_placeable_two t (indent level) x.rest e es ns rest i (spaces_of (4 * level)) deep m
-    (mid_placeable Two t (Some (length (indent level))) e es ns (i + length (indent level)) x.rest
+    (placeable_starts_line_in_edition_two t (indent level) x.rest e es ns rest i (spaces_of (4 * level)) deep m
+    (placeable_reads_mid_line Two t (Some (length (indent level))) e es ns (i + length (indent level)) x.rest
     (elements_bytes level false es (lf ∷ tail)) rest (suffix_as x.are n)
     (h.back (i + length (indent level)) (elements_bytes level false es (lf ∷ tail)) n) mid))
 
@@ -324,15 +343,17 @@ later_text_has_no_mark : (edition : Edition) (v : Text) (es : PatternTree Text) 
     may_occur_at edition true after_line v es ≡ true → begins_with_mark (b ∷ []) ≡ false
 later_text_has_no_mark edition v es gap b bs is a e g =
     sym (ap begins_with_mark (ap after_spaces is ∙ after_spaces-gap gap b bs a e))
-    ∙ not_true (begins_with_mark (after_spaces v)) (right_true (not (is_spaces v) || indents edition v es) _ g)
+    ∙ not_true_is_false (begins_with_mark (after_spaces v)) (right_true (not (is_spaces v) || indents edition v es) _ g)
 
-pub second_part_passes : (p : ℕ → Bool) (xs ys : List ℕ) → list_all p (xs ++ ys) ≡ true → list_all p ys ≡ true
-second_part_passes p [] ys e = e
-second_part_passes p (x ∷ xs) ys e = second_part_passes p xs ys (right_true (p x) (list_all p (xs ++ ys)) e)
+pub second_of_passing_append_passes : (p : ℕ → Bool) (xs ys : List ℕ) → list_all p (xs ++ ys) ≡ true →
+    list_all p ys ≡ true
+second_of_passing_append_passes p [] ys e = e
+second_of_passing_append_passes p (x ∷ xs) ys e =
+    second_of_passing_append_passes p xs ys (right_true (p x) (list_all p (xs ++ ys)) e)
 
-pub append_none : (xs : List ℕ) → xs ++ [] ≡ xs
-append_none [] = refl
-append_none (x ∷ xs) = ap (λ xs. x ∷ xs) (append_none xs)
+pub appended_nothing_leaves_list : (xs : List ℕ) → xs ++ [] ≡ xs
+appended_nothing_leaves_list [] = refl
+appended_nothing_leaves_list (x ∷ xs) = ap (λ xs. x ∷ xs) (appended_nothing_leaves_list xs)
 
 pub last_of-gap : (gap : List ℕ) (b : ℕ) (bs : List ℕ) → last_of None (gap ++ (b ∷ bs)) ≡ last_of None (b ∷ bs)
 last_of-gap gap b bs = last_append gap None b bs
@@ -352,12 +373,12 @@ module _ (edition : Edition) (t : List ℕ) (level : ℕ) (rest : List ℕ) wher
   shown_starts common v gap b bs source es i is deep a s n e (lone x y) l k =
       absurd (cons_is_not_empty
       (sym (ap (λ ns. ns ++ line_indents edition (position_after v) es)
-      (numbers_shown edition v (ap is_nonblank is ∙ byte_is_nonblank gap b bs s n))) ∙ y))
+      (indent_of_shown_text_is_its_spaces edition v (ap is_nonblank is ∙ byte_is_nonblank gap b bs s n))) ∙ y))
   shown_starts common v gap b bs source es i is deep a s n e fixed l k =
       let shift = length (indent level) in
       let others = map (λ n. shift + n) (line_indents edition (position_after v) es) in
       let numbers : text_indents edition v ≡ length gap ∷ [] =
-      numbers_shown edition v (ap is_nonblank is ∙ byte_is_nonblank gap b bs s n)
+      indent_of_shown_text_is_its_spaces edition v (ap is_nonblank is ∙ byte_is_nonblank gap b bs s n)
       ∙ ap (λ m. m ∷ []) (ap leading_spaces is ∙ leading_spaces-gap gap b bs a s) in
       let all :
       map (λ n. shift + n) (line_indents edition after_line (elements (text_element v) es))
@@ -367,7 +388,7 @@ module _ (edition : Edition) (t : List ℕ) (level : ℕ) (rest : List ℕ) wher
       (subst (λ v'.
       Starts edition t (Some shift) (elements (text_element v') es) ((shift + length gap) ∷ others) i rest)
       (sym is)
-      (start_shown edition t level source rest gap b bs source es others i deep a s e
+      (shown_text_after_gap_starts_line edition t level source rest gap b bs source es others i deep a s e
       (suffix_as (ap (λ v. indent level ++ (v ++ source)) is) l)
       (λ j m. subst (λ v'. Run edition t (Some shift) v' es others j source rest) is (k j m))))
 
@@ -381,7 +402,7 @@ gap_is_blank (x ∷ gap) e =
 
 pub spaces_and_lf_are_not_spaces : (gap : List ℕ) → list_all is_space (gap ++ (lf ∷ [])) ≡ false
 spaces_and_lf_are_not_spaces [] = refl
-spaces_and_lf_are_not_spaces (x ∷ gap) = rw (spaces_and_lf_are_not_spaces gap) (and_false (is_space x))
+spaces_and_lf_are_not_spaces (x ∷ gap) = rw (spaces_and_lf_are_not_spaces gap) (and_with_false_is_false (is_space x))
 
 -- a blank line has no number
 blank_line_has_no_indent : (edition : Edition) (v gap : List ℕ) → v ≡ gap ++ (lf ∷ []) → list_all is_space gap ≡ true →
@@ -398,51 +419,51 @@ blank_line_has_no_indent Two v gap e s =
 lone_lf_is_lf : (v : List ℕ) → is_lone_lf v ≡ true → v ≡ lf ∷ []
 lone_lf_is_lf [] e = absurd cc
 lone_lf_is_lf (b ∷ []) e = ap (λ b. b ∷ []) (equal b lf (left_true (b == lf) true e))
-lone_lf_is_lf (b ∷ c ∷ bs) e = absurd (differs e (and_false (b == lf)))
+lone_lf_is_lf (b ∷ c ∷ bs) e = absurd (differs e (and_with_false_is_false (b == lf)))
 
 module _ (edition : Edition) (t : List ℕ) (level : ℕ) (rest : List ℕ) where
-  blank_starts :
+  blank_line_starts_line :
       (common : Option ℕ) (v gap : List ℕ) (d : ElementTree Text) (es : PatternTree Text) (numbers more : List ℕ)
       (i : ℕ) → v ≡ gap ++ (lf ∷ []) → list_all is_space gap ≡ true →
       Fit edition (length (indent level)) common after_line (elements (text_element v) (elements d es)) →
       SuffixAt t i (indent level ++ (v ++ more)) →
       ((j : ℕ) → SuffixAt t j more → Starts edition t common (elements d es) numbers j rest) →
       Starts edition t common (elements (text_element v) (elements d es)) numbers i rest
-  blank_starts common v gap d es numbers more i e s fixed l k =
+  blank_line_starts_line common v gap d es numbers more i e s fixed l k =
       let ind = indent level in
       let size = length-append ind gap in
       let whole : ind ++ (v ++ more) ≡ (ind ++ gap) ++ (lf ∷ more) =
       ap (λ v. ind ++ (v ++ more)) e ∙ ap (λ xs. ind ++ xs) (append_assoc gap (lf ∷ []) more)
       ∙ sym (append_assoc ind gap (lf ∷ more)) in
       let kept : i + length ind ≡ i + min ((i + length (ind ++ gap)) - i) (length ind) = omega arith in
-      start_blank edition t (Some (length ind)) (ind ++ gap) v more d es numbers rest i
-      (all_append ind gap (spaces_of (4 * level)) s) (suffix_as whole l)
+      blank_text_starts_line edition t (Some (length ind)) (ind ++ gap) v more d es numbers rest i
+      (appended_spaces_are_spaces ind gap (spaces_of (4 * level)) s) (suffix_as whole l)
       (subst (λ p. SuffixAt t p (v ++ more)) kept (suffix_past ind l)) k
-  blank_starts common v gap d es numbers more i e s (lone x y) l k =
+  blank_line_starts_line common v gap d es numbers more i e s (lone x y) l k =
       let ind = indent level in
       let only = lone_lf_is_lf v (left_true (is_lone_lf v) (are_lone (position_after v) (elements d es)) x) in
       let kept : i + length ind ≡ i + ((i + length ind) - i) = omega arith in
-      start_blank edition t None ind v more d es numbers rest i (spaces_of (4 * level))
+      blank_text_starts_line edition t None ind v more d es numbers rest i (spaces_of (4 * level))
       (suffix_as (ap (λ v. ind ++ (v ++ more)) only) l)
       (subst (λ p. SuffixAt t p (v ++ more)) kept (suffix_past ind l)) k
 
 -- ---- spaces alone
 
 -- They indent a placeable, in edition two.
-must_indent : (x y z : Bool) → x ≡ true → ((not x || y) && z) ≡ true → y ≡ true
-must_indent true true z e f = refl
-must_indent true false z e f = cc
-must_indent false y z e f = cc
+true_test_means_indent : (x y z : Bool) → x ≡ true → ((not x || y) && z) ≡ true → y ≡ true
+true_test_means_indent true true z e f = refl
+true_test_means_indent true false z e f = cc
+true_test_means_indent false y z e f = cc
 
-pub spaces_blank_text : (v : List ℕ) → list_all is_space v ≡ true → is_nonblank v ≡ false
-spaces_blank_text [] e = refl
-spaces_blank_text (b ∷ []) e = ap (λ b. is_nonblank (b ∷ [])) (equal b space (left_true (is_space b) true e))
-spaces_blank_text (b ∷ c ∷ v) e =
+pub text_of_spaces_is_blank : (v : List ℕ) → list_all is_space v ≡ true → is_nonblank v ≡ false
+text_of_spaces_is_blank [] e = refl
+text_of_spaces_is_blank (b ∷ []) e = ap (λ b. is_nonblank (b ∷ [])) (equal b space (left_true (is_space b) true e))
+text_of_spaces_is_blank (b ∷ c ∷ v) e =
     rw (left_true (is_space b) (list_all is_space (c ∷ v)) e)
-    (spaces_blank_text (c ∷ v) (right_true (is_space b) (list_all is_space (c ∷ v)) e))
+    (text_of_spaces_is_blank (c ∷ v) (right_true (is_space b) (list_all is_space (c ∷ v)) e))
 
-spaces_number : (v : List ℕ) → list_all is_space v ≡ true → text_indents Two v ≡ length v ∷ []
-spaces_number v e = rw (spaces_blank_text v e, e) refl
+indent_of_spaces_is_their_count : (v : List ℕ) → list_all is_space v ≡ true → text_indents Two v ≡ length v ∷ []
+indent_of_spaces_is_their_count v e = rw (text_of_spaces_is_blank v e, e) refl
 
 spaces_starts :
     (edition : Edition) (t : List ℕ) (level : ℕ) (common : Option ℕ) (tail rest : List ℕ) (v : Text)
@@ -456,18 +477,21 @@ spaces_starts :
     Starts edition t common (elements (text_element v) es)
     (map (λ n. length (indent level) + n) (line_indents edition after_line (elements (text_element v) es))) i rest
 spaces_starts One t level common tail rest v es is a s g f mid i l =
-    absurd (false≢true (must_indent (is_spaces v) false _ s g))
+    absurd (false≢true (true_test_means_indent (is_spaces v) false _ s g))
 spaces_starts Two t level common tail rest v es is a s g (lone x y) mid i l =
-    absurd (cons_is_not_empty (sym (ap (λ ns. ns ++ line_indents Two (position_after v) es) (spaces_number v s)) ∙ y))
+    absurd (cons_is_not_empty
+    (sym (ap (λ ns. ns ++ line_indents Two (position_after v) es) (indent_of_spaces_is_their_count v s)) ∙ y))
 spaces_starts Two t level common tail rest v no_elements is a s g fixed mid i l =
-    absurd (false≢true (right_true (is_spaces v) false (must_indent (is_spaces v) (is_spaces v && false) _ s g)))
+    absurd (false≢true
+    (right_true (is_spaces v) false (true_test_means_indent (is_spaces v) (is_spaces v && false) _ s g)))
 spaces_starts Two t level common tail rest v (elements (text_element w) es) is a s g fixed mid i l =
-    absurd (false≢true (right_true (is_spaces v) false (must_indent (is_spaces v) (is_spaces v && false) _ s g)))
+    absurd (false≢true
+    (right_true (is_spaces v) false (true_test_means_indent (is_spaces v) (is_spaces v && false) _ s g)))
 spaces_starts Two t level common tail rest [] (elements (placeable e) es) is a s g fixed mid i l = absurd cc
 spaces_starts Two t level common tail rest (c ∷ v) (elements (placeable e) es) is a s g fixed mid i l =
     let ind = indent level in
     let sp = c ∷ v in
-    let brace = element_brace level e (elements_bytes level false es (lf ∷ tail)) in
+    let brace = bytes_of_placeable_begin_with_brace level e (elements_bytes level false es (lf ∷ tail)) in
     let end = no_lf_ends_run sp a in
     let m =
     suffix_as (ap (λ b. ind ++
@@ -481,16 +505,16 @@ spaces_starts Two t level common tail rest (c ∷ v) (elements (placeable e) es)
     ≡ length (ind ++ sp) ∷
     map (λ n. length ind + n) (line_indents Two after_placeable (elements (placeable e) es)) =
     ap (λ ns. map (λ n. length ind + n) (ns ++ line_indents Two (position_after sp) (elements (placeable e) es)))
-    (spaces_number sp s)
+    (indent_of_spaces_is_their_count sp s)
     ∙ ap (λ ns. (length ind + length sp) ∷ map (λ n. length ind + n) ns)
-    (numbers_no_line Two sp (elements (placeable e) es) end)
+    (indents_after_text_are_those_after_placeable Two sp (elements (placeable e) es) end)
     ∙ ap (λ k. k ∷ map (λ n. length ind + n) (line_indents Two after_placeable (elements (placeable e) es)))
     (sym size) in
     subst (λ ns. Starts Two t (Some (length ind)) (elements (text_element sp) (elements (placeable e) es)) ns i rest)
     (sym numbers)
-    (start_spaces_two t ind sp brace.rest e es
+    (spaces_start_line_in_edition_two t ind sp brace.rest e es
     (map (λ n. length ind + n) (line_indents Two after_placeable (elements (placeable e) es))) rest i
-    (all_append ind sp (spaces_of (4 * level)) s) (omega arith) n (suffix_past ind m)
+    (appended_spaces_are_spaces ind sp (spaces_of (4 * level)) s) (omega arith) n (suffix_past ind m)
     (mid (i + length (ind ++ sp)) (suffix_as (sym brace.are) (suffix_past (ind ++ sp) n))))
 
 -- ---- all elements
@@ -516,17 +540,17 @@ module _ (edition : Edition) (t : List ℕ) (level : ℕ) (common : Option ℕ) 
   StartsIf (elements d es) = StartsOf (elements d es)
 
   -- the parts of what a text and the elements after it are asked
-  pub text_is : (s : ElementPosition) (v : Text) (es : PatternTree Text) →
+  pub text_element_is_text : (s : ElementPosition) (v : Text) (es : PatternTree Text) →
       are_elements edition true s (elements (text_element v) es) ≡ true → is_text v ≡ true
-  text_is s v es g = left_true (is_text v) _ g
+  text_element_is_text s v es g = left_true (is_text v) _ g
 
   pub text_holds : (s : ElementPosition) (v : Text) (es : PatternTree Text) →
       are_elements edition true s (elements (text_element v) es) ≡ true → may_occur_at edition true s v es ≡ true
   text_holds s v es g = left_true (may_occur_at edition true s v es) _ (right_true (is_text v) _ g)
 
-  pub text_ends_well : (s : ElementPosition) (v : Text) (es : PatternTree Text) →
+  pub text_may_precede_what_follows : (s : ElementPosition) (v : Text) (es : PatternTree Text) →
       are_elements edition true s (elements (text_element v) es) ≡ true → may_precede v es ≡ true
-  text_ends_well s v es g =
+  text_may_precede_what_follows s v es g =
       left_true (may_precede v es) _ (right_true (may_occur_at edition true s v es) _ (right_true (is_text v) _ g))
 
   pub text_more : (s : ElementPosition) (v : Text) (es : PatternTree Text) →
@@ -536,75 +560,83 @@ module _ (edition : Edition) (t : List ℕ) (level : ℕ) (common : Option ℕ) 
       right_true (may_precede v es) _ (right_true (may_occur_at edition true s v es) _ (right_true (is_text v) _ g))
 
   -- a text without LF is followed by no text
-  pub no_text_after : (v w : Text) (es : PatternTree Text) → ends_in_lf v ≡ false →
+  pub no_text_follows_text_without_lf : (v w : Text) (es : PatternTree Text) → ends_in_lf v ≡ false →
       are_elements edition true (position_after v) (elements (text_element w) es) ≡ true → ⊥
-  no_text_after v w es e g =
+  no_text_follows_text_without_lf v w es e g =
       false≢true (sym (ap (λ s. may_occur_at edition true s w es) (ap (λ b. if b then after_line else within_line) e))
       ∙ text_holds (position_after v) w es g)
 
-  after_lf : (v : Text) (es : PatternTree Text) → ends_in_lf v ≡ true →
+  elements_after_lf_are_elements_after_line : (v : Text) (es : PatternTree Text) → ends_in_lf v ≡ true →
       are_elements edition true (position_after v) es ≡ true → are_elements edition true after_line es ≡ true
-  after_lf v es e g = sym (ap (λ b. are_elements edition true (if b then after_line else within_line) es) e) ∙ g
+  elements_after_lf_are_elements_after_line v es e g =
+      sym (ap (λ b. are_elements edition true (if b then after_line else within_line) es) e) ∙ g
 
   -- what a text within a line leads to, by its form and by what follows
-  mid_of_text : (v : Text) (es : PatternTree Text) (s : ElementPosition) →
+  text_reads_mid_line : (v : Text) (es : PatternTree Text) (s : ElementPosition) →
       are_elements edition true s (elements (text_element v) es) ≡ true → (ends_in_lf v ≡ false → MidOf es) →
       (ends_in_lf v ≡ true → StartsIf es) → TextForm v → MidOf (elements (text_element v) es)
-  mid_of_text v no_elements s g mid start (alone a) i l =
-      text_last edition t level common tail rest ends v i (text_is s v no_elements g) (text_ends_well s v no_elements g)
+  text_reads_mid_line v no_elements s g mid start (alone a) i l =
+      last_text_reads_mid_line edition t level common tail rest ends v i (text_element_is_text s v no_elements g)
+      (text_may_precede_what_follows s v no_elements g)
       (suffix_as (ap (λ b. v ++ (lf ∷ tail)) (no_lf_ends_run v a)) l)
-  mid_of_text v no_elements s g mid start (with_lf body is a c) i l =
-      absurd (plain_not_line edition t level common tail rest ends v body is (text_ends_well s v no_elements g))
-  mid_of_text v (elements (placeable e) es) s g mid start (alone a) i l =
+  text_reads_mid_line v no_elements s g mid start (with_lf body is a c) i l =
+      absurd (text_with_lf_ends_not_plainly edition t level common tail rest ends v body is
+      (text_may_precede_what_follows s v no_elements g))
+  text_reads_mid_line v (elements (placeable e) es) s g mid start (alone a) i l =
       subst (λ ns. ReadsMidLine edition t common (elements (text_element v) (elements (placeable e) es)) ns i rest)
       (ap (map (λ n. length (indent level) + n))
-      (sym (numbers_no_line edition v (elements (placeable e) es) (no_lf_ends_run v a))))
-      (text_then edition t level common tail rest ends v e es (Numbers after_placeable (elements (placeable e) es)) i
-      (text_is s v (elements (placeable e) es) g) a
+      (sym (indents_after_text_are_those_after_placeable edition v (elements (placeable e) es) (no_lf_ends_run v a))))
+      (text_before_placeable_reads_mid_line edition t level common tail rest ends v e es
+      (Numbers after_placeable (elements (placeable e) es)) i
+      (text_element_is_text s v (elements (placeable e) es) g) a
       (suffix_as (ap (λ b. v ++
       (line_indent level b ++ element_bytes level (placeable e) (elements_bytes level false es (lf ∷ tail))))
       (no_lf_ends_run v a)) l) (mid (no_lf_ends_run v a)))
-  mid_of_text v (elements (text_element w) es) s g mid start (alone a) i l =
-      absurd (no_text_after v w es (no_lf_ends_run v a) (text_more s v (elements (text_element w) es) g))
-  mid_of_text v (elements d es) s g mid start (with_lf body is a c) i l =
+  text_reads_mid_line v (elements (text_element w) es) s g mid start (alone a) i l =
+      absurd (no_text_follows_text_without_lf v w es (no_lf_ends_run v a)
+      (text_more s v (elements (text_element w) es) g))
+  text_reads_mid_line v (elements d es) s g mid start (with_lf body is a c) i l =
       subst (λ ns. ReadsMidLine edition t common (elements (text_element v) (elements d es)) ns i rest)
       (ap (map (λ n. length (indent level) + n))
       (sym (numbers_line edition v (elements d es) (lf_after_ends_in_lf v body is))))
-      (text_line edition t level common tail rest ends v body d es (Numbers after_line (elements d es)) i is a c
+      (text_with_lf_reads_mid_line edition t level common tail rest ends v body d es
+      (Numbers after_line (elements d es)) i is a c
       (elements_bytes level true (elements d es) (lf ∷ tail))
       (suffix_as (ap (λ b. v ++ elements_bytes level b (elements d es) (lf ∷ tail)) (lf_after_ends_in_lf v body is)) l)
       (start (lf_after_ends_in_lf v body is)))
 
-  pub run_part : (v gap : List ℕ) (b : ℕ) (bs : List ℕ) → v ≡ gap ++ (b ∷ bs) → list_all is_run_byte v ≡ true →
-      list_all is_run_byte (b ∷ bs) ≡ true
-  run_part v gap b bs is a = second_part_passes is_run_byte gap (b ∷ bs) (sym (ap (list_all is_run_byte) is) ∙ a)
+  pub rest_of_run_is_run : (v gap : List ℕ) (b : ℕ) (bs : List ℕ) → v ≡ gap ++ (b ∷ bs) →
+      list_all is_run_byte v ≡ true → list_all is_run_byte (b ∷ bs) ≡ true
+  rest_of_run_is_run v gap b bs is a =
+      second_of_passing_append_passes is_run_byte gap (b ∷ bs) (sym (ap (list_all is_run_byte) is) ∙ a)
 
   -- a run after spaces
-  shown_alone : (v : Text) (es : PatternTree Text) →
+  shown_text_alone_starts_line : (v : Text) (es : PatternTree Text) →
       are_elements edition true after_line (elements (text_element v) es) ≡ true →
       Fit edition (length (indent level)) common after_line (elements (text_element v) es) →
       (ends_in_lf v ≡ false → MidOf es) → list_all is_run_byte v ≡ true →
       (gap : List ℕ) (b : ℕ) (bs : List ℕ) → v ≡ gap ++ (b ∷ bs) → list_all is_space gap ≡ true → is_space b ≡ false →
       StartsOf (elements (text_element v) es)
-  shown_alone v no_elements g f mid a gap b bs is c e i l =
-      let part = run_part v gap b bs is a in
+  shown_text_alone_starts_line v no_elements g f mid a gap b bs is c e i l =
+      let part = rest_of_run_is_run v gap b bs is a in
       let byte = left_true (is_run_byte b) (list_all is_run_byte bs) part in
       let mark =
       run_byte_is_no_mark b byte
       (later_text_has_no_mark edition v no_elements gap b bs is c e (text_holds after_line v no_elements g)) in
-      let plain = text_ends_well after_line v no_elements g in
+      let plain = text_may_precede_what_follows after_line v no_elements g in
       let safe : is_last cr (last_of None (b ∷ bs)) ≡ false =
       sym (ap (is_last cr) (ap (last_of None) is ∙ last_of-gap gap b bs)) ∙ plain_no_cr v plain in
-      shown_starts edition t level rest common v gap b bs (lf ∷ tail) no_elements i is deep c e (run_no_lf b byte) mark
+      shown_starts edition t level rest common v gap b bs (lf ∷ tail) no_elements i is deep c e
+      (run_byte_is_no_lf b byte) mark
       f l (λ j m. run_end edition t common v tail rest j b bs plain ends part (rw safe refl) m)
-  shown_alone v (elements (placeable x) es) g f mid a gap b bs is c e i l =
-      let part = run_part v gap b bs is a in
+  shown_text_alone_starts_line v (elements (placeable x) es) g f mid a gap b bs is c e i l =
+      let part = rest_of_run_is_run v gap b bs is a in
       let byte = left_true (is_run_byte b) (list_all is_run_byte bs) part in
       let mark =
       run_byte_is_no_mark b byte
       (later_text_has_no_mark edition v (elements (placeable x) es) gap b bs is c e
       (text_holds after_line v (elements (placeable x) es) g)) in
-      let brace = element_brace level x (elements_bytes level false es (lf ∷ tail)) in
+      let brace = bytes_of_placeable_begin_with_brace level x (elements_bytes level false es (lf ∷ tail)) in
       let end = no_lf_ends_run v a in
       let m =
       suffix_as (ap (λ b. indent level ++
@@ -612,39 +644,43 @@ module _ (edition : Edition) (t : List ℕ) (level : ℕ) (common : Option ℕ) 
       (line_indent level b ++ element_bytes level (placeable x) (elements_bytes level false es (lf ∷ tail)))))
       end ∙ ap (λ xs. indent level ++ (v ++ xs)) brace.are) l in
       let same =
-      ap (map (λ n. length (indent level) + n)) (sym (numbers_no_line edition v (elements (placeable x) es) end)) in
+      ap (map (λ n. length (indent level) + n))
+      (sym (indents_after_text_are_those_after_placeable edition v (elements (placeable x) es) end)) in
       shown_starts edition t level rest common v gap b bs (123 ∷ brace.rest) (elements (placeable x) es) i is deep c e
-      (run_no_lf b byte) mark f m (λ j n.
+      (run_byte_is_no_lf b byte) mark f m (λ j n.
       subst (λ ns. Run edition t common v (elements (placeable x) es) ns j (123 ∷ brace.rest) rest) same
-      (run_more edition t common v x es (Numbers after_placeable (elements (placeable x) es)) rest j b bs brace.rest
+      (run_before_placeable_is_run edition t common v x es
+      (Numbers after_placeable (elements (placeable x) es)) rest j b bs brace.rest
       part n (λ k o. mid end k (suffix_as (sym brace.are) o))))
-  shown_alone v (elements (text_element w) es) g f mid a gap b bs is c e i l =
-      absurd (no_text_after v w es (no_lf_ends_run v a) (text_more after_line v (elements (text_element w) es) g))
+  shown_text_alone_starts_line v (elements (text_element w) es) g f mid a gap b bs is c e i l =
+      absurd (no_text_follows_text_without_lf v w es (no_lf_ends_run v a)
+      (text_more after_line v (elements (text_element w) es) g))
 
   -- what a text at the beginning of a line leads to
-  start_of_text : (v : Text) (es : PatternTree Text) →
+  text_of_form_starts_line : (v : Text) (es : PatternTree Text) →
       are_elements edition true after_line (elements (text_element v) es) ≡ true →
       Fit edition (length (indent level)) common after_line (elements (text_element v) es) →
       (ends_in_lf v ≡ false → MidOf es) → (ends_in_lf v ≡ true → StartsIf es) → TextForm v →
       StartsOf (elements (text_element v) es)
-  start_of_text v es g f mid start (alone a) = alone_of (text_splits v)
+  text_of_form_starts_line v es g f mid start (alone a) = alone_of (text_splits_into_spaces_and_rest v)
     where
       spaces_alone : list_all is_space v ≡ true → StartsOf (elements (text_element v) es)
       spaces_alone e =
-          spaces_starts edition t level common tail rest v es (text_is after_line v es g) a e
+          spaces_starts edition t level common tail rest v es (text_element_is_text after_line v es g) a e
           (text_holds after_line v es g) f (mid (no_lf_ends_run v a))
 
       alone_at : (gap more : List ℕ) → v ≡ gap ++ more → list_all is_space gap ≡ true →
           holds is_space (first more) ≡ false → StartsOf (elements (text_element v) es)
-      alone_at gap [] is c e = spaces_alone (ap (list_all is_space) (is ∙ append_none gap) ∙ c)
-      alone_at gap (b ∷ bs) is c e = shown_alone v es g f mid a gap b bs is c e
+      alone_at gap [] is c e = spaces_alone (ap (list_all is_space) (is ∙ appended_nothing_leaves_list gap) ∙ c)
+      alone_at gap (b ∷ bs) is c e = shown_text_alone_starts_line v es g f mid a gap b bs is c e
 
       alone_of : Split v → StartsOf (elements (text_element v) es)
       alone_of s = alone_at s.gap s.more s.are s.spaces s.plain
-  start_of_text v no_elements g f mid start (with_lf body is a c) =
-      absurd (plain_not_line edition t level common tail rest ends v body is
-      (text_ends_well after_line v no_elements g))
-  start_of_text v (elements d es) g f mid start (with_lf body is a c) = line_of_split (text_splits body)
+  text_of_form_starts_line v no_elements g f mid start (with_lf body is a c) =
+      absurd (text_with_lf_ends_not_plainly edition t level common tail rest ends v body is
+      (text_may_precede_what_follows after_line v no_elements g))
+  text_of_form_starts_line v (elements d es) g f mid start (with_lf body is a c) =
+      line_of_split (text_splits_into_spaces_and_rest body)
     where
       ends_in : ends_in_lf v ≡ true
       ends_in = lf_after_ends_in_lf v body is
@@ -660,13 +696,14 @@ module _ (edition : Edition) (t : List ℕ) (level : ℕ) (common : Option ℕ) 
           (ns ++ line_indents edition (position_after v) (elements d es))) (blank_line_has_no_indent edition v gap e s)
           ∙ ap (map (λ n. length (indent level) + n)) (numbers_line edition v (elements d es) ends_in) in
           subst (λ ns. Starts edition t common (elements (text_element v) (elements d es)) ns i rest) (sym same)
-          (blank_starts edition t level rest common v gap d es (Numbers after_line (elements d es)) more i e s f m
+          (blank_line_starts_line edition t level rest common v gap d es
+          (Numbers after_line (elements d es)) more i e s f m
           (λ j o. start ends_in j o))
 
       shown_line : (gap : List ℕ) (b : ℕ) (bs : List ℕ) → body ≡ gap ++ (b ∷ bs) → list_all is_space gap ≡ true →
           is_space b ≡ false → StartsOf (elements (text_element v) (elements d es))
       shown_line gap b bs e s n i l =
-          let part = run_part body gap b bs e a in
+          let part = rest_of_run_is_run body gap b bs e a in
           let byte = left_true (is_run_byte b) (list_all is_run_byte bs) part in
           let whole : v ≡ gap ++ (b ∷ (bs ++ (lf ∷ []))) =
           is ∙ ap (λ v. v ++ (lf ∷ [])) e ∙ append_assoc gap (b ∷ bs) (lf ∷ []) in
@@ -681,14 +718,15 @@ module _ (edition : Edition) (t : List ℕ) (level : ℕ) (common : Option ℕ) 
           suffix_as (ap (λ b. indent level ++ (v ++ elements_bytes level b (elements d es) (lf ∷ tail))) ends_in) l in
           let same = ap (map (λ n. length (indent level) + n)) (sym (numbers_line edition v (elements d es) ends_in)) in
           shown_starts edition t level rest common v gap b (bs ++ (lf ∷ [])) more (elements d es) i whole deep s n
-          (run_no_lf b byte) mark f m (λ j o.
+          (run_byte_is_no_lf b byte) mark f m (λ j o.
           subst (λ ns. Run edition t common v (elements d es) ns j more rest) same
-          (run_line edition t common v d es (Numbers after_line (elements d es)) rest j b bs more part safe
+          (run_at_end_of_line_is_run edition t common v d es
+          (Numbers after_line (elements d es)) rest j b bs more part safe
           (suffix_as (ap (λ xs. b ∷ xs) (append_assoc bs (lf ∷ []) more)) o) (λ k q. start ends_in k q)))
 
       line_at : (gap more : List ℕ) → body ≡ gap ++ more → list_all is_space gap ≡ true →
           holds is_space (first more) ≡ false → StartsOf (elements (text_element v) (elements d es))
-      line_at gap [] e s n = blank_line_of gap (is ∙ ap (λ v. v ++ (lf ∷ [])) (e ∙ append_none gap)) s
+      line_at gap [] e s n = blank_line_of gap (is ∙ ap (λ v. v ++ (lf ∷ [])) (e ∙ appended_nothing_leaves_list gap)) s
       line_at gap (b ∷ bs) e s n = shown_line gap b bs e s n
 
       line_of_split : Split body → StartsOf (elements (text_element v) (elements d es))
@@ -700,31 +738,36 @@ module _ (edition : Edition) (t : List ℕ) (level : ℕ) (common : Option ℕ) 
         are_elements edition true s es ≡ true → Fit edition (length (indent level)) common after_placeable es → MidOf es
     lines_mid no_elements s h g f i l = mid_end edition t common tail rest i ends l
     lines_mid (elements (placeable e) es) s h g f i l =
-        let x = element_brace level e (elements_bytes level false es (lf ∷ tail)) in
-        mid_placeable edition t common e es (Numbers after_placeable es) i x.rest
+        let x = bytes_of_placeable_begin_with_brace level e (elements_bytes level false es (lf ∷ tail)) in
+        placeable_reads_mid_line edition t common e es (Numbers after_placeable es) i x.rest
         (elements_bytes level false es (lf ∷ tail)) rest (suffix_as x.are l)
         (h.0.back i (elements_bytes level false es (lf ∷ tail)) l)
-        (λ j m. lines_mid es after_placeable h.1 g (fit_placeable edition (length (indent level)) common e es f) j
+        (λ j m. lines_mid es after_placeable h.1 g
+        (fit_goes_on_after_placeable edition (length (indent level)) common e es f) j
         m)
     lines_mid (elements (text_element v) es) s h g f i l =
-        mid_of_text v es s g
+        text_reads_mid_line v es s g
         (λ e. lines_mid es (position_after v) h (text_more s v es g)
-        (fit_no_line edition (length (indent level)) common v es e f))
-        (λ e. lines_start es h (after_lf v es e (text_more s v es g))
-        (fit_line edition (length (indent level)) common v es e f)) (text_form v (text_is s v es g)) i l
+        (fit_goes_on_after_text_in_line edition (length (indent level)) common v es e f))
+        (λ e. elements_read_back_from_line_start es h
+        (elements_after_lf_are_elements_after_line v es e (text_more s v es g))
+        (fit_goes_on_after_text_with_lf edition (length (indent level)) common v es e f))
+        (text_is_run_or_run_with_lf v (text_element_is_text s v es g)) i l
 
     -- from the start of a later line on
-    pub lines_start : (es : PatternTree Text) → ElementsReadBack edition t level es →
+    pub elements_read_back_from_line_start : (es : PatternTree Text) → ElementsReadBack edition t level es →
         are_elements edition true after_line es ≡ true → Fit edition (length (indent level)) common after_line es →
         StartsIf es
-    lines_start no_elements h g f = tt
-    lines_start (elements (placeable e) es) h g f =
-        placeable_starts edition t level common tail rest e es deep h.0 f
-        (lines_mid es after_placeable h.1 g (fit_placeable_line edition (length (indent level)) common e es f))
-    lines_start (elements (text_element v) es) h g f =
-        start_of_text v es g f
+    elements_read_back_from_line_start no_elements h g f = tt
+    elements_read_back_from_line_start (elements (placeable e) es) h g f =
+        placeable_after_indent_starts_line edition t level common tail rest e es deep h.0 f
+        (lines_mid es after_placeable h.1 g
+        (fit_goes_on_after_placeable_at_line edition (length (indent level)) common e es f))
+    elements_read_back_from_line_start (elements (text_element v) es) h g f =
+        text_of_form_starts_line v es g f
         (λ e. lines_mid es (position_after v) h (text_more after_line v es g)
-        (fit_no_line_start edition (length (indent level)) common v es e f))
-        (λ e. lines_start es h (after_lf v es e (text_more after_line v es g))
-        (fit_line_start edition (length (indent level)) common v es e f))
-        (text_form v (text_is after_line v es g))
+        (fit_goes_on_after_text_at_line edition (length (indent level)) common v es e f))
+        (λ e. elements_read_back_from_line_start es h
+        (elements_after_lf_are_elements_after_line v es e (text_more after_line v es g))
+        (fit_goes_on_after_whole_line edition (length (indent level)) common v es e f))
+        (text_is_run_or_run_with_lf v (text_element_is_text after_line v es g))

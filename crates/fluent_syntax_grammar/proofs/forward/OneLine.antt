@@ -27,13 +27,15 @@ use Rattle.fluent_syntax_grammar.specs.Readable.{are_elements, may_occur_at, pos
 use Rattle.fluent_syntax_grammar.proofs.Facts.{left_true, right_true}
 use Rattle.fluent_syntax_grammar.proofs.SuffixAt.{SuffixAt, suffix_as, first, suffix_byte_run, suffix_has_no_after_eol}
 use Rattle.fluent_syntax_grammar.proofs.forward.Reading.{Reads}
-use Rattle.fluent_syntax_grammar.proofs.forward.Spells.{spelled_pattern}
+use Rattle.fluent_syntax_grammar.proofs.forward.Spells.{items_spell_their_pattern}
 use Rattle.fluent_syntax_grammar.proofs.marks.WrittenBytes.{element_bytes, elements_bytes, line_indent}
-use Rattle.fluent_syntax_grammar.proofs.forward.Runs.{is_run_byte, ends_in_cr_before, run_all, run_place, no_eol_in_run}
-use Rattle.fluent_syntax_grammar.proofs.forward.Lines.{Ends, reads_ending}
-use Rattle.fluent_syntax_grammar.proofs.forward.Pieces.{ReadsMidLine, mid_end, mid_placeable, mid_run, run_end}
-use Rattle.fluent_syntax_grammar.proofs.forward.Pieces.{run_more}
-use Rattle.fluent_syntax_grammar.proofs.Tests.{neither_left, neither_right, not_true, negated_right_is_false}
+use Rattle.fluent_syntax_grammar.proofs.forward.Runs.{is_run_byte, ends_in_cr_before, text_without_brace_and_lf_is_run}
+use Rattle.fluent_syntax_grammar.proofs.forward.Runs.{place_of_run_byte_is_run_place, no_eol_in_run}
+use Rattle.fluent_syntax_grammar.proofs.forward.Lines.{Ends, ending_at_lf_reads_lf}
+use Rattle.fluent_syntax_grammar.proofs.forward.Pieces.{ReadsMidLine, mid_end, placeable_reads_mid_line, mid_run}
+use Rattle.fluent_syntax_grammar.proofs.forward.Pieces.{run_end}
+use Rattle.fluent_syntax_grammar.proofs.forward.Pieces.{run_before_placeable_is_run}
+use Rattle.fluent_syntax_grammar.proofs.Tests.{neither_left, neither_right, not_true_is_false, negated_right_is_false}
 use Rattle.fluent_syntax_grammar.proofs.LineEnds.{no_bytes_no_eol}
 
 -- A placeable that is an element is read back.
@@ -59,105 +61,110 @@ pub record Brace (bs : List ℕ) : Type 0 where
   pub rest : List ℕ
   pub are : bs ≡ 123 ∷ rest
 
-pub element_brace : (level : ℕ) (e : ExpressionTree Text) (tail : List ℕ) →
+pub bytes_of_placeable_begin_with_brace : (level : ℕ) (e : ExpressionTree Text) (tail : List ℕ) →
     Brace (element_bytes level (placeable e) tail)
-element_brace level (select e vs) tail = record { rest = _; are = refl }
-element_brace level (inline (string_literal v)) tail = record { rest = _; are = refl }
-element_brace level (inline (number_literal v)) tail = record { rest = _; are = refl }
-element_brace level (inline (function_reference id a)) tail = record { rest = _; are = refl }
-element_brace level (inline (message_reference id a)) tail = record { rest = _; are = refl }
-element_brace level (inline (term_reference id a c)) tail = record { rest = _; are = refl }
-element_brace level (inline (variable_reference id)) tail = record { rest = _; are = refl }
-element_brace level (inline (inline_placeable e)) tail = record { rest = _; are = refl }
+bytes_of_placeable_begin_with_brace level (select e vs) tail = record { rest = _; are = refl }
+bytes_of_placeable_begin_with_brace level (inline (string_literal v)) tail = record { rest = _; are = refl }
+bytes_of_placeable_begin_with_brace level (inline (number_literal v)) tail = record { rest = _; are = refl }
+bytes_of_placeable_begin_with_brace level (inline (function_reference id a)) tail = record { rest = _; are = refl }
+bytes_of_placeable_begin_with_brace level (inline (message_reference id a)) tail = record { rest = _; are = refl }
+bytes_of_placeable_begin_with_brace level (inline (term_reference id a c)) tail = record { rest = _; are = refl }
+bytes_of_placeable_begin_with_brace level (inline (variable_reference id)) tail = record { rest = _; are = refl }
+bytes_of_placeable_begin_with_brace level (inline (inline_placeable e)) tail = record { rest = _; are = refl }
 
 pub plain_no_cr : (v : List ℕ) → ends_plainly v ≡ true → is_last cr (last_of None v) ≡ false
-plain_no_cr v e = last_no_cr (last_of None v) e
+plain_no_cr v e = untrimmed_last_byte_is_no_cr (last_of None v) e
   where
     no_cr : (b : ℕ) (x y z : Bool) → (b == 32) ≡ x → (b == 13) ≡ y → not (x || y || z) ≡ true → (b == 13) ≡ false
     no_cr b x false z e f g = f
     no_cr b true true z e f g = absurd cc
     no_cr b false true z e f g = absurd cc
 
-    last_no_cr : (o : Option ℕ) → holds (λ b. not (Rattle.fluent_syntax_tree.specs.Text.is_trimmed b)) o ≡ true →
-        is_last cr o ≡ false
-    last_no_cr None e = refl
-    last_no_cr (Some b) e = no_cr b (b == 32) (b == 13) (b == 10) refl refl e
+    untrimmed_last_byte_is_no_cr : (o : Option ℕ) →
+        holds (λ b. not (Rattle.fluent_syntax_tree.specs.Text.is_trimmed b)) o ≡ true → is_last cr o ≡ false
+    untrimmed_last_byte_is_no_cr None e = refl
+    untrimmed_last_byte_is_no_cr (Some b) e = no_cr b (b == 32) (b == 13) (b == 10) refl refl e
 
-no_lf_from : (c : ℕ) (v : List ℕ) → (c == lf) ≡ false → has_lf v ≡ false → is_last lf (last_of (Some c) v) ≡ false
-no_lf_from c [] e f = e
-no_lf_from c (b ∷ v) e f = no_lf_from b v (neither_left (b == lf) (has_lf v) f) (neither_right (b == lf) (has_lf v) f)
+last_of_bytes_without_lf_is_other : (c : ℕ) (v : List ℕ) → (c == lf) ≡ false → has_lf v ≡ false →
+    is_last lf (last_of (Some c) v) ≡ false
+last_of_bytes_without_lf_is_other c [] e f = e
+last_of_bytes_without_lf_is_other c (b ∷ v) e f =
+    last_of_bytes_without_lf_is_other b v (neither_left (b == lf) (has_lf v) f) (neither_right (b == lf) (has_lf v) f)
 
 pub ends_not_in_lf : (v : List ℕ) → has_lf v ≡ false → ends_in_lf v ≡ false
 ends_not_in_lf [] e = refl
-ends_not_in_lf (b ∷ v) e = no_lf_from b (b ∷ v) (neither_left (b == lf) (has_lf v) e) e
+ends_not_in_lf (b ∷ v) e = last_of_bytes_without_lf_is_other b (b ∷ v) (neither_left (b == lf) (has_lf v) e) e
 
 module _ (edition : Edition) (t : List ℕ) (level : ℕ) (common : Option ℕ) (tail rest : List ℕ) (ends : Ends tail rest)
   where
     abbrev pub ReadsBackFrom : PatternTree Text → ℕ → Type 0
     ReadsBackFrom es i = ReadsMidLine edition t common es [] i rest
 
-    pub text_bytes : (v : Text) → is_text v ≡ true → has_lf v ≡ false → list_all is_run_byte v ≡ true
-    text_bytes v e f =
-        run_all v (not_true (list_any is_brace v)
+    pub one_line_text_has_run_bytes : (v : Text) → is_text v ≡ true → has_lf v ≡ false → list_all is_run_byte v ≡ true
+    one_line_text_has_run_bytes v e f =
+        text_without_brace_and_lf_is_run v (not_true_is_false (list_any is_brace v)
         (left_true (not (list_any is_brace v)) _ (right_true (not (is_empty v)) _ e))) f
 
-    text_ends : (v : Text) (i : ℕ) → is_text v ≡ true → has_lf v ≡ false → ends_plainly v ≡ true →
+    one_line_text_at_end_reads_back : (v : Text) (i : ℕ) → is_text v ≡ true → has_lf v ≡ false → ends_plainly v ≡ true →
         SuffixAt t i (v ++ (lf ∷ tail)) → ReadsBackFrom (elements (text_element v) no_elements) i
-    text_ends [] i e f p l = absurd cc
-    text_ends (b ∷ bs) i e f p l =
+    one_line_text_at_end_reads_back [] i e f p l = absurd cc
+    one_line_text_at_end_reads_back (b ∷ bs) i e f p l =
         let r =
-        run_end edition t common (b ∷ bs) tail rest i b bs p ends (text_bytes (b ∷ bs) e f)
+        run_end edition t common (b ∷ bs) tail rest i b bs p ends (one_line_text_has_run_bytes (b ∷ bs) e f)
         (rw (plain_no_cr (b ∷ bs) p) refl) l in
         mid_run edition t common (b ∷ bs) no_elements [] (lf ∷ tail) rest i r l
 
-    text_before : (v : Text) (e : ExpressionTree Text) (es : PatternTree Text) (i : ℕ) → is_text v ≡ true →
-        has_lf v ≡ false →
+    one_line_text_before_placeable_reads_back : (v : Text) (e : ExpressionTree Text) (es : PatternTree Text) (i : ℕ) →
+        is_text v ≡ true → has_lf v ≡ false →
         SuffixAt t i (v ++ element_bytes level (placeable e) (elements_bytes level false es (lf ∷ tail))) →
         ((j : ℕ) → SuffixAt t j (element_bytes level (placeable e) (elements_bytes level false es (lf ∷ tail))) →
         ReadsBackFrom (elements (placeable e) es) j) →
         ReadsBackFrom (elements (text_element v) (elements (placeable e) es)) i
-    text_before [] e es i g f l k = absurd cc
-    text_before (b ∷ bs) e es i g f l k =
-        let x = element_brace level e (elements_bytes level false es (lf ∷ tail)) in
+    one_line_text_before_placeable_reads_back [] e es i g f l k = absurd cc
+    one_line_text_before_placeable_reads_back (b ∷ bs) e es i g f l k =
+        let x = bytes_of_placeable_begin_with_brace level e (elements_bytes level false es (lf ∷ tail)) in
         let m = suffix_as (ap (λ xs. b ∷ (bs ++ xs)) x.are) l in
         let r =
-        run_more edition t common (b ∷ bs) e es [] rest i b bs x.rest (text_bytes (b ∷ bs) g f) m
+        run_before_placeable_is_run edition t common (b ∷ bs) e es [] rest i b bs x.rest
+        (one_line_text_has_run_bytes (b ∷ bs) g f) m
         (λ j n. k j (suffix_as (sym x.are) n)) in
         mid_run edition t common (b ∷ bs) (elements (placeable e) es) [] (123 ∷ x.rest) rest i r m
 
-    pub text_after_text : (v w : Text) (es : PatternTree Text) → has_lf v ≡ false →
+    pub no_text_follows_one_line_text : (v w : Text) (es : PatternTree Text) → has_lf v ≡ false →
         may_occur_at edition false (position_after v) w es ≡ true → ⊥
-    text_after_text v w es e f =
+    no_text_follows_one_line_text v w es e f =
         false≢true (sym
         (ap (λ s. may_occur_at edition false s w es) (ap (λ b. if b then after_line else within_line)
         (ends_not_in_lf v e)))
         ∙ f)
 
     -- from within a line on
-    pub line_reads_back : (es : PatternTree Text) (s : ElementPosition) (i : ℕ) → ElementsReadBack edition t level es →
-        are_elements edition false s es ≡ true → has_no_lf es ≡ true →
+    pub one_line_elements_read_back : (es : PatternTree Text) (s : ElementPosition) (i : ℕ) →
+        ElementsReadBack edition t level es → are_elements edition false s es ≡ true → has_no_lf es ≡ true →
         SuffixAt t i (elements_bytes level false es (lf ∷ tail)) → ReadsBackFrom es i
-    line_reads_back no_elements s i h g f l = mid_end edition t common tail rest i ends l
-    line_reads_back (elements (placeable e) es) s i h g f l =
-        let x = element_brace level e (elements_bytes level false es (lf ∷ tail)) in
-        mid_placeable edition t common e es [] i x.rest (elements_bytes level false es (lf ∷ tail)) rest
+    one_line_elements_read_back no_elements s i h g f l = mid_end edition t common tail rest i ends l
+    one_line_elements_read_back (elements (placeable e) es) s i h g f l =
+        let x = bytes_of_placeable_begin_with_brace level e (elements_bytes level false es (lf ∷ tail)) in
+        placeable_reads_mid_line edition t common e es [] i x.rest (elements_bytes level false es (lf ∷ tail)) rest
         (suffix_as x.are l)
         (h.0.back i (elements_bytes level false es (lf ∷ tail)) l)
-        (λ j m. line_reads_back es after_placeable j h.1 g f m)
-    line_reads_back (elements (text_element v) no_elements) s i h g f l =
-        text_ends v i (left_true (is_text v) _ g) (not_true (has_lf v) (left_true (not (has_lf v)) true f))
+        (λ j m. one_line_elements_read_back es after_placeable j h.1 g f m)
+    one_line_elements_read_back (elements (text_element v) no_elements) s i h g f l =
+        one_line_text_at_end_reads_back v i (left_true (is_text v) _ g)
+        (not_true_is_false (has_lf v) (left_true (not (has_lf v)) true f))
         (left_true (ends_plainly v)
         _ (right_true (may_occur_at edition false s v no_elements) _ (right_true (is_text v) _ g))) l
-    line_reads_back (elements (text_element v) (elements (placeable e) es)) s i h g f l =
-        text_before v e es i (left_true (is_text v) _ g) (not_true (has_lf v) (left_true (not (has_lf v)) _ f))
+    one_line_elements_read_back (elements (text_element v) (elements (placeable e) es)) s i h g f l =
+        one_line_text_before_placeable_reads_back v e es i (left_true (is_text v) _ g)
+        (not_true_is_false (has_lf v) (left_true (not (has_lf v)) _ f))
         (suffix_as (ap (λ b. v ++
         (line_indent level b ++ element_bytes level (placeable e) (elements_bytes level false es (lf ∷ tail))))
-        (ends_not_in_lf v (not_true (has_lf v) (left_true (not (has_lf v)) _ f)))) l)
-        (λ j m. line_reads_back (elements (placeable e) es) (position_after v) j h
+        (ends_not_in_lf v (not_true_is_false (has_lf v) (left_true (not (has_lf v)) _ f)))) l)
+        (λ j m. one_line_elements_read_back (elements (placeable e) es) (position_after v) j h
         (right_true (may_occur_at edition false s v (elements (placeable e) es)) _ (right_true (is_text v) _ g))
         (right_true (not (has_lf v)) _ f) m)
-    line_reads_back (elements (text_element v) (elements (text_element w) es)) s i h g f l =
-        absurd (text_after_text v w es (not_true (has_lf v) (left_true (not (has_lf v)) _ f))
+    one_line_elements_read_back (elements (text_element v) (elements (text_element w) es)) s i h g f l =
+        absurd (no_text_follows_one_line_text v w es (not_true_is_false (has_lf v) (left_true (not (has_lf v)) _ f))
         (left_true (may_occur_at edition false (position_after v) w es)
         _ (right_true (is_text w)
         _ (right_true (may_occur_at edition false s v (elements (text_element w) es))
@@ -171,11 +178,11 @@ pub record OpensAt (t : List ℕ) (i : ℕ) (bs : List ℕ) : Type 0 where
   pub no_eol : after_eol t i ≡ None
 
 module _ (edition : Edition) (t : List ℕ) where
-  pub opens_run : (i b : ℕ) (bs ys : List ℕ) → is_space b ≡ false → list_all is_run_byte (b ∷ bs) ≡ true →
+  pub run_opens_at_its_place : (i b : ℕ) (bs ys : List ℕ) → is_space b ≡ false → list_all is_run_byte (b ∷ bs) ≡ true →
       ends_in_cr_before (b ∷ bs) ys ≡ false → SuffixAt t i (b ∷ (bs ++ ys)) → OpensAt t i (b ∷ (bs ++ ys))
-  opens_run i b bs ys s a c l =
+  run_opens_at_its_place i b bs ys s a c l =
       let on : is_run_place t i ≡ true =
-      run_place t i b (bs ++ ys) (left_true (is_run_byte b) (list_all is_run_byte bs) a)
+      place_of_run_byte_is_run_place t i b (bs ++ ys) (left_true (is_run_byte b) (list_all is_run_byte bs) a)
       (no_eol_in_run b bs ys (right_true (is_run_byte b) (list_all is_run_byte bs) a) c) l in
       record {
         no_space = s;
@@ -184,11 +191,13 @@ module _ (edition : Edition) (t : List ℕ) where
             (negated_right_is_false _ (has_eol t i) on);
       }
 
-  pub opens_brace : (i : ℕ) (bs ys : List ℕ) → bs ≡ 123 ∷ ys → SuffixAt t i bs → OpensAt t i bs
-  opens_brace i bs ys e l = record { no_space = rw e refl; no_eol = suffix_has_no_after_eol (suffix_as e l) refl refl }
+  pub brace_opens_at_its_place : (i : ℕ) (bs ys : List ℕ) → bs ≡ 123 ∷ ys → SuffixAt t i bs → OpensAt t i bs
+  brace_opens_at_its_place i bs ys e l =
+      record { no_space = rw e refl; no_eol = suffix_has_no_after_eol (suffix_as e l) refl refl }
 
   -- the layout of a pattern that opens within its line
-  reads_layout : (i j at end : ℕ) (ps : List Piece) (ls : List Line) (bs : List ℕ) → InlineBlank t i j →
+  layout_of_opening_pieces_is_read : (i j at end : ℕ) (ps : List Piece) (ls : List Line) (bs : List ℕ) →
+      InlineBlank t i j →
       after_eol t j ≡ None → grammar.more_pieces edition t j (Read ps at) → SuffixAt t at (lf ∷ bs) →
       grammar.more_lines edition t (at + 1) (Read ls end) →
       layout t (family edition t) i
@@ -196,7 +205,7 @@ module _ (edition : Edition) (t : List ℕ) where
         opening = Some (record { start = j; spaces = 0; pieces = ps; ending = layouts.lf_at at });
         lines = ls;
       }) end)
-  reads_layout i j at end ps ls bs w e p l m =
+  layout_of_opening_pieces_is_read i j at end ps ls bs w e p l m =
       let y : Layout =
       record {
         opening = Some (record { start = j; spaces = 0; pieces = ps; ending = layouts.lf_at at });
@@ -204,7 +213,7 @@ module _ (edition : Edition) (t : List ℕ) where
       } in
       goes_on (passed w)
       (chosen (subst (λ o. layout_at t (family edition t) o j (Read y end)) (sym e)
-      (goes_on at_place (goes_on p (goes_on (reads_ending edition t l) (goes_on m given))))))
+      (goes_on at_place (goes_on p (goes_on (ending_at_lf_reads_lf edition t l) (goes_on m given))))))
 
   -- a pattern that opens within its line is read back, if its elements are
   pub opening_reads_back :
@@ -227,12 +236,12 @@ module _ (edition : Edition) (t : List ℕ) where
         value = pattern_of edition t y;
         end = m.end;
         reads =
-            goes_on (reads_layout i (i + 1) m.at m.end m.pieces m.lines m.after
+            goes_on (layout_of_opening_pieces_is_read i (i + 1) m.at m.end m.pieces m.lines m.after
             (suffix_byte_run is_space (space ∷ []) bs refl o.no_space l) o.no_eol m.reads_pieces m.ends m.reads_lines)
             given;
         spells =
             ap (λ xs. option_map (pattern_map (bytes_at t)) (if_any (spelled t (cut t xs)))) same
-            ∙ spelled_pattern t
+            ∙ items_spell_their_pattern t
             (with_ending m.pieces (layouts.lf_at m.at) ++ flat_map (line_items edition common) m.lines) e es m.spells;
         rest = m.left;
       }

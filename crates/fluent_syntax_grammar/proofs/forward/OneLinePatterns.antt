@@ -17,11 +17,14 @@ use Rattle.fluent_syntax_grammar.proofs.Facts.{left_true, right_true}
 use Rattle.fluent_syntax_grammar.proofs.SuffixAt.{SuffixAt, suffix_as, suffix_next}
 use Rattle.fluent_syntax_grammar.proofs.marks.WrittenBytes.{element_bytes, elements_bytes, pattern_bytes, line_indent}
 use Rattle.fluent_syntax_grammar.proofs.forward.Lines.{Ends}
-use Rattle.fluent_syntax_grammar.proofs.forward.OneLine.{ElementsReadBack, has_no_lf, element_brace, plain_no_cr}
-use Rattle.fluent_syntax_grammar.proofs.forward.OneLine.{ends_not_in_lf, text_bytes, text_after_text, line_reads_back}
-use Rattle.fluent_syntax_grammar.proofs.forward.OneLine.{OpensAt, opens_run, opens_brace, opening_reads_back}
+use Rattle.fluent_syntax_grammar.proofs.forward.OneLine.{ElementsReadBack, has_no_lf}
+use Rattle.fluent_syntax_grammar.proofs.forward.OneLine.{bytes_of_placeable_begin_with_brace, plain_no_cr}
+use Rattle.fluent_syntax_grammar.proofs.forward.OneLine.{ends_not_in_lf, one_line_text_has_run_bytes}
+use Rattle.fluent_syntax_grammar.proofs.forward.OneLine.{no_text_follows_one_line_text, one_line_elements_read_back}
+use Rattle.fluent_syntax_grammar.proofs.forward.OneLine.{OpensAt, run_opens_at_its_place, brace_opens_at_its_place}
+use Rattle.fluent_syntax_grammar.proofs.forward.OneLine.{opening_reads_back}
 use Rattle.fluent_syntax_grammar.proofs.forward.Entries.{PatternReadsBack}
-use Rattle.fluent_syntax_grammar.proofs.Tests.{and_false, neither_left, neither_right, not_true}
+use Rattle.fluent_syntax_grammar.proofs.Tests.{and_with_false_is_false, neither_left, neither_right, not_true_is_false}
 
 one_line_no_lf : (p : PatternTree Text) → is_multiline p ≡ false → has_no_lf p ≡ true
 one_line_no_lf no_elements e = refl
@@ -38,33 +41,35 @@ opens_at_equal_bytes e o = record { no_space = rw e (o.no_space); no_eol = o.no_
 
 module _ (edition : Edition) (t : List ℕ) (level : ℕ) (tail rest : List ℕ) (ends : Ends tail rest) where
   -- how a pattern opens
-  opens : (p : PatternTree Text) (i : ℕ) → is_multiline p ≡ false → are_elements edition false opening p ≡ true →
+  one_line_pattern_opens_at_its_place : (p : PatternTree Text) (i : ℕ) → is_multiline p ≡ false →
+      are_elements edition false opening p ≡ true →
       SuffixAt t i (elements_bytes level false p (lf ∷ tail)) → (p ≡ no_elements → ⊥) →
       OpensAt t i (elements_bytes level false p (lf ∷ tail))
-  opens no_elements i e g l n = absurd (n refl)
-  opens (elements (placeable x) es) i e g l n =
-      let b = element_brace level x (elements_bytes level false es (lf ∷ tail)) in
-      opens_brace edition t i _ b.rest b.are l
-  opens (elements (text_element []) es) i e g l n = absurd cc
-  opens (elements (text_element (b ∷ bs)) no_elements) i e g l n =
+  one_line_pattern_opens_at_its_place no_elements i e g l n = absurd (n refl)
+  one_line_pattern_opens_at_its_place (elements (placeable x) es) i e g l n =
+      let b = bytes_of_placeable_begin_with_brace level x (elements_bytes level false es (lf ∷ tail)) in
+      brace_opens_at_its_place edition t i _ b.rest b.are l
+  one_line_pattern_opens_at_its_place (elements (text_element []) es) i e g l n = absurd cc
+  one_line_pattern_opens_at_its_place (elements (text_element (b ∷ bs)) no_elements) i e g l n =
       let is : is_text (b ∷ bs) ≡ true = left_true (is_text (b ∷ bs)) _ g in
       let more = right_true (is_text (b ∷ bs)) _ g in
       let begins =
-      not_true (is_space b)
+      not_true_is_false (is_space b)
       (right_true (is_nonblank (b ∷ bs)) _ (left_true (may_be_first edition false (b ∷ bs) no_elements) _ more)) in
       let plain : ends_plainly (b ∷ bs) ≡ true =
       left_true (ends_plainly (b ∷ bs)) _ (right_true (may_be_first edition false (b ∷ bs) no_elements) _ more) in
-      opens_run edition t i b bs (lf ∷ tail) begins
-      (text_bytes edition t level None tail rest ends (b ∷ bs) is (neither_left (has_lf (b ∷ bs)) false e))
+      run_opens_at_its_place edition t i b bs (lf ∷ tail) begins
+      (one_line_text_has_run_bytes edition t level None tail rest ends (b ∷ bs) is
+      (neither_left (has_lf (b ∷ bs)) false e))
       (rw (plain_no_cr (b ∷ bs) plain) refl) l
-  opens (elements (text_element (b ∷ bs)) (elements (placeable x) es)) i e g l n =
+  one_line_pattern_opens_at_its_place (elements (text_element (b ∷ bs)) (elements (placeable x) es)) i e g l n =
       let is : is_text (b ∷ bs) ≡ true = left_true (is_text (b ∷ bs)) _ g in
       let begins =
-      not_true (is_space b)
+      not_true_is_false (is_space b)
       (right_true (is_nonblank (b ∷ bs))
       _ (left_true (may_be_first edition false (b ∷ bs) (elements (placeable x) es))
       _ (right_true (is_text (b ∷ bs)) _ g))) in
-      let brace = element_brace level x (elements_bytes level false es (lf ∷ tail)) in
+      let brace = bytes_of_placeable_begin_with_brace level x (elements_bytes level false es (lf ∷ tail)) in
       let no_lf : has_lf (b ∷ bs) ≡ false =
       neither_left (has_lf (b ∷ bs)) (is_multiline (elements (placeable x) es)) e in
       let are =
@@ -72,27 +77,28 @@ module _ (edition : Edition) (t : List ℕ) (level : ℕ) (tail rest : List ℕ)
       (bs ++
       (line_indent level c ++ element_bytes level (placeable x) (elements_bytes level false es (lf ∷ tail)))))
       (ends_not_in_lf (b ∷ bs) no_lf) ∙ ap (λ xs. b ∷ (bs ++ xs)) brace.are in
-      opens_at_equal_bytes are (opens_run edition t i b bs (123 ∷ brace.rest) begins
-      (text_bytes edition t level None tail rest ends (b ∷ bs) is no_lf)
-      (and_false (is_last cr (last_of None (b ∷ bs)))) (suffix_as are l))
-  opens (elements (text_element (b ∷ bs)) (elements (text_element w) es)) i e g l n =
-      absurd (text_after_text edition t level None tail rest ends (b ∷ bs) w es
+      opens_at_equal_bytes are (run_opens_at_its_place edition t i b bs (123 ∷ brace.rest) begins
+      (one_line_text_has_run_bytes edition t level None tail rest ends (b ∷ bs) is no_lf)
+      (and_with_false_is_false (is_last cr (last_of None (b ∷ bs)))) (suffix_as are l))
+  one_line_pattern_opens_at_its_place (elements (text_element (b ∷ bs)) (elements (text_element w) es)) i e g l n =
+      absurd (no_text_follows_one_line_text edition t level None tail rest ends (b ∷ bs) w es
       (neither_left (has_lf (b ∷ bs)) (is_multiline (elements (text_element w) es)) e)
       (left_true (may_occur_at edition false (position_after (b ∷ bs)) w es)
       _ (right_true (is_text w)
       _ (right_true (may_be_first edition false (b ∷ bs) (elements (text_element w) es))
       _ (right_true (is_text (b ∷ bs)) _ g)))))
 
-  one_line_at : (e : ElementTree Text) (es : PatternTree Text) (i : ℕ) → is_multiline (elements e es) ≡ false →
+  one_line_pattern_reads_back_there : (e : ElementTree Text) (es : PatternTree Text) (i : ℕ) →
+      is_multiline (elements e es) ≡ false →
       is_pattern edition (elements e es) ≡ true → ElementsReadBack edition t level (elements e es) →
       SuffixAt t i (pattern_bytes level (elements e es) (lf ∷ tail)) →
       Reads t (grammar.pattern edition t) (option_map (pattern_map (bytes_at t))) i (Some (elements e es)) rest
-  one_line_at e es i a g h l =
+  one_line_pattern_reads_back_there e es i a g h l =
       let m = suffix_as (one_line_pattern_begins_with_space level (elements e es) (lf ∷ tail) a) l in
       let good = elements_off_line_start (is_multiline (elements e es)) a g in
       opening_reads_back edition t None [] e es i (elements_bytes level false (elements e es) (lf ∷ tail)) rest refl m
-      (opens (elements e es) (i + 1) a good (suffix_next m) none_absurd)
-      (line_reads_back edition t level None tail rest ends (elements e es) opening (i + 1) h good
+      (one_line_pattern_opens_at_its_place (elements e es) (i + 1) a good (suffix_next m) none_absurd)
+      (one_line_elements_read_back edition t level None tail rest ends (elements e es) opening (i + 1) h good
       (one_line_no_lf (elements e es) a) (suffix_next m))
     where
       elements_off_line_start : (b : Bool) → b ≡ false → are_elements edition b opening (elements e es) ≡ true →
@@ -108,4 +114,7 @@ pub one_line_reads_back : (edition : Edition) (t : List ℕ) (level : ℕ) (p : 
     is_pattern edition p ≡ true → ElementsReadBack edition t level p → PatternReadsBack edition t level p
 one_line_reads_back edition t level no_elements a g h = absurd cc
 one_line_reads_back edition t level (elements e es) a g h =
-    record { back = λ i tail rest ends l. one_line_at edition t level tail rest ends e es i a g h l }
+    record {
+      back =
+          λ i tail rest ends l. one_line_pattern_reads_back_there edition t level tail rest ends e es i a g h l;
+    }

@@ -6,7 +6,7 @@ use Rattle.std.specs.Prelude.{replicate, option_map, ◌||◌, ◌&&◌, not}
 use Rattle.std.specs.List.{flat_map, list_all, list_any}
 use Rattle.fluent_syntax_tree.specs.declared.edition.Edition.TheVariants.{One, Two}
 use Rattle.fluent_syntax_grammar.proofs.forward.Runs.{is_run_byte, ends_in_cr_before, TextForm, alone, with_lf}
-use Rattle.fluent_syntax_grammar.proofs.forward.Runs.{text_form}
+use Rattle.fluent_syntax_grammar.proofs.forward.Runs.{text_is_run_or_run_with_lf}
 use Rattle.fluent_syntax_tree.specs.Tree.{ExpressionTree, ElementTree, text_element, placeable, PatternTree}
 use Rattle.fluent_syntax_tree.specs.Tree.{no_elements, elements, pattern_map}
 use Rattle.fluent_syntax_tree.specs.Spans.{bytes_at}
@@ -14,7 +14,7 @@ use Rattle.fluent_syntax_tree.specs.declared.edition.Edition.{Edition}
 use Rattle.fluent_syntax_grammar.specs.PatternTexts.{ends_in_lf, is_spaces, after_spaces, begins_with_space}
 use Rattle.fluent_syntax_grammar.specs.Bytes.{lf, cr, space, is_space}
 use Rattle.fluent_syntax_grammar.specs.Places.{holds, BlankBlock, no_line}
-use Rattle.fluent_syntax_grammar.proofs.forward.Selects.{all_append, spaces_of}
+use Rattle.fluent_syntax_grammar.proofs.forward.Selects.{appended_spaces_are_spaces, spaces_of}
 use Rattle.fluent_syntax_grammar.specs.Construct.{Read, goes_on, given, passed, chosen}
 use Rattle.fluent_syntax_grammar.specs.Elements.{is_nonblank, line_items, items, pattern_of, cut, spelled, if_any}
 use Rattle.fluent_syntax_grammar.specs.Patterns.{layout_at, layout}
@@ -26,7 +26,7 @@ use Rattle.fluent_syntax_grammar.specs.Written.{is_last, last_of, is_multiline}
 use Rattle.fluent_syntax_grammar.specs.Readable.{ElementPosition, opening, after_line, after_placeable, are_elements}
 use Rattle.fluent_syntax_grammar.specs.Readable.{is_pattern, is_text, indents, may_be_first, begins_with_placeable}
 use Rattle.fluent_syntax_grammar.specs.Canonical.{line_indents, are_flush, hides_mark, first_position, is_flush}
-use Rattle.fluent_syntax_grammar.proofs.Facts.{left_true, right_true, right_false, equal}
+use Rattle.fluent_syntax_grammar.proofs.Facts.{left_true, right_true, right_of_false_and_is_false, equal}
 use Rattle.fluent_syntax_grammar.proofs.Tests.{both_true, differ}
 use Rattle.fluent_syntax_grammar.proofs.SuffixAt.{SuffixAt, first, suffix_as, suffix_past, suffix_byte_run, suffix_next}
 use Rattle.fluent_syntax_grammar.proofs.SuffixAt.{suffix_has_no_after_eol}
@@ -35,26 +35,35 @@ use Rattle.fluent_syntax_grammar.proofs.marks.WrittenBytes.{element_bytes, eleme
 use Rattle.fluent_syntax_grammar.proofs.forward.Entries.{PatternReadsBack}
 use Rattle.fluent_syntax_grammar.proofs.forward.Lines.{Ends, lf_after, no_spaces}
 use Rattle.fluent_syntax_grammar.proofs.forward.Pieces.{Starts}
-use Rattle.fluent_syntax_grammar.proofs.forward.Spells.{spelled_pattern}
-use Rattle.fluent_syntax_grammar.proofs.forward.OneLine.{ElementsReadBack, OpensAt, opens_run, opens_brace}
-use Rattle.fluent_syntax_grammar.proofs.forward.OneLine.{element_brace, plain_no_cr, opening_reads_back}
-use Rattle.fluent_syntax_grammar.proofs.forward.Multiline.{Fit, fixed, lone, lines_mid, lines_start, text_splits}
-use Rattle.fluent_syntax_grammar.proofs.forward.Multiline.{plain_not_line, gap_is_blank, spaces_and_lf_are_not_spaces}
+use Rattle.fluent_syntax_grammar.proofs.forward.Spells.{items_spell_their_pattern}
+use Rattle.fluent_syntax_grammar.proofs.forward.OneLine.{ElementsReadBack, OpensAt, run_opens_at_its_place}
+use Rattle.fluent_syntax_grammar.proofs.forward.OneLine.{brace_opens_at_its_place}
+use Rattle.fluent_syntax_grammar.proofs.forward.OneLine.{bytes_of_placeable_begin_with_brace, plain_no_cr}
+use Rattle.fluent_syntax_grammar.proofs.forward.OneLine.{opening_reads_back}
+use Rattle.fluent_syntax_grammar.proofs.forward.Multiline.{Fit, fixed, lone, lines_mid}
+use Rattle.fluent_syntax_grammar.proofs.forward.Multiline.{elements_read_back_from_line_start}
+use Rattle.fluent_syntax_grammar.proofs.forward.Multiline.{text_splits_into_spaces_and_rest}
+use Rattle.fluent_syntax_grammar.proofs.forward.Multiline.{text_with_lf_ends_not_plainly, gap_is_blank}
+use Rattle.fluent_syntax_grammar.proofs.forward.Multiline.{spaces_and_lf_are_not_spaces}
 use Rattle.fluent_syntax_grammar.proofs.forward.Runs.{lf_is_taken_off}
-use Rattle.fluent_syntax_grammar.proofs.forward.Multiline.{spaces_blank_text, no_lf_ends_run, last_of-gap, append_none}
-use Rattle.fluent_syntax_grammar.proofs.forward.Multiline.{run_part, no_text_after, text_is, text_holds}
-use Rattle.fluent_syntax_grammar.proofs.forward.Multiline.{text_ends_well, text_more}
-use Rattle.fluent_syntax_grammar.proofs.Tests.{and_false, not_true}
+use Rattle.fluent_syntax_grammar.proofs.forward.Multiline.{text_of_spaces_is_blank, no_lf_ends_run, last_of-gap}
+use Rattle.fluent_syntax_grammar.proofs.forward.Multiline.{appended_nothing_leaves_list}
+use Rattle.fluent_syntax_grammar.proofs.forward.Multiline.{rest_of_run_is_run, no_text_follows_text_without_lf}
+use Rattle.fluent_syntax_grammar.proofs.forward.Multiline.{text_element_is_text, text_holds}
+use Rattle.fluent_syntax_grammar.proofs.forward.Multiline.{text_may_precede_what_follows, text_more}
+use Rattle.fluent_syntax_grammar.proofs.Tests.{and_with_false_is_false, not_true_is_false}
 
 -- ---- the least of the shifted numbers
 
 least_shifts : (s : ℕ) (ns : List ℕ) → least (map (λ n. s + n) ns) ≡ option_map (λ n. s + n) (least ns)
 least_shifts s [] = refl
-least_shifts s (n ∷ ns) = ap (λ o. Some (least_with (s + n) o)) (least_shifts s ns) ∙ ap Some (with_shift n (least ns))
+least_shifts s (n ∷ ns) =
+    ap (λ o. Some (least_with (s + n) o)) (least_shifts s ns) ∙ ap Some (least_with_shifted_is_shifted n (least ns))
   where
-    with_shift : (n : ℕ) (o : Option ℕ) → least_with (s + n) (option_map (λ n. s + n) o) ≡ s + least_with n o
-    with_shift n None = refl
-    with_shift n (Some m) = omega arith
+    least_with_shifted_is_shifted : (n : ℕ) (o : Option ℕ) →
+        least_with (s + n) (option_map (λ n. s + n) o) ≡ s + least_with n o
+    least_with_shifted_is_shifted n None = refl
+    least_with_shifted_is_shifted n (Some m) = omega arith
 
 no_least_is_empty : (ns : List ℕ) → least ns ≡ None → ns ≡ []
 no_least_is_empty [] e = refl
@@ -91,19 +100,21 @@ flush_is_chosen edition shift s p f = chosen_indent_by_least edition shift s p (
 
 module _ (edition : Edition) (t : List ℕ) (level : ℕ) (tail rest : List ℕ) (ends : Ends tail rest)
     (deep : 1 ≤ length (indent (level + 1))) where
-  opens_mark : (i b : ℕ) (bs : List ℕ) → is_leading_mark b ≡ true → SuffixAt t i (b ∷ bs) → OpensAt t i (b ∷ bs)
-  opens_mark i b bs e l =
+  mark_opens_at_its_place : (i b : ℕ) (bs : List ℕ) → is_leading_mark b ≡ true → SuffixAt t i (b ∷ bs) →
+      OpensAt t i (b ∷ bs)
+  mark_opens_at_its_place i b bs e l =
       record {
         no_space = differ is_leading_mark b space e refl;
         no_eol = suffix_has_no_after_eol l (differ is_leading_mark b lf e refl) (differ is_leading_mark b cr e refl);
       }
 
-  mark_opens : (e : ElementTree Text) (es : PatternTree Text) (i : ℕ) → has_leading_mark (elements e es) ≡ true →
+  pattern_with_leading_mark_opens : (e : ElementTree Text) (es : PatternTree Text) (i : ℕ) →
+      has_leading_mark (elements e es) ≡ true →
       SuffixAt t i (elements_bytes (level + 1) false (elements e es) (lf ∷ tail)) →
       OpensAt t i (elements_bytes (level + 1) false (elements e es) (lf ∷ tail))
-  mark_opens (text_element []) es i m l = absurd cc
-  mark_opens (text_element (b ∷ bs)) es i m l = opens_mark i b _ m l
-  mark_opens (placeable x) es i m l = absurd cc
+  pattern_with_leading_mark_opens (text_element []) es i m l = absurd cc
+  pattern_with_leading_mark_opens (text_element (b ∷ bs)) es i m l = mark_opens_at_its_place i b _ m l
+  pattern_with_leading_mark_opens (placeable x) es i m l = absurd cc
 
   -- with a leading mark
   marked_reads_back : (e : ElementTree Text) (es : PatternTree Text) (i : ℕ) → has_leading_mark (elements e es) ≡ true →
@@ -117,39 +128,43 @@ module _ (edition : Edition) (t : List ℕ) (level : ℕ) (tail rest : List ℕ)
       let n = suffix_next l in
       opening_reads_back edition t c.common
       (map (λ n. length (indent (level + 1)) + n) (line_indents edition after_placeable (elements e es))) e es i
-      (elements_bytes (level + 1) false (elements e es) (lf ∷ tail)) rest c.least_is l (mark_opens e es (i + 1) m n)
+      (elements_bytes (level + 1) false (elements e es) (lf ∷ tail)) rest c.least_is l
+      (pattern_with_leading_mark_opens e es (i + 1) m n)
       (lines_mid edition t (level + 1) c.common tail rest ends deep (elements e es) opening h g c.fit (i + 1) n)
 
 -- ---- a pattern that opens a line
 
 -- the first element, said of a later line
-at_line : (edition : Edition) (e : ElementTree Text) (es : PatternTree Text) → hides_mark (elements e es) ≡ false →
+opening_elements_may_be_at_line : (edition : Edition) (e : ElementTree Text) (es : PatternTree Text) →
+    hides_mark (elements e es) ≡ false →
     has_leading_mark (elements e es) ≡ false → are_elements edition true opening (elements e es) ≡ true →
     are_elements edition true after_line (elements e es) ≡ true
-at_line edition (placeable x) es a b g = g
-at_line edition (text_element v) es a b g =
+opening_elements_may_be_at_line edition (placeable x) es a b g = g
+opening_elements_may_be_at_line edition (text_element v) es a b g =
     both_true (left_true (is_text v) _ g)
-    (both_true (occurs_at v (is_spaces v) refl (left_true (may_be_first edition true v es) _
+    (both_true (text_without_mark_may_occur v (is_spaces v) refl (left_true (may_be_first edition true v es) _
     (right_true (is_text v) _ g))
-    (no_mark v a b)) (right_true (may_be_first edition true v es) _ (right_true (is_text v) _ g)))
+    (text_that_hides_no_mark_has_none v a b))
+    (right_true (may_be_first edition true v es) _ (right_true (is_text v) _ g)))
   where
-    no_mark : (v : Text) → (begins_with_space v && begins_with_mark (after_spaces v)) ≡ false →
+    text_that_hides_no_mark_has_none : (v : Text) → (begins_with_space v && begins_with_mark (after_spaces v)) ≡ false →
         begins_with_mark v ≡ false → begins_with_mark (after_spaces v) ≡ false
-    no_mark [] a b = refl
-    no_mark (c ∷ v) a b = no_mark_at c v (is_space c) refl a b
+    text_that_hides_no_mark_has_none [] a b = refl
+    text_that_hides_no_mark_has_none (c ∷ v) a b = no_mark_at c v (is_space c) refl a b
       where
         no_mark_at : (c : ℕ) (v : Text) (x : Bool) → is_space c ≡ x →
             (is_space c && begins_with_mark (after_spaces (c ∷ v))) ≡ false → begins_with_mark (c ∷ v) ≡ false →
             begins_with_mark (after_spaces (c ∷ v)) ≡ false
-        no_mark_at c v true e a b = right_false (is_space c) (begins_with_mark (after_spaces (c ∷ v))) a e
+        no_mark_at c v true e a b =
+            right_of_false_and_is_false (is_space c) (begins_with_mark (after_spaces (c ∷ v))) a e
         no_mark_at c v false e a b = rw e b
 
-    occurs_at : (v : Text) (x : Bool) → is_spaces v ≡ x → (is_nonblank v || indents edition v es) ≡ true →
-        begins_with_mark (after_spaces v) ≡ false →
+    text_without_mark_may_occur : (v : Text) (x : Bool) → is_spaces v ≡ x →
+        (is_nonblank v || indents edition v es) ≡ true → begins_with_mark (after_spaces v) ≡ false →
         ((not (is_spaces v) || indents edition v es) && not (begins_with_mark (after_spaces v))) ≡ true
-    occurs_at v false e f m = rw (e, m) refl
-    occurs_at v true e f m =
-        rw (e, m) (both_true (sym (ap (λ b. b || indents edition v es) (spaces_blank_text v e)) ∙ f) refl)
+    text_without_mark_may_occur v false e f m = rw (e, m) refl
+    text_without_mark_may_occur v true e f m =
+        rw (e, m) (both_true (sym (ap (λ b. b || indents edition v es) (text_of_spaces_is_blank v e)) ∙ f) refl)
 
 opening_flush_is_line_flush : (edition : Edition) (e : ElementTree Text) (es : PatternTree Text) (o : Option ℕ) →
     are_flush o opening (elements e es) ≡ true → are_flush o after_line (elements e es) ≡ true
@@ -164,10 +179,10 @@ opening_indents_as_at_line edition (placeable x) es = refl
 
 module _ (edition : Edition) (t : List ℕ) where
   -- the layout of a pattern that opens a line
-  reads_opened : (i end : ℕ) (ls : List Line) (bs : List ℕ) → SuffixAt t i (lf ∷ bs) → BlankBlock t (i + 1) (i + 1) →
-      grammar.more_lines edition t (i + 1) (Read ls end) →
+  layout_of_lines_below_is_read : (i end : ℕ) (ls : List Line) (bs : List ℕ) → SuffixAt t i (lf ∷ bs) →
+      BlankBlock t (i + 1) (i + 1) → grammar.more_lines edition t (i + 1) (Read ls end) →
       layout t (family edition t) i (Read (record { opening = None; lines = ls }) end)
-  reads_opened i end ls bs l b m =
+  layout_of_lines_below_is_read i end ls bs l b m =
       let y : Layout = record { opening = None; lines = ls } in
       goes_on (passed (no_spaces edition t refl l))
       (chosen (subst (λ o. layout_at t (family edition t) o i (Read y end)) (sym (lf_after edition t l))
@@ -186,10 +201,10 @@ module _ (edition : Edition) (t : List ℕ) where
       record {
         value = pattern_of edition t y;
         end = m.end;
-        reads = goes_on (reads_opened i m.end m.lines bs l b m.reads) given;
+        reads = goes_on (layout_of_lines_below_is_read i m.end m.lines bs l b m.reads) given;
         spells =
             ap (λ xs. option_map (pattern_map (bytes_at t)) (if_any (spelled t (cut t xs)))) same
-            ∙ spelled_pattern t (flat_map (line_items edition common) m.lines) e es m.spells;
+            ∙ items_spell_their_pattern t (flat_map (line_items edition common) m.lines) e es m.spells;
         rest = m.left;
       }
 
@@ -205,65 +220,68 @@ indenting_text_is_spaces One v es e = absurd cc
 indenting_text_is_spaces Two v es e = (left_true (is_spaces v) _ e, right_true (is_spaces v) _ e)
 
 module _ (edition : Edition) (t : List ℕ) (level : ℕ) (tail : List ℕ) where
-  no_block_at : (i : ℕ) (gap : List ℕ) (bs : List ℕ) → list_all is_space gap ≡ true → OpensAt t (i + length gap) bs →
-      SuffixAt t i (gap ++ bs) → BlankBlock t i i
-  no_block_at i gap bs a o l = no_line (suffix_byte_run is_space gap bs a o.no_space l) o.no_eol
+  no_block_is_before_opening : (i : ℕ) (gap : List ℕ) (bs : List ℕ) → list_all is_space gap ≡ true →
+      OpensAt t (i + length gap) bs → SuffixAt t i (gap ++ bs) → BlankBlock t i i
+  no_block_is_before_opening i gap bs a o l = no_line (suffix_byte_run is_space gap bs a o.no_space l) o.no_eol
 
   first_placeable : (i : ℕ) (gap : List ℕ) (e : ExpressionTree Text) (rest : List ℕ) → list_all is_space gap ≡ true →
       SuffixAt t i (gap ++ element_bytes level (placeable e) rest) → BlankBlock t i i
   first_placeable i gap e rest a l =
-      let x = element_brace level e rest in
-      no_block_at i gap (element_bytes level (placeable e) rest) a
-      (opens_brace edition t (i + length gap) (element_bytes level (placeable e) rest) x.rest x.are
+      let x = bytes_of_placeable_begin_with_brace level e rest in
+      no_block_is_before_opening i gap (element_bytes level (placeable e) rest) a
+      (brace_opens_at_its_place edition t (i + length gap) (element_bytes level (placeable e) rest) x.rest x.are
       (suffix_past gap l)) l
 
-  first_run : (i : ℕ) (gap : List ℕ) (b : ℕ) (bs ys : List ℕ) → list_all is_space (indent level ++ gap) ≡ true →
+  no_block_is_before_first_run : (i : ℕ) (gap : List ℕ) (b : ℕ) (bs ys : List ℕ) →
+      list_all is_space (indent level ++ gap) ≡ true →
       is_space b ≡ false → list_all is_run_byte (b ∷ bs) ≡ true → ends_in_cr_before (b ∷ bs) ys ≡ false →
       SuffixAt t i (indent level ++ ((gap ++ (b ∷ bs)) ++ ys)) → BlankBlock t i i
-  first_run i gap b bs ys a s r c l =
+  no_block_is_before_first_run i gap b bs ys a s r c l =
       let whole : indent level ++ ((gap ++ (b ∷ bs)) ++ ys) ≡ (indent level ++ gap) ++ (b ∷ (bs ++ ys)) =
       ap (λ v. indent level ++ v) (append_assoc gap (b ∷ bs) ys)
       ∙ sym (append_assoc (indent level) gap (b ∷ (bs ++ ys))) in
       let m = suffix_as whole l in
-      no_block_at i (indent level ++ gap) (b ∷ (bs ++ ys)) a
-      (opens_run edition t (i + length (indent level ++ gap)) b bs ys s r c (suffix_past (indent level ++ gap) m)) m
+      no_block_is_before_opening i (indent level ++ gap) (b ∷ (bs ++ ys)) a
+      (run_opens_at_its_place edition t (i + length (indent level ++ gap)) b bs ys s r c
+      (suffix_past (indent level ++ gap) m)) m
 
 module _ (edition : Edition) (t : List ℕ) (level : ℕ) (common : Option ℕ) (tail rest : List ℕ) (ends : Ends tail rest)
     (deep : 1 ≤ length (indent level)) where
-  first_alone : (v : Text) (es : PatternTree Text) (i : ℕ) →
+  no_block_is_before_lone_text : (v : Text) (es : PatternTree Text) (i : ℕ) →
       are_elements edition true opening (elements (text_element v) es) ≡ true → list_all is_run_byte v ≡ true →
       (gap more : List ℕ) → v ≡ gap ++ more → list_all is_space gap ≡ true → holds is_space (first more) ≡ false →
       SuffixAt t i (elements_bytes level true (elements (text_element v) es) (lf ∷ tail)) → BlankBlock t i i
-  first_alone v no_elements i g a gap (b ∷ bs) is c s l =
-      let plain = text_ends_well edition t level common tail rest ends deep opening v no_elements g in
+  no_block_is_before_lone_text v no_elements i g a gap (b ∷ bs) is c s l =
+      let plain = text_may_precede_what_follows edition t level common tail rest ends deep opening v no_elements g in
       let safe : is_last cr (last_of None (b ∷ bs)) ≡ false =
       sym (ap (is_last cr) (ap (last_of None) is ∙ last_of-gap gap b bs)) ∙ plain_no_cr v plain in
-      first_run edition t level tail i gap b bs (lf ∷ tail) (all_append (indent level) gap (spaces_of (4 * level)) c) s
-      (run_part edition t level common tail rest ends deep v gap b bs is a) (rw safe refl)
+      no_block_is_before_first_run edition t level tail i gap b bs (lf ∷ tail)
+      (appended_spaces_are_spaces (indent level) gap (spaces_of (4 * level)) c) s
+      (rest_of_run_is_run edition t level common tail rest ends deep v gap b bs is a) (rw safe refl)
       (suffix_as (ap (λ v. indent level ++ (v ++ (lf ∷ tail))) is) l)
-  first_alone v (elements (placeable x) es) i g a gap (b ∷ bs) is c s l =
-      let brace = element_brace level x (elements_bytes level false es (lf ∷ tail)) in
+  no_block_is_before_lone_text v (elements (placeable x) es) i g a gap (b ∷ bs) is c s l =
+      let brace = bytes_of_placeable_begin_with_brace level x (elements_bytes level false es (lf ∷ tail)) in
       let are =
       ap (λ b. indent level ++
       (v ++
       (line_indent level b ++ element_bytes level (placeable x) (elements_bytes level false es (lf ∷ tail)))))
       (no_lf_ends_run v a) ∙ ap (λ xs. indent level ++ (v ++ xs)) brace.are
       ∙ ap (λ v. indent level ++ (v ++ (123 ∷ brace.rest))) is in
-      first_run edition t level tail i gap b bs (123 ∷ brace.rest)
-      (all_append (indent level) gap (spaces_of (4 * level)) c) s
-      (run_part edition t level common tail rest ends deep v gap b bs is a)
-      (and_false (is_last cr (last_of None (b ∷ bs)))) (suffix_as are l)
-  first_alone v (elements (text_element w) es) i g a gap more is c s l =
-      absurd (no_text_after edition t level common tail rest ends deep v w es (no_lf_ends_run v a)
+      no_block_is_before_first_run edition t level tail i gap b bs (123 ∷ brace.rest)
+      (appended_spaces_are_spaces (indent level) gap (spaces_of (4 * level)) c) s
+      (rest_of_run_is_run edition t level common tail rest ends deep v gap b bs is a)
+      (and_with_false_is_false (is_last cr (last_of None (b ∷ bs)))) (suffix_as are l)
+  no_block_is_before_lone_text v (elements (text_element w) es) i g a gap more is c s l =
+      absurd (no_text_follows_text_without_lf edition t level common tail rest ends deep v w es (no_lf_ends_run v a)
       (text_more edition t level common tail rest ends deep opening v (elements (text_element w) es) g))
-  first_alone v no_elements i g a gap [] is c s l =
-      let all : is_spaces v ≡ true = ap is_spaces (is ∙ append_none gap) ∙ c in
+  no_block_is_before_lone_text v no_elements i g a gap [] is c s l =
+      let all : is_spaces v ≡ true = ap is_spaces (is ∙ appended_nothing_leaves_list gap) ∙ c in
       let d =
       indenting_text_is_spaces edition v no_elements
-      (second_of_or_is_true (is_nonblank v) _ (spaces_blank_text v all)
+      (second_of_or_is_true (is_nonblank v) _ (text_of_spaces_is_blank v all)
       (text_holds edition t level common tail rest ends deep opening v no_elements g)) in absurd (false≢true d.1)
-  first_alone v (elements (placeable x) es) i g a gap [] is c s l =
-      let all : is_spaces v ≡ true = ap is_spaces (is ∙ append_none gap) ∙ c in
+  no_block_is_before_lone_text v (elements (placeable x) es) i g a gap [] is c s l =
+      let all : is_spaces v ≡ true = ap is_spaces (is ∙ appended_nothing_leaves_list gap) ∙ c in
       let are =
       ap (λ b. indent level ++
       (v ++
@@ -272,25 +290,26 @@ module _ (edition : Edition) (t : List ℕ) (level : ℕ) (common : Option ℕ) 
       ∙ sym (append_assoc (indent level) v
       (element_bytes level (placeable x) (elements_bytes level false es (lf ∷ tail)))) in
       first_placeable edition t level tail i (indent level ++ v) x (elements_bytes level false es (lf ∷ tail))
-      (all_append (indent level) v (spaces_of (4 * level)) all) (suffix_as are l)
+      (appended_spaces_are_spaces (indent level) v (spaces_of (4 * level)) all) (suffix_as are l)
 
-  first_lined : (v : Text) (d : ElementTree Text) (es : PatternTree Text) (body : Text) (i : ℕ) →
+  no_block_is_before_first_text_line : (v : Text) (d : ElementTree Text) (es : PatternTree Text) (body : Text) (i : ℕ) →
       are_elements edition true opening (elements (text_element v) (elements d es)) ≡ true → v ≡ body ++ (lf ∷ []) →
       list_all is_run_byte body ≡ true → is_last cr (last_of None body) ≡ false →
       (gap more : List ℕ) → body ≡ gap ++ more → list_all is_space gap ≡ true → holds is_space (first more) ≡ false →
       SuffixAt t i (elements_bytes level true (elements (text_element v) (elements d es)) (lf ∷ tail)) →
       BlankBlock t i i
-  first_lined v d es body i g is a c gap (b ∷ bs) e s n l =
+  no_block_is_before_first_text_line v d es body i g is a c gap (b ∷ bs) e s n l =
       let after = elements_bytes level (ends_in_lf v) (elements d es) (lf ∷ tail) in
       let safe : is_last cr (last_of None (b ∷ bs)) ≡ false =
       sym (ap (is_last cr) (ap (last_of None) e ∙ last_of-gap gap b bs)) ∙ c in
       let are : v ++ after ≡ (gap ++ (b ∷ bs)) ++ (lf ∷ after) =
       ap (λ v. v ++ after) (is ∙ ap (λ v. v ++ (lf ∷ [])) e) ∙ append_assoc (gap ++ (b ∷ bs)) (lf ∷ []) after in
-      first_run edition t level tail i gap b bs (lf ∷ after) (all_append (indent level) gap (spaces_of (4 * level)) s) n
-      (run_part edition t level common tail rest ends deep body gap b bs e a) (rw safe refl)
+      no_block_is_before_first_run edition t level tail i gap b bs (lf ∷ after)
+      (appended_spaces_are_spaces (indent level) gap (spaces_of (4 * level)) s) n
+      (rest_of_run_is_run edition t level common tail rest ends deep body gap b bs e a) (rw safe refl)
       (suffix_as (ap (λ xs. indent level ++ xs) are) l)
-  first_lined v d es body i g is a c gap [] e s n l =
-      let whole : v ≡ gap ++ (lf ∷ []) = is ∙ ap (λ v. v ++ (lf ∷ [])) (e ∙ append_none gap) in
+  no_block_is_before_first_text_line v d es body i g is a c gap [] e s n l =
+      let whole : v ≡ gap ++ (lf ∷ []) = is ∙ ap (λ v. v ++ (lf ∷ [])) (e ∙ appended_nothing_leaves_list gap) in
       let blank : is_nonblank v ≡ false =
       ap is_nonblank whole ∙ ap (list_any (λ b. not (is_space b))) (lf_is_taken_off gap) ∙ gap_is_blank gap s in
       let d =
@@ -300,24 +319,26 @@ module _ (edition : Edition) (t : List ℕ) (level : ℕ) (common : Option ℕ) 
       absurd (false≢true (sym (ap is_spaces whole ∙ spaces_and_lf_are_not_spaces gap) ∙ d.0))
 
   -- The first line is not blank.
-  first_line : (e : ElementTree Text) (es : PatternTree Text) (i : ℕ) →
+  no_block_is_before_first_line : (e : ElementTree Text) (es : PatternTree Text) (i : ℕ) →
       are_elements edition true opening (elements e es) ≡ true →
       SuffixAt t i (elements_bytes level true (elements e es) (lf ∷ tail)) → BlankBlock t i i
-  first_line (placeable x) es i g l =
+  no_block_is_before_first_line (placeable x) es i g l =
       first_placeable edition t level tail i (indent level) x (elements_bytes level false es (lf ∷ tail))
       (spaces_of (4 * level)) l
-  first_line (text_element v) es i g l =
-      by_form es g (text_form v (text_is edition t level common tail rest ends deep opening v es g)) l
+  no_block_is_before_first_line (text_element v) es i g l =
+      by_form es g (text_is_run_or_run_with_lf v
+      (text_element_is_text edition t level common tail rest ends deep opening v es g)) l
     where
       by_form : (es : PatternTree Text) → are_elements edition true opening (elements (text_element v) es) ≡ true →
           TextForm v → SuffixAt t i (elements_bytes level true (elements (text_element v) es) (lf ∷ tail)) →
           BlankBlock t i i
-      by_form es g (alone a) l = let s = text_splits v in first_alone v es i g a s.gap s.more s.are s.spaces s.plain l
+      by_form es g (alone a) l = let s = text_splits_into_spaces_and_rest v in
+          no_block_is_before_lone_text v es i g a s.gap s.more s.are s.spaces s.plain l
       by_form no_elements g (with_lf body is a c) l =
-          absurd (plain_not_line edition t level common tail rest ends v body is
-          (text_ends_well edition t level common tail rest ends deep opening v no_elements g))
-      by_form (elements d ds) g (with_lf body is a c) l = let s = text_splits body in
-          first_lined v d ds body i g is a c s.gap s.more s.are s.spaces s.plain l
+          absurd (text_with_lf_ends_not_plainly edition t level common tail rest ends v body is
+          (text_may_precede_what_follows edition t level common tail rest ends deep opening v no_elements g))
+      by_form (elements d ds) g (with_lf body is a c) l = let s = text_splits_into_spaces_and_rest body in
+          no_block_is_before_first_text_line v d ds body i g is a c s.gap s.more s.are s.spaces s.plain l
 
 module _ (edition : Edition) (t : List ℕ) (level : ℕ) (tail rest : List ℕ) (ends : Ends tail rest)
     (deep : 1 ≤ length (indent (level + 1))) where
@@ -338,8 +359,9 @@ module _ (edition : Edition) (t : List ℕ) (level : ℕ) (tail rest : List ℕ)
       opened_reads_back edition t c.common (map (λ n. shift + n) (line_indents edition after_line (elements e es)))
       e es i
       (elements_bytes (level + 1) true (elements e es) (lf ∷ tail)) rest c.least_is l
-      (first_line edition t (level + 1) c.common tail rest ends deep e es (i + 1) g n)
-      (lines_start edition t (level + 1) c.common tail rest ends deep (elements e es) h (at_line edition e es a m g)
+      (no_block_is_before_first_line edition t (level + 1) c.common tail rest ends deep e es (i + 1) g n)
+      (elements_read_back_from_line_start edition t (level + 1) c.common tail rest ends deep (elements e es) h
+      (opening_elements_may_be_at_line edition e es a m g)
       c.fit (i + 1) n)
 
 -- ---- multiline patterns
@@ -356,41 +378,41 @@ marked_begins_after_placeable : (p : PatternTree Text) → is_multiline p ≡ tr
     first_position p ≡ after_placeable
 marked_begins_after_placeable p e f = rw (e, f) refl
 
-opens_by_lf : (level : ℕ) (p : PatternTree Text) (tail : Text) → is_multiline p ≡ true → has_leading_mark p ≡ false →
-    pattern_bytes level p tail ≡ lf ∷ elements_bytes (level + 1) true p tail
-opens_by_lf level p tail e f = rw (e, f) refl
+pattern_without_mark_opens_by_lf : (level : ℕ) (p : PatternTree Text) (tail : Text) → is_multiline p ≡ true →
+    has_leading_mark p ≡ false → pattern_bytes level p tail ≡ lf ∷ elements_bytes (level + 1) true p tail
+pattern_without_mark_opens_by_lf level p tail e f = rw (e, f) refl
 
-opens_by_space : (level : ℕ) (p : PatternTree Text) (tail : Text) → is_multiline p ≡ true → has_leading_mark p ≡ true →
-    pattern_bytes level p tail ≡ space ∷ elements_bytes (level + 1) false p tail
-opens_by_space level p tail e f = rw (e, f) refl
+pattern_with_mark_opens_by_space : (level : ℕ) (p : PatternTree Text) (tail : Text) → is_multiline p ≡ true →
+    has_leading_mark p ≡ true → pattern_bytes level p tail ≡ space ∷ elements_bytes (level + 1) false p tail
+pattern_with_mark_opens_by_space level p tail e f = rw (e, f) refl
 
 flush_hides_no_mark : (edition : Edition) (p : PatternTree Text) → is_multiline p ≡ true → is_flush edition p ≡ true →
     (not (hides_mark p) && are_flush (least (line_indents edition (first_position p) p)) (first_position p) p) ≡ true
 flush_hides_no_mark edition p e f = second_of_or_is_true (not (is_multiline p)) _ (ap not e) f
 
-multiline_at : (edition : Edition) (t : List ℕ) (level : ℕ) (e : ElementTree Text) (es : PatternTree Text) (x : Bool) →
-    has_leading_mark (elements e es) ≡ x → is_multiline (elements e es) ≡ true →
+multiline_pattern_reads_back_there : (edition : Edition) (t : List ℕ) (level : ℕ) (e : ElementTree Text)
+    (es : PatternTree Text) (x : Bool) → has_leading_mark (elements e es) ≡ x → is_multiline (elements e es) ≡ true →
     are_elements edition true opening (elements e es) ≡ true → is_flush edition (elements e es) ≡ true →
     ElementsReadBack edition t (level + 1) (elements e es) → 1 ≤ length (indent (level + 1)) →
     (i : ℕ) (tail rest : List ℕ) → Ends tail rest → SuffixAt t i (pattern_bytes level (elements e es) (lf ∷ tail)) →
     Reads t (grammar.pattern edition t) (option_map (pattern_map (bytes_at t))) i (Some (elements e es)) rest
-multiline_at edition t level e es true m a g f h deep i tail rest ends l =
+multiline_pattern_reads_back_there edition t level e es true m a g f h deep i tail rest ends l =
     let p = elements e es in
     let parts = flush_hides_no_mark edition p a f in
     let flush =
     subst (λ s. are_flush (least (line_indents edition s p)) s p ≡ true) (marked_begins_after_placeable p a m)
     (right_true (not (hides_mark p)) _ parts) in
     marked_reads_back edition t level tail rest ends deep e es i m g flush h
-    (suffix_as (opens_by_space level p (lf ∷ tail) a m) l)
-multiline_at edition t level e es false m a g f h deep i tail rest ends l =
+    (suffix_as (pattern_with_mark_opens_by_space level p (lf ∷ tail) a m) l)
+multiline_pattern_reads_back_there edition t level e es false m a g f h deep i tail rest ends l =
     let p = elements e es in
     let parts = flush_hides_no_mark edition p a f in
     let flush =
     subst (λ s. are_flush (least (line_indents edition s p)) s p ≡ true) (unmarked_begins_opening p a m)
     (right_true (not (hides_mark p)) _ parts) in
     line_opened_reads_back edition t level tail rest ends deep e es i
-    (not_true (hides_mark p) (left_true (not (hides_mark p)) _ parts)) m g flush h
-    (suffix_as (opens_by_lf level p (lf ∷ tail) a m) l)
+    (not_true_is_false (hides_mark p) (left_true (not (hides_mark p)) _ parts)) m g flush h
+    (suffix_as (pattern_without_mark_opens_by_lf level p (lf ∷ tail) a m) l)
 
 -- A multiline pattern is read back, if its placeables are.
 pub multiline_reads_back : (edition : Edition) (t : List ℕ) (level : ℕ) (p : PatternTree Text) → is_multiline p ≡ true →
@@ -402,11 +424,11 @@ multiline_reads_back edition t level (elements e es) a g f h =
     record {
       back =
           λ i tail rest ends l.
-          multiline_at edition t level e es (has_leading_mark (elements e es)) refl a
-          (lines_of (is_multiline (elements e es)) a g) f h deep i tail rest ends l;
+          multiline_pattern_reads_back_there edition t level e es (has_leading_mark (elements e es)) refl a
+          (multiline_elements_are_elements (is_multiline (elements e es)) a g) f h deep i tail rest ends l;
     }
   where
-    lines_of : (b : Bool) → b ≡ true → are_elements edition b opening (elements e es) ≡ true →
+    multiline_elements_are_elements : (b : Bool) → b ≡ true → are_elements edition b opening (elements e es) ≡ true →
         are_elements edition true opening (elements e es) ≡ true
-    lines_of true e g = g
-    lines_of false e g = absurd cc
+    multiline_elements_are_elements true e g = g
+    multiline_elements_are_elements false e g = absurd cc

@@ -25,7 +25,7 @@ use Rattle.fluent_syntax_grammar.proofs.forward.Reading.{Reads}
 use Rattle.fluent_syntax_grammar.proofs.forward.Spells.{Spells, nothing, last_text, spells_text, spells_placeable}
 use Rattle.fluent_syntax_grammar.proofs.forward.Runs.{is_run_byte, ends_in_cr_before, suffix_has_run}
 use Rattle.fluent_syntax_grammar.proofs.forward.Lines.{Ends, after_reads_back, reads_no_pieces, lf_cut}
-use Rattle.fluent_syntax_grammar.proofs.Tests.{and_false, negated_right_is_false}
+use Rattle.fluent_syntax_grammar.proofs.Tests.{and_with_false_is_false, negated_right_is_false}
 
 -- From a place within a line on, the rest of a pattern is read: the pieces of this line and its LF, and the later
 -- lines. Under this common indent their items spell the elements, and the lines count with these numbers.
@@ -94,22 +94,22 @@ module _ (edition : Edition) (t : List ℕ) where
       }
 
   -- a placeable within a line
-  reads_placed : {i j : ℕ} {bs : List ℕ} (x : ExpressionTree Span) (ps : List Piece) (at : ℕ) →
+  placeable_is_read_before_pieces : {i j : ℕ} {bs : List ℕ} (x : ExpressionTree Span) (ps : List Piece) (at : ℕ) →
       SuffixAt t i (123 ∷ bs) →
       grammar.placeable edition t i (Read x j) → grammar.more_pieces edition t j (Read ps at) →
       grammar.more_pieces edition t i (Read (placed x ∷ ps) at)
-  reads_placed {i = i} {j = j} x ps at l p q =
+  placeable_is_read_before_pieces {i = i} {j = j} x ps at l p q =
       item_and_more (chosen (subst (λ o. next_piece_at t (family edition t) o i (Read (item (placed x) tt) j))
       (sym (suffix_first l))
       (chosen (second (suffix_has_no_eol l refl refl) (second refl (first_of refl (goes_on p given))))))) q
 
-  pub mid_placeable :
+  pub placeable_reads_mid_line :
       (common : Option ℕ) (e : ExpressionTree Text) (es : PatternTree Text) (numbers : List ℕ) (i : ℕ)
       (bs left rest : List ℕ) → SuffixAt t i (123 ∷ bs) →
       Reads t (grammar.placeable edition t) (expression_map (bytes_at t)) i e left →
       ((j : ℕ) → SuffixAt t j left → ReadsMidLine edition t common es numbers j rest) →
       ReadsMidLine edition t common (elements (placeable e) es) numbers i rest
-  mid_placeable common e es numbers i bs left rest l r k =
+  placeable_reads_mid_line common e es numbers i bs left rest l r k =
       let m = k r.end r.rest in
       record {
         pieces = placed r.value ∷ m.pieces;
@@ -117,7 +117,7 @@ module _ (edition : Edition) (t : List ℕ) where
         after = m.after;
         lines = m.lines;
         end = m.end;
-        reads_pieces = reads_placed r.value m.pieces m.at l r.reads m.reads_pieces;
+        reads_pieces = placeable_is_read_before_pieces r.value m.pieces m.at l r.reads m.reads_pieces;
         ends = m.ends;
         reads_lines = m.reads_lines;
         left = m.left;
@@ -127,18 +127,18 @@ module _ (edition : Edition) (t : List ℕ) where
 
   -- ---- runs
 
-  third_false : (x y z : Bool) → not (x || y || z) ≡ true → (y ≡ false) × (z ≡ false)
-  third_false false false false e = (refl, refl)
-  third_false true y z e = absurd cc
-  third_false false true z e = absurd cc
-  third_false false false true e = absurd cc
+  last_two_of_three_are_false : (x y z : Bool) → not (x || y || z) ≡ true → (y ≡ false) × (z ≡ false)
+  last_two_of_three_are_false false false false e = (refl, refl)
+  last_two_of_three_are_false true y z e = absurd cc
+  last_two_of_three_are_false false true z e = absurd cc
+  last_two_of_three_are_false false false true e = absurd cc
 
-  reads_run : {i j b : ℕ} {bs : List ℕ} (ps : List Piece) (at : ℕ) → is_run_byte b ≡ true → SuffixAt t i (b ∷ bs) →
-      i < j →
+  run_is_read_before_pieces : {i j b : ℕ} {bs : List ℕ} (ps : List Piece) (at : ℕ) → is_run_byte b ≡ true →
+      SuffixAt t i (b ∷ bs) → i < j →
       LongestRun (is_run_place t) i j → grammar.more_pieces edition t j (Read ps at) →
       grammar.more_pieces edition t i (Read (run i j ∷ ps) at)
-  reads_run {i = i} {j = j} {b = b} ps at e l m w q =
-      let f = third_false (b == lf) (b == 123) (b == 125) e in
+  run_is_read_before_pieces {i = i} {j = j} {b = b} ps at e l m w q =
+      let f = last_two_of_three_are_false (b == lf) (b == 123) (b == 125) e in
       let no_eol : has_eol t i ≡ false = negated_right_is_false _ (has_eol t i) (w.each i (omega arith) m) in
       item_and_more (chosen (subst (λ o. next_piece_at t (family edition t) o i (Read (item (run i j) tt) j))
       (sym (suffix_first l))
@@ -161,7 +161,7 @@ module _ (edition : Edition) (t : List ℕ) where
         lines = r.lines;
         end = r.end;
         reads_pieces =
-            reads_run [] to (left_true (is_run_byte b) (list_all is_run_byte bs) a) l (omega arith)
+            run_is_read_before_pieces [] to (left_true (is_run_byte b) (list_all is_run_byte bs) a) l (omega arith)
             (suffix_has_run t (b ∷ bs) (lf ∷ tail) i a c refl l) (reads_no_pieces edition t m);
         ends = m;
         reads_lines = r.reads;
@@ -171,23 +171,23 @@ module _ (edition : Edition) (t : List ℕ) where
       }
 
   -- a run before a placeable is a text of its own
-  run_before :
+  run_before_placeable_spells_its_text :
       (kept to at : ℕ) (v source : List ℕ) (ps : List Piece) (xs : List Item) (e : ExpressionTree Text)
       (es : PatternTree Text) → SuffixAt t kept (v ++ source) → SuffixAt t to source →
       Spells t (with_ending ps (lf_at at) ++ xs) (elements (placeable e) es) →
       Spells t (with_ending (run kept to ∷ ps) (lf_at at) ++ xs) (elements (text_element v) (elements (placeable e) es))
-  run_before kept to at v source [] xs e es k l s = elim s [ ]
-  run_before kept to at v source (run from o ∷ []) xs e es k l s = elim s [ ]
-  run_before kept to at v source (run from o ∷ p ∷ ps) xs e es k l s = elim s [ ]
-  run_before kept to at v source (placed x ∷ ps) xs e es k l s = spells_text k l s
+  run_before_placeable_spells_its_text kept to at v source [] xs e es k l s = elim s [ ]
+  run_before_placeable_spells_its_text kept to at v source (run from o ∷ []) xs e es k l s = elim s [ ]
+  run_before_placeable_spells_its_text kept to at v source (run from o ∷ p ∷ ps) xs e es k l s = elim s [ ]
+  run_before_placeable_spells_its_text kept to at v source (placed x ∷ ps) xs e es k l s = spells_text k l s
 
   -- a text before a placeable
-  pub run_more :
+  pub run_before_placeable_is_run :
       (common : Option ℕ) (v : List ℕ) (e : ExpressionTree Text) (es : PatternTree Text) (numbers rest : List ℕ)
       (i b : ℕ) (bs more : List ℕ) → list_all is_run_byte (b ∷ bs) ≡ true → SuffixAt t i (b ∷ (bs ++ (123 ∷ more))) →
       ((j : ℕ) → SuffixAt t j (123 ∷ more) → ReadsMidLine edition t common (elements (placeable e) es) numbers j rest) →
       Run edition t common v (elements (placeable e) es) numbers i (123 ∷ more) rest
-  run_more common v e es numbers rest i b bs more a l k =
+  run_before_placeable_is_run common v e es numbers rest i b bs more a l k =
       let to = i + suc (length bs) in
       let n : SuffixAt t to (123 ∷ more) = suffix_past (b ∷ bs) l in
       let m = k to n in
@@ -199,26 +199,29 @@ module _ (edition : Edition) (t : List ℕ) where
         lines = m.lines;
         end = m.end;
         reads_pieces =
-            reads_run m.pieces m.at (left_true (is_run_byte b) (list_all is_run_byte bs) a) l (omega arith)
-            (suffix_has_run t (b ∷ bs) (123 ∷ more) i a (and_false (is_last cr (last_of None (b ∷ bs)))) refl l)
+            run_is_read_before_pieces m.pieces m.at (left_true (is_run_byte b) (list_all is_run_byte bs) a) l
+            (omega arith)
+            (suffix_has_run t (b ∷ bs) (123 ∷ more) i a
+            (and_with_false_is_false (is_last cr (last_of None (b ∷ bs)))) refl l)
             m.reads_pieces;
         ends = m.ends;
         reads_lines = m.reads_lines;
         left = m.left;
         spells =
-            λ kept x. run_before kept to m.at v (123 ∷ more) m.pieces (flat_map (line_items edition common) m.lines) e
+            λ kept x. run_before_placeable_spells_its_text kept to m.at v (123 ∷ more) m.pieces
+            (flat_map (line_items edition common) m.lines) e
             es x n m.spells;
         counts = m.counts;
       }
 
   -- a text that ends its line, and the lines after it
-  pub run_line :
+  pub run_at_end_of_line_is_run :
       (common : Option ℕ) (v : List ℕ) (e : ElementTree Text) (es : PatternTree Text) (numbers rest : List ℕ) (i b : ℕ)
       (bs more : List ℕ) → list_all is_run_byte (b ∷ bs) ≡ true → is_last cr (last_of None (b ∷ bs)) ≡ false →
       SuffixAt t i (b ∷ (bs ++ (lf ∷ more))) →
       ((j : ℕ) → SuffixAt t j more → Starts edition t common (elements e es) numbers j rest) →
       Run edition t common v (elements e es) numbers i more rest
-  run_line common v e es numbers rest i b bs more a c l k =
+  run_at_end_of_line_is_run common v e es numbers rest i b bs more a c l k =
       let to = i + suc (length bs) in
       let n : SuffixAt t to (lf ∷ more) = suffix_past (b ∷ bs) l in
       let m = k (to + 1) (suffix_next n) in
@@ -230,7 +233,7 @@ module _ (edition : Edition) (t : List ℕ) where
         lines = m.lines;
         end = m.end;
         reads_pieces =
-            reads_run [] to (left_true (is_run_byte b) (list_all is_run_byte bs) a) l (omega arith)
+            run_is_read_before_pieces [] to (left_true (is_run_byte b) (list_all is_run_byte bs) a) l (omega arith)
             (suffix_has_run t (b ∷ bs) (lf ∷ more) i a (rw c refl) refl l) (reads_no_pieces edition t n);
         ends = n;
         reads_lines = m.reads;

@@ -27,8 +27,9 @@ use Rattle.fluent_syntax_grammar.proofs.forward.Words.{reads_name}
 use Rattle.fluent_syntax_grammar.proofs.marks.WrittenBytes.{attribute_bytes, maybe_bytes}
 use Rattle.fluent_syntax_grammar.proofs.forward.Inline.{Follows, starts_with, name_start, string_reads_back}
 use Rattle.fluent_syntax_grammar.proofs.forward.Inline.{variable_reads_back, number_reads_back, message_name_reads_back}
-use Rattle.fluent_syntax_grammar.proofs.forward.Inline.{message_attribute_reads_back, call_none, no_accessor}
-use Rattle.fluent_syntax_grammar.proofs.forward.Inline.{some_accessor}
+use Rattle.fluent_syntax_grammar.proofs.forward.Inline.{message_attribute_reads_back}
+use Rattle.fluent_syntax_grammar.proofs.forward.Inline.{no_arguments_are_read_without_list, no_accessor}
+use Rattle.fluent_syntax_grammar.proofs.forward.Inline.{accessor_is_read_after_point}
 use Rattle.fluent_syntax_grammar.proofs.forward.Arguments.{InlineReadsBack, ArgumentListReadsBack, call_reads_back}
 
 -- What may follow a reference's arguments follows the arguments, if there are none.
@@ -90,13 +91,13 @@ module _ (edition : Edition) (t : List ℕ) where
 
   -- ---- functions
 
-  function_after :
+  function_reference_reads_after_its_name :
       (id : Span) (name : Text) (x : ArgumentsTree Text) (i : ℕ) (left : List ℕ) (v : MaybeArguments Span) →
       bytes_at t id ≡ name → maybe_map (bytes_at t) v ≡ some_arguments x → list_all is_callee_byte name ≡ true →
       SuffixAt t i left →
       Reads t (named_reference t id v) (inline_map (bytes_at t)) i (function_reference name x) left
-  function_after id name x i left no_arguments e f g l = absurd cc
-  function_after id name x i left (some_arguments a) e f g l =
+  function_reference_reads_after_its_name id name x i left no_arguments e f g l = absurd cc
+  function_reference_reads_after_its_name id name x i left (some_arguments a) e f g l =
       reads_first (ap (list_all is_callee_byte) e ∙ g) (reads_yields (cc) l)
 
   pub function_reference_reads_back : (level : ℕ) (id : Text) (ps : InlineTrees Text) (ns : NamedTrees Text) →
@@ -110,14 +111,15 @@ module _ (edition : Edition) (t : List ℕ) where
         reads_peek letter (name_start edition t i id _ is l)
         (reads_bind (reads_name id _ is refl l)
         (λ s j g m. reads_bind (call_reads_back edition t level ps ns more j (gap ++ rest) m) (λ a k x n.
-        function_after s id (arguments ps ns) k (gap ++ rest) a g x
+        function_reference_reads_after_its_name s id (arguments ps ns) k (gap ++ rest) a g x
         (left_true (list_all is_callee_byte id) _ (right_true (is_name id) _ h)) n)));
   }
 
   -- ---- terms
 
   pub no_arguments_read_back : (level : ℕ) → MaybeArgumentsReadBack edition t level no_arguments
-  no_arguments_read_back level = record { back = λ i gap more f l. call_none edition t i gap more f l }
+  no_arguments_read_back level =
+      record { back = λ i gap more f l. no_arguments_are_read_without_list edition t i gap more f l }
 
   pub some_arguments_read_back : (level : ℕ) (ps : InlineTrees Text) (ns : NamedTrees Text) →
       ArgumentListReadsBack edition t level [] ps ns →
@@ -125,9 +127,11 @@ module _ (edition : Edition) (t : List ℕ) where
   some_arguments_read_back level ps ns h =
       record { back = λ i gap more f l. call_reads_back edition t level ps ns h i (gap ++ more) l }
 
-  term_start : (i : ℕ) (id more : List ℕ) → is_name id ≡ true → SuffixAt t i (45 ∷ (id ++ more)) → start t i ≡ term
-  term_start i [] more e l = absurd cc
-  term_start i (b ∷ bs) more e l = starts_with term (rw (left_true (is_letter b) (list_all is_name_byte bs) e) refl) l
+  term_starts_with_hyphen_and_letter : (i : ℕ) (id more : List ℕ) → is_name id ≡ true →
+      SuffixAt t i (45 ∷ (id ++ more)) → start t i ≡ term
+  term_starts_with_hyphen_and_letter i [] more e l = absurd cc
+  term_starts_with_hyphen_and_letter i (b ∷ bs) more e l =
+      starts_with term (rw (left_true (is_letter b) (list_all is_name_byte bs) e) refl) l
 
   -- the attribute of a term, if it has one, before its arguments
   accessor_reads_back : (level : ℕ) (attribute : Option Text) (a : MaybeArguments Text) (i : ℕ) (gap more : List ℕ) →
@@ -136,7 +140,7 @@ module _ (edition : Edition) (t : List ℕ) where
       Reads t (accessor t) (option_texts (bytes_at t)) i attribute (maybe_bytes level a (gap ++ more))
   accessor_reads_back level None a i gap more e f l = no_accessor edition t i _ (no_point_is_first level a gap more f) l
   accessor_reads_back level (Some x) a i gap more e f l =
-      some_accessor edition t i x _ e (arguments_begin_no_name level a gap more f) l
+      accessor_is_read_after_point edition t i x _ e (arguments_begin_no_name level a gap more f) l
 
   accessor_begins_no_name : (level : ℕ) (attribute : Option Text) (a : MaybeArguments Text) (gap more : List ℕ) →
       Follows gap more →
@@ -144,7 +148,7 @@ module _ (edition : Edition) (t : List ℕ) where
   accessor_begins_no_name level None a gap more f = arguments_begin_no_name level a gap more f
   accessor_begins_no_name level (Some x) a gap more f = refl
 
-  term_at :
+  term_reference_reads_back_there :
       (level : ℕ) (id : Text) (attribute : Option Text) (a : MaybeArguments Text) (i : ℕ) (gap more : List ℕ) →
       inline_obeys (canonical_rules edition) (term_reference id attribute a) ≡ true →
       MaybeArgumentsReadBack edition t level a →
@@ -152,11 +156,11 @@ module _ (edition : Edition) (t : List ℕ) where
       SuffixAt t i (45 ∷ (id ++ attribute_bytes attribute (maybe_bytes level a (gap ++ more)))) →
       Reads t (inline_expression edition t) (inline_map (bytes_at t)) i (term_reference id attribute a)
       (bytes_after_arguments a gap more)
-  term_at level id attribute a i gap more h b f l =
+  term_reference_reads_back_there level id attribute a i gap more h b f l =
       let is : is_name id ≡ true = left_true (is_name id) _ h in
       let accessor_is : option_obeys is_name attribute ≡ true =
       left_true (option_obeys is_name attribute) _ (right_true (is_name id) _ h) in
-      reads_peek term (term_start i id _ is l)
+      reads_peek term (term_starts_with_hyphen_and_letter i id _ is l)
       (passes_then (passes_token 45 refl l)
       (λ j m. reads_bind (reads_name id _ is (accessor_begins_no_name level attribute a gap more f) m) (λ s k g n.
       reads_bind (accessor_reads_back level attribute a k gap more accessor_is f n)
@@ -167,6 +171,14 @@ module _ (edition : Edition) (t : List ℕ) where
       MaybeArgumentsReadBack edition t level a →
       InlineReadsBack edition t level (term_reference id attribute a)
   term_reference_reads_back level id attribute no_arguments h b =
-      record { obeys = h; back = λ i gap more f l. term_at level id attribute no_arguments i gap more h b f l }
+      record {
+        obeys = h;
+        back =
+            λ i gap more f l. term_reference_reads_back_there level id attribute no_arguments i gap more h b f l;
+      }
   term_reference_reads_back level id attribute (some_arguments x) h b =
-      record { obeys = h; back = λ i gap more f l. term_at level id attribute (some_arguments x) i gap more h b f l }
+      record {
+        obeys = h;
+        back =
+            λ i gap more f l. term_reference_reads_back_there level id attribute (some_arguments x) i gap more h b f l;
+      }

@@ -11,11 +11,11 @@ use Rattle.fluent_syntax_grammar.specs.Elements.{without_last_lf}
 use Rattle.fluent_syntax_grammar.specs.Written.{last_of, is_last, has_lf}
 use Rattle.fluent_syntax_grammar.specs.Readable.{is_text}
 use Rattle.fluent_syntax_grammar.proofs.Facts.{left_true, right_true, equal}
-use Rattle.fluent_syntax_grammar.proofs.Tests.{both_true, and_right}
+use Rattle.fluent_syntax_grammar.proofs.Tests.{both_true, and_is_false_by_right}
 use Rattle.fluent_syntax_grammar.proofs.Stretches.{run_ends_here, run_goes_on}
 use Rattle.fluent_syntax_grammar.proofs.SuffixAt.{SuffixAt, first, suffix_first, suffix_next}
 use Rattle.fluent_syntax_grammar.proofs.forward.Spells.{nonempty_has_last_byte}
-use Rattle.fluent_syntax_grammar.proofs.Tests.{neither_left, neither_right, not_true}
+use Rattle.fluent_syntax_grammar.proofs.Tests.{neither_left, neither_right, not_true_is_false}
 
 -- a byte that no run ends at
 abbrev pub is_run_byte : ℕ → Bool
@@ -25,8 +25,8 @@ is_run_byte b = not (b == lf || b == 123 || b == 125)
 abbrev pub ends_in_cr_before : List ℕ → List ℕ → Bool
 ends_in_cr_before xs ys = is_last cr (last_of None xs) && holds (λ b. b == lf) (first ys)
 
-pub run_no_lf : (b : ℕ) → is_run_byte b ≡ true → (b == lf) ≡ false
-run_no_lf b e = first_false (b == lf) (b == 123) (b == 125) e
+pub run_byte_is_no_lf : (b : ℕ) → is_run_byte b ≡ true → (b == lf) ≡ false
+run_byte_is_no_lf b e = first_false (b == lf) (b == 123) (b == 125) e
   where
     first_false : (x y z : Bool) → not (x || y || z) ≡ true → x ≡ false
     first_false false y z e = refl
@@ -37,15 +37,17 @@ pub no_eol_in_run : (x : ℕ) (xs ys : List ℕ) → list_all is_run_byte xs ≡
     ((x == cr) && holds (λ b. b == lf) (first (xs ++ ys))) ≡ false
 no_eol_in_run x [] ys a e = e
 no_eol_in_run x (y ∷ xs) ys a e =
-    and_right (x == cr) (y == lf) (run_no_lf y (left_true (is_run_byte y) (list_all is_run_byte xs) a))
+    and_is_false_by_right (x == cr) (y == lf)
+    (run_byte_is_no_lf y (left_true (is_run_byte y) (list_all is_run_byte xs) a))
 
 rest_ends_in_no_cr : (x : ℕ) (xs ys : List ℕ) → ends_in_cr_before (x ∷ xs) ys ≡ false → ends_in_cr_before xs ys ≡ false
 rest_ends_in_no_cr x [] ys e = refl
 rest_ends_in_no_cr x (y ∷ xs) ys e = e
 
-pub run_place : (t : List ℕ) (i x : ℕ) (bs : List ℕ) → is_run_byte x ≡ true →
+pub place_of_run_byte_is_run_place : (t : List ℕ) (i x : ℕ) (bs : List ℕ) → is_run_byte x ≡ true →
     ((x == cr) && holds (λ b. b == lf) (first bs)) ≡ false → SuffixAt t i (x ∷ bs) → is_run_place t i ≡ true
-run_place t i x bs e f l = rw (suffix_first l, suffix_first (suffix_next l), e, run_no_lf x e, f) refl
+place_of_run_byte_is_run_place t i x bs e f l =
+    rw (suffix_first l, suffix_first (suffix_next l), e, run_byte_is_no_lf x e, f) refl
 
 run_ends_before_other : (t : List ℕ) (i : ℕ) (bs : List ℕ) → holds is_run_byte (first bs) ≡ false → SuffixAt t i bs →
     is_run_place t i ≡ false
@@ -61,7 +63,8 @@ suffix_has_run t (x ∷ xs) ys i a f e l =
     let more = right_true (is_run_byte x) (list_all is_run_byte xs) a in
     subst (λ n. LongestRun (is_run_place t) i n) s
     (run_goes_on (is_run_place t) i
-    _ (run_place t i x (xs ++ ys) (left_true (is_run_byte x) (list_all is_run_byte xs) a) (no_eol_in_run x xs ys more f)
+    _ (place_of_run_byte_is_run_place t i x (xs ++ ys) (left_true (is_run_byte x) (list_all is_run_byte xs) a)
+    (no_eol_in_run x xs ys more f)
     l) (suffix_has_run t xs ys (i + 1) more (rest_ends_in_no_cr x xs ys f) e (suffix_next l)))
 
 -- ---- the texts of a pattern
@@ -83,12 +86,14 @@ other_last_byte_is_kept [] b e = rw e refl
 other_last_byte_is_kept (x ∷ []) b e = rw e refl
 other_last_byte_is_kept (x ∷ y ∷ u) b e = ap (λ v. x ∷ v) (other_last_byte_is_kept (y ∷ u) b e)
 
-pub run_all : (v : List ℕ) → list_any is_brace v ≡ false → has_lf v ≡ false → list_all is_run_byte v ≡ true
-run_all [] e f = refl
-run_all (b ∷ v) e f =
+pub text_without_brace_and_lf_is_run : (v : List ℕ) → list_any is_brace v ≡ false → has_lf v ≡ false →
+    list_all is_run_byte v ≡ true
+text_without_brace_and_lf_is_run [] e f = refl
+text_without_brace_and_lf_is_run (b ∷ v) e f =
     both_true (byte_of (b == lf) (b == 123) (b == 125) (neither_left (b == lf) (has_lf v) f)
     (neither_left (is_brace b) (list_any is_brace v) e))
-    (run_all v (neither_right (is_brace b) (list_any is_brace v) e) (neither_right (b == lf) (has_lf v) f))
+    (text_without_brace_and_lf_is_run v (neither_right (is_brace b) (list_any is_brace v) e)
+    (neither_right (b == lf) (has_lf v) f))
   where
     byte_of : (x y z : Bool) → x ≡ false → (y || z) ≡ false → not (x || y || z) ≡ true
     byte_of false false false e f = refl
@@ -96,45 +101,50 @@ run_all (b ∷ v) e f =
     byte_of false true z e f = cc
     byte_of false false true e f = cc
 
-none_in_front : (p : ℕ → Bool) (u w : List ℕ) → list_any p (u ++ w) ≡ false → list_any p u ≡ false
-none_in_front p [] w e = refl
-none_in_front p (x ∷ u) w e = front_of (p x) (list_any p (u ++ w)) (list_any p u) e (none_in_front p u w)
+none_passes_in_front_of_append : (p : ℕ → Bool) (u w : List ℕ) → list_any p (u ++ w) ≡ false → list_any p u ≡ false
+none_passes_in_front_of_append p [] w e = refl
+none_passes_in_front_of_append p (x ∷ u) w e =
+    front_of (p x) (list_any p (u ++ w)) (list_any p u) e (none_passes_in_front_of_append p u w)
   where
     front_of : (x y z : Bool) → (x || y) ≡ false → (y ≡ false → z ≡ false) → (x || z) ≡ false
     front_of false y z e f = f e
     front_of true y z e f = cc
 
-no_cr_before : (x : ℕ) (u : List ℕ) → has_crlf ((x ∷ u) ++ (lf ∷ [])) ≡ false → is_last cr (last_of (Some x) u) ≡ false
-no_cr_before x [] e = cr_of (x == cr) e
+no_cr_is_before_last_lf : (x : ℕ) (u : List ℕ) → has_crlf ((x ∷ u) ++ (lf ∷ [])) ≡ false →
+    is_last cr (last_of (Some x) u) ≡ false
+no_cr_is_before_last_lf x [] e = cr_of (x == cr) e
   where
     cr_of : (b : Bool) → (b && true || false) ≡ false → b ≡ false
     cr_of true e = cc
     cr_of false e = refl
-no_cr_before x (y ∷ u) e = no_cr_before y u (neither_right (x == cr && y == lf) (has_crlf ((y ∷ u) ++ (lf ∷ []))) e)
+no_cr_is_before_last_lf x (y ∷ u) e =
+    no_cr_is_before_last_lf y u (neither_right (x == cr && y == lf) (has_crlf ((y ∷ u) ++ (lf ∷ []))) e)
 
 no_crlf_ends_in_no_cr : (u : List ℕ) → has_crlf (u ++ (lf ∷ [])) ≡ false → is_last cr (last_of None u) ≡ false
 no_crlf_ends_in_no_cr [] e = refl
-no_crlf_ends_in_no_cr (x ∷ u) e = no_cr_before x u e
+no_crlf_ends_in_no_cr (x ∷ u) e = no_cr_is_before_last_lf x u e
 
-form_by_last : (u : List ℕ) (b : ℕ) (x : Bool) → (b == lf) ≡ x → list_any is_brace (u ++ (b ∷ [])) ≡ false →
+text_has_form_by_its_last_byte : (u : List ℕ) (b : ℕ) (x : Bool) → (b == lf) ≡ x →
+    list_any is_brace (u ++ (b ∷ [])) ≡ false →
     has_crlf (u ++ (b ∷ [])) ≡ false → has_lf (without_last_lf (u ++ (b ∷ []))) ≡ false → TextForm (u ++ (b ∷ []))
-form_by_last u b true e f g h =
+text_has_form_by_its_last_byte u b true e f g h =
     let same : b ≡ lf = equal b lf e in
     subst (λ b. TextForm (u ++ (b ∷ []))) (sym same)
     (with_lf u refl
-    (run_all u (none_in_front is_brace u (b ∷ []) f)
+    (text_without_brace_and_lf_is_run u (none_passes_in_front_of_append is_brace u (b ∷ []) f)
     (sym (ap has_lf (subst (λ b. without_last_lf (u ++ (b ∷ [])) ≡ u) (sym same) (lf_is_taken_off u))) ∙ h))
     (no_crlf_ends_in_no_cr u (subst (λ b. has_crlf (u ++ (b ∷ [])) ≡ false) same g)))
-form_by_last u b false e f g h = alone (run_all (u ++ (b ∷ [])) f (sym (ap has_lf (other_last_byte_is_kept u b e)) ∙ h))
+text_has_form_by_its_last_byte u b false e f g h =
+    alone (text_without_brace_and_lf_is_run (u ++ (b ∷ [])) f (sym (ap has_lf (other_last_byte_is_kept u b e)) ∙ h))
 
-pub text_form : (v : List ℕ) → is_text v ≡ true → TextForm v
-text_form [] e = absurd cc
-text_form (c ∷ v) e =
+pub text_is_run_or_run_with_lf : (v : List ℕ) → is_text v ≡ true → TextForm v
+text_is_run_or_run_with_lf [] e = absurd cc
+text_is_run_or_run_with_lf (c ∷ v) e =
     let r = nonempty_has_last_byte c v in
-    let a = not_true (list_any is_brace (c ∷ v)) (left_true (not (list_any is_brace (c ∷ v))) _ e) in
+    let a = not_true_is_false (list_any is_brace (c ∷ v)) (left_true (not (list_any is_brace (c ∷ v))) _ e) in
     let b = right_true (not (list_any is_brace (c ∷ v))) _ e in
-    let d = not_true (has_crlf (c ∷ v)) (left_true (not (has_crlf (c ∷ v))) _ b) in
-    let g = not_true (has_lf (without_last_lf (c ∷ v))) (right_true (not (has_crlf (c ∷ v))) _ b) in
+    let d = not_true_is_false (has_crlf (c ∷ v)) (left_true (not (has_crlf (c ∷ v))) _ b) in
+    let g = not_true_is_false (has_lf (without_last_lf (c ∷ v))) (right_true (not (has_crlf (c ∷ v))) _ b) in
     subst TextForm (sym r.is)
-    (form_by_last r.front r.byte (r.byte == lf) refl (subst (λ v. list_any is_brace v ≡ false) r.is a)
+    (text_has_form_by_its_last_byte r.front r.byte (r.byte == lf) refl (subst (λ v. list_any is_brace v ≡ false) r.is a)
     (subst (λ v. has_crlf v ≡ false) r.is d) (subst (λ v. has_lf (without_last_lf v) ≡ false) r.is g))

@@ -19,24 +19,28 @@ use Rattle.fluent_syntax_grammar.specs.Expressions.{arrow_line_end, has_arrow, s
 use Rattle.fluent_syntax_grammar.specs.Variants.{is_number_start, variant_key, variants_end, variant_of, variant_after}
 use Rattle.fluent_syntax_grammar.specs.Grammar as grammar
 use Rattle.fluent_syntax_grammar.specs.Grammar.{family}
-use Rattle.fluent_syntax_grammar.proofs.Facts.{left_true, right_true, equal, some_same}
+use Rattle.fluent_syntax_grammar.proofs.Facts.{left_true, right_true, equal, equal_somes_have_equal_items}
 use Rattle.fluent_syntax_grammar.proofs.Tests.{both_true, or_cases, differ}
 use Rattle.fluent_syntax_grammar.proofs.SuffixAt.{SuffixAt, suffix_as, suffix_first, suffix_next, suffix_has}
 use Rattle.fluent_syntax_grammar.proofs.forward.Reading.{Reads, Passes, reads_bind, reads_yields, passes_nothing}
-use Rattle.fluent_syntax_grammar.proofs.forward.Reading.{passes_then, passes_over, reads_peek, reads_look, reads_first}
-use Rattle.fluent_syntax_grammar.proofs.forward.Reading.{reads_second, reads_present, more_map, reads_end, reads_item}
-use Rattle.fluent_syntax_grammar.proofs.forward.Reading.{reads_absent, passes_token, passes_two, passes_inline_blank}
-use Rattle.fluent_syntax_grammar.proofs.forward.Words.{reads_name, reads_number}
+use Rattle.fluent_syntax_grammar.proofs.forward.Reading.{passes_then, passes_over, reads_peek, look_reads_what_follows}
+use Rattle.fluent_syntax_grammar.proofs.forward.Reading.{reads_first}
+use Rattle.fluent_syntax_grammar.proofs.forward.Reading.{reads_second, present_byte_is_read, more_map}
+use Rattle.fluent_syntax_grammar.proofs.forward.Reading.{list_reads_its_end, list_reads_item_and_rest}
+use Rattle.fluent_syntax_grammar.proofs.forward.Reading.{reads_absent, passes_token, two_bytes_pass}
+use Rattle.fluent_syntax_grammar.proofs.forward.Reading.{passes_inline_blank}
+use Rattle.fluent_syntax_grammar.proofs.forward.Words.{reads_name, number_reads_back_its_bytes}
 use Rattle.fluent_syntax_grammar.proofs.marks.WrittenBytes.{inline_bytes, variants_bytes, pattern_bytes}
 use Rattle.fluent_syntax_grammar.proofs.forward.Inline.{Follows, passes_blanks, letter_is_no_digit}
 use Rattle.fluent_syntax_grammar.proofs.forward.Arguments.{Begins, InlineReadsBack, inline_begins, name_begins_inline}
 use Rattle.fluent_syntax_grammar.proofs.forward.Arguments.{number_begins_inline, begins_other}
-use Rattle.fluent_syntax_grammar.proofs.forward.Expressions.{ExpressionReadsBack, passes_after, map_keeps_fault}
+use Rattle.fluent_syntax_grammar.proofs.forward.Expressions.{ExpressionReadsBack, gap_after_inline_is_passed}
+use Rattle.fluent_syntax_grammar.proofs.forward.Expressions.{map_keeps_fault}
 use Rattle.fluent_syntax_grammar.proofs.forward.Expressions.{spaces_are_blank}
 use Rattle.fluent_syntax_grammar.proofs.forward.Lines.{lf_after, stop, EndsPattern, column, indented, is_mark_byte}
 use Rattle.fluent_syntax_grammar.proofs.forward.Lines.{is_column_byte}
 use Rattle.fluent_syntax_grammar.proofs.forward.Entries.{PatternReadsBack}
-use Rattle.fluent_syntax_grammar.proofs.Tests.{and_false, true_by_left, true_by_right}
+use Rattle.fluent_syntax_grammar.proofs.Tests.{and_with_false_is_false, true_by_left, true_by_right}
 
 -- a line that begins, perhaps after spaces, with a mark that is no pattern's
 mark_ends_pattern : (gap : List ℕ) (b : ℕ) (bs : List ℕ) → list_all is_space gap ≡ true → is_mark_byte b ≡ true →
@@ -51,12 +55,12 @@ pub spaces_of : (n : ℕ) → list_all is_space (replicate n space) ≡ true
 spaces_of zero = refl
 spaces_of (suc n) = spaces_of n
 
-pub all_append : (xs ys : List ℕ) → list_all is_space xs ≡ true → list_all is_space ys ≡ true →
+pub appended_spaces_are_spaces : (xs ys : List ℕ) → list_all is_space xs ≡ true → list_all is_space ys ≡ true →
     list_all is_space (xs ++ ys) ≡ true
-all_append [] ys e f = f
-all_append (x ∷ xs) ys e f =
+appended_spaces_are_spaces [] ys e f = f
+appended_spaces_are_spaces (x ∷ xs) ys e f =
     both_true (left_true (is_space x) (list_all is_space xs) e)
-    (all_append xs ys (right_true (is_space x) (list_all is_space xs) e) f)
+    (appended_spaces_are_spaces xs ys (right_true (is_space x) (list_all is_space xs) e) f)
 
 -- the variants from the first one's mark on
 abbrev pub bare_bytes : ℕ → VariantTrees Text → (close more : Text) → Text
@@ -87,15 +91,15 @@ key_obeys' (number_key v) = is_number v
 
 module _ (edition : Edition) (t : List ℕ) where
   -- the blank before variants
-  passes_indent : (level : ℕ) (vs : VariantTrees Text) (close more : Text) (i : ℕ) → list_all is_space close ≡ true →
-      SuffixAt t i (variants_bytes level vs (close ++ (125 ∷ more))) →
+  indent_of_variants_is_passed : (level : ℕ) (vs : VariantTrees Text) (close more : Text) (i : ℕ) →
+      list_all is_space close ≡ true → SuffixAt t i (variants_bytes level vs (close ++ (125 ∷ more))) →
       Passes t (Rattle.fluent_syntax_grammar.specs.Tokens.blank t) i (bare_bytes level vs close more)
-  passes_indent level no_variants close more i a l =
+  indent_of_variants_is_passed level no_variants close more i a l =
       passes_blanks close (125 ∷ more) (spaces_are_blank close a) refl refl refl l
-  passes_indent level (variants (variant key value true) vs) close more i a l =
+  indent_of_variants_is_passed level (variants (variant key value true) vs) close more i a l =
       passes_blanks (star_indent level) _ (spaces_are_blank (star_indent level) (spaces_of (4 * level - 1))) refl refl
       refl l
-  passes_indent level (variants (variant key value false) vs) close more i a l =
+  indent_of_variants_is_passed level (variants (variant key value false) vs) close more i a l =
       passes_blanks (indent level) _ (spaces_are_blank (indent level) (spaces_of (4 * level))) refl refl refl l
 
   -- what an item says
@@ -103,14 +107,15 @@ module _ (edition : Edition) (t : List ℕ) where
   said = more_map (variant_map (bytes_at t)) (λ b. b)
 
   -- the rest of the list, after an item
-  after_item : (level : ℕ) (starred : Bool) (vs : VariantTrees Text) (q : Bool) → q ≡ starred →
+  variants_read_back_with_equal_star : (level : ℕ) (starred : Bool) (vs : VariantTrees Text) (q : Bool) → q ≡ starred →
       VariantsReadBack edition t level starred vs → VariantsReadBack edition t level q vs
-  after_item level starred vs q e h = subst (λ b. VariantsReadBack edition t level b vs) (sym e) h
+  variants_read_back_with_equal_star level starred vs q e h =
+      subst (λ b. VariantsReadBack edition t level b vs) (sym e) h
 
-  added : (v : VariantTree Span) (ws : VariantTrees Span) (x : VariantTree Text) (vs : VariantTrees Text) →
-      variant_map (bytes_at t) v ≡ x → variants_map (bytes_at t) ws ≡ vs →
+  added_variant_spells_its_tree : (v : VariantTree Span) (ws : VariantTrees Span) (x : VariantTree Text)
+      (vs : VariantTrees Text) → variant_map (bytes_at t) v ≡ x → variants_map (bytes_at t) ws ≡ vs →
       variants_map (bytes_at t) (variants v ws) ≡ variants x vs
-  added v ws x vs f g = cc
+  added_variant_spells_its_tree v ws x vs f g = cc
 
   -- the end of the list, which has a default
   pub variants_end_reads_back : (level : ℕ) → VariantsReadBack edition t level true no_variants
@@ -118,7 +123,7 @@ module _ (edition : Edition) (t : List ℕ) where
       record {
         back =
             λ i close more a l.
-            reads_end {f = variant_map (bytes_at t)} {g = λ b. b}
+            list_reads_its_end {f = variant_map (bytes_at t)} {g = λ b. b}
             (reads_bind (reads_absent 42 refl l)
             (λ b j e m. rw e
             (passes_then (reads_second refl (passes_nothing m))
@@ -147,7 +152,8 @@ module _ (edition : Edition) (t : List ℕ) where
   key_reads_back (number_key (b ∷ bs)) i tail e l =
       reads_peek true (suffix_has is_number_start l ∙ starts_number b bs e)
       (reads_first refl
-      (reads_bind (reads_number (b ∷ bs) (93 ∷ tail) e refl refl l) (λ s j f m. reads_yields (ap number_key f) m)))
+      (reads_bind (number_reads_back_its_bytes (b ∷ bs) (93 ∷ tail) e refl refl l)
+      (λ s j f m. reads_yields (ap number_key f) m)))
     where
       starts_number : (b : ℕ) (bs : List ℕ) → is_number (b ∷ bs) ≡ true → is_number_start b ≡ true
       starts_number b bs e = elim (or_cases (b == 45 && is_unsigned bs) (is_unsigned (b ∷ bs)) e) [
@@ -155,12 +161,12 @@ module _ (edition : Edition) (t : List ℕ) where
         | inr f ↦ true_by_left (is_digit b) (b == 45) (left_true (is_digit b) (is_number_rest bs) f)
       ]
 
-  key_begins : (key : KeyTree Text) (tail : Text) → key_obeys' key ≡ true → Begins (key_text key ++ tail)
-  key_begins (name_key v) tail e = name_begins_inline v tail e
-  key_begins (number_key v) tail e = number_begins_inline v tail e
+  bytes_of_key_begin_inline : (key : KeyTree Text) (tail : Text) → key_obeys' key ≡ true → Begins (key_text key ++ tail)
+  bytes_of_key_begin_inline (name_key v) tail e = name_begins_inline v tail e
+  bytes_of_key_begin_inline (number_key v) tail e = number_begins_inline v tail e
 
   -- from the end of a variant's pattern on
-  after_value :
+  variant_is_read_after_its_value :
       (level : ℕ) (starred star : Bool) (key : KeyTree Text) (value : PatternTree Text) (vs : VariantTrees Text)
       (k : KeyTree Span) (v : Option (PatternTree Span)) (i : ℕ) (close more : Text) →
       list_all is_space close ≡ true → key_map (bytes_at t) k ≡ key →
@@ -168,10 +174,10 @@ module _ (edition : Edition) (t : List ℕ) where
       SuffixAt t i (variants_bytes level vs (close ++ (125 ∷ more))) →
       Reads t (variant_of t starred star k v) said i (item (variant key value star) (starred || star))
       (bare_bytes level vs close more)
-  after_value level starred star key value vs k None i close more a e f l = absurd cc
-  after_value level starred star key value vs k (Some v) i close more a e f l =
-      passes_then (passes_indent level vs close more i a l)
-      (λ j m. reads_yields (same_variant k v e (some_same f)) m)
+  variant_is_read_after_its_value level starred star key value vs k None i close more a e f l = absurd cc
+  variant_is_read_after_its_value level starred star key value vs k (Some v) i close more a e f l =
+      passes_then (indent_of_variants_is_passed level vs close more i a l)
+      (λ j m. reads_yields (same_variant k v e (equal_somes_have_equal_items f)) m)
     where
       same_variant : (k : KeyTree Span) (v : PatternTree Span) → key_map (bytes_at t) k ≡ key →
           pattern_map (bytes_at t) v ≡ value →
@@ -179,7 +185,7 @@ module _ (edition : Edition) (t : List ℕ) where
       same_variant k v e f = cc
 
   -- a variant from its key on
-  from_bracket :
+  variant_reads_back_from_bracket :
       (level : ℕ) (starred star : Bool) (key : KeyTree Text) (value : PatternTree Text) (vs : VariantTrees Text) (i : ℕ)
       (close more : Text) → list_all is_space close ≡ true → key_obeys' key ≡ true →
       PatternReadsBack edition t level value →
@@ -187,15 +193,16 @@ module _ (edition : Edition) (t : List ℕ) where
       (93 ∷ pattern_bytes level value (lf ∷ variants_bytes level vs (close ++ (125 ∷ more))))) →
       Reads t (variant_after edition t (family edition t) starred star) said i
       (item (variant key value star) (starred || star)) (bare_bytes level vs close more)
-  from_bracket level starred star key value vs i close more a o p l =
+  variant_reads_back_from_bracket level starred star key value vs i close more a o p l =
       let b =
-      key_begins key (93 ∷ pattern_bytes level value (lf ∷ variants_bytes level vs (close ++ (125 ∷ more)))) o in
+      bytes_of_key_begin_inline key
+      (93 ∷ pattern_bytes level value (lf ∷ variants_bytes level vs (close ++ (125 ∷ more)))) o in
       passes_then (passes_blanks [] _ refl (begins_other 32 b refl) (begins_other lf b refl) (begins_other cr b refl) l)
       (λ j m. reads_bind (key_reads_back key j _ o m) (λ k q e n.
       passes_then (passes_blanks [] _ refl refl refl refl n) (λ r x. passes_then (passes_token 93 refl x) (λ y z.
       reads_bind (p.back y (variants_bytes level vs (close ++ (125 ∷ more)))
       (variants_bytes level vs (close ++ (125 ∷ more))) (stop (variants_end_pattern level vs close more a)) z)
-      (λ v w f u. after_value level starred star key value vs k v w close more a e f u)))))
+      (λ v w f u. variant_is_read_after_its_value level starred star key value vs k v w close more a e f u)))))
 
   -- one more variant, which is not the default
   pub variant_reads_back :
@@ -203,15 +210,16 @@ module _ (edition : Edition) (t : List ℕ) where
       key_obeys' key ≡ true → PatternReadsBack edition t level value → VariantsReadBack edition t level starred vs →
       VariantsReadBack edition t level starred (variants (variant key value false) vs)
   variant_reads_back level starred key value vs o p h = record {
-    back = λ i close more a l. reads_item {c = variant key value false} {q = starred || false}
+    back = λ i close more a l. list_reads_item_and_rest {c = variant key value false} {q = starred || false}
         (reads_bind (reads_absent 42 refl l)
         (λ b j e m. rw e
-        (passes_then (reads_second (and_false starred) (passes_nothing m))
-        (λ k n. reads_bind (reads_present 91 refl n)
+        (passes_then (reads_second (and_with_false_is_false starred) (passes_nothing m))
+        (λ k n. reads_bind (present_byte_is_read 91 refl n)
         (λ c q f x. rw f
-        (reads_first refl (from_bracket level starred false key value vs q close more a o p x)))))))
-        (λ q j e m. (after_item level starred vs q (e ∙ or_false starred) h).back j close more a m)
-        (λ v ws f g. added v ws (variant key value false) vs f g);
+        (reads_first refl (variant_reads_back_from_bracket level starred false key value vs q close more a o p x)))))))
+        (λ q j e m.
+        (variants_read_back_with_equal_star level starred vs q (e ∙ or_false starred) h).back j close more a m)
+        (λ v ws f g. added_variant_spells_its_tree v ws (variant key value false) vs f g);
   }
     where
       or_false : (b : Bool) → (b || false) ≡ b
@@ -223,23 +231,24 @@ module _ (edition : Edition) (t : List ℕ) where
       key_obeys' key ≡ true → PatternReadsBack edition t level value → VariantsReadBack edition t level true vs →
       VariantsReadBack edition t level false (variants (variant key value true) vs)
   default_reads_back level key value vs o p h = record {
-    back = λ i close more a l. reads_item {c = variant key value true} {q = true}
-        (reads_bind (reads_present 42 refl l)
+    back = λ i close more a l. list_reads_item_and_rest {c = variant key value true} {q = true}
+        (reads_bind (present_byte_is_read 42 refl l)
         (λ b j e m. rw e
         (passes_then (reads_second refl (passes_nothing m))
-        (λ k n. reads_bind (reads_present 91 refl n)
-        (λ c q f x. rw f (reads_first refl (from_bracket level false true key value vs q close more a o p x)))))))
-        (λ q j e m. (after_item level true vs q e h).back j close more a m)
-        (λ v ws f g. added v ws (variant key value true) vs f g);
+        (λ k n. reads_bind (present_byte_is_read 91 refl n)
+        (λ c q f x. rw f
+        (reads_first refl (variant_reads_back_from_bracket level false true key value vs q close more a o p x)))))))
+        (λ q j e m. (variants_read_back_with_equal_star level true vs q e h).back j close more a m)
+        (λ v ws f g. added_variant_spells_its_tree v ws (variant key value true) vs f g);
   }
 
   -- ---- the select
 
-  arrow_there : (i : ℕ) (more : List ℕ) → SuffixAt t i (45 ∷ 62 ∷ more) → has_arrow t i ≡ true
-  arrow_there i more l = rw (suffix_first l, suffix_first (suffix_next l)) refl
+  arrow_is_at_its_bytes : (i : ℕ) (more : List ℕ) → SuffixAt t i (45 ∷ 62 ∷ more) → has_arrow t i ≡ true
+  arrow_is_at_its_bytes i more l = rw (suffix_first l, suffix_first (suffix_next l)) refl
 
-  follows_arrow : (more : List ℕ) → Follows (32 ∷ []) (45 ∷ 62 ∷ more)
-  follows_arrow more =
+  arrow_follows_space : (more : List ℕ) → Follows (32 ∷ []) (45 ∷ 62 ∷ more)
+  arrow_follows_space more =
       record {
         spaces = refl;
         no_name = refl;
@@ -252,12 +261,12 @@ module _ (edition : Edition) (t : List ℕ) where
         no_attribute = refl;
       }
 
-  none_of : {X : Type 0} (o : Option X) → is_none o ≡ true → o ≡ None
-  none_of None e = refl
-  none_of (Some x) e = cc
+  option_that_is_none_equals_none : {X : Type 0} (o : Option X) → is_none o ≡ true → o ≡ None
+  option_that_is_none_equals_none None e = refl
+  option_that_is_none_equals_none (Some x) e = cc
 
   -- from the arrow on
-  from_arrow :
+  select_reads_back_from_arrow :
       (level : ℕ) (e : InlineTree Text) (vs : VariantTrees Text) (v : InlineTree Span) (i : ℕ) (close more : Text) →
       list_all is_space close ≡ true → inline_map (bytes_at t) v ≡ e → is_none (selector_fault e) ≡ true →
       VariantsReadBack edition t (level + 1) false vs →
@@ -265,14 +274,15 @@ module _ (edition : Edition) (t : List ℕ) where
       Reads t (select_with edition t (family edition t) v (selector_fault v)) (expression_map (bytes_at t)) i
       (select e vs)
       (125 ∷ more)
-  from_arrow level e vs v i close more a f g h l =
+  select_reads_back_from_arrow level e vs v i close more a f g h l =
       let none : selector_fault v ≡ None =
-      sym (map_keeps_fault (bytes_at t) v) ∙ ap selector_fault f ∙ none_of (selector_fault e) g in
+      sym (map_keeps_fault (bytes_at t) v) ∙ ap selector_fault f
+      ∙ option_that_is_none_equals_none (selector_fault e) g in
       rw none (reads_bind
-      (passes_then (passes_two l)
+      (passes_then (two_bytes_pass l)
       (λ j m. passes_then (passes_inline_blank [] _ refl refl m)
       (λ k n. passes_then (line_end_passes k n)
-      (λ p o. passes_then (passes_indent (level + 1) vs close more p a o)
+      (λ p o. passes_then (indent_of_variants_is_passed (level + 1) vs close more p a o)
       (λ q x. h.back q close more a x))))) (λ ws y d z. reads_yields (same_select ws d) z))
     where
       line_end_passes : {bs : List ℕ} (k : ℕ) → SuffixAt t k (lf ∷ bs) →
@@ -293,13 +303,14 @@ module _ (edition : Edition) (t : List ℕ) where
     begins = λ tail. inline_begins edition level e _ h.obeys;
     back = λ i gap more a l.
         let close = indent level ++ gap in
-        let spaces : list_all is_space close ≡ true = all_append (indent level) gap (spaces_of (4 * level)) a in
+        let spaces : list_all is_space close ≡ true =
+        appended_spaces_are_spaces (indent level) gap (spaces_of (4 * level)) a in
         let m =
         suffix_as (ap (λ x. inline_bytes level e (32 ∷ 45 ∷ 62 ∷ lf ∷ variants_bytes (level + 1) vs x))
         (sym (append_assoc (indent level) gap (125 ∷ more)))) l in
         reads_bind (h.back i (32 ∷ []) (45 ∷ 62 ∷ lf ∷ variants_bytes (level + 1) vs (close ++ (125 ∷ more)))
-        (follows_arrow _) m) (λ v j f n.
-        passes_then (passes_after edition t e (32 ∷ []) _ j (follows_arrow _) n)
-        (λ p o. reads_look true (arrow_there p _ o)
-        (reads_first refl (from_arrow level e vs v p close more spaces f g k o))));
+        (arrow_follows_space _) m) (λ v j f n.
+        passes_then (gap_after_inline_is_passed edition t e (32 ∷ []) _ j (arrow_follows_space _) n)
+        (λ p o. look_reads_what_follows true (arrow_is_at_its_bytes p _ o)
+        (reads_first refl (select_reads_back_from_arrow level e vs v p close more spaces f g k o))));
   }

@@ -14,10 +14,11 @@ use Rattle.fluent_syntax_grammar.specs.Spellings.{is_units, is_escape, is_string
 use Rattle.fluent_syntax_grammar.proofs.Facts.{left_true, right_true, equal}
 use Rattle.fluent_syntax_grammar.proofs.Tests.{both_true, or_cases}
 use Rattle.fluent_syntax_grammar.proofs.SuffixAt.{SuffixAt, suffix_as, suffix_first, suffix_next, suffix_past}
-use Rattle.fluent_syntax_grammar.proofs.SuffixAt.{suffix_has, each_in_set}
+use Rattle.fluent_syntax_grammar.proofs.SuffixAt.{suffix_has, each_place_of_prefix_is_in_set}
 use Rattle.fluent_syntax_grammar.proofs.forward.Reading.{Reads, Passes, reads_bind, reads_yields, passes_then}
 use Rattle.fluent_syntax_grammar.proofs.forward.Reading.{reads_here, reads_peek, reads_first, reads_second}
-use Rattle.fluent_syntax_grammar.proofs.forward.Reading.{passes_one, passes_two, passes_token, reads_spanned}
+use Rattle.fluent_syntax_grammar.proofs.forward.Reading.{one_byte_passes, two_bytes_pass, passes_token}
+use Rattle.fluent_syntax_grammar.proofs.forward.Reading.{span_reads_its_bytes}
 
 -- hexadecimal digits, so many, and units after them
 pub record HexThen (n : ℕ) (v : List ℕ) : Type 0 where
@@ -42,11 +43,11 @@ units_begin_with_hex (suc n) (b ∷ bs) e =
       units = r.units;
     }
 
-pub none_of_three : (x y z : Bool) → not (x || y || z) ≡ true → (x ≡ false) × (y ≡ false) × (z ≡ false)
-none_of_three false false false e = (refl, refl, refl)
-none_of_three true y z e = cc
-none_of_three false true z e = cc
-none_of_three false false true e = cc
+pub none_of_three_is_true : (x y z : Bool) → not (x || y || z) ≡ true → (x ≡ false) × (y ≡ false) × (z ≡ false)
+none_of_three_is_true false false false e = (refl, refl, refl)
+none_of_three_is_true true y z e = cc
+none_of_three_is_true false true z e = cc
+none_of_three_is_true false false true e = cc
 
 -- texts no longer than the number are read as units
 pub record UnitsPass (t : List ℕ) (m : ℕ) : Type 0 where
@@ -54,14 +55,14 @@ pub record UnitsPass (t : List ℕ) (m : ℕ) : Type 0 where
       Passes t (string_units t) i (34 ∷ more)
 
 module _ {t : List ℕ} where
-  passes_hex : {i : ℕ} (n : ℕ) (hex more : List ℕ) → length hex ≡ n → list_all is_ascii_hexdigit hex ≡ true →
+  hex_digits_are_passed : {i : ℕ} (n : ℕ) (hex more : List ℕ) → length hex ≡ n → list_all is_ascii_hexdigit hex ≡ true →
       SuffixAt t i (hex ++ more) → Passes t (hex_digits t n) i more
-  passes_hex {i = i} n hex more e a l =
+  hex_digits_are_passed {i = i} n hex more e a l =
       let d : HexDigits t i n (i + length hex) =
       record {
         forward = omega arith;
         most = omega arith;
-        each = each_in_set is_ascii_hexdigit hex more a l;
+        each = each_place_of_prefix_is_in_set is_ascii_hexdigit hex more a l;
         longest = λ m. absurd (omega arith);
       } in
       record {
@@ -73,10 +74,10 @@ module _ {t : List ℕ} where
       }
 
   -- a unit, and units after it
-  unit_then : {i b : ℕ} {bs mid left : List ℕ} → SuffixAt t i (b ∷ bs) → (b == 34) ≡ false →
+  unit_before_units_is_passed : {i b : ℕ} {bs mid left : List ℕ} → SuffixAt t i (b ∷ bs) → (b == 34) ≡ false →
       Passes t (string_unit t (Some b)) i mid → ((j : ℕ) → SuffixAt t j mid → Passes t (string_units t) j left) →
       Passes t (string_units t) i left
-  unit_then {i = i} {b = b} l e m k =
+  unit_before_units_is_passed {i = i} {b = b} l e m k =
       let n = k m.end m.rest in
       record {
         value = tt;
@@ -88,25 +89,26 @@ module _ {t : List ℕ} where
         rest = n.rest;
       }
 
-  passes_plain : {i b : ℕ} {bs : List ℕ} → (b == lf) ≡ false → (b == 92) ≡ false → SuffixAt t i (b ∷ bs) →
-      Passes t (string_unit t (Some b)) i bs
-  passes_plain e f l = reads_second e (reads_second f (passes_one l))
+  plain_byte_is_passed_as_unit : {i b : ℕ} {bs : List ℕ} → (b == lf) ≡ false → (b == 92) ≡ false →
+      SuffixAt t i (b ∷ bs) → Passes t (string_unit t (Some b)) i bs
+  plain_byte_is_passed_as_unit e f l = reads_second e (reads_second f (one_byte_passes l))
 
-  passes_escape : {i b c : ℕ} {bs left : List ℕ} → b ≡ 92 → SuffixAt t i (b ∷ c ∷ bs) →
+  escape_is_passed_as_unit : {i b c : ℕ} {bs left : List ℕ} → b ≡ 92 → SuffixAt t i (b ∷ c ∷ bs) →
       Passes t (escaped t (Some c)) i left → Passes t (string_unit t (Some b)) i left
-  passes_escape {c = c} e l m =
+  escape_is_passed_as_unit {c = c} e l m =
       reads_second (ap (λ b. b == lf) e)
       (reads_first (ap (λ b. b == 92) e) (reads_peek (Some c) (suffix_first (suffix_next l)) m))
 
-  passes_hex_escape : {i b c : ℕ} {bs : List ℕ} (left : List ℕ) (n : ℕ) (r : HexThen n bs) →
+  hex_escape_is_passed_as_unit : {i b c : ℕ} {bs : List ℕ} (left : List ℕ) (n : ℕ) (r : HexThen n bs) →
       SuffixAt t i (b ∷ c ∷ (bs ++ left)) → Passes t (skip (Steps 2) >> hex_digits t n) i (r.more ++ left)
-  passes_hex_escape left n r l =
-      passes_then (passes_two l)
-      (λ j m. passes_hex n r.hex (r.more ++ left) r.count r.digits
+  hex_escape_is_passed_as_unit left n r l =
+      passes_then (two_bytes_pass l)
+      (λ j m. hex_digits_are_passed n r.hex (r.more ++ left) r.count r.digits
       (suffix_as (ap (λ v. v ++ left) (sym r.joins) ∙ append_assoc r.hex r.more left) m))
 
-  passes_quote : {i : ℕ} {more : List ℕ} → SuffixAt t i (34 ∷ more) → Passes t (string_units t) i (34 ∷ more)
-  passes_quote {i = i} l =
+  string_units_stop_at_quote : {i : ℕ} {more : List ℕ} → SuffixAt t i (34 ∷ more) →
+      Passes t (string_units t) i (34 ∷ more)
+  string_units_stop_at_quote {i = i} l =
       record { value = tt; end = i; reads = before_quote (suffix_has (λ c. c == 34) l); spells = refl; rest = l }
 
   -- an escape with hexadecimal digits, and units after it
@@ -117,20 +119,20 @@ module _ {t : List ℕ} where
   hex_escape_then m n h b c cs more i l e f x k =
       let r = units_begin_with_hex n cs f in
       let size : length r.more ≤ m = let a = length-append r.hex r.more in let b = ap length r.joins in omega arith in
-      unit_then x (ap (λ b. b == 34) e)
-      (passes_escape e x (k (r.more ++ (34 ∷ more)) (passes_hex_escape (34 ∷ more) n r x)))
+      unit_before_units_is_passed x (ap (λ b. b == 34) e)
+      (escape_is_passed_as_unit e x (k (r.more ++ (34 ∷ more)) (hex_escape_is_passed_as_unit (34 ∷ more) n r x)))
       (λ j y. h.passes r.more more j size r.units y)
 
-  escape_then : (m : ℕ) → UnitsPass t m → (b : ℕ) (bs more : List ℕ) (i : ℕ) → length bs ≤ m → b ≡ 92 →
-      is_escape bs ≡ true → SuffixAt t i (b ∷ (bs ++ (34 ∷ more))) → Passes t (string_units t) i (34 ∷ more)
-  escape_then m h b [] more i l e f x = cc
-  escape_then m h b (c ∷ cs) more i l e f x =
+  escape_before_units_is_passed : (m : ℕ) → UnitsPass t m → (b : ℕ) (bs more : List ℕ) (i : ℕ) → length bs ≤ m →
+      b ≡ 92 → is_escape bs ≡ true → SuffixAt t i (b ∷ (bs ++ (34 ∷ more))) → Passes t (string_units t) i (34 ∷ more)
+  escape_before_units_is_passed m h b [] more i l e f x = cc
+  escape_before_units_is_passed m h b (c ∷ cs) more i l e f x =
       elim (or_cases ((c == 92 || c == 34 || c == 123) && is_units zero cs || c == 117 && is_units 4 cs)
       (c == 85 && is_units 6 cs) f) [
         | inl g ↦ elim (or_cases ((c == 92 || c == 34 || c == 123) && is_units zero cs) (c == 117 && is_units 4 cs) g) [
-          | inl p ↦ unit_then x (ap (λ b. b == 34) e)
-              (passes_escape e x
-              (reads_first (left_true (c == 92 || c == 34 || c == 123) (is_units zero cs) p) (passes_two x)))
+          | inl p ↦ unit_before_units_is_passed x (ap (λ b. b == 34) e)
+              (escape_is_passed_as_unit e x
+              (reads_first (left_true (c == 92 || c == 34 || c == 123) (is_units zero cs) p) (two_bytes_pass x)))
               (λ j y. h.passes cs more j (omega arith)
               (right_true (c == 92 || c == 34 || c == 123) (is_units zero cs) p) y)
           | inr p ↦ let s : c ≡ 117 = equal c 117 (left_true (c == 117) (is_units 4 cs) p) in
@@ -144,32 +146,33 @@ module _ {t : List ℕ} where
             (reads_second (ap (λ c. c == 117) s) (reads_first (ap (λ c. c == 85) s) y)))
       ]
 
-  units_more : (m : ℕ) → UnitsPass t m → (b : ℕ) (bs more : List ℕ) (i : ℕ) → length bs ≤ m →
+  units_with_one_more_are_passed : (m : ℕ) → UnitsPass t m → (b : ℕ) (bs more : List ℕ) (i : ℕ) → length bs ≤ m →
       is_units zero (b ∷ bs) ≡ true → SuffixAt t i (b ∷ (bs ++ (34 ∷ more))) → Passes t (string_units t) i (34 ∷ more)
-  units_more m h b bs more i l e x =
+  units_with_one_more_are_passed m h b bs more i l e x =
       elim (or_cases (b == 92 && is_escape bs) (not (b == 92 || b == 34 || b == lf) && is_units zero bs) e) [
-        | inl f ↦ escape_then m h b bs more i l (equal b 92 (left_true (b == 92) (is_escape bs) f))
+        | inl f ↦ escape_before_units_is_passed m h b bs more i l (equal b 92 (left_true (b == 92) (is_escape bs) f))
             (right_true (b == 92) (is_escape bs) f) x
         | inr f ↦ let n =
-            none_of_three (b == 92) (b == 34) (b == lf)
+            none_of_three_is_true (b == 92) (b == 34) (b == lf)
             (left_true (not (b == 92 || b == 34 || b == lf)) (is_units zero bs) f) in
-            unit_then x n.1 (passes_plain n.2 n.0 x)
+            unit_before_units_is_passed x n.1 (plain_byte_is_passed_as_unit n.2 n.0 x)
             (λ j y. h.passes bs more j l (right_true (not (b == 92 || b == 34 || b == lf)) (is_units zero bs) f) y)
       ]
 
-  units_within : (m : ℕ) → (v more : List ℕ) (i : ℕ) → length v ≤ m → is_units zero v ≡ true →
+  units_within_length_are_passed : (m : ℕ) → (v more : List ℕ) (i : ℕ) → length v ≤ m → is_units zero v ≡ true →
       SuffixAt t i (v ++ (34 ∷ more)) → Passes t (string_units t) i (34 ∷ more)
-  units_within m [] more i l e x = passes_quote x
-  units_within zero (b ∷ bs) more i l e x = absurd (omega arith)
-  units_within (suc m) (b ∷ bs) more i l e x =
-      units_more m (record { passes = λ v more i. units_within m v more i }) b bs more i (omega arith) e x
+  units_within_length_are_passed m [] more i l e x = string_units_stop_at_quote x
+  units_within_length_are_passed zero (b ∷ bs) more i l e x = absurd (omega arith)
+  units_within_length_are_passed (suc m) (b ∷ bs) more i l e x =
+      units_with_one_more_are_passed m
+      (record { passes = λ v more i. units_within_length_are_passed m v more i }) b bs more i (omega arith) e x
 
   -- a string in its quotes
-  pub reads_string : {i : ℕ} (v more : List ℕ) → is_string v ≡ true → SuffixAt t i (34 ∷ (v ++ (34 ∷ more))) →
-      Reads t (string_literal t) (bytes_at t) i v more
-  reads_string v more e l =
+  pub string_literal_reads_back_its_bytes : {i : ℕ} (v more : List ℕ) → is_string v ≡ true →
+      SuffixAt t i (34 ∷ (v ++ (34 ∷ more))) → Reads t (string_literal t) (bytes_at t) i v more
+  string_literal_reads_back_its_bytes v more e l =
       passes_then (passes_token 34 refl l)
       (λ j m. reads_here
-      (passes_then (units_within (length v) v more j (omega arith) e m)
-      (λ k n. reads_bind (reads_spanned v (34 ∷ more) m n)
+      (passes_then (units_within_length_are_passed (length v) v more j (omega arith) e m)
+      (λ k n. reads_bind (span_reads_its_bytes v (34 ∷ more) m n)
       (λ s h f o. passes_then (passes_token 34 refl o) (λ q p. reads_yields f p)))))

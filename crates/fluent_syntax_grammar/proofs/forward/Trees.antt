@@ -20,9 +20,10 @@ use Rattle.fluent_syntax_grammar.specs.Rules.{named_arguments_obey, named_obeys,
 use Rattle.fluent_syntax_grammar.specs.Rules.{variant_obeys, key_obeys, option_obeys, elements_obey, pattern_obeys}
 use Rattle.fluent_syntax_grammar.specs.Readable.{are_named_well, is_argument_value, is_expression, is_pattern, defaults}
 use Rattle.fluent_syntax_grammar.specs.Canonical.{canonical_rules, is_flush}
-use Rattle.fluent_syntax_grammar.proofs.Obeys.{inline_part, select_parts}
+use Rattle.fluent_syntax_grammar.proofs.Obeys.{inline_part, parts_of_canonical_select_obey}
 use Rattle.fluent_syntax_grammar.proofs.Facts.{left_true, right_true, equal}
-use Rattle.fluent_syntax_grammar.proofs.forward.Arguments.{InlineReadsBack, ArgumentListReadsBack, nothing_reads_back}
+use Rattle.fluent_syntax_grammar.proofs.forward.Arguments.{InlineReadsBack, ArgumentListReadsBack}
+use Rattle.fluent_syntax_grammar.proofs.forward.Arguments.{empty_argument_list_reads_back}
 use Rattle.fluent_syntax_grammar.proofs.forward.Arguments.{positional_reads_back, named_reads_back}
 use Rattle.fluent_syntax_grammar.proofs.forward.References.{MaybeArgumentsReadBack, string_literal_reads_back}
 use Rattle.fluent_syntax_grammar.proofs.forward.References.{number_literal_reads_back, variable_reference_reads_back}
@@ -31,14 +32,14 @@ use Rattle.fluent_syntax_grammar.proofs.forward.References.{term_reference_reads
 use Rattle.fluent_syntax_grammar.proofs.forward.References.{no_arguments_read_back, some_arguments_read_back}
 use Rattle.fluent_syntax_grammar.proofs.forward.Expressions.{ExpressionReadsBack, inline_expression_reads_back}
 use Rattle.fluent_syntax_grammar.proofs.forward.Expressions.{inline_placeable_reads_back}
-use Rattle.fluent_syntax_grammar.proofs.forward.Expressions.{placeable_reads_back, double_reads_back}
+use Rattle.fluent_syntax_grammar.proofs.forward.Expressions.{placeable_reads_back, double_placeable_reads_back}
 use Rattle.fluent_syntax_grammar.proofs.forward.Selects.{VariantsReadBack, select_reads_back, variants_end_reads_back}
 use Rattle.fluent_syntax_grammar.proofs.forward.Selects.{variant_reads_back, default_reads_back, key_obeys'}
 use Rattle.fluent_syntax_grammar.proofs.forward.OneLine.{ElementReadsBack, ElementsReadBack}
 use Rattle.fluent_syntax_grammar.proofs.forward.OneLinePatterns.{one_line_reads_back}
 use Rattle.fluent_syntax_grammar.proofs.forward.Patterns.{multiline_reads_back}
 use Rattle.fluent_syntax_grammar.proofs.forward.Entries.{PatternReadsBack}
-use Rattle.fluent_syntax_grammar.proofs.Tests.{not_true}
+use Rattle.fluent_syntax_grammar.proofs.Tests.{not_true_is_false}
 
 -- An argument list is read back.
 abbrev ArgumentsReadBack : (edition : Edition) (t : List ℕ) (level : ℕ) → ArgumentsTree Text → Type 0
@@ -52,18 +53,19 @@ module _ (edition : Edition) (t : List ℕ) where
   pattern_by p true e g f h level = multiline_reads_back edition t level p e g f (h (level + 1))
   pattern_by p false e g f h level = one_line_reads_back edition t level p e g (h level)
 
-  select_element : (level : ℕ) (e : InlineTree Text) (vs : VariantTrees Text) →
+  select_reads_back_as_element : (level : ℕ) (e : InlineTree Text) (vs : VariantTrees Text) →
       ExpressionReadsBack edition t level (select e vs) → ElementReadsBack edition t level (select e vs)
-  select_element level e vs h =
+  select_reads_back_as_element level e vs h =
       record { back = λ i tail l. placeable_reads_back edition t level (select e vs) (32 ∷ []) [] tail i refl refl h l }
 
-  double_element : (level : ℕ) (e : ExpressionTree Text) → ExpressionReadsBack edition t level e →
+  placeable_in_placeable_reads_back : (level : ℕ) (e : ExpressionTree Text) → ExpressionReadsBack edition t level e →
       ElementReadsBack edition t level (inline (inline_placeable e))
-  double_element level e h = record { back = λ i tail l. double_reads_back edition t level e i tail h l }
+  placeable_in_placeable_reads_back level e h =
+      record { back = λ i tail l. double_placeable_reads_back edition t level e i tail h l }
 
-  string_element : (level : ℕ) (v : Text) → InlineReadsBack edition t level (string_literal v) →
+  string_reads_back_as_element : (level : ℕ) (v : Text) → InlineReadsBack edition t level (string_literal v) →
       ElementReadsBack edition t level (inline (string_literal v))
-  string_element level v h =
+  string_reads_back_as_element level v h =
       record {
         back =
             λ i tail l. placeable_reads_back edition t level (inline (string_literal v)) (32 ∷ [])
@@ -71,9 +73,9 @@ module _ (edition : Edition) (t : List ℕ) where
             (inline_expression_reads_back edition t level (string_literal v) refl h) l;
       }
 
-  number_element : (level : ℕ) (v : Text) → InlineReadsBack edition t level (number_literal v) →
+  number_reads_back_as_element : (level : ℕ) (v : Text) → InlineReadsBack edition t level (number_literal v) →
       ElementReadsBack edition t level (inline (number_literal v))
-  number_element level v h =
+  number_reads_back_as_element level v h =
       record {
         back =
             λ i tail l. placeable_reads_back edition t level (inline (number_literal v)) (32 ∷ [])
@@ -81,10 +83,10 @@ module _ (edition : Edition) (t : List ℕ) where
             (inline_expression_reads_back edition t level (number_literal v) refl h) l;
       }
 
-  function_element : (level : ℕ) (id : Text) (a : ArgumentsTree Text) →
+  function_reads_back_as_element : (level : ℕ) (id : Text) (a : ArgumentsTree Text) →
       InlineReadsBack edition t level (function_reference id a) →
       ElementReadsBack edition t level (inline (function_reference id a))
-  function_element level id a h =
+  function_reads_back_as_element level id a h =
       record {
         back =
             λ i tail l. placeable_reads_back edition t level (inline (function_reference id a)) (32 ∷ [])
@@ -93,10 +95,10 @@ module _ (edition : Edition) (t : List ℕ) where
             refl (inline_expression_reads_back edition t level (function_reference id a) refl h) l;
       }
 
-  message_element : (level : ℕ) (id : Text) (a : Option Text) →
+  message_reads_back_as_element : (level : ℕ) (id : Text) (a : Option Text) →
       InlineReadsBack edition t level (message_reference id a) →
       ElementReadsBack edition t level (inline (message_reference id a))
-  message_element level id a h =
+  message_reads_back_as_element level id a h =
       record {
         back =
             λ i tail l. placeable_reads_back edition t level (inline (message_reference id a)) (32 ∷ [])
@@ -104,10 +106,10 @@ module _ (edition : Edition) (t : List ℕ) where
             refl (inline_expression_reads_back edition t level (message_reference id a) refl h) l;
       }
 
-  term_element : (level : ℕ) (id : Text) (a : Option Text) (c : MaybeArguments Text) →
+  term_reads_back_as_element : (level : ℕ) (id : Text) (a : Option Text) (c : MaybeArguments Text) →
       is_term_attribute (term_reference id a c) ≡ false → InlineReadsBack edition t level (term_reference id a c) →
       ElementReadsBack edition t level (inline (term_reference id a c))
-  term_element level id a c e h =
+  term_reads_back_as_element level id a c e h =
       record {
         back =
             λ i tail l. placeable_reads_back edition t level (inline (term_reference id a c)) (32 ∷ [])
@@ -116,9 +118,9 @@ module _ (edition : Edition) (t : List ℕ) where
             (inline_expression_reads_back edition t level (term_reference id a c) e h) l;
       }
 
-  variable_element : (level : ℕ) (id : Text) → InlineReadsBack edition t level (variable_reference id) →
+  variable_reads_back_as_element : (level : ℕ) (id : Text) → InlineReadsBack edition t level (variable_reference id) →
       ElementReadsBack edition t level (inline (variable_reference id))
-  variable_element level id h =
+  variable_reads_back_as_element level id h =
       record {
         back =
             λ i tail l. placeable_reads_back edition t level (inline (variable_reference id)) (32 ∷ [])
@@ -128,33 +130,35 @@ module _ (edition : Edition) (t : List ℕ) where
       }
 
   -- what an expression is asked
-  no_attribute : (e : InlineTree Text) → expression_obeys (canonical_rules edition) (inline e) ≡ true →
-      is_term_attribute e ≡ false
-  no_attribute e h =
-      not_true (is_term_attribute e)
+  canonical_inline_is_no_term_attribute : (e : InlineTree Text) →
+      expression_obeys (canonical_rules edition) (inline e) ≡ true → is_term_attribute e ≡ false
+  canonical_inline_is_no_term_attribute e h =
+      not_true_is_false (is_term_attribute e)
       (left_true (not (is_term_attribute e)) true (left_true (not (is_term_attribute e) && true) _ h))
 
-  select_simple : (e : InlineTree Text) (vs : VariantTrees Text) →
+  canonical_selector_has_no_fault : (e : InlineTree Text) (vs : VariantTrees Text) →
       expression_obeys (canonical_rules edition) (select e vs) ≡ true → is_none (selector_fault e) ≡ true
-  select_simple e vs h =
+  canonical_selector_has_no_fault e vs h =
       left_true (is_none (selector_fault e)) (nat_le (defaults vs) 1)
       (left_true (is_expression (select e vs)) (defaults vs == 1)
       (left_true (is_expression (select e vs) && (defaults vs == 1)) _ h))
 
-  select_one : (e : InlineTree Text) (vs : VariantTrees Text) →
+  canonical_select_has_one_default : (e : InlineTree Text) (vs : VariantTrees Text) →
       expression_obeys (canonical_rules edition) (select e vs) ≡ true → defaults vs ≡ 1
-  select_one e vs h =
+  canonical_select_has_one_default e vs h =
       equal (defaults vs) 1
       (right_true (is_expression (select e vs)) (defaults vs == 1)
       (left_true (is_expression (select e vs) && (defaults vs == 1)) _ h))
 
-  pub key_is : (key : KeyTree Text) → key_obeys (canonical_rules edition) key ≡ true → key_obeys' key ≡ true
-  key_is (name_key v) h = h
-  key_is (number_key v) h = h
+  pub canonical_key_obeys_its_form : (key : KeyTree Text) → key_obeys (canonical_rules edition) key ≡ true →
+      key_obeys' key ≡ true
+  canonical_key_obeys_its_form (name_key v) h = h
+  canonical_key_obeys_its_form (number_key v) h = h
 
-  pattern_is : (p : PatternTree Text) (b : Bool) → ((is_pattern edition p && is_flush edition p) && b) ≡ true →
+  canonical_pattern_is_pattern_and_flush : (p : PatternTree Text) (b : Bool) →
+      ((is_pattern edition p && is_flush edition p) && b) ≡ true →
       (is_pattern edition p ≡ true) × (is_flush edition p ≡ true) × (b ≡ true)
-  pattern_is p b h =
+  canonical_pattern_is_pattern_and_flush p b h =
       let c = left_true (is_pattern edition p && is_flush edition p) b h in (
         left_true (is_pattern edition p) (is_flush edition p) c,
         right_true (is_pattern edition p) (is_flush edition p) c,
@@ -167,15 +171,15 @@ module _ (edition : Edition) (t : List ℕ) where
         ExpressionReadsBack edition t level e
     expression_reads_back level (inline e) h =
         inline_expression_reads_back edition t level e
-        (not_true (is_term_attribute e)
+        (not_true_is_false (is_term_attribute e)
         (left_true (not (is_term_attribute e)) true (left_true (not (is_term_attribute e) && true) _ h)))
         (inline_reads_back level e (right_true (not (is_term_attribute e) && true) _ h))
     expression_reads_back level (select e vs) h =
-        select_reads_back edition t level e vs (select_simple e vs h)
+        select_reads_back edition t level e vs (canonical_selector_has_no_fault e vs h)
         (inline_reads_back level e (left_true (inline_obeys (canonical_rules edition) e) _
-        (select_parts edition e vs h)))
-        (one_reads_back (level + 1) vs (select_one e vs h)
-        (right_true (inline_obeys (canonical_rules edition) e) _ (select_parts edition e vs h)))
+        (parts_of_canonical_select_obey edition e vs h)))
+        (variants_with_one_default_read_back (level + 1) vs (canonical_select_has_one_default e vs h)
+        (right_true (inline_obeys (canonical_rules edition) e) _ (parts_of_canonical_select_obey edition e vs h)))
 
     inline_reads_back : (level : ℕ) (e : InlineTree Text) → inline_obeys (canonical_rules edition) e ≡ true →
         InlineReadsBack edition t level e
@@ -183,26 +187,26 @@ module _ (edition : Edition) (t : List ℕ) where
     inline_reads_back level (number_literal v) h = number_literal_reads_back edition t level v h
     inline_reads_back level (function_reference id (arguments ps ns)) h =
         function_reference_reads_back edition t level id ps ns h
-        (list_reads_back level (arguments ps ns) (right_true (list_all is_callee_byte id) _
+        (argument_list_reads_back level (arguments ps ns) (right_true (list_all is_callee_byte id) _
         (right_true (is_name id) _ h)))
     inline_reads_back level (message_reference id a) h = message_reference_reads_back edition t level id a h
     inline_reads_back level (term_reference id a c) h =
         term_reference_reads_back edition t level id a c h
-        (maybe_reads_back level c (right_true (option_obeys is_name a) _ (right_true (is_name id) _ h)))
+        (optional_arguments_read_back level c (right_true (option_obeys is_name a) _ (right_true (is_name id) _ h)))
     inline_reads_back level (variable_reference id) h = variable_reference_reads_back edition t level id h
     inline_reads_back level (inline_placeable e) h =
         inline_placeable_reads_back edition t level e h (expression_reads_back level e h)
 
-    maybe_reads_back : (level : ℕ) (a : MaybeArguments Text) →
+    optional_arguments_read_back : (level : ℕ) (a : MaybeArguments Text) →
         optional_arguments_obey (canonical_rules edition) a ≡ true →
         MaybeArgumentsReadBack edition t level a
-    maybe_reads_back level no_arguments h = no_arguments_read_back edition t level
-    maybe_reads_back level (some_arguments (arguments ps ns)) h =
-        some_arguments_read_back edition t level ps ns (list_reads_back level (arguments ps ns) h)
+    optional_arguments_read_back level no_arguments h = no_arguments_read_back edition t level
+    optional_arguments_read_back level (some_arguments (arguments ps ns)) h =
+        some_arguments_read_back edition t level ps ns (argument_list_reads_back level (arguments ps ns) h)
 
-    list_reads_back : (level : ℕ) (a : ArgumentsTree Text) → arguments_obey (canonical_rules edition) a ≡ true →
-        ArgumentsReadBack edition t level a
-    list_reads_back level (arguments ps ns) h =
+    argument_list_reads_back : (level : ℕ) (a : ArgumentsTree Text) →
+        arguments_obey (canonical_rules edition) a ≡ true → ArgumentsReadBack edition t level a
+    argument_list_reads_back level (arguments ps ns) h =
         let rest = right_true (are_named_well [] ns) _ h in
         positionals_read_back level ps ns (left_true (inlines_obey (canonical_rules edition) ps) _ rest)
         (nameds_read_back level [] ns (left_true (are_named_well [] ns) _ h)
@@ -220,58 +224,59 @@ module _ (edition : Edition) (t : List ℕ) where
     nameds_read_back : (level : ℕ) (names : List Text) (ns : NamedTrees Text) → are_named_well names ns ≡ true →
         named_arguments_obey (canonical_rules edition) ns ≡ true →
         ArgumentListReadsBack edition t level names no_inlines ns
-    nameds_read_back level names no_named g h = nothing_reads_back edition t level names
+    nameds_read_back level names no_named g h = empty_argument_list_reads_back edition t level names
     nameds_read_back level names (nameds (named_argument name e) ns) g h =
         let this = left_true (named_obeys (canonical_rules edition) (named_argument name e)) _ h in
         let more = right_true (not (is_used name names)) _ g in
         named_reads_back edition t level names name e ns (left_true (is_name name) _ this)
         (inline_reads_back level e (right_true (is_name name) _ this))
-        (not_true (is_used name names) (left_true (not (is_used name names)) _ g))
+        (not_true_is_false (is_used name names) (left_true (not (is_used name names)) _ g))
         (left_true (is_argument_value e) _ more)
         (nameds_read_back level (name ∷ names) ns (right_true (is_argument_value e) _ more)
         (right_true (named_obeys (canonical_rules edition) (named_argument name e)) _ h))
 
     -- variants, of which one is the default
-    one_reads_back : (level : ℕ) (vs : VariantTrees Text) → defaults vs ≡ 1 →
+    variants_with_one_default_read_back : (level : ℕ) (vs : VariantTrees Text) → defaults vs ≡ 1 →
         variants_obey (canonical_rules edition) vs ≡ true → VariantsReadBack edition t level false vs
-    one_reads_back level no_variants e h = absurd (omega arith)
-    one_reads_back level (variants (variant key value false) vs) e h =
+    variants_with_one_default_read_back level no_variants e h = absurd (omega arith)
+    variants_with_one_default_read_back level (variants (variant key value false) vs) e h =
         let this = left_true (variant_obeys (canonical_rules edition) (variant key value false)) _ h in
         variant_reads_back edition t level false key value vs
-        (key_is key (left_true (key_obeys (canonical_rules edition) key) _ this))
+        (canonical_key_obeys_its_form key (left_true (key_obeys (canonical_rules edition) key) _ this))
         (pattern_reads_back value (right_true (key_obeys (canonical_rules edition) key) _ this) level)
-        (one_reads_back level vs e (right_true (variant_obeys (canonical_rules edition) (variant key value false)) _ h))
-    one_reads_back level (variants (variant key value true) vs) e h =
+        (variants_with_one_default_read_back level vs e
+        (right_true (variant_obeys (canonical_rules edition) (variant key value false)) _ h))
+    variants_with_one_default_read_back level (variants (variant key value true) vs) e h =
         let this = left_true (variant_obeys (canonical_rules edition) (variant key value true)) _ h in
         default_reads_back edition t level key value vs
-        (key_is key (left_true (key_obeys (canonical_rules edition) key) _ this))
+        (canonical_key_obeys_its_form key (left_true (key_obeys (canonical_rules edition) key) _ this))
         (pattern_reads_back value (right_true (key_obeys (canonical_rules edition) key) _ this) level)
-        (none_reads_back level vs (omega arith)
+        (variants_without_default_read_back level vs (omega arith)
         (right_true (variant_obeys (canonical_rules edition) (variant key value true)) _ h))
 
     -- variants after the default
-    none_reads_back : (level : ℕ) (vs : VariantTrees Text) → defaults vs ≡ 0 →
+    variants_without_default_read_back : (level : ℕ) (vs : VariantTrees Text) → defaults vs ≡ 0 →
         variants_obey (canonical_rules edition) vs ≡ true → VariantsReadBack edition t level true vs
-    none_reads_back level no_variants e h = variants_end_reads_back edition t level
-    none_reads_back level (variants (variant key value false) vs) e h =
+    variants_without_default_read_back level no_variants e h = variants_end_reads_back edition t level
+    variants_without_default_read_back level (variants (variant key value false) vs) e h =
         let this = left_true (variant_obeys (canonical_rules edition) (variant key value false)) _ h in
         variant_reads_back edition t level true key value vs
-        (key_is key (left_true (key_obeys (canonical_rules edition) key) _ this))
+        (canonical_key_obeys_its_form key (left_true (key_obeys (canonical_rules edition) key) _ this))
         (pattern_reads_back value (right_true (key_obeys (canonical_rules edition) key) _ this) level)
-        (none_reads_back level vs e
+        (variants_without_default_read_back level vs e
         (right_true (variant_obeys (canonical_rules edition) (variant key value false)) _ h))
-    none_reads_back level (variants (variant key value true) vs) e h = absurd (omega arith)
+    variants_without_default_read_back level (variants (variant key value true) vs) e h = absurd (omega arith)
 
     -- Every pattern is read back.
     pub pattern_reads_back : (p : PatternTree Text) → pattern_obeys (canonical_rules edition) p ≡ true → (level : ℕ) →
         PatternReadsBack edition t level p
     pattern_reads_back no_elements h level = absurd cc
     pattern_reads_back (elements (text_element v) es) h level =
-        let c = pattern_is (elements (text_element v) es) _ h in
+        let c = canonical_pattern_is_pattern_and_flush (elements (text_element v) es) _ h in
         pattern_by (elements (text_element v) es) (is_multiline (elements (text_element v) es)) refl c.0 c.1
         (λ l. elements_read_back es c.2 l) level
     pattern_reads_back (elements (placeable x) es) h level =
-        let c = pattern_is (elements (placeable x) es) _ h in
+        let c = canonical_pattern_is_pattern_and_flush (elements (placeable x) es) _ h in
         pattern_by (elements (placeable x) es) (is_multiline (elements (placeable x) es)) refl c.0 c.1
         (λ l. (
           element_reads_back x (left_true (expression_obeys (canonical_rules edition) x) _ c.2) l,
@@ -290,34 +295,37 @@ module _ (edition : Edition) (t : List ℕ) where
     element_reads_back : (e : ExpressionTree Text) → expression_obeys (canonical_rules edition) e ≡ true → (level : ℕ) →
         ElementReadsBack edition t level e
     element_reads_back (select e vs) h level =
-        select_element level e vs
-        (select_reads_back edition t level e vs (select_simple e vs h)
+        select_reads_back_as_element level e vs
+        (select_reads_back edition t level e vs (canonical_selector_has_no_fault e vs h)
         (inline_reads_back level e (left_true (inline_obeys (canonical_rules edition) e) _
-        (select_parts edition e vs h)))
-        (one_reads_back (level + 1) vs (select_one e vs h)
-        (right_true (inline_obeys (canonical_rules edition) e) _ (select_parts edition e vs h))))
+        (parts_of_canonical_select_obey edition e vs h)))
+        (variants_with_one_default_read_back (level + 1) vs (canonical_select_has_one_default e vs h)
+        (right_true (inline_obeys (canonical_rules edition) e) _ (parts_of_canonical_select_obey edition e vs h))))
     element_reads_back (inline (string_literal v)) h level =
-        string_element level v (string_literal_reads_back edition t level v (inline_part edition (string_literal v) h))
+        string_reads_back_as_element level v
+        (string_literal_reads_back edition t level v (inline_part edition (string_literal v) h))
     element_reads_back (inline (number_literal v)) h level =
-        number_element level v (number_literal_reads_back edition t level v (inline_part edition (number_literal v) h))
+        number_reads_back_as_element level v
+        (number_literal_reads_back edition t level v (inline_part edition (number_literal v) h))
     element_reads_back (inline (function_reference id (arguments ps ns))) h level =
-        function_element level id (arguments ps ns)
+        function_reads_back_as_element level id (arguments ps ns)
         (function_reference_reads_back edition t level id ps ns
         (inline_part edition (function_reference id (arguments ps ns)) h)
-        (list_reads_back level (arguments ps ns)
+        (argument_list_reads_back level (arguments ps ns)
         (right_true (list_all is_callee_byte id)
         _ (right_true (is_name id) _ (inline_part edition (function_reference id (arguments ps ns)) h)))))
     element_reads_back (inline (message_reference id a)) h level =
-        message_element level id a
+        message_reads_back_as_element level id a
         (message_reference_reads_back edition t level id a (inline_part edition (message_reference id a) h))
     element_reads_back (inline (term_reference id a c)) h level =
-        term_element level id a c (no_attribute (term_reference id a c) h)
+        term_reads_back_as_element level id a c (canonical_inline_is_no_term_attribute (term_reference id a c) h)
         (term_reference_reads_back edition t level id a c (inline_part edition (term_reference id a c) h)
-        (maybe_reads_back level c
+        (optional_arguments_read_back level c
         (right_true (option_obeys is_name a)
         _ (right_true (is_name id) _ (inline_part edition (term_reference id a c) h)))))
     element_reads_back (inline (variable_reference id)) h level =
-        variable_element level id (variable_reference_reads_back edition t level id
+        variable_reads_back_as_element level id (variable_reference_reads_back edition t level id
         (inline_part edition (variable_reference id) h))
     element_reads_back (inline (inline_placeable e)) h level =
-        double_element level e (expression_reads_back level e (inline_part edition (inline_placeable e) h))
+        placeable_in_placeable_reads_back level e
+        (expression_reads_back level e (inline_part edition (inline_placeable e) h))

@@ -9,16 +9,18 @@ use Rattle.fluent_syntax_grammar.specs.Construct.{Construct, ◌>>=◌, yields, 
 use Rattle.fluent_syntax_grammar.specs.Tokens.{optional, digits, identifier, number}
 use Rattle.fluent_syntax_grammar.specs.Spellings.{is_name, is_digits, is_number_rest, is_unsigned, is_number}
 use Rattle.fluent_syntax_grammar.proofs.Facts.{left_true, right_true, equal}
-use Rattle.fluent_syntax_grammar.proofs.Tests.{both_true, or_cases, differ, letter_name}
+use Rattle.fluent_syntax_grammar.proofs.Tests.{both_true, or_cases, differ, letter_is_name_byte}
 use Rattle.fluent_syntax_grammar.proofs.SuffixAt.{SuffixAt, suffix_as, first, suffix_past, suffix_has, suffix_byte_run}
 use Rattle.fluent_syntax_grammar.proofs.forward.Reading.{Reads, Passes, reads_bind, passes_nothing, passes_then}
-use Rattle.fluent_syntax_grammar.proofs.forward.Reading.{reads_here, passes_over, reads_peek, reads_look, reads_first}
-use Rattle.fluent_syntax_grammar.proofs.forward.Reading.{reads_second, reads_present, reads_absent, reads_spanned}
+use Rattle.fluent_syntax_grammar.proofs.forward.Reading.{reads_here, passes_over, reads_peek, look_reads_what_follows}
+use Rattle.fluent_syntax_grammar.proofs.forward.Reading.{reads_first}
+use Rattle.fluent_syntax_grammar.proofs.forward.Reading.{reads_second, present_byte_is_read, reads_absent}
+use Rattle.fluent_syntax_grammar.proofs.forward.Reading.{span_reads_its_bytes}
 
-pub name_bytes : (bs : List ℕ) → is_name bs ≡ true → list_all is_name_byte bs ≡ true
-name_bytes [] e = refl
-name_bytes (b ∷ bs) e =
-    rw (letter_name b (left_true (is_letter b) (list_all is_name_byte bs) e))
+pub name_has_name_bytes : (bs : List ℕ) → is_name bs ≡ true → list_all is_name_byte bs ≡ true
+name_has_name_bytes [] e = refl
+name_has_name_bytes (b ∷ bs) e =
+    rw (letter_is_name_byte b (left_true (is_letter b) (list_all is_name_byte bs) e))
     (right_true (is_letter b) (list_all is_name_byte bs) e)
 
 name_begins_with_letter : (bs ys : List ℕ) → is_name bs ≡ true → holds is_letter (first (bs ++ ys)) ≡ true
@@ -40,8 +42,9 @@ pub record NumberRest (v : List ℕ) : Type 0 where
   pub digits : list_all is_digit whole ≡ true
   pub is : Fraction fraction
 
-rest_digit : (b : ℕ) (bs : List ℕ) → is_digit b ≡ true → NumberRest bs → NumberRest (b ∷ bs)
-rest_digit b bs e r =
+digit_before_number_rest_is_number_rest : (b : ℕ) (bs : List ℕ) → is_digit b ≡ true → NumberRest bs →
+    NumberRest (b ∷ bs)
+digit_before_number_rest_is_number_rest b bs e r =
     record {
       whole = b ∷ r.whole;
       fraction = r.fraction;
@@ -50,76 +53,84 @@ rest_digit b bs e r =
       is = r.is;
     }
 
-rest_point : (b : ℕ) (bs : List ℕ) → b ≡ 46 → is_digits bs ≡ true → NumberRest (b ∷ bs)
-rest_point b bs e f =
+point_and_digits_are_number_rest : (b : ℕ) (bs : List ℕ) → b ≡ 46 → is_digits bs ≡ true → NumberRest (b ∷ bs)
+point_and_digits_are_number_rest b bs e f =
     record { whole = []; fraction = 46 ∷ bs; joins = ap (λ b. b ∷ bs) (sym e); digits = refl; is = point f }
 
 number_rest_has_form : (v : List ℕ) → is_number_rest v ≡ true → NumberRest v
 number_rest_has_form [] e = record { whole = []; fraction = []; joins = refl; digits = refl; is = none }
 number_rest_has_form (b ∷ bs) e = elim (or_cases (is_digit b && is_number_rest bs) (b == 46 && is_digits bs) e) [
-  | inl f ↦ rest_digit b bs (left_true (is_digit b) (is_number_rest bs) f)
+  | inl f ↦ digit_before_number_rest_is_number_rest b bs (left_true (is_digit b) (is_number_rest bs) f)
       (number_rest_has_form bs (right_true (is_digit b) (is_number_rest bs) f))
-  | inr f ↦ rest_point b bs (equal b 46 (left_true (b == 46) (is_digits bs) f)) (right_true (b == 46) (is_digits bs) f)
+  | inr f ↦ point_and_digits_are_number_rest b bs (equal b 46 (left_true (b == 46) (is_digits bs) f))
+      (right_true (b == 46) (is_digits bs) f)
 ]
 
-fraction_begins : (v more : List ℕ) → Fraction v → holds is_digit (first more) ≡ false →
+fraction_begins_with_no_digit : (v more : List ℕ) → Fraction v → holds is_digit (first more) ≡ false →
     holds is_digit (first (v ++ more)) ≡ false
-fraction_begins v more none f = f
-fraction_begins v more (point x) f = refl
+fraction_begins_with_no_digit v more none f = f
+fraction_begins_with_no_digit v more (point x) f = refl
 
 module _ {t : List ℕ} where
   -- a name, before a byte that is in no name
   pub reads_name : {i : ℕ} (name more : List ℕ) → is_name name ≡ true → holds is_name_byte (first more) ≡ false →
       SuffixAt t i (name ++ more) → Reads t (identifier t) (bytes_at t) i name more
   reads_name name more e f l =
-      reads_here (reads_look true (suffix_has is_letter l ∙ name_begins_with_letter name more e)
+      reads_here (look_reads_what_follows true (suffix_has is_letter l ∙ name_begins_with_letter name more e)
       (reads_first refl
-      (reads_bind (passes_over (suffix_byte_run is_name_byte name more (name_bytes name e) f l) (suffix_past name l))
-      (λ u k h n. reads_spanned name more l n))))
+      (reads_bind
+      (passes_over (suffix_byte_run is_name_byte name more (name_has_name_bytes name e) f l) (suffix_past name l))
+      (λ u k h n. span_reads_its_bytes name more l n))))
 
   -- ---- numbers
 
-  passes_digits : {i : ℕ} (ds more : List ℕ) → is_digits ds ≡ true → holds is_digit (first more) ≡ false →
-      SuffixAt t i (ds ++ more) → Passes t (digits t) i more
-  passes_digits [] more e f l = cc
-  passes_digits (d ∷ ds) more e f l =
+  digits_before_other_are_passed : {i : ℕ} (ds more : List ℕ) → is_digits ds ≡ true →
+      holds is_digit (first more) ≡ false → SuffixAt t i (ds ++ more) → Passes t (digits t) i more
+  digits_before_other_are_passed [] more e f l = cc
+  digits_before_other_are_passed (d ∷ ds) more e f l =
       reads_peek true (suffix_has is_digit l ∙ left_true (is_digit d) (list_all is_digit ds) e)
       (reads_first refl (passes_over (suffix_byte_run is_digit (d ∷ ds) more e f l) (suffix_past (d ∷ ds) l)))
 
   -- the fraction of a number, if it has one, and what follows it
-  then_fraction : {B Y : Type 0} {c : Construct B} {r : B → Y} {y : Y} {left : List ℕ} {i : ℕ} (v more : List ℕ) →
-      Fraction v → holds is_digit (first more) ≡ false → holds (λ c. c == 46) (first more) ≡ false →
+  fraction_is_passed_before_rest : {B Y : Type 0} {c : Construct B} {r : B → Y} {y : Y} {left : List ℕ} {i : ℕ}
+      (v more : List ℕ) → Fraction v → holds is_digit (first more) ≡ false → holds (λ c. c == 46) (first more) ≡ false →
       SuffixAt t i (v ++ more) → ((j : ℕ) → SuffixAt t j more → Reads t c r j y left) →
       Reads t (optional t 46 >>= λ p. branch_on p (digits t) (yields tt) >>= λ u. c) r i y left
-  then_fraction v more none f g l k =
+  fraction_is_passed_before_rest v more none f g l k =
       reads_bind (reads_absent 46 g l) (λ p j e m. passes_then (reads_second e (passes_nothing m)) k)
-  then_fraction v more (point {ds = ds} x) f g l k =
-      reads_bind (reads_present 46 refl l) (λ p j e m. passes_then (reads_first e (passes_digits ds more x f m)) k)
+  fraction_is_passed_before_rest v more (point {ds = ds} x) f g l k =
+      reads_bind (present_byte_is_read 46 refl l)
+      (λ p j e m. passes_then (reads_first e (digits_before_other_are_passed ds more x f m)) k)
 
   -- digits and a fraction, and what follows them
-  then_unsigned : {B Y : Type 0} {c : Construct B} {r : B → Y} {y : Y} {left : List ℕ} {i : ℕ} (v more : List ℕ) →
+  unsigned_is_passed_before_rest : {B Y : Type 0} {c : Construct B} {r : B → Y} {y : Y} {left : List ℕ} {i : ℕ}
+      (v more : List ℕ) →
       is_unsigned v ≡ true → holds is_digit (first more) ≡ false → holds (λ c. c == 46) (first more) ≡ false →
       SuffixAt t i (v ++ more) → ((j : ℕ) → SuffixAt t j more → Reads t c r j y left) →
       Reads t (digits t >>= λ d. optional t 46 >>= λ p. branch_on p (digits t) (yields tt) >>= λ u. c) r i y left
-  then_unsigned [] more e f g l k = cc
-  then_unsigned (b ∷ bs) more e f g l k =
+  unsigned_is_passed_before_rest [] more e f g l k = cc
+  unsigned_is_passed_before_rest (b ∷ bs) more e f g l k =
       let r = number_rest_has_form bs (right_true (is_digit b) (is_number_rest bs) e) in
       let parts : (b ∷ r.whole) ++ (r.fraction ++ more) ≡ (b ∷ bs) ++ more =
       ap (λ v. b ∷ v) (sym (append_assoc r.whole r.fraction more) ∙ ap (λ v. v ++ more) r.joins) in
-      passes_then (passes_digits (b ∷ r.whole) (r.fraction ++ more)
-      (both_true (left_true (is_digit b) (is_number_rest bs) e) r.digits) (fraction_begins r.fraction more r.is f)
-      (suffix_as (sym parts) l)) (λ j m. then_fraction r.fraction more r.is f g m k)
+      passes_then (digits_before_other_are_passed (b ∷ r.whole) (r.fraction ++ more)
+      (both_true (left_true (is_digit b) (is_number_rest bs) e) r.digits)
+      (fraction_begins_with_no_digit r.fraction more r.is f)
+      (suffix_as (sym parts) l)) (λ j m. fraction_is_passed_before_rest r.fraction more r.is f g m k)
 
   -- a number, before a byte that is no digit and no point
-  pub reads_number : {i : ℕ} (v more : List ℕ) → is_number v ≡ true → holds is_digit (first more) ≡ false →
+  pub number_reads_back_its_bytes : {i : ℕ} (v more : List ℕ) → is_number v ≡ true →
+      holds is_digit (first more) ≡ false →
       holds (λ c. c == 46) (first more) ≡ false → SuffixAt t i (v ++ more) → Reads t (number t) (bytes_at t) i v more
-  reads_number [] more e f g l = cc
-  reads_number (b ∷ bs) more e f g l = elim (or_cases (b == 45 && is_unsigned bs) (is_unsigned (b ∷ bs)) e) [
-    | inl h ↦ reads_here
-        (reads_bind (reads_present 45 (left_true (b == 45) (is_unsigned bs) h) l)
-        (λ m j n o. then_unsigned bs more (right_true (b == 45) (is_unsigned bs) h) f g o
-        (λ k q. reads_spanned (b ∷ bs) more l q)))
-    | inr h ↦ reads_here
-        (reads_bind (reads_absent 45 (differ is_digit b 45 (left_true (is_digit b) (is_number_rest bs) h) refl) l)
-        (λ m j n o. then_unsigned (b ∷ bs) more h f g o (λ k q. reads_spanned (b ∷ bs) more l q)))
-  ]
+  number_reads_back_its_bytes [] more e f g l = cc
+  number_reads_back_its_bytes (b ∷ bs) more e f g l =
+      elim (or_cases (b == 45 && is_unsigned bs) (is_unsigned (b ∷ bs)) e) [
+        | inl h ↦ reads_here
+            (reads_bind (present_byte_is_read 45 (left_true (b == 45) (is_unsigned bs) h) l)
+            (λ m j n o. unsigned_is_passed_before_rest bs more (right_true (b == 45) (is_unsigned bs) h) f g o
+            (λ k q. span_reads_its_bytes (b ∷ bs) more l q)))
+        | inr h ↦ reads_here
+            (reads_bind (reads_absent 45 (differ is_digit b 45 (left_true (is_digit b) (is_number_rest bs) h) refl) l)
+            (λ m j n o.
+            unsigned_is_passed_before_rest (b ∷ bs) more h f g o (λ k q. span_reads_its_bytes (b ∷ bs) more l q)))
+      ]

@@ -15,9 +15,10 @@ use Rattle.fluent_syntax_grammar.specs.Joined.{joined_message, joined_term, join
 use Rattle.fluent_syntax_grammar.specs.RoundTrip.{ReadsAs, tree_of, WrittenApart, WrittenAgain}
 use Rattle.fluent_syntax_grammar.proofs.Facts.{append_nothing}
 use Rattle.fluent_syntax_grammar.proofs.OneTiling.{same_tilings}
-use Rattle.fluent_syntax_grammar.proofs.JunkAndSpans.{junk_of_errors}
+use Rattle.fluent_syntax_grammar.proofs.JunkAndSpans.{junk_is_where_errors_are}
 use Rattle.fluent_syntax_grammar.proofs.marks.Entries.{written_is_read_back}
-use Rattle.fluent_syntax_grammar.proofs.marks.JoinedTrees.{SameText, same, SameText-append, message_text, term_text}
+use Rattle.fluent_syntax_grammar.proofs.marks.JoinedTrees.{SameText, marks_have_their_own_text, SameText-append}
+use Rattle.fluent_syntax_grammar.proofs.marks.JoinedTrees.{joining_keeps_text_of_message, joining_keeps_text_of_term}
 use Rattle.fluent_syntax_grammar.proofs.marks.JoinedTrees.{joined_reads_back}
 
 -- a text reads as one tree
@@ -35,43 +36,48 @@ serialize_is_injective edition r other h g e =
 -- ---- a body without junk is written as its joined body is
 
 module _ (t : List ℕ) where
-  body_text : (es : BodyTree Span) (follows : Bool) → flat_map junk_slice es ≡ [] →
+  body_without_junk_has_text_of_joined : (es : BodyTree Span) (follows : Bool) → flat_map junk_slice es ≡ [] →
       SameText (body_marks false follows (body_map (bytes_at t) es))
       (body_marks false follows (joined_body (body_map (bytes_at t) es)))
-  body_text [] follows h = same []
-  body_text (message m ∷ es) follows h =
+  body_without_junk_has_text_of_joined [] follows h = marks_have_their_own_text []
+  body_without_junk_has_text_of_joined (message m ∷ es) follows h =
       let n = message_map (bytes_at t) m in
       let rest = body_map (bytes_at t) es in
       SameText-append (message_marks n) (message_marks (joined_message n)) (body_marks false true rest)
-      (body_marks false true (joined_body rest)) (message_text n) (body_text es true h)
-  body_text (term m ∷ es) follows h =
+      (body_marks false true (joined_body rest)) (joining_keeps_text_of_message n)
+      (body_without_junk_has_text_of_joined es true h)
+  body_without_junk_has_text_of_joined (term m ∷ es) follows h =
       let n = term_map (bytes_at t) m in
       let rest = body_map (bytes_at t) es in
       SameText-append (term_marks n) (term_marks (joined_term n)) (body_marks false true rest)
-      (body_marks false true (joined_body rest)) (term_text n) (body_text es true h)
-  body_text (comment level content ∷ es) follows h =
+      (body_marks false true (joined_body rest)) (joining_keeps_text_of_term n)
+      (body_without_junk_has_text_of_joined es true h)
+  body_without_junk_has_text_of_joined (comment level content ∷ es) follows h =
       let lines = free_comment_marks follows (hashes_of level) (map (bytes_at t) content) in
       let rest = body_map (bytes_at t) es in
-      SameText-append lines lines (body_marks false true rest) (body_marks false true (joined_body rest)) (same lines)
-      (body_text es true h)
-  body_text (junk s ∷ es) follows h = absurd cc
+      SameText-append lines lines (body_marks false true rest) (body_marks false true (joined_body rest))
+      (marks_have_their_own_text lines)
+      (body_without_junk_has_text_of_joined es true h)
+  body_without_junk_has_text_of_joined (junk s ∷ es) follows h = absurd cc
 
-  written_joined : (es : BodyTree Span) → flat_map junk_slice es ≡ [] →
+  body_without_junk_is_written_as_joined : (es : BodyTree Span) → flat_map junk_slice es ≡ [] →
       written false (joined_body (body_map (bytes_at t) es)) ≡ written false (body_map (bytes_at t) es)
   unfolding written
-  written_joined es h =
+  body_without_junk_is_written_as_joined es h =
       let xs = body_marks false false (body_map (bytes_at t) es) in
       let ys = body_marks false false (joined_body (body_map (bytes_at t) es)) in
       sym (ap (text_after None) (sym (append_nothing xs))
-      ∙ (body_text es false h None [] ∙ ap (text_after None) (append_nothing ys)))
+      ∙ (body_without_junk_has_text_of_joined es false h None [] ∙ ap (text_after None) (append_nothing ys)))
 
-  no_junk : (tiles : List Tile) → Tiling One t tiles → faults tiles ≡ [] → flat_map junk_slice (body tiles) ≡ []
-  no_junk tiles tiling clean = junk_of_errors One t tiles tiling ∙ ap (map fault_slice) clean
+  faultless_tiles_have_no_junk : (tiles : List Tile) → Tiling One t tiles → faults tiles ≡ [] →
+      flat_map junk_slice (body tiles) ≡ []
+  faultless_tiles_have_no_junk tiles tiling clean =
+      junk_is_where_errors_are One t tiles tiling ∙ ap (map fault_slice) clean
 
   -- What a text is read as is written as a text that reads as its joined tree, and is written so again.
   pub written_again : WrittenAgain t
   written_again tiles tiling canonical = (
     joined_reads_back (tree_of t tiles) canonical,
     written_is_read_back One (joined_body (tree_of t tiles)) false canonical,
-    λ clean. written_joined (body tiles) (no_junk tiles tiling clean),
+    λ clean. body_without_junk_is_written_as_joined (body tiles) (faultless_tiles_have_no_junk tiles tiling clean),
   )

@@ -209,55 +209,60 @@ module _ (edition : Edition) where
 abbrev pub Starting : List Mark → Type 0
 Starting ms = text_after None ms ≡ text_after (Some lf) ms
 
-id_starts : (id : Text) (ms : List Mark) → is_name id ≡ true → Starting (literal 0 id ∷ ms)
-id_starts [] ms h = absurd cc
-id_starts (b ∷ bs) ms h = refl
+marks_of_name_are_starting : (id : Text) (ms : List Mark) → is_name id ≡ true → Starting (literal 0 id ∷ ms)
+marks_of_name_are_starting [] ms h = absurd cc
+marks_of_name_are_starting (b ∷ bs) ms h = refl
 
-comment_starts : (level : Level) (content : List Text) (ms : List Mark) → Starting ms →
+marks_of_comment_are_starting : (level : Level) (content : List Text) (ms : List Mark) → Starting ms →
     Starting (comment_marks (hashes_of level) content ++ ms)
-comment_starts level [] ms s = s
-comment_starts regular (line ∷ lines) ms s = refl
-comment_starts group (line ∷ lines) ms s = refl
-comment_starts resource (line ∷ lines) ms s = refl
+marks_of_comment_are_starting level [] ms s = s
+marks_of_comment_are_starting regular (line ∷ lines) ms s = refl
+marks_of_comment_are_starting group (line ∷ lines) ms s = refl
+marks_of_comment_are_starting resource (line ∷ lines) ms s = refl
 
-own_starts : (content : Option (List Text)) (ms : List Mark) → Starting ms → Starting (own_comment_marks content ++ ms)
-own_starts None ms s = s
-own_starts (Some content) ms s = comment_starts regular content ms s
+marks_of_own_comment_are_starting : (content : Option (List Text)) (ms : List Mark) → Starting ms →
+    Starting (own_comment_marks content ++ ms)
+marks_of_own_comment_are_starting None ms s = s
+marks_of_own_comment_are_starting (Some content) ms s = marks_of_comment_are_starting regular content ms s
 
-starting_as : (xs ys : List Mark) → xs ≡ ys → Starting ys → Starting xs
-starting_as xs ys e s = subst Starting (sym e) s
+equal_marks_are_starting : (xs ys : List Mark) → xs ≡ ys → Starting ys → Starting xs
+equal_marks_are_starting xs ys e s = subst Starting (sym e) s
 
-pub message_starts : (m : MessageTree Text) (ms : List Mark) → is_name m.id ≡ true → Starting (message_marks m ++ ms)
-message_starts m ms h =
+pub marks_of_message_are_starting : (m : MessageTree Text) (ms : List Mark) → is_name m.id ≡ true →
+    Starting (message_marks m ++ ms)
+marks_of_message_are_starting m ms h =
     let fields = literal 0 (codes " =") ∷ (value_marks m.value ++ (attributes_marks m.attributes ++ (line_end ∷ []))) in
-    starting_as _ _ (append_assoc (own_comment_marks m.comment) (literal 0 m.id ∷ fields) ms)
-    (own_starts m.comment (literal 0 m.id ∷ (fields ++ ms)) (id_starts m.id (fields ++ ms) h))
+    equal_marks_are_starting _ _ (append_assoc (own_comment_marks m.comment) (literal 0 m.id ∷ fields) ms)
+    (marks_of_own_comment_are_starting m.comment (literal 0 m.id ∷ (fields ++ ms))
+    (marks_of_name_are_starting m.id (fields ++ ms) h))
 
-pub term_starts : (m : TermTree Text) (ms : List Mark) → Starting (term_marks m ++ ms)
-term_starts m ms =
+pub marks_of_term_are_starting : (m : TermTree Text) (ms : List Mark) → Starting (term_marks m ++ ms)
+marks_of_term_are_starting m ms =
     let fields =
     literal 0 (codes " =") ∷ (pattern_marks 0 m.value ++ (attributes_marks m.attributes ++ (line_end ∷ []))) in
-    starting_as _ _ (append_assoc (own_comment_marks m.comment) (literal 0 (codes "-") ∷ literal 0 m.id ∷ fields) ms)
-    (own_starts m.comment (literal 0 (codes "-") ∷ literal 0 m.id ∷ (fields ++ ms)) refl)
+    equal_marks_are_starting _ _
+    (append_assoc (own_comment_marks m.comment) (literal 0 (codes "-") ∷ literal 0 m.id ∷ fields) ms)
+    (marks_of_own_comment_are_starting m.comment (literal 0 (codes "-") ∷ literal 0 m.id ∷ (fields ++ ms)) refl)
 
-pub free_comment_starts : (level : Level) (content : List Text) (ms : List Mark) →
+pub marks_of_free_comment_are_starting : (level : Level) (content : List Text) (ms : List Mark) →
     Starting (free_comment_marks false (hashes_of level) content ++ ms)
-free_comment_starts level content ms =
-    starting_as _ _ (append_assoc (comment_marks (hashes_of level) content) (line_end ∷ []) ms)
-    (comment_starts level content (line_end ∷ ms) refl)
+marks_of_free_comment_are_starting level content ms =
+    equal_marks_are_starting _ _ (append_assoc (comment_marks (hashes_of level) content) (line_end ∷ []) ms)
+    (marks_of_comment_are_starting level content (line_end ∷ ms) refl)
 
-body_starts : (edition : Edition) (es : BodyTree Text) → body_obeys (canonical_rules edition) es ≡ true →
+marks_of_body_are_starting : (edition : Edition) (es : BodyTree Text) → body_obeys (canonical_rules edition) es ≡ true →
     Starting (body_marks false false es)
-body_starts edition [] h = refl
-body_starts edition (message m ∷ es) h =
+marks_of_body_are_starting edition [] h = refl
+marks_of_body_are_starting edition (message m ∷ es) h =
     let this = left_true (message_obeys (canonical_rules edition) m) _ h in
-    message_starts m (body_marks false true es)
+    marks_of_message_are_starting m (body_marks false true es)
     (left_true (is_name m.id)
     _ (right_true (option_obeys (canonical_rules edition).comment m.comment)
     _ (right_true (has_field m.value m.attributes) _ this)))
-body_starts edition (term m ∷ es) h = term_starts m (body_marks false true es)
-body_starts edition (comment level content ∷ es) h = free_comment_starts level content (body_marks false true es)
-body_starts edition (junk x ∷ es) h = absurd cc
+marks_of_body_are_starting edition (term m ∷ es) h = marks_of_term_are_starting m (body_marks false true es)
+marks_of_body_are_starting edition (comment level content ∷ es) h =
+    marks_of_free_comment_are_starting level content (body_marks false true es)
+marks_of_body_are_starting edition (junk x ∷ es) h = absurd cc
 
 -- ---- the round trip
 
@@ -265,37 +270,41 @@ body_starts edition (junk x ∷ es) h = absurd cc
 canonical_body_is_written : (edition : Edition) (es : BodyTree Text) → is_canonical edition es ≡ true →
     IsWritten es (written false es)
 unfolding written
-canonical_body_is_written edition es h = subst (IsWritten es) (sym (body_starts edition es h))
+canonical_body_is_written edition es h = subst (IsWritten es) (sym (marks_of_body_are_starting edition es h))
     (body_is_written edition es false h)
 
 -- ---- with junk or without
 
-marks_same : (edition : Edition) (es : BodyTree Text) (follows : Bool) →
+marks_with_junk_are_marks_without : (edition : Edition) (es : BodyTree Text) (follows : Bool) →
     body_obeys (canonical_rules edition) es ≡ true → body_marks true follows es ≡ body_marks false follows es
-marks_same edition [] follows h = refl
-marks_same edition (message m ∷ es) follows h =
+marks_with_junk_are_marks_without edition [] follows h = refl
+marks_with_junk_are_marks_without edition (message m ∷ es) follows h =
     ap (λ ms. message_marks m ++ ms)
-    (marks_same edition es true (right_true (message_obeys (canonical_rules edition) m) _ h))
-marks_same edition (term m ∷ es) follows h =
-    ap (λ ms. term_marks m ++ ms) (marks_same edition es true (right_true (term_obeys (canonical_rules edition) m) _ h))
-marks_same edition (comment level content ∷ es) follows h =
+    (marks_with_junk_are_marks_without edition es true (right_true (message_obeys (canonical_rules edition) m) _ h))
+marks_with_junk_are_marks_without edition (term m ∷ es) follows h =
+    ap (λ ms. term_marks m ++ ms)
+    (marks_with_junk_are_marks_without edition es true (right_true (term_obeys (canonical_rules edition) m) _ h))
+marks_with_junk_are_marks_without edition (comment level content ∷ es) follows h =
     ap (λ ms. free_comment_marks follows (hashes_of level) content ++ ms)
-    (marks_same edition es true (right_true (entry_obeys (canonical_rules edition) (comment level content)) _ h))
-marks_same edition (junk x ∷ es) follows h = absurd cc
+    (marks_with_junk_are_marks_without edition es true
+    (right_true (entry_obeys (canonical_rules edition) (comment level content)) _ h))
+marks_with_junk_are_marks_without edition (junk x ∷ es) follows h = absurd cc
 
 -- A canonical body has no junk, so it is written as one text under both options.
 canonical_text_is_same : (edition : Edition) (es : BodyTree Text) → is_canonical edition es ≡ true →
     written true es ≡ written false es
 unfolding written
-canonical_text_is_same edition es h = ap (text_after None) (marks_same edition es false h)
+canonical_text_is_same edition es h = ap (text_after None) (marks_with_junk_are_marks_without edition es false h)
 
 -- A canonical tree is read back from the text that it is written as, under both options.
 pub written_is_read_back : (edition : Edition) (es : BodyTree Text) → ReadsBack edition es
-written_is_read_back edition es with_junk h = by_option with_junk
+written_is_read_back edition es with_junk h = canonical_body_written_either_way_reads_back with_junk
   where
-    plain : ReadsAs edition (written false es) es
-    plain = reads_back edition es (written false es) h (canonical_body_is_written edition es h)
+    canonical_body_written_plain_reads_back : ReadsAs edition (written false es) es
+    canonical_body_written_plain_reads_back =
+        reads_back edition es (written false es) h (canonical_body_is_written edition es h)
 
-    by_option : (with_junk : Bool) → ReadsAs edition (written with_junk es) es
-    by_option false = plain
-    by_option true = subst (λ t. ReadsAs edition t es) (sym (canonical_text_is_same edition es h)) plain
+    canonical_body_written_either_way_reads_back : (with_junk : Bool) → ReadsAs edition (written with_junk es) es
+    canonical_body_written_either_way_reads_back false = canonical_body_written_plain_reads_back
+    canonical_body_written_either_way_reads_back true = subst (λ t. ReadsAs edition t es)
+        (sym (canonical_text_is_same edition es h)) canonical_body_written_plain_reads_back

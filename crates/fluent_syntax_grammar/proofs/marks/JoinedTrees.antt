@@ -34,20 +34,21 @@ use Rattle.fluent_syntax_grammar.specs.RoundTrip.{ReadsBackJoined}
 use Rattle.fluent_syntax_grammar.proofs.Facts.{left_true, right_true, equal, append_nothing}
 use Rattle.fluent_syntax_grammar.proofs.forward.Bodies.{IsWritten, nothing, a_message, a_term, a_comment, reads_back}
 use Rattle.fluent_syntax_grammar.proofs.marks.WrittenBytes.{line_indent}
-use Rattle.fluent_syntax_grammar.proofs.JoinedLines.{multiline_same}
+use Rattle.fluent_syntax_grammar.proofs.JoinedLines.{joining_keeps_is_multiline}
 use Rattle.fluent_syntax_grammar.proofs.marks.LastBytes.{last_append}
-use Rattle.fluent_syntax_grammar.proofs.marks.Words.{literal_after, literal_is_written_at_line}
+use Rattle.fluent_syntax_grammar.proofs.marks.Words.{literal_is_written_off_line_start, literal_is_written_at_line}
 use Rattle.fluent_syntax_grammar.proofs.marks.Entries.{message_is_written, term_is_written, free_comment_is_written}
-use Rattle.fluent_syntax_grammar.proofs.marks.Entries.{Starting, message_starts, term_starts, free_comment_starts}
-use Rattle.fluent_syntax_grammar.proofs.Tests.{not_true}
+use Rattle.fluent_syntax_grammar.proofs.marks.Entries.{Starting, marks_of_message_are_starting}
+use Rattle.fluent_syntax_grammar.proofs.marks.Entries.{marks_of_term_are_starting, marks_of_free_comment_are_starting}
+use Rattle.fluent_syntax_grammar.proofs.Tests.{not_true_is_false}
 
 -- ---- marks that give the same text, whatever comes before and after them
 
 abbrev pub SameText : (xs ys : List Mark) → Type 0
 SameText xs ys = (last : Option ℕ) (ms : List Mark) → text_after last (xs ++ ms) ≡ text_after last (ys ++ ms)
 
-pub same : (xs : List Mark) → SameText xs xs
-same xs last ms = refl
+pub marks_have_their_own_text : (xs : List Mark) → SameText xs xs
+marks_have_their_own_text xs last ms = refl
 
 same_cons : (m : Mark) (xs ys : List Mark) → SameText xs ys → SameText (m ∷ xs) (m ∷ ys)
 same_cons m xs ys h last ms = ap (λ t. mark_text last m ++ t) (h (last_of last (mark_text last m)) ms)
@@ -67,26 +68,29 @@ data SameLists : (xs ys : List (List Mark)) → Type 0 where
   more_lists : {x y : List Mark} {xs ys : List (List Mark)} → SameText x y → SameLists xs ys →
       SameLists (x ∷ xs) (y ∷ ys)
 
-lists_append : (as' bs xs ys : List (List Mark)) → SameLists as' bs → SameLists xs ys → SameLists (as' ++ xs) (bs ++ ys)
-lists_append [] [] xs ys no_lists h = h
-lists_append [] (b ∷ bs) xs ys g h = elim g [ ]
-lists_append (a ∷ as') [] xs ys g h = elim g [ ]
-lists_append (a ∷ as') (b ∷ bs) xs ys (more_lists g gs) h = more_lists g (lists_append as' bs xs ys gs h)
+appended_lists_have_same_texts : (as' bs xs ys : List (List Mark)) → SameLists as' bs → SameLists xs ys →
+    SameLists (as' ++ xs) (bs ++ ys)
+appended_lists_have_same_texts [] [] xs ys no_lists h = h
+appended_lists_have_same_texts [] (b ∷ bs) xs ys g h = elim g [ ]
+appended_lists_have_same_texts (a ∷ as') [] xs ys g h = elim g [ ]
+appended_lists_have_same_texts (a ∷ as') (b ∷ bs) xs ys (more_lists g gs) h =
+    more_lists g (appended_lists_have_same_texts as' bs xs ys gs h)
 
 more_joined_is_same_text : (level : ℕ) (xs ys : List (List Mark)) → SameLists xs ys →
     SameText (more_joined level xs) (more_joined level ys)
-more_joined_is_same_text level [] [] no_lists = same []
+more_joined_is_same_text level [] [] no_lists = marks_have_their_own_text []
 more_joined_is_same_text level [] (y ∷ ys) g = elim g [ ]
 more_joined_is_same_text level (x ∷ xs) [] g = elim g [ ]
 more_joined_is_same_text level (x ∷ xs) (y ∷ ys) (more_lists g gs) =
     same_cons (literal level (codes ", ")) (x ++ more_joined level xs) (y ++ more_joined level ys)
     (SameText-append x y (more_joined level xs) (more_joined level ys) g (more_joined_is_same_text level xs ys gs))
 
-same_joined : (level : ℕ) (xs ys : List (List Mark)) → SameLists xs ys → SameText (joined level xs) (joined level ys)
-same_joined level [] [] no_lists = same []
-same_joined level [] (y ∷ ys) g = elim g [ ]
-same_joined level (x ∷ xs) [] g = elim g [ ]
-same_joined level (x ∷ xs) (y ∷ ys) (more_lists g gs) =
+lists_of_same_texts_join_to_same_text : (level : ℕ) (xs ys : List (List Mark)) → SameLists xs ys →
+    SameText (joined level xs) (joined level ys)
+lists_of_same_texts_join_to_same_text level [] [] no_lists = marks_have_their_own_text []
+lists_of_same_texts_join_to_same_text level [] (y ∷ ys) g = elim g [ ]
+lists_of_same_texts_join_to_same_text level (x ∷ xs) [] g = elim g [ ]
+lists_of_same_texts_join_to_same_text level (x ∷ xs) (y ∷ ys) (more_lists g gs) =
     SameText-append x y (more_joined level xs) (more_joined level ys) g (more_joined_is_same_text level xs ys gs)
 
 -- ---- a text and a lone LF
@@ -94,11 +98,12 @@ same_joined level (x ∷ xs) (y ∷ ys) (more_lists g gs) =
 lone_lf_is_one_lf : (w : Text) → is_lone_lf w ≡ true → w ≡ lf ∷ []
 lone_lf_is_one_lf [] e = cc
 lone_lf_is_one_lf (b ∷ bs) e =
-    lone_at b bs (equal b lf (left_true (b == lf) (is_empty bs) e)) (right_true (b == lf) (is_empty bs) e)
+    lf_before_nothing_is_lone_lf b bs (equal b lf (left_true (b == lf) (is_empty bs) e))
+    (right_true (b == lf) (is_empty bs) e)
   where
-    lone_at : (b : ℕ) (bs : Text) → b ≡ lf → is_empty bs ≡ true → b ∷ bs ≡ lf ∷ []
-    lone_at b [] e f = ap (λ b. b ∷ []) e
-    lone_at b (c ∷ bs) e f = cc
+    lf_before_nothing_is_lone_lf : (b : ℕ) (bs : Text) → b ≡ lf → is_empty bs ≡ true → b ∷ bs ≡ lf ∷ []
+    lf_before_nothing_is_lone_lf b [] e f = ap (λ b. b ∷ []) e
+    lf_before_nothing_is_lone_lf b (c ∷ bs) e f = cc
 
 spaces_end_in_no_lf : (n : ℕ) → is_last lf (last_of (Some space) (replicate n space)) ≡ false
 spaces_end_in_no_lf zero = refl
@@ -128,7 +133,7 @@ two_literals_are_one level (c ∷ v) ms last e =
     let at_line = is_last lf last in
     literal_is_written_at_line last at_line level c v (literal level (lf ∷ []) ∷ ms) refl
     ∙ ap (λ t. line_indent level at_line ++ ((c ∷ v) ++ t))
-    (literal_after (last_of None (c ∷ v)) level (lf ∷ []) ms e)
+    (literal_is_written_off_line_start (last_of None (c ∷ v)) level (lf ∷ []) ms e)
     ∙ ap (λ t. line_indent level at_line ++ t)
     (sym (append_assoc (c ∷ v) (lf ∷ []) (text_after (Some lf) ms))
     ∙ ap (λ o. (c ∷ (v ++ (lf ∷ []))) ++ text_after o ms) (sym (last_append v (Some c) lf [])))
@@ -137,7 +142,7 @@ two_literals_are_one level (c ∷ v) ms last e =
 joined_parts_are_text_and_lf : (v w : Text) → is_joined v w ≡ true → (w ≡ lf ∷ []) × (ends_in_lf v ≡ false)
 joined_parts_are_text_and_lf v w e = (
   lone_lf_is_one_lf w (left_true (is_lone_lf w) (not (ends_in_lf v)) e),
-  not_true (ends_in_lf v) (right_true (is_lone_lf w) (not (ends_in_lf v)) e),
+  not_true_is_false (ends_in_lf v) (right_true (is_lone_lf w) (not (ends_in_lf v)) e),
 )
 
 -- a text, a lone LF and more
@@ -155,25 +160,28 @@ joined_begins_with_same_mark : (v w : Text) → is_joined v w ≡ true → begin
 joined_begins_with_same_mark [] w e = let p = joined_parts_are_text_and_lf [] w e in rw (p.0) refl
 joined_begins_with_same_mark (b ∷ v) w e = refl
 
-after_text_leading : (v w : Text) (es : PatternTree Text) (x : Bool) → is_joined v w ≡ x →
+leading_mark_after_text_is_that_of_text : (v w : Text) (es : PatternTree Text) (x : Bool) → is_joined v w ≡ x →
     has_leading_mark
     (if x then elements (text_element (v ++ w)) (joined_pattern es) else elements (text_element v)
     (joined_after w es)) ≡ begins_with_mark v
-after_text_leading v w es true e = joined_begins_with_same_mark v w e
-after_text_leading v w es false e = refl
+leading_mark_after_text_is_that_of_text v w es true e = joined_begins_with_same_mark v w e
+leading_mark_after_text_is_that_of_text v w es false e = refl
 
-leading_same : (p : PatternTree Text) → has_leading_mark (joined_pattern p) ≡ has_leading_mark p
-leading_same no_elements = refl
-leading_same (elements (placeable e) es) = refl
-leading_same (elements (text_element v) no_elements) = refl
-leading_same (elements (text_element v) (elements (placeable e) es)) = refl
-leading_same (elements (text_element v) (elements (text_element w) es)) = after_text_leading v w es (is_joined v w) refl
+joining_keeps_leading_mark : (p : PatternTree Text) → has_leading_mark (joined_pattern p) ≡ has_leading_mark p
+joining_keeps_leading_mark no_elements = refl
+joining_keeps_leading_mark (elements (placeable e) es) = refl
+joining_keeps_leading_mark (elements (text_element v) no_elements) = refl
+joining_keeps_leading_mark (elements (text_element v) (elements (placeable e) es)) = refl
+joining_keeps_leading_mark (elements (text_element v) (elements (text_element w) es)) =
+    leading_mark_after_text_is_that_of_text v w es (is_joined v w) refl
 
-same_opening_mark : (level : ℕ) (p : PatternTree Text) → opening_mark level (joined_pattern p) ≡ opening_mark level p
-same_opening_mark level p = rw (multiline_same p, leading_same p) refl
+joining_keeps_opening_mark : (level : ℕ) (p : PatternTree Text) →
+    opening_mark level (joined_pattern p) ≡ opening_mark level p
+joining_keeps_opening_mark level p = rw (joining_keeps_is_multiline p, joining_keeps_leading_mark p) refl
 
-same_inner_level : (level : ℕ) (p : PatternTree Text) → inner_level level (joined_pattern p) ≡ inner_level level p
-same_inner_level level p = rw (multiline_same p) refl
+joining_keeps_inner_level : (level : ℕ) (p : PatternTree Text) →
+    inner_level level (joined_pattern p) ≡ inner_level level p
+joining_keeps_inner_level level p = rw (joining_keeps_is_multiline p) refl
 
 -- ---- each node
 
@@ -182,9 +190,10 @@ pattern_is_same_text_by_elements : (level : ℕ) (p : PatternTree Text) →
     SameText (pattern_marks level p) (pattern_marks level (joined_pattern p))
 pattern_is_same_text_by_elements level p h =
     subst (λ m. SameText (pattern_marks level p)
-    (m ∷ elements_marks (inner_level level (joined_pattern p)) (joined_pattern p))) (sym (same_opening_mark level p))
+    (m ∷ elements_marks (inner_level level (joined_pattern p)) (joined_pattern p)))
+    (sym (joining_keeps_opening_mark level p))
     (subst (λ l. SameText (pattern_marks level p) (opening_mark level p ∷ elements_marks l (joined_pattern p)))
-    (sym (same_inner_level level p))
+    (sym (joining_keeps_inner_level level p))
     (same_cons (opening_mark level p) (elements_marks (inner_level level p) p)
     (elements_marks (inner_level level p) (joined_pattern p)) (h (inner_level level p))))
 
@@ -193,7 +202,7 @@ SameText-wrapped : (front close : Mark) (xs ys : List Mark) → SameText xs ys �
     SameText (front ∷ (xs ++ (close ∷ []))) (front ∷ (ys ++ (close ∷ [])))
 SameText-wrapped front close xs ys h =
     same_cons front (xs ++ (close ∷ [])) (ys ++ (close ∷ []))
-    (SameText-append xs ys (close ∷ []) (close ∷ []) h (same (close ∷ [])))
+    (SameText-append xs ys (close ∷ []) (close ∷ []) h (marks_have_their_own_text (close ∷ [])))
 
 joined_after_is_same_text : (level : ℕ) (v w : Text) (es : PatternTree Text) (x : Bool) → is_joined v w ≡ x →
     SameText (elements_marks level es) (elements_marks level (joined_pattern es)) →
@@ -218,11 +227,11 @@ select_is_same level e vs g h =
     (literal level (codes " ->") ∷ line_end ∷ xs) (literal level (codes " ->") ∷ line_end ∷ ys) g
     (same_cons (literal level (codes " ->")) (line_end ∷ xs) (line_end ∷ ys) (same_cons line_end xs ys h))
 
-same_variant : (level : ℕ) (key : KeyTree Text) (value : PatternTree Text) (default : Bool) →
+joining_keeps_text_of_variant : (level : ℕ) (key : KeyTree Text) (value : PatternTree Text) (default : Bool) →
     SameText (pattern_marks level value) (pattern_marks level (joined_pattern value)) →
     SameText (variant_marks level (variant key value default))
     (variant_marks level (variant key (joined_pattern value) default))
-same_variant level key value default h =
+joining_keeps_text_of_variant level key value default h =
     let k = literal level (key_text key) in
     let c = literal level (codes "]") in
     let xs = pattern_marks level value in
@@ -250,121 +259,128 @@ joined_term_reference_is_same_text level id b a h =
     (SameText-prepend (attribute_marks level b) (maybe_marks level a) (maybe_marks level (joined_maybe a)) h))
 
 mutual
-  same_expression : (level : ℕ) (e : ExpressionTree Text) →
+  joining_keeps_text_of_expression : (level : ℕ) (e : ExpressionTree Text) →
       SameText (expression_marks level e) (expression_marks level (joined_expression e))
-  same_expression level (select e vs) = select_is_same level e vs (same_inline level e) (same_variants (level + 1) vs)
-  same_expression level (inline e) = same_inline level e
+  joining_keeps_text_of_expression level (select e vs) =
+      select_is_same level e vs (joining_keeps_text_of_inline level e) (joining_keeps_text_of_variants (level + 1) vs)
+  joining_keeps_text_of_expression level (inline e) = joining_keeps_text_of_inline level e
 
-  same_inline : (level : ℕ) (e : InlineTree Text) →
+  joining_keeps_text_of_inline : (level : ℕ) (e : InlineTree Text) →
       SameText (inline_marks level e) (inline_marks level (joined_inline e))
-  same_inline level (string_literal v) = λ last ms. refl
-  same_inline level (number_literal v) = λ last ms. refl
-  same_inline level (function_reference id a) = joined_function_is_same_text level id a (same_arguments level a)
-  same_inline level (message_reference id a) = λ last ms. refl
-  same_inline level (term_reference id b a) = joined_term_reference_is_same_text level id b a (same_maybe level a)
-  same_inline level (variable_reference id) = λ last ms. refl
-  same_inline level (inline_placeable e) =
+  joining_keeps_text_of_inline level (string_literal v) = λ last ms. refl
+  joining_keeps_text_of_inline level (number_literal v) = λ last ms. refl
+  joining_keeps_text_of_inline level (function_reference id a) =
+      joined_function_is_same_text level id a (joining_keeps_text_of_arguments level a)
+  joining_keeps_text_of_inline level (message_reference id a) = λ last ms. refl
+  joining_keeps_text_of_inline level (term_reference id b a) =
+      joined_term_reference_is_same_text level id b a (joining_keeps_text_of_optional_arguments level a)
+  joining_keeps_text_of_inline level (variable_reference id) = λ last ms. refl
+  joining_keeps_text_of_inline level (inline_placeable e) =
       SameText-wrapped (literal level (codes "{")) (literal level (codes "}")) (expression_marks level e)
-      (expression_marks level (joined_expression e)) (same_expression level e)
+      (expression_marks level (joined_expression e)) (joining_keeps_text_of_expression level e)
 
-  same_maybe : (level : ℕ) (a : MaybeArguments Text) →
+  joining_keeps_text_of_optional_arguments : (level : ℕ) (a : MaybeArguments Text) →
       SameText (maybe_marks level a) (maybe_marks level (joined_maybe a))
-  same_maybe level no_arguments = same []
-  same_maybe level (some_arguments a) = same_arguments level a
+  joining_keeps_text_of_optional_arguments level no_arguments = marks_have_their_own_text []
+  joining_keeps_text_of_optional_arguments level (some_arguments a) = joining_keeps_text_of_arguments level a
 
-  same_arguments : (level : ℕ) (a : ArgumentsTree Text) →
+  joining_keeps_text_of_arguments : (level : ℕ) (a : ArgumentsTree Text) →
       SameText (arguments_marks level a) (arguments_marks level (joined_arguments a))
-  same_arguments level (arguments ps ns) =
+  joining_keeps_text_of_arguments level (arguments ps ns) =
       let xs = positional_marks level ps ++ named_marks level ns in
       let ys = positional_marks level (joined_inlines ps) ++ named_marks level (joined_nameds ns) in
       SameText-wrapped (literal level (codes "(")) (literal level (codes ")")) (joined level xs) (joined level ys)
-      (same_joined level xs ys
-      (lists_append (positional_marks level ps) (positional_marks level (joined_inlines ps))
-      (named_marks level ns) (named_marks level (joined_nameds ns)) (same_inlines level ps)
-      (same_nameds level ns)))
+      (lists_of_same_texts_join_to_same_text level xs ys
+      (appended_lists_have_same_texts (positional_marks level ps) (positional_marks level (joined_inlines ps))
+      (named_marks level ns) (named_marks level (joined_nameds ns)) (joining_keeps_texts_of_positional level ps)
+      (joining_keeps_texts_of_named level ns)))
 
-  same_inlines : (level : ℕ) (ps : InlineTrees Text) →
+  joining_keeps_texts_of_positional : (level : ℕ) (ps : InlineTrees Text) →
       SameLists (positional_marks level ps) (positional_marks level (joined_inlines ps))
-  same_inlines level no_inlines = no_lists
-  same_inlines level (inlines e es) = more_lists (same_inline level e) (same_inlines level es)
+  joining_keeps_texts_of_positional level no_inlines = no_lists
+  joining_keeps_texts_of_positional level (inlines e es) =
+      more_lists (joining_keeps_text_of_inline level e) (joining_keeps_texts_of_positional level es)
 
-  same_nameds : (level : ℕ) (ns : NamedTrees Text) →
+  joining_keeps_texts_of_named : (level : ℕ) (ns : NamedTrees Text) →
       SameLists (named_marks level ns) (named_marks level (joined_nameds ns))
-  same_nameds level no_named = no_lists
-  same_nameds level (nameds n ns) = more_lists (same_named level n) (same_nameds level ns)
+  joining_keeps_texts_of_named level no_named = no_lists
+  joining_keeps_texts_of_named level (nameds n ns) =
+      more_lists (joining_keeps_text_of_named_argument level n) (joining_keeps_texts_of_named level ns)
 
-  same_named : (level : ℕ) (n : NamedTree Text) →
+  joining_keeps_text_of_named_argument : (level : ℕ) (n : NamedTree Text) →
       SameText (argument_marks level n) (argument_marks level (joined_named n))
-  same_named level (named_argument name e) =
+  joining_keeps_text_of_named_argument level (named_argument name e) =
       let xs = inline_marks level e in
       let ys = inline_marks level (joined_inline e) in
       same_cons (literal level name) (literal level (codes ": ") ∷ xs) (literal level (codes ": ") ∷ ys)
-      (same_cons (literal level (codes ": ")) xs ys (same_inline level e))
+      (same_cons (literal level (codes ": ")) xs ys (joining_keeps_text_of_inline level e))
 
-  same_variants : (level : ℕ) (vs : VariantTrees Text) →
+  joining_keeps_text_of_variants : (level : ℕ) (vs : VariantTrees Text) →
       SameText (variants_marks level vs) (variants_marks level (joined_variants vs))
-  same_variants level no_variants = same []
-  same_variants level (variants (variant key value default) vs) =
+  joining_keeps_text_of_variants level no_variants = marks_have_their_own_text []
+  joining_keeps_text_of_variants level (variants (variant key value default) vs) =
       let xs = variants_marks level vs in
       let ys = variants_marks level (joined_variants vs) in
       SameText-append (variant_marks level (variant key value default))
       (variant_marks level (variant key (joined_pattern value) default)) (line_end ∷ xs) (line_end ∷ ys)
-      (same_variant level key value default (pattern_is_same_text_by_elements level value (λ l. same_elements l value)))
-      (same_cons line_end xs ys (same_variants level vs))
+      (joining_keeps_text_of_variant level key value default
+      (pattern_is_same_text_by_elements level value (λ l. joining_keeps_text_of_elements l value)))
+      (same_cons line_end xs ys (joining_keeps_text_of_variants level vs))
 
-  same_elements : (level : ℕ) (p : PatternTree Text) →
+  joining_keeps_text_of_elements : (level : ℕ) (p : PatternTree Text) →
       SameText (elements_marks level p) (elements_marks level (joined_pattern p))
-  same_elements level no_elements = same []
-  same_elements level (elements (placeable e) es) =
+  joining_keeps_text_of_elements level no_elements = marks_have_their_own_text []
+  joining_keeps_text_of_elements level (elements (placeable e) es) =
       SameText-append (element_marks level (placeable e)) (element_marks level (placeable (joined_expression e)))
-      (elements_marks level es) (elements_marks level (joined_pattern es)) (same_placeable level e)
-      (same_elements level es)
-  same_elements level (elements (text_element v) es) = same_after level es v
+      (elements_marks level es) (elements_marks level (joined_pattern es)) (joining_keeps_text_of_placeable level e)
+      (joining_keeps_text_of_elements level es)
+  joining_keeps_text_of_elements level (elements (text_element v) es) = joining_keeps_text_after_text level es v
 
-  same_after : (level : ℕ) (es : PatternTree Text) (v : Text) →
+  joining_keeps_text_after_text : (level : ℕ) (es : PatternTree Text) (v : Text) →
       SameText (literal level v ∷ elements_marks level es) (elements_marks level (joined_after v es))
-  same_after level no_elements v = λ last ms. refl
-  same_after level (elements (placeable e) es) v =
+  joining_keeps_text_after_text level no_elements v = λ last ms. refl
+  joining_keeps_text_after_text level (elements (placeable e) es) v =
       let xs = element_marks level (placeable e) ++ elements_marks level es in
       let ys = element_marks level (placeable (joined_expression e)) ++ elements_marks level (joined_pattern es) in
       same_cons (literal level v) xs ys
       (SameText-append (element_marks level (placeable e)) (element_marks level (placeable (joined_expression e)))
-      (elements_marks level es) (elements_marks level (joined_pattern es)) (same_placeable level e)
-      (same_elements level es))
-  same_after level (elements (text_element w) es) v =
-      joined_after_is_same_text level v w es (is_joined v w) refl (same_elements level es) (same_after level es w)
+      (elements_marks level es) (elements_marks level (joined_pattern es)) (joining_keeps_text_of_placeable level e)
+      (joining_keeps_text_of_elements level es))
+  joining_keeps_text_after_text level (elements (text_element w) es) v =
+      joined_after_is_same_text level v w es (is_joined v w) refl (joining_keeps_text_of_elements level es)
+      (joining_keeps_text_after_text level es w)
 
-  same_placeable : (level : ℕ) (e : ExpressionTree Text) →
+  joining_keeps_text_of_placeable : (level : ℕ) (e : ExpressionTree Text) →
       SameText (element_marks level (placeable e)) (element_marks level (placeable (joined_expression e)))
-  same_placeable level (select e vs) =
+  joining_keeps_text_of_placeable level (select e vs) =
       SameText-wrapped (literal level (codes "{ ")) (literal level (codes "}")) (expression_marks level (select e vs))
       (expression_marks level (joined_expression (select e vs)))
-      (select_is_same level e vs (same_inline level e) (same_variants (level + 1) vs))
-  same_placeable level (inline (string_literal v)) = λ last ms. refl
-  same_placeable level (inline (number_literal v)) = λ last ms. refl
-  same_placeable level (inline (function_reference id a)) =
+      (select_is_same level e vs (joining_keeps_text_of_inline level e) (joining_keeps_text_of_variants (level + 1) vs))
+  joining_keeps_text_of_placeable level (inline (string_literal v)) = λ last ms. refl
+  joining_keeps_text_of_placeable level (inline (number_literal v)) = λ last ms. refl
+  joining_keeps_text_of_placeable level (inline (function_reference id a)) =
       SameText-wrapped (literal level (codes "{ ")) (literal level (codes " }"))
       (inline_marks level (function_reference id a)) (inline_marks level (joined_inline (function_reference id a)))
-      (joined_function_is_same_text level id a (same_arguments level a))
-  same_placeable level (inline (message_reference id a)) = λ last ms. refl
-  same_placeable level (inline (term_reference id b a)) =
+      (joined_function_is_same_text level id a (joining_keeps_text_of_arguments level a))
+  joining_keeps_text_of_placeable level (inline (message_reference id a)) = λ last ms. refl
+  joining_keeps_text_of_placeable level (inline (term_reference id b a)) =
       SameText-wrapped (literal level (codes "{ ")) (literal level (codes " }"))
       (inline_marks level (term_reference id b a)) (inline_marks level (joined_inline (term_reference id b a)))
-      (joined_term_reference_is_same_text level id b a (same_maybe level a))
-  same_placeable level (inline (variable_reference id)) = λ last ms. refl
-  same_placeable level (inline (inline_placeable e)) =
+      (joined_term_reference_is_same_text level id b a (joining_keeps_text_of_optional_arguments level a))
+  joining_keeps_text_of_placeable level (inline (variable_reference id)) = λ last ms. refl
+  joining_keeps_text_of_placeable level (inline (inline_placeable e)) =
       SameText-wrapped (literal level (codes "{{ ")) (literal level (codes " }}")) (expression_marks level e)
-      (expression_marks level (joined_expression e)) (same_expression level e)
+      (expression_marks level (joined_expression e)) (joining_keeps_text_of_expression level e)
 
 -- ---- entries
 
 joined_pattern_is_same_text : (level : ℕ) (p : PatternTree Text) →
     SameText (pattern_marks level p) (pattern_marks level (joined_pattern p))
-joined_pattern_is_same_text level p = pattern_is_same_text_by_elements level p (λ l. same_elements l p)
+joined_pattern_is_same_text level p = pattern_is_same_text_by_elements level p (λ l. joining_keeps_text_of_elements l p)
 
 joined_value_is_same_text : (value : Option (PatternTree Text)) →
     SameText (value_marks value) (value_marks (option_map joined_pattern value))
-joined_value_is_same_text None = same []
+joined_value_is_same_text None = marks_have_their_own_text []
 joined_value_is_same_text (Some p) = joined_pattern_is_same_text 0 p
 
 joined_attribute_is_same_text : (a : AttributeTree Text) →
@@ -380,7 +396,7 @@ joined_attribute_is_same_text a =
 
 joined_attributes_same_text : (more : List (AttributeTree Text)) →
     SameText (attributes_marks more) (attributes_marks (map joined_attribute more))
-joined_attributes_same_text [] = same []
+joined_attributes_same_text [] = marks_have_their_own_text []
 joined_attributes_same_text (a ∷ rest) =
     SameText-append (attribute_line_marks a) (attribute_line_marks (joined_attribute a)) (attributes_marks rest)
     (attributes_marks (map joined_attribute rest)) (joined_attribute_is_same_text a) (joined_attributes_same_text rest)
@@ -393,10 +409,11 @@ joined_fields_are_same_text xs ys more h =
     SameText-append xs ys (attributes_marks more ++ (line_end ∷ []))
     (attributes_marks (map joined_attribute more) ++ (line_end ∷ [])) h
     (SameText-append (attributes_marks more) (attributes_marks (map joined_attribute more)) (line_end ∷ [])
-    (line_end ∷ []) (joined_attributes_same_text more) (same (line_end ∷ [])))
+    (line_end ∷ []) (joined_attributes_same_text more) (marks_have_their_own_text (line_end ∷ [])))
 
-pub message_text : (m : MessageTree Text) → SameText (message_marks m) (message_marks (joined_message m))
-message_text m =
+pub joining_keeps_text_of_message : (m : MessageTree Text) →
+    SameText (message_marks m) (message_marks (joined_message m))
+joining_keeps_text_of_message m =
     let i = literal 0 m.id in
     let q = literal 0 (codes " =") in
     let xs = value_marks m.value ++ (attributes_marks m.attributes ++ (line_end ∷ [])) in
@@ -409,8 +426,8 @@ message_text m =
     (joined_fields_are_same_text (value_marks m.value) (value_marks (option_map joined_pattern m.value)) m.attributes
     (joined_value_is_same_text m.value))))
 
-pub term_text : (m : TermTree Text) → SameText (term_marks m) (term_marks (joined_term m))
-term_text m =
+pub joining_keeps_text_of_term : (m : TermTree Text) → SameText (term_marks m) (term_marks (joined_term m))
+joining_keeps_text_of_term m =
     let d = literal 0 (codes "-") in
     let i = literal 0 m.id in
     let q = literal 0 (codes " =") in
@@ -436,14 +453,14 @@ module _ (edition : Edition) where
       let rest = body_marks false true es in
       let this = left_true (message_obeys (canonical_rules edition) (joined_message m)) _ h in
       subst (IsWritten (joined_body (message m ∷ es)))
-      (sym (message_text m (Some lf) rest ∙ message_is_written edition (joined_message m) rest this))
+      (sym (joining_keeps_text_of_message m (Some lf) rest ∙ message_is_written edition (joined_message m) rest this))
       (a_message (joined_message m) (joined_body es) (text_after (Some lf) rest)
       (joined_is_written es true (right_true (message_obeys (canonical_rules edition) (joined_message m)) _ h)))
   joined_is_written (term m ∷ es) follows h =
       let rest = body_marks false true es in
       let this = left_true (term_obeys (canonical_rules edition) (joined_term m)) _ h in
       subst (IsWritten (joined_body (term m ∷ es)))
-      (sym (term_text m (Some lf) rest ∙ term_is_written edition (joined_term m) rest this))
+      (sym (joining_keeps_text_of_term m (Some lf) rest ∙ term_is_written edition (joined_term m) rest this))
       (a_term (joined_term m) (joined_body es) (text_after (Some lf) rest)
       (joined_is_written es true (right_true (term_obeys (canonical_rules edition) (joined_term m)) _ h)))
   joined_is_written (comment level content ∷ es) follows h =
@@ -454,24 +471,25 @@ module _ (edition : Edition) where
       (joined_is_written es true (right_true (entry_obeys (canonical_rules edition) (comment level content)) _ h)))
   joined_is_written (junk x ∷ es) follows h = joined_is_written es false h
 
-  joined_starts : (es : BodyTree Text) → body_obeys (canonical_rules edition) (joined_body es) ≡ true →
-      Starting (body_marks false false es)
-  joined_starts [] h = refl
-  joined_starts (message m ∷ es) h =
+  marks_start_where_joined_body_obeys : (es : BodyTree Text) →
+      body_obeys (canonical_rules edition) (joined_body es) ≡ true → Starting (body_marks false false es)
+  marks_start_where_joined_body_obeys [] h = refl
+  marks_start_where_joined_body_obeys (message m ∷ es) h =
       let this = left_true (message_obeys (canonical_rules edition) (joined_message m)) _ h in
-      message_starts m (body_marks false true es)
+      marks_of_message_are_starting m (body_marks false true es)
       (left_true (is_name m.id)
       _ (right_true (option_obeys (canonical_rules edition).comment m.comment)
       _ (right_true (has_field (option_map joined_pattern m.value) (map joined_attribute m.attributes))
       _ this)))
-  joined_starts (term m ∷ es) h = term_starts m (body_marks false true es)
-  joined_starts (comment level content ∷ es) h = free_comment_starts level content (body_marks false true es)
-  joined_starts (junk x ∷ es) h = joined_starts es h
+  marks_start_where_joined_body_obeys (term m ∷ es) h = marks_of_term_are_starting m (body_marks false true es)
+  marks_start_where_joined_body_obeys (comment level content ∷ es) h =
+      marks_of_free_comment_are_starting level content (body_marks false true es)
+  marks_start_where_joined_body_obeys (junk x ∷ es) h = marks_start_where_joined_body_obeys es h
 
 joined_body_is_written : (es : BodyTree Text) → is_canonical One (joined_body es) ≡ true →
     IsWritten (joined_body es) (written false es)
 unfolding written
-joined_body_is_written es h = subst (IsWritten (joined_body es)) (sym (joined_starts One es h))
+joined_body_is_written es h = subst (IsWritten (joined_body es)) (sym (marks_start_where_joined_body_obeys One es h))
     (joined_is_written One es false h)
 
 pub joined_reads_back : (es : BodyTree Text) → ReadsBackJoined es

@@ -28,7 +28,7 @@ use Rattle.fluent_syntax_grammar.specs.Readable.{ElementPosition, opening, posit
 use Rattle.fluent_syntax_grammar.specs.Readable.{are_named_well, may_precede, is_pattern, is_text, may_occur_at}
 use Rattle.fluent_syntax_grammar.specs.Readable.{are_elements}
 use Rattle.fluent_syntax_grammar.specs.Canonical.{canonical_rules, is_flush}
-use Rattle.fluent_syntax_grammar.proofs.Obeys.{inline_part, select_parts}
+use Rattle.fluent_syntax_grammar.proofs.Obeys.{inline_part, parts_of_canonical_select_obey}
 use Rattle.fluent_syntax_grammar.proofs.Facts.{left_true, right_true}
 use Rattle.fluent_syntax_grammar.proofs.marks.WrittenBytes.{attribute_bytes, line_indent, opening_byte}
 use Rattle.fluent_syntax_grammar.proofs.marks.WrittenBytes.{expression_bytes, variants_bytes, variant_bytes}
@@ -37,14 +37,16 @@ use Rattle.fluent_syntax_grammar.proofs.marks.WrittenBytes.{positional_bytes, na
 use Rattle.fluent_syntax_grammar.proofs.marks.WrittenBytes.{elements_bytes, element_bytes, pattern_bytes}
 use Rattle.fluent_syntax_grammar.proofs.marks.LastBytes.{Plain, none_is_plain, plain_same, literal_is_written}
 use Rattle.fluent_syntax_grammar.proofs.marks.LastBytes.{literal_is_indented, last_append, ends_plainly_is_plain}
-use Rattle.fluent_syntax_grammar.proofs.marks.Words.{id_plain, number_ends_plain, key_plain, string_last, literal_after}
-use Rattle.fluent_syntax_grammar.proofs.marks.Words.{literal_is_written_at_line, ending, closing_is_written, plain_byte}
-use Rattle.fluent_syntax_grammar.proofs.forward.Trees.{key_is}
+use Rattle.fluent_syntax_grammar.proofs.marks.Words.{id_plain, number_ends_plain, key_ends_in_plain_byte}
+use Rattle.fluent_syntax_grammar.proofs.marks.Words.{string_ends_in_no_lf, literal_is_written_off_line_start}
+use Rattle.fluent_syntax_grammar.proofs.marks.Words.{literal_is_written_at_line, ending, closing_is_written}
+use Rattle.fluent_syntax_grammar.proofs.marks.Words.{byte_but_lf_and_cr_is_plain}
+use Rattle.fluent_syntax_grammar.proofs.forward.Trees.{canonical_key_obeys_its_form}
 
 -- a space, an LF and a CR differ from the byte that these marks end with
 pub after_byte : (b : ℕ) (ms : List Mark) → (b == lf) ≡ false → (b == cr) ≡ false →
     text_after (Some b) ms ≡ text_after None ms
-after_byte b ms e f = plain_same ms (Some b) (plain_byte b e f)
+after_byte b ms e f = plain_same ms (Some b) (byte_but_lf_and_cr_is_plain b e f)
 
 -- ---- what is said of each node
 
@@ -109,12 +111,13 @@ PatternMarks level p =
 
 -- ---- inline expressions
 
-string_marks : (level : ℕ) (v : Text) → is_last lf (last_of (Some 34) v) ≡ false → InlineMarks level (string_literal v)
-string_marks level v e ms =
+string_literal_has_its_marks : (level : ℕ) (v : Text) → is_last lf (last_of (Some 34) v) ≡ false →
+    InlineMarks level (string_literal v)
+string_literal_has_its_marks level v e ms =
     ap (λ x. 34 ∷ x)
-    (literal_after (Some 34) level v (literal level (34 ∷ []) ∷ ms) refl
+    (literal_is_written_off_line_start (Some 34) level v (literal level (34 ∷ []) ∷ ms) refl
     ∙ ap (λ x. v ++ x)
-    (literal_after (last_of (Some 34) v) level (34 ∷ []) ms e ∙ ap (λ o. 34 ∷ text_after o ms) refl
+    (literal_is_written_off_line_start (last_of (Some 34) v) level (34 ∷ []) ms e ∙ ap (λ o. 34 ∷ text_after o ms) refl
     ∙ ap (λ x. 34 ∷ x) (after_byte 34 ms refl refl)))
 
 number_literal_is_written : (level : ℕ) (v : Text) → Plain (last_of None v) → InlineMarks level (number_literal v)
@@ -147,33 +150,35 @@ term_reference_is_written level id a c h g k ms =
     (ap (text_after None) (append_assoc (attribute_marks level a) (maybe_marks level c) ms)
     ∙ attribute_is_written level a (maybe_marks level c ++ ms) g ∙ ap (attribute_bytes a) (k ms)))
 
-variable_marks : (level : ℕ) (id : Text) → is_name id ≡ true → InlineMarks level (variable_reference id)
-variable_marks level id h ms =
+variable_reference_has_its_marks : (level : ℕ) (id : Text) → is_name id ≡ true →
+    InlineMarks level (variable_reference id)
+variable_reference_has_its_marks level id h ms =
     ap (λ x. 36 ∷ x) (after_byte 36 (literal level id ∷ ms) refl refl ∙ literal_is_written level id ms (id_plain id h))
 
-braces_marks : (level : ℕ) (e : ExpressionTree Text) → ExpressionMarks level e → InlineMarks level (inline_placeable e)
-braces_marks level e k ms =
+inline_placeable_has_its_marks : (level : ℕ) (e : ExpressionTree Text) → ExpressionMarks level e →
+    InlineMarks level (inline_placeable e)
+inline_placeable_has_its_marks level e k ms =
     let close = literal level (125 ∷ []) in
     ap (λ x. 123 ∷ x)
     (after_byte 123 ((expression_marks level e ++ (close ∷ [])) ++ ms) refl refl
     ∙ ap (text_after None) (append_assoc (expression_marks level e) (close ∷ []) ms) ∙ k (close ∷ ms)
-    ∙ ap (expression_bytes level e) (closing_is_written level e 125 [] ms (plain_byte 125 refl refl)))
+    ∙ ap (expression_bytes level e) (closing_is_written level e 125 [] ms (byte_but_lf_and_cr_is_plain 125 refl refl)))
 
 -- ---- arguments
 
-more_marks : (level : ℕ) (e : InlineTree Text) (es : InlineTrees Text) → InlineMarks level e → MoreMarks level es →
-    MoreMarks level (inlines e es)
-more_marks level e es h k rest ms =
+more_positional_have_their_marks : (level : ℕ) (e : InlineTree Text) (es : InlineTrees Text) → InlineMarks level e →
+    MoreMarks level es → MoreMarks level (inlines e es)
+more_positional_have_their_marks level e es h k rest ms =
     let more = more_joined level (positional_marks level es ++ rest) in
     ap (λ x. 44 ∷ 32 ∷ x)
     (after_byte 32 ((inline_marks level e ++ more) ++ ms) refl refl
     ∙ ap (text_after None) (append_assoc (inline_marks level e) more ms) ∙ h (more ++ ms)
     ∙ ap (inline_bytes level e) (k rest ms))
 
-named_more : (level : ℕ) (n : NamedTree Text) (ns : NamedTrees Text) → NamedArgumentMarks level n →
+more_named_have_their_marks : (level : ℕ) (n : NamedTree Text) (ns : NamedTrees Text) → NamedArgumentMarks level n →
     NamedMarks level ns →
     NamedMarks level (nameds n ns)
-named_more level n ns h k ms =
+more_named_have_their_marks level n ns h k ms =
     let more = more_joined level (named_marks level ns) in
     ap (λ x. 44 ∷ 32 ∷ x)
     (after_byte 32 ((argument_marks level n ++ more) ++ ms) refl refl
@@ -201,18 +206,19 @@ list_is_written level inside bytes k ms =
 no_arguments_are_written : (level : ℕ) → ArgumentsMarks level (arguments no_inlines no_named)
 no_arguments_are_written level ms = list_is_written level [] (λ x. x) (λ ms. refl) ms
 
-named_first : (level : ℕ) (n : NamedTree Text) (ns : NamedTrees Text) → NamedArgumentMarks level n →
-    NamedMarks level ns →
+arguments_with_named_first_have_marks : (level : ℕ) (n : NamedTree Text) (ns : NamedTrees Text) →
+    NamedArgumentMarks level n → NamedMarks level ns →
     ArgumentsMarks level (arguments no_inlines (nameds n ns))
-named_first level n ns h k ms =
+arguments_with_named_first_have_marks level n ns h k ms =
     let more = more_joined level (named_marks level ns) in
     list_is_written level (argument_marks level n ++ more) (λ x. argument_bytes level n (named_bytes level false ns x))
     (λ ms. ap (text_after None) (append_assoc (argument_marks level n) more ms) ∙ h (more ++ ms)
     ∙ ap (argument_bytes level n) (k ms)) ms
 
-positional_first : (level : ℕ) (e : InlineTree Text) (es : InlineTrees Text) (ns : NamedTrees Text) →
+arguments_with_positional_have_marks : (level : ℕ) (e : InlineTree Text) (es : InlineTrees Text)
+    (ns : NamedTrees Text) →
     InlineMarks level e → MoreMarks level es → NamedMarks level ns → ArgumentsMarks level (arguments (inlines e es) ns)
-positional_first level e es ns h k q ms =
+arguments_with_positional_have_marks level e es ns h k q ms =
     let more = more_joined level (positional_marks level es ++ named_marks level ns) in
     list_is_written level (inline_marks level e ++ more)
     (λ x. inline_bytes level e (positional_bytes level false es (named_bytes level false ns x)))
@@ -249,11 +255,12 @@ variant_is_written : (level : ℕ) (key : KeyTree Text) (value : PatternTree Tex
     ≡ variant_bytes level (variant key value default) (text_after None ms)
 variant_is_written level key value false ms p k =
     let rest = literal level (key_text key) ∷ literal level (codes "]") ∷ (pattern_marks level value ++ ms) in
-    literal_is_indented level 91 [] rest (plain_byte 91 refl refl)
-    ∙ ap (λ x. indent level ++ x) (bracket_same rest ∙ bracket_is_written level key value ms p k)
+    literal_is_indented level 91 [] rest (byte_but_lf_and_cr_is_plain 91 refl refl)
+    ∙ ap (λ x. indent level ++ x) (bracket_is_written_as_literal rest ∙ bracket_is_written level key value ms p k)
   where
-    bracket_same : (rest : List Mark) → 91 ∷ text_after None rest ≡ text_after None (literal level (91 ∷ []) ∷ rest)
-    bracket_same rest = ap (λ x. 91 ∷ x) (sym (after_byte 91 rest refl refl))
+    bracket_is_written_as_literal : (rest : List Mark) →
+        91 ∷ text_after None rest ≡ text_after None (literal level (91 ∷ []) ∷ rest)
+    bracket_is_written_as_literal rest = ap (λ x. 91 ∷ x) (sym (after_byte 91 rest refl refl))
 variant_is_written level key value true ms p k =
     let rest =
     literal level (codes "[") ∷ literal level (key_text key) ∷ literal level (codes "]") ∷
@@ -262,10 +269,10 @@ variant_is_written level key value true ms p k =
     ∙ append_assoc (star_indent level) (42 ∷ []) (text_after (Some 42) rest)
     ∙ ap (λ x. star_indent level ++ (42 ∷ x)) (after_byte 42 rest refl refl ∙ bracket_is_written level key value ms p k)
 
-variants_more : (level : ℕ) (key : KeyTree Text) (value : PatternTree Text) (default : Bool) (vs : VariantTrees Text) →
-    Plain (last_of None (key_text key)) → PatternMarks level value → VariantsMarks level vs →
+more_variants_have_their_marks : (level : ℕ) (key : KeyTree Text) (value : PatternTree Text) (default : Bool)
+    (vs : VariantTrees Text) → Plain (last_of None (key_text key)) → PatternMarks level value → VariantsMarks level vs →
     VariantsMarks level (variants (variant key value default) vs)
-variants_more level key value default vs p k h ms =
+more_variants_have_their_marks level key value default vs p k h ms =
     let v = variant key value default in
     ap (text_after (Some lf)) (append_assoc (variant_marks level v) (line_end ∷ variants_marks level vs) ms)
     ∙ variant_is_written level key value default (line_end ∷ (variants_marks level vs ++ ms)) p k
@@ -273,9 +280,9 @@ variants_more level key value default vs p k h ms =
 
 -- ---- elements
 
-select_element : (level : ℕ) (e : InlineTree Text) (vs : VariantTrees Text) → ExpressionMarks level (select e vs) →
-    PlaceableMarks level (select e vs)
-select_element level e vs k last at_line ms s =
+select_in_placeable_has_its_marks : (level : ℕ) (e : InlineTree Text) (vs : VariantTrees Text) →
+    ExpressionMarks level (select e vs) → PlaceableMarks level (select e vs)
+select_in_placeable_has_its_marks level e vs k last at_line ms s =
     let x = expression_marks level (select e vs) in
     let close = literal level (125 ∷ []) in
     literal_is_written_at_line last at_line level 123 (32 ∷ []) ((x ++ (close ∷ [])) ++ ms) s
@@ -283,7 +290,7 @@ select_element level e vs k last at_line ms s =
     (after_byte 32 ((x ++ (close ∷ [])) ++ ms) refl refl ∙ ap (text_after None) (append_assoc x (close ∷ []) ms)
     ∙ k (close ∷ ms)
     ∙ ap (expression_bytes level (select e vs)) (closing_is_written level (select e vs) 125 [] ms
-    (plain_byte 125 refl refl)))
+    (byte_but_lf_and_cr_is_plain 125 refl refl)))
 
 double_placeable_is_written : (level : ℕ) (e : ExpressionTree Text) → ExpressionMarks level e →
     PlaceableMarks level (inline (inline_placeable e))
@@ -294,15 +301,16 @@ double_placeable_is_written level e k last at_line ms s =
     ∙ ap (λ y. line_indent level at_line ++ (123 ∷ 123 ∷ 32 ∷ y))
     (after_byte 32 ((x ++ (close ∷ [])) ++ ms) refl refl ∙ ap (text_after None) (append_assoc x (close ∷ []) ms)
     ∙ k (close ∷ ms)
-    ∙ ap (expression_bytes level e) (closing_is_written level e 32 (125 ∷ 125 ∷ []) ms (plain_byte 125 refl refl)))
+    ∙ ap (expression_bytes level e)
+    (closing_is_written level e 32 (125 ∷ 125 ∷ []) ms (byte_but_lf_and_cr_is_plain 125 refl refl)))
 
 -- any other inline expression between its braces
-spaced : (level : ℕ) (e : InlineTree Text) → InlineMarks level e → (last : Option ℕ) (at_line : Bool) (ms : List Mark) →
-    is_last lf last ≡ at_line →
+inline_in_spaced_braces_is_written : (level : ℕ) (e : InlineTree Text) → InlineMarks level e →
+    (last : Option ℕ) (at_line : Bool) (ms : List Mark) → is_last lf last ≡ at_line →
     text_after last
     (literal level (123 ∷ 32 ∷ []) ∷ ((inline_marks level e ++ (literal level (32 ∷ 125 ∷ []) ∷ [])) ++ ms))
     ≡ line_indent level at_line ++ (123 ∷ 32 ∷ inline_bytes level e (32 ∷ 125 ∷ text_after None ms))
-spaced level e k last at_line ms s =
+inline_in_spaced_braces_is_written level e k last at_line ms s =
     let x = inline_marks level e in
     let close = literal level (32 ∷ 125 ∷ []) in
     literal_is_written_at_line last at_line level 123 (32 ∷ []) ((x ++ (close ∷ [])) ++ ms) s
@@ -327,11 +335,11 @@ placeable_element_is_written level x es h k last at_line ms s d =
     ap (text_after last) (append_assoc (element_marks level (placeable x)) (elements_marks level es) ms)
     ∙ h last at_line (elements_marks level es ++ ms) s
     ∙ ap (λ y. line_indent level at_line ++ element_bytes level (placeable x) y)
-    (k None false ms refl (none_closed es))
+    (k None false ms refl (elements_are_closed_at_none es))
   where
-    none_closed : (es : PatternTree Text) → Closed es None
-    none_closed no_elements = none_is_plain
-    none_closed (elements e es) = tt
+    elements_are_closed_at_none : (es : PatternTree Text) → Closed es None
+    elements_are_closed_at_none no_elements = none_is_plain
+    elements_are_closed_at_none (elements e es) = tt
 
 preceding_text_is_closed : (v : Text) (es : PatternTree Text) → may_precede v es ≡ true → Closed es (last_of None v)
 preceding_text_is_closed v no_elements e = ends_plainly_is_plain v e
@@ -359,10 +367,11 @@ pattern_is_written level e es k ms =
     (opening_is_lf_exactly (opens_line p)) tt)
 
 module _ (edition : Edition) where
-  elements_rest : (multiline : Bool) (s : ElementPosition) (b : ℕ) (bs : Text) (es : PatternTree Text) →
+  elements_after_text_are_as_they_were : (multiline : Bool) (s : ElementPosition) (b : ℕ) (bs : Text)
+      (es : PatternTree Text) →
       are_elements edition multiline s (elements (text_element (b ∷ bs)) es) ≡ true → (may_precede (b ∷ bs) es ≡ true) ×
       (are_elements edition multiline (position_after (b ∷ bs)) es ≡ true)
-  elements_rest multiline s b bs es g =
+  elements_after_text_are_as_they_were multiline s b bs es g =
       let m = right_true (may_occur_at edition multiline s (b ∷ bs) es) _ (right_true (is_text (b ∷ bs)) _ g) in
       (left_true (may_precede (b ∷ bs) es) _ m, right_true (may_precede (b ∷ bs) es) _ m)
 
@@ -373,13 +382,13 @@ module _ (edition : Edition) where
     expression_is_written level (select e vs) h =
         select_is_written level e vs
         (inline_is_written level e (left_true (inline_obeys (canonical_rules edition) e) _
-        (select_parts edition e vs h)))
+        (parts_of_canonical_select_obey edition e vs h)))
         (variants_are_written (level + 1) vs
-        (right_true (inline_obeys (canonical_rules edition) e) _ (select_parts edition e vs h)))
+        (right_true (inline_obeys (canonical_rules edition) e) _ (parts_of_canonical_select_obey edition e vs h)))
 
     inline_is_written : (level : ℕ) (e : InlineTree Text) → inline_obeys (canonical_rules edition) e ≡ true →
         InlineMarks level e
-    inline_is_written level (string_literal v) h = string_marks level v (string_last v h)
+    inline_is_written level (string_literal v) h = string_literal_has_its_marks level v (string_ends_in_no_lf v h)
     inline_is_written level (number_literal v) h = number_literal_is_written level v (number_ends_plain v h)
     inline_is_written level (function_reference id a) h =
         function_is_written level id a (left_true (is_name id) _ h)
@@ -390,8 +399,9 @@ module _ (edition : Edition) where
         term_reference_is_written level id a c (left_true (is_name id) _ h)
         (left_true (option_obeys is_name a) _ (right_true (is_name id) _ h))
         (optional_arguments_are_written level c (right_true (option_obeys is_name a) _ (right_true (is_name id) _ h)))
-    inline_is_written level (variable_reference id) h = variable_marks level id h
-    inline_is_written level (inline_placeable e) h = braces_marks level e (expression_is_written level e h)
+    inline_is_written level (variable_reference id) h = variable_reference_has_its_marks level id h
+    inline_is_written level (inline_placeable e) h =
+        inline_placeable_has_its_marks level e (expression_is_written level e h)
 
     optional_arguments_are_written : (level : ℕ) (a : MaybeArguments Text) → optional_arguments_obey
         (canonical_rules edition) a ≡ true →
@@ -404,13 +414,15 @@ module _ (edition : Edition) where
     arguments_are_written level (arguments no_inlines no_named) h = no_arguments_are_written level
     arguments_are_written level (arguments no_inlines (nameds n ns)) h =
         let rest = right_true (are_named_well [] (nameds n ns)) _ h in
-        named_first level n ns (named_argument_is_written level n (left_true (named_obeys (canonical_rules edition) n) _
+        arguments_with_named_first_have_marks level n ns
+        (named_argument_is_written level n (left_true (named_obeys (canonical_rules edition) n) _
         rest))
         (named_arguments_are_written level ns (right_true (named_obeys (canonical_rules edition) n) _ rest))
     arguments_are_written level (arguments (inlines e es) ns) h =
         let rest = right_true (are_named_well [] ns) _ h in
         let ps = left_true (inlines_obey (canonical_rules edition) (inlines e es)) _ rest in
-        positional_first level e es ns (inline_is_written level e (left_true (inline_obeys (canonical_rules edition) e)
+        arguments_with_positional_have_marks level e es ns
+        (inline_is_written level e (left_true (inline_obeys (canonical_rules edition) e)
         _ ps))
         (inlines_are_written level es (right_true (inline_obeys (canonical_rules edition) e) _ ps))
         (named_arguments_are_written level ns (right_true (inlines_obey (canonical_rules edition) (inlines e es)) _
@@ -420,7 +432,8 @@ module _ (edition : Edition) where
         MoreMarks level es
     inlines_are_written level no_inlines h = λ rest ms. refl
     inlines_are_written level (inlines e es) h =
-        more_marks level e es (inline_is_written level e (left_true (inline_obeys (canonical_rules edition) e) _ h))
+        more_positional_have_their_marks level e es
+        (inline_is_written level e (left_true (inline_obeys (canonical_rules edition) e) _ h))
         (inlines_are_written level es (right_true (inline_obeys (canonical_rules edition) e) _ h))
 
     named_arguments_are_written : (level : ℕ) (ns : NamedTrees Text) → named_arguments_obey (canonical_rules edition) ns
@@ -428,7 +441,8 @@ module _ (edition : Edition) where
         NamedMarks level ns
     named_arguments_are_written level no_named h = λ ms. refl
     named_arguments_are_written level (nameds n ns) h =
-        named_more level n ns (named_argument_is_written level n (left_true (named_obeys (canonical_rules edition) n) _
+        more_named_have_their_marks level n ns
+        (named_argument_is_written level n (left_true (named_obeys (canonical_rules edition) n) _
         h))
         (named_arguments_are_written level ns (right_true (named_obeys (canonical_rules edition) n) _ h))
 
@@ -443,8 +457,9 @@ module _ (edition : Edition) where
     variants_are_written level no_variants h = λ ms. refl
     variants_are_written level (variants (variant key value default) vs) h =
         let this = left_true (variant_obeys (canonical_rules edition) (variant key value default)) _ h in
-        variants_more level key value default vs
-        (key_plain key (key_is edition [] key (left_true (key_obeys (canonical_rules edition) key) _ this)))
+        more_variants_have_their_marks level key value default vs
+        (key_ends_in_plain_byte key
+        (canonical_key_obeys_its_form edition [] key (left_true (key_obeys (canonical_rules edition) key) _ this)))
         (whole_pattern_is_written level value (right_true (key_obeys (canonical_rules edition) key) _ this))
         (variants_are_written level vs
         (right_true (variant_obeys (canonical_rules edition) (variant key value default)) _ h))
@@ -470,7 +485,7 @@ module _ (edition : Edition) where
         left_true (is_pattern edition p) (is_flush edition p)
         (left_true (is_pattern edition p && is_flush edition p) _ h) in
         let rest = right_true (is_pattern edition p && is_flush edition p) _ h in
-        let more = elements_rest (is_multiline p) opening b bs es are in
+        let more = elements_after_text_are_as_they_were (is_multiline p) opening b bs es are in
         pattern_is_written level (text_element (b ∷ bs)) es
         (λ l. text_element_is_written l b bs es (preceding_text_is_closed (b ∷ bs) es more.0)
         (elements_are_written l es (is_multiline p) (position_after (b ∷ bs)) more.1 rest))
@@ -486,41 +501,42 @@ module _ (edition : Edition) where
         (right_true (expression_obeys (canonical_rules edition) x) _ h))
     elements_are_written level (elements (text_element []) es) multiline s g h = absurd cc
     elements_are_written level (elements (text_element (b ∷ bs)) es) multiline s g h =
-        let more = elements_rest multiline s b bs es g in
+        let more = elements_after_text_are_as_they_were multiline s b bs es g in
         text_element_is_written level b bs es (preceding_text_is_closed (b ∷ bs) es more.0)
         (elements_are_written level es multiline (position_after (b ∷ bs)) more.1 h)
 
     placeable_is_written : (level : ℕ) (x : ExpressionTree Text) → expression_obeys (canonical_rules edition) x ≡ true →
         PlaceableMarks level x
     placeable_is_written level (select e vs) h =
-        select_element level e vs
+        select_in_placeable_has_its_marks level e vs
         (select_is_written level e vs
         (inline_is_written level e (left_true (inline_obeys (canonical_rules edition) e) _
-        (select_parts edition e vs h)))
+        (parts_of_canonical_select_obey edition e vs h)))
         (variants_are_written (level + 1) vs
-        (right_true (inline_obeys (canonical_rules edition) e) _ (select_parts edition e vs h))))
+        (right_true (inline_obeys (canonical_rules edition) e) _ (parts_of_canonical_select_obey edition e vs h))))
     placeable_is_written level (inline (string_literal v)) h =
-        spaced level (string_literal v)
-        (string_marks level v (string_last v (inline_part edition (string_literal v) h)))
+        inline_in_spaced_braces_is_written level (string_literal v)
+        (string_literal_has_its_marks level v (string_ends_in_no_lf v (inline_part edition (string_literal v) h)))
     placeable_is_written level (inline (number_literal v)) h =
-        spaced level (number_literal v)
+        inline_in_spaced_braces_is_written level (number_literal v)
         (number_literal_is_written level v (number_ends_plain v (inline_part edition (number_literal v) h)))
     placeable_is_written level (inline (function_reference id a)) h =
         let i = inline_part edition (function_reference id a) h in
-        spaced level (function_reference id a)
+        inline_in_spaced_braces_is_written level (function_reference id a)
         (function_is_written level id a (left_true (is_name id) _ i)
         (arguments_are_written level a (right_true (list_all is_callee_byte id) _ (right_true (is_name id) _ i))))
     placeable_is_written level (inline (message_reference id a)) h =
         let i = inline_part edition (message_reference id a) h in
-        spaced level (message_reference id a)
+        inline_in_spaced_braces_is_written level (message_reference id a)
         (reference_is_written level id a (left_true (is_name id) _ i) (right_true (is_name id) _ i))
     placeable_is_written level (inline (term_reference id a c)) h =
         let i = inline_part edition (term_reference id a c) h in
-        spaced level (term_reference id a c)
+        inline_in_spaced_braces_is_written level (term_reference id a c)
         (term_reference_is_written level id a c (left_true (is_name id) _ i)
         (left_true (option_obeys is_name a) _ (right_true (is_name id) _ i))
         (optional_arguments_are_written level c (right_true (option_obeys is_name a) _ (right_true (is_name id) _ i))))
     placeable_is_written level (inline (variable_reference id)) h =
-        spaced level (variable_reference id) (variable_marks level id (inline_part edition (variable_reference id) h))
+        inline_in_spaced_braces_is_written level (variable_reference id)
+        (variable_reference_has_its_marks level id (inline_part edition (variable_reference id) h))
     placeable_is_written level (inline (inline_placeable e)) h =
         double_placeable_is_written level e (expression_is_written level e (inline_part edition (inline_placeable e) h))

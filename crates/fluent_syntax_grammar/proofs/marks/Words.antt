@@ -12,8 +12,8 @@ use Rattle.fluent_syntax_grammar.specs.Spellings.{is_name, is_digits, is_number_
 use Rattle.fluent_syntax_grammar.specs.Spellings.{is_escape, is_string}
 use Rattle.fluent_syntax_grammar.proofs.Facts.{left_true, right_true}
 use Rattle.fluent_syntax_grammar.proofs.Tests.{both_true, or_cases, differ}
-use Rattle.fluent_syntax_grammar.proofs.forward.Words.{name_bytes}
-use Rattle.fluent_syntax_grammar.proofs.forward.Strings.{none_of_three}
+use Rattle.fluent_syntax_grammar.proofs.forward.Words.{name_has_name_bytes}
+use Rattle.fluent_syntax_grammar.proofs.forward.Strings.{none_of_three_is_true}
 use Rattle.fluent_syntax_grammar.proofs.forward.Selects.{key_obeys'}
 use Rattle.fluent_syntax_grammar.proofs.marks.WrittenBytes.{line_indent, closing_indent}
 use Rattle.fluent_syntax_grammar.proofs.marks.LastBytes.{Plain, none_is_plain, literal_is_written, literal_is_indented}
@@ -28,9 +28,10 @@ last_is_plain p n m [] c e f = record { no_lf = differ p c lf e n; no_cr = diffe
 last_is_plain p n m (b ∷ bs) c e f =
     last_is_plain p n m bs b (left_true (p b) (list_all p bs) f) (right_true (p b) (list_all p bs) f)
 
-all_plain : (p : ℕ → Bool) → p lf ≡ false → p cr ≡ false → (bs : Text) → list_all p bs ≡ true → Plain (last_of None bs)
-all_plain p n m [] e = none_is_plain
-all_plain p n m (b ∷ bs) e =
+bytes_of_plain_set_end_plainly : (p : ℕ → Bool) → p lf ≡ false → p cr ≡ false → (bs : Text) → list_all p bs ≡ true →
+    Plain (last_of None bs)
+bytes_of_plain_set_end_plainly p n m [] e = none_is_plain
+bytes_of_plain_set_end_plainly p n m (b ∷ bs) e =
     last_is_plain p n m bs b (left_true (p b) (list_all p bs) e) (right_true (p b) (list_all p bs) e)
 
 -- a byte of a number
@@ -75,14 +76,14 @@ number_has_number_bytes (b ∷ v) e = elim (or_cases (b == 45 && is_unsigned v) 
 ]
 
 pub number_ends_plain : (v : Text) → is_number v ≡ true → Plain (last_of None v)
-number_ends_plain v e = all_plain is_number_byte refl refl v (number_has_number_bytes v e)
+number_ends_plain v e = bytes_of_plain_set_end_plainly is_number_byte refl refl v (number_has_number_bytes v e)
 
 pub id_plain : (v : Text) → is_name v ≡ true → Plain (last_of None v)
-id_plain v e = name_bytes_are_plain v (name_bytes v e)
+id_plain v e = name_bytes_are_plain v (name_has_name_bytes v e)
 
-pub key_plain : (key : KeyTree Text) → key_obeys' key ≡ true → Plain (last_of None (key_text key))
-key_plain (name_key v) e = id_plain v e
-key_plain (number_key v) e = number_ends_plain v e
+pub key_ends_in_plain_byte : (key : KeyTree Text) → key_obeys' key ≡ true → Plain (last_of None (key_text key))
+key_ends_in_plain_byte (name_key v) e = id_plain v e
+key_ends_in_plain_byte (number_key v) e = number_ends_plain v e
 
 -- ---- a string holds no LF
 
@@ -90,52 +91,54 @@ has_lf-cons : (b : ℕ) (bs : Text) → (b == lf) ≡ false → has_lf bs ≡ fa
 has_lf-cons b bs e f = rw (e, f) refl
 
 mutual
-  units_no_lf : (v : Text) (n : ℕ) → is_units n v ≡ true → has_lf v ≡ false
-  units_no_lf [] n e = refl
-  units_no_lf (b ∷ bs) (suc n) e =
+  string_units_have_no_lf : (v : Text) (n : ℕ) → is_units n v ≡ true → has_lf v ≡ false
+  string_units_have_no_lf [] n e = refl
+  string_units_have_no_lf (b ∷ bs) (suc n) e =
       has_lf-cons b bs (differ is_ascii_hexdigit b lf (left_true (is_ascii_hexdigit b) (is_units n bs) e) refl)
-      (units_no_lf bs n (right_true (is_ascii_hexdigit b) (is_units n bs) e))
-  units_no_lf (b ∷ bs) zero e =
+      (string_units_have_no_lf bs n (right_true (is_ascii_hexdigit b) (is_units n bs) e))
+  string_units_have_no_lf (b ∷ bs) zero e =
       elim (or_cases (b == 92 && is_escape bs) (not (b == 92 || b == 34 || b == lf) && is_units zero bs) e) [
         | inl f ↦ has_lf-cons b bs (differ (λ c. c == 92) b lf (left_true (b == 92) (is_escape bs) f) refl)
-            (escape_no_lf bs (right_true (b == 92) (is_escape bs) f))
+            (escape_has_no_lf bs (right_true (b == 92) (is_escape bs) f))
         | inr f ↦ let n =
-            none_of_three (b == 92) (b == 34) (b == lf)
+            none_of_three_is_true (b == 92) (b == 34) (b == lf)
             (left_true (not (b == 92 || b == 34 || b == lf)) (is_units zero bs) f) in
             has_lf-cons b bs n.2
-            (units_no_lf bs zero (right_true (not (b == 92 || b == 34 || b == lf)) (is_units zero bs) f))
+            (string_units_have_no_lf bs zero (right_true (not (b == 92 || b == 34 || b == lf)) (is_units zero bs) f))
       ]
 
-  escape_no_lf : (v : Text) → is_escape v ≡ true → has_lf v ≡ false
-  escape_no_lf [] e = cc
-  escape_no_lf (b ∷ bs) e =
+  escape_has_no_lf : (v : Text) → is_escape v ≡ true → has_lf v ≡ false
+  escape_has_no_lf [] e = cc
+  escape_has_no_lf (b ∷ bs) e =
       elim (or_cases ((b == 92 || b == 34 || b == 123) && is_units zero bs || b == 117 && is_units 4 bs)
       (b == 85 && is_units 6 bs) e) [
         | inr f ↦ has_lf-cons b bs (differ (λ c. c == 85) b lf (left_true (b == 85) (is_units 6 bs) f) refl)
-            (units_no_lf bs 6 (right_true (b == 85) (is_units 6 bs) f))
+            (string_units_have_no_lf bs 6 (right_true (b == 85) (is_units 6 bs) f))
         | inl g ↦ elim (or_cases ((b == 92 || b == 34 || b == 123) && is_units zero bs) (b == 117 && is_units 4 bs) g) [
           | inl f ↦ has_lf-cons b bs
               (differ (λ c. c == 92 || c == 34 || c == 123) b lf
               (left_true (b == 92 || b == 34 || b == 123) (is_units zero bs) f) refl)
-              (units_no_lf bs zero (right_true (b == 92 || b == 34 || b == 123) (is_units zero bs) f))
+              (string_units_have_no_lf bs zero (right_true (b == 92 || b == 34 || b == 123) (is_units zero bs) f))
           | inr f ↦ has_lf-cons b bs (differ (λ c. c == 117) b lf (left_true (b == 117) (is_units 4 bs) f) refl)
-              (units_no_lf bs 4 (right_true (b == 117) (is_units 4 bs) f))
+              (string_units_have_no_lf bs 4 (right_true (b == 117) (is_units 4 bs) f))
         ]
       ]
 
-last_no_lf : (v : Text) (c : ℕ) → (c == lf) ≡ false → has_lf v ≡ false → is_last lf (last_of (Some c) v) ≡ false
-last_no_lf [] c e f = e
-last_no_lf (b ∷ v) c e f = last_no_lf v b (neither_left (b == lf) (has_lf v) f) (neither_right (b == lf) (has_lf v) f)
+bytes_without_lf_end_in_no_lf : (v : Text) (c : ℕ) → (c == lf) ≡ false → has_lf v ≡ false →
+    is_last lf (last_of (Some c) v) ≡ false
+bytes_without_lf_end_in_no_lf [] c e f = e
+bytes_without_lf_end_in_no_lf (b ∷ v) c e f =
+    bytes_without_lf_end_in_no_lf v b (neither_left (b == lf) (has_lf v) f) (neither_right (b == lf) (has_lf v) f)
 
-pub string_last : (v : Text) → is_string v ≡ true → is_last lf (last_of (Some 34) v) ≡ false
-string_last v e = last_no_lf v 34 refl (units_no_lf v zero e)
+pub string_ends_in_no_lf : (v : Text) → is_string v ≡ true → is_last lf (last_of (Some 34) v) ≡ false
+string_ends_in_no_lf v e = bytes_without_lf_end_in_no_lf v 34 refl (string_units_have_no_lf v zero e)
 
 -- ---- literals
 
 -- after a byte that is no LF
-pub literal_after : (last : Option ℕ) (level : ℕ) (bs : Text) (ms : List Mark) → is_last lf last ≡ false →
-    text_after last (literal level bs ∷ ms) ≡ bs ++ text_after (last_of last bs) ms
-literal_after last level bs ms e = rw e refl
+pub literal_is_written_off_line_start : (last : Option ℕ) (level : ℕ) (bs : Text) (ms : List Mark) →
+    is_last lf last ≡ false → text_after last (literal level bs ∷ ms) ≡ bs ++ text_after (last_of last bs) ms
+literal_is_written_off_line_start last level bs ms e = rw e refl
 
 -- at the beginning of a line or not
 pub literal_is_written_at_line : (last : Option ℕ) (at_line : Bool) (level b : ℕ) (bs : Text) (ms : List Mark) →
@@ -144,13 +147,14 @@ pub literal_is_written_at_line : (last : Option ℕ) (at_line : Bool) (level b :
     ≡ line_indent level at_line ++ ((b ∷ bs) ++ text_after (last_of None (b ∷ bs)) ms)
 literal_is_written_at_line last false level b bs ms e = rw e refl
 literal_is_written_at_line last true level b bs ms e =
-    same_at last e ∙ ap (λ o. (indent level ++ (b ∷ bs)) ++ text_after o ms) (last_append (indent level) last b bs)
+    literal_at_line_start_is_indented last e
+    ∙ ap (λ o. (indent level ++ (b ∷ bs)) ++ text_after o ms) (last_append (indent level) last b bs)
     ∙ append_assoc (indent level) (b ∷ bs) (text_after (last_of (Some b) bs) ms)
   where
-    same_at : (last : Option ℕ) → is_last lf last ≡ true →
+    literal_at_line_start_is_indented : (last : Option ℕ) → is_last lf last ≡ true →
         text_after last (literal level (b ∷ bs) ∷ ms)
         ≡ (indent level ++ (b ∷ bs)) ++ text_after (last_of last (indent level ++ (b ∷ bs))) ms
-    same_at last e = rw e refl
+    literal_at_line_start_is_indented last e = rw e refl
 
 -- the last byte after an expression: a select has ended its line
 abbrev pub ending : ExpressionTree Text → Option ℕ
@@ -165,5 +169,5 @@ closing_is_written level (select e vs) b bs ms p = literal_is_indented level b b
 closing_is_written level (inline e) b bs ms p = literal_is_written level (b ∷ bs) ms p
 
 -- ASCII marks are plain
-pub plain_byte : (b : ℕ) → (b == lf) ≡ false → (b == cr) ≡ false → Plain (Some b)
-plain_byte b e f = record { no_lf = e; no_cr = f }
+pub byte_but_lf_and_cr_is_plain : (b : ℕ) → (b == lf) ≡ false → (b == cr) ≡ false → Plain (Some b)
+byte_but_lf_and_cr_is_plain b e f = record { no_lf = e; no_cr = f }

@@ -14,11 +14,11 @@ use Rattle.fluent_syntax_parser.specs.AnyDepth.{AttributesAtAnyDepth, MessageAtA
 use Rattle.fluent_syntax_parser.specs.OneLine.{OpensAs}
 
 module _ (edition : Edition) (t : List ℕ) where
-  pub attribute_there : (i dot start opening j : ℕ) (value : PatternTree Span) → InlineBlank t i dot →
-      token t full_stop dot (Read tt start) → OpensPattern t start opening →
+  pub parts_of_attribute_read_as_attribute : (i dot start opening j : ℕ) (value : PatternTree Span) →
+      InlineBlank t i dot → token t full_stop dot (Read tt start) → OpensPattern t start opening →
       OpensAs edition t opening (Some value) j →
       (n : ℕ) → (a : AttributeTree Span) × attribute_of edition t (within edition t n) i (Read a j)
-  attribute_there i dot start opening j value blank mark field opens n = (
+  parts_of_attribute_read_as_attribute i dot start opening j value blank mark field opens n = (
     record { id = record { start = start; end = field.end }; value = value },
     goes_on (passed blank)
         (goes_on mark
@@ -30,11 +30,11 @@ module _ (edition : Edition) (t : List ℕ) where
   )
 
   -- the last part of a message that has attributes
-  last_part : (n start i j : ℕ) (name : Span) (found : List (AttributeTree Span)) →
+  attributes_alone_make_message : (n start i j : ℕ) (name : Span) (found : List (AttributeTree Span)) →
       attributes_of edition t (within edition t n) i (Read found j) → i < j →
       (m : MessageTree Span) × message_with t start name None found j (Read (message m) j)
-  last_part n start i j name [] (no_more h) some = absurd (omega (arith, some))
-  last_part n start i j name (a ∷ found) h some =
+  attributes_alone_make_message n start i j name [] (no_more h) some = absurd (omega (arith, some))
+  attributes_alone_make_message n start i j name (a ∷ found) h some =
       (record { id = name; value = None; attributes = a ∷ found; comment = None }, given)
 
   module _ (start opening line place j : ℕ) (field : OpensPattern t start opening) (block : BlankBlock t line place)
@@ -43,10 +43,11 @@ module _ (edition : Edition) (t : List ℕ) where
     name = record { start = start; end = field.end }
 
     -- whatever its value is, and whether it has one
-    message_of_parts : (n : ℕ) (value : Option (PatternTree Span)) → OpensAs edition t opening value line →
+    message_of_opened_parts_is_read : (n : ℕ) (value : Option (PatternTree Span)) →
+        OpensAs edition t opening value line →
         (m : MessageTree Span) → message_with t start name value (attributes n).0 j (Read (message m) j) →
         message_of edition t (within edition t n) start (Read (message m) j)
-    message_of_parts n value opens m last =
+    message_of_opened_parts_is_read n value opens m last =
         goes_on at_place
         (goes_on field.name
         (goes_on (passed field.blank)
@@ -56,14 +57,15 @@ module _ (edition : Edition) (t : List ℕ) where
         (goes_on (attributes n).1
         last))))))
 
-    pub message_of_value : (value : PatternTree Span) → OpensAs edition t opening (Some value) line →
+    pub message_with_value_is_at_any_depth : (value : PatternTree Span) → OpensAs edition t opening (Some value) line →
         MessageAtAnyDepth edition t start j
-    message_of_value value opens n =
+    message_with_value_is_at_any_depth value opens n =
         let m : MessageTree Span =
         record { id = name; value = Some value; attributes = (attributes n).0; comment = None } in
-        (m, message_of_parts n (Some value) opens m given)
+        (m, message_of_opened_parts_is_read n (Some value) opens m given)
 
-    pub message_of_attributes : OpensAs edition t opening None line → place < j → MessageAtAnyDepth edition t start j
-    message_of_attributes opens some n =
-        let last = last_part n start place j name (attributes n).0 (attributes n).1 some in
-        (last.0, message_of_parts n None opens last.0 last.1)
+    pub message_with_attributes_is_at_any_depth : OpensAs edition t opening None line → place < j →
+        MessageAtAnyDepth edition t start j
+    message_with_attributes_is_at_any_depth opens some n =
+        let last = attributes_alone_make_message n start place j name (attributes n).0 (attributes n).1 some in
+        (last.0, message_of_opened_parts_is_read n None opens last.0 last.1)

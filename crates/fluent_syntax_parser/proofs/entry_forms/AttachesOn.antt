@@ -27,30 +27,30 @@ module _ (edition : Edition) (t : List ℕ) (content : List Span) (ptr : ℕ) wh
       BlankBlock t ptr ptr → (e : EntryTree Span) (j : ℕ) → entry_at edition t ptr (Read e j)
       → attached content e ≡ None
 
-  by_itself : AttachesNot → (i : ℕ) (tiles : List Tile) → Tiled t (TileAt edition t) ptr tiles →
+  body_keeps_comment_by_itself : AttachesNot → (i : ℕ) (tiles : List Tile) → Tiled t (TileAt edition t) ptr tiles →
       body (entry (record { start = i; end = ptr }) (comment regular content) ∷ tiles)
       ≡ comment regular content ∷ body tiles
-  by_itself none i tiles (done b) = refl
-  by_itself none i tiles (next {start = start} {end = end} b l (reads {e = e} read) m) =
+  body_keeps_comment_by_itself none i tiles (done b) = refl
+  body_keeps_comment_by_itself none i tiles (next {start = start} {end = end} b l (reads {e = e} read) m) =
       rw (if_of_none_is_none (ptr == start) (attached content e) (λ same.
       let here = sym (equal ptr start same) in
       none (subst (BlankBlock t ptr) here b) e end (subst (λ k. entry_at edition t k (Read e end)) here read))) refl
-  by_itself none i tiles (next b l (refuses x end) m) = refl
+  body_keeps_comment_by_itself none i tiles (next b l (refuses x end) m) = refl
 
-  pub attaches_not : (e : EntryTree Span) → e ≡ comment regular content → AttachesNot
+  pub unattached_comment_attaches_to_nothing : (e : EntryTree Span) → e ≡ comment regular content → AttachesNot
       → Attaches edition t content ptr e ptr
-  attaches_not e same none = λ i entries errors rest. (
+  unattached_comment_attaches_to_nothing e same none = λ i entries errors rest. (
     rest.tiles,
     rest.tiled,
-    by_itself none i rest.tiles rest.tiled ∙ (ap (λ b. comment regular content ∷ b) rest.yields
+    body_keeps_comment_by_itself none i rest.tiles rest.tiled ∙ (ap (λ b. comment regular content ∷ b) rest.yields
         ∙ ap (λ x. x ∷ entries) (sym same)),
     rest.errors_are,
   )
 
-  pub attaches_to : (e with_comment : EntryTree Span) (j : ℕ) → BlankBlock t ptr ptr → ptr < length t →
-      entry_at edition t ptr (Read e j) → attached content e ≡ Some with_comment →
+  pub comment_attaches_to_next_entry : (e with_comment : EntryTree Span) (j : ℕ) → BlankBlock t ptr ptr →
+      ptr < length t → entry_at edition t ptr (Read e j) → attached content e ≡ Some with_comment →
       Attaches edition t content ptr with_comment j
-  attaches_to e with_comment j block inside read same = λ i entries errors rest. (
+  comment_attaches_to_next_entry e with_comment j block inside read same = λ i entries errors rest. (
     entry (record { start = ptr; end = j }) e ∷ rest.tiles,
     next block inside (reads read) rest.tiled,
     rw (number_eq_self ptr, same) (ap (λ b. with_comment ∷ b) rest.yields),
@@ -63,16 +63,16 @@ module _ (edition : Edition) (t : List ℕ) (content : List Span) (ptr : ℕ) wh
   attaches_not_after_blank start block other = λ none e j read. absurd (other
       (single_block.same ptr start ptr block none))
 
-  pub other_entry : (e : EntryTree Span) (j : ℕ) → entry_at edition t ptr (Read e j) → attached content e ≡ None
-      → AttachesNot
-  other_entry e j read none = λ block x k there.
+  pub comment_attaches_not_to_other_entry : (e : EntryTree Span) (j : ℕ) → entry_at edition t ptr (Read e j)
+      → attached content e ≡ None → AttachesNot
+  comment_attaches_not_to_other_entry e j read none = λ block x k there.
       let same = entry_is_functional edition t in
       let equal : Read e j ≡ Read x k = same.same ptr (Read e j) (Read x k) read there in
       let e_is_x : e ≡ x = cc in
       rw (← e_is_x) none
 
-  pub no_entry : (r : Refusal) → IsRefusedAs t (entry_at edition t) ptr r → AttachesNot
-  no_entry r refused = λ block x k there.
+  pub comment_attaches_not_to_refused_entry : (r : Refusal) → IsRefusedAs t (entry_at edition t) ptr r → AttachesNot
+  comment_attaches_not_to_refused_entry r refused = λ block x k there.
       let same = entry_is_functional edition t in
       let equal = same.same ptr (Read x k) _ there (refused _ _ _ (refl, refl, refl)) in
       cc

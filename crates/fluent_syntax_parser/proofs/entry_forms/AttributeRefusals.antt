@@ -13,7 +13,7 @@ use Rattle.fluent_syntax_parser.specs.declared.fault.Fault.{Fault}
 use Rattle.fluent_syntax_parser.specs.declared.fault.Fault.TheVariants as fault
 use Rattle.fluent_syntax_parser.specs.declared.fault.ReadFault.TheVariants as faults
 use Rattle.fluent_syntax_parser.proofs.entry_forms.ExtentForms.{attribute_is_included}
-use Rattle.fluent_syntax_parser.proofs.readers.Fails.{failure_refuses}
+use Rattle.fluent_syntax_parser.proofs.readers.Fails.{failure_of_refusal_is_refused}
 
 -- the place is not after the end of what the fault says
 place_precedes_refusal_end : (f : Fault) (place : ℕ) → place ≤ to_of f place
@@ -23,21 +23,21 @@ place_precedes_refusal_end f place = omega arith
 
 module _ (edition : Edition) (t : List ℕ) (n i : ℕ) (f : Fault) (from place : ℕ) (inside : i ≤ length t)
     (fails : Fails t (attribute_of edition t (within edition t n)) i (faults.Refused f from place)) where
-  pub attribute_refused :
+  pub attribute_is_refused_where_its_fault_is :
       attribute edition t i (Refused (kind_at t f from place) (from_of f from place) (to_of f place))
-  attribute_refused =
+  attribute_is_refused_where_its_fault_is =
       (attribute_is_included edition t (within edition t n) (family edition t) (within_family edition t n)).part i _
-      (failure_refuses fails)
+      (failure_of_refusal_is_refused fails)
 
   pub refusal_starts_in_text : from_of f from place ≤ length t
   refusal_starts_in_text =
       ((attribute_is_sound edition t (InText t) (text_cuts t) {s = i}).holds.on_refused i _ _ _
-      (record { late = omega arith; place = inside }) attribute_refused).in_text
+      (record { late = omega arith; place = inside }) attribute_is_refused_where_its_fault_is).in_text
 
   -- so the place is not after the one after the text's end
   pub refusal_place_in_text : place ≤ length t + 1
   refusal_place_in_text =
       let fault =
       (attribute_is_sound edition t (InText t) (text_cuts t) {s = i}).holds.on_refused i _ _ _
-      (record { late = omega arith; place = inside }) attribute_refused in
+      (record { late = omega arith; place = inside }) attribute_is_refused_where_its_fault_is in
       omega (arith, place_precedes_refusal_end f place, fault.one, fault.in_text)

@@ -7,7 +7,7 @@ use Rattle.fluent_syntax_grammar.specs.Comments.{comment_entry, comment_lines, c
 use Rattle.fluent_syntax_grammar.specs.Construct.{Read, chosen}
 use Rattle.fluent_syntax_grammar.proofs.Facts.{append_nothing}
 use Rattle.fluent_syntax_parser.specs.Made.{IsMade, made}
-use Rattle.fluent_syntax_parser.proofs.readers.Made.{on_made}
+use Rattle.fluent_syntax_parser.proofs.readers.Made.{made_was_read}
 
 pub level_of-other : (hashes : ℕ) → hashes ≢ 1 → hashes ≢ 2 → level_of hashes ≡ resource
 level_of-other hashes one two = grind (arith, nat_tests)
@@ -18,7 +18,7 @@ pub comment_entry_is_made : (t : List ℕ) (i j count : ℕ) {X : Type 0} {f : S
     IsMade (entry_map f) (comment_of t count) i (comment (level_of count) made_lines) j → (level : Level) →
     level_of count ≡ level → IsMade (entry_map f) (comment_entry t) i (comment level made_lines) j
 comment_entry_is_made t i j count made_lines hashed h level same =
-    rw (← same) (on_made h (λ a read e. made (chosen (rw hashed read)) e))
+    rw (← same) (made_was_read h (λ a read e. made (chosen (rw hashed read)) e))
 
 -- The lines so far: what those from here on add, the comment has after them. What was made represents them.
 pub record MadeLines {S X : Type 0} (t : List ℕ) (level : ℕ) (f : Span → X) (v : S → X) (i : ℕ) (content : List S)
@@ -28,9 +28,9 @@ pub record MadeLines {S X : Type 0} (t : List ℕ) (level : ℕ) (f : Span → X
   pub read : (more : List Span) (end : ℕ) → comment_lines t level j (Read more end) →
       comment_of t level i (Read (comment (level_of level) (lines ++ more)) end)
 
-pub comment_ends : {S X : Type 0} {t : List ℕ} {level : ℕ} {f : Span → X} {v : S → X} {i j end : ℕ} {content : List S} →
-    MadeLines t level f v i content j → comment_lines t level j (Read [] end) →
+pub comment_of_made_lines_is_made : {S X : Type 0} {t : List ℕ} {level : ℕ} {f : Span → X} {v : S →
+    X} {i j end : ℕ} {content : List S} → MadeLines t level f v i content j → comment_lines t level j (Read [] end) →
     IsMade (entry_map f) (comment_of t level) i (comment (level_of level) (map v content)) end
-comment_ends {level = level} {end = end} g h =
+comment_of_made_lines_is_made {level = level} {end = end} g h =
     made {a = comment (level_of level) g.lines} (rw (← append_nothing g.lines) (g.read [] end h))
     (ap (comment (level_of level)) g.same)

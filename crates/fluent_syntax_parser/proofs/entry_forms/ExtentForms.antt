@@ -21,7 +21,7 @@ use Rattle.fluent_syntax_grammar.proofs.FunctionalEntries.{entry_is_functional}
 use Rattle.fluent_syntax_grammar.proofs.Included.{IsIncluded, IsIncludedFamily, pattern_is_included, inclusions}
 use Rattle.fluent_syntax_grammar.proofs.IncludedEntries.{entry_is_included}
 use Rattle.fluent_syntax_grammar.proofs.Nesting.{within_family}
-use Rattle.fluent_syntax_parser.proofs.entry_forms.EntryForms.{of_hash}
+use Rattle.fluent_syntax_parser.proofs.entry_forms.EntryForms.{entry_of_hash_is_comment}
 use Rattle.fluent_syntax_parser.specs.PartRanges.{HasAttributeParts, HaveAttributeParts, no_attribute_parts}
 use Rattle.fluent_syntax_parser.specs.PartRanges.{more_attribute_parts, HaveFieldParts, HasEntryParts}
 use Rattle.fluent_syntax_parser.specs.PartRanges.{message_has_parts, term_has_parts, EntryWithParts, FindsEntry}
@@ -33,52 +33,54 @@ use Rattle.fluent_syntax_parser.specs.declared.ranges.EntryRanges.{EntryRanges}
 -- ---- they are read
 
 module _ (edition : Edition) (t : List ℕ) (R : Family) where
-  pub attributes_there : {i end : ℕ} {xs : List AttributeRanges} {rest : List (AttributeTree Span)} →
-      HaveAttributeParts edition t R i xs rest end → attributes_of edition t R i (Read rest end)
-  attributes_there (no_attribute_parts x) = no_more x
-  attributes_there (more_attribute_parts {x = x} {a = a} begins s more) =
-      one_more (subst (λ i. attribute_of edition t R i (Read a x.span.end)) begins s.whole) (attributes_there more)
+  pub parts_of_attributes_read_as_attributes : {i end : ℕ} {xs : List AttributeRanges} {rest : List
+      (AttributeTree Span)} → HaveAttributeParts edition t R i xs rest end → attributes_of edition t R i (Read rest end)
+  parts_of_attributes_read_as_attributes (no_attribute_parts x) = no_more x
+  parts_of_attributes_read_as_attributes (more_attribute_parts {x = x} {a = a} begins s more) =
+      one_more (subst (λ i. attribute_of edition t R i (Read a x.span.end)) begins s.whole)
+      (parts_of_attributes_read_as_attributes more)
 
   -- what comes after a name, from the place to the end
   module _ (i end : ℕ) (xs : List AttributeRanges) where
-    pub fields_there : (o : Option Span) (f : FieldTrees Span) → HaveFieldParts edition t R i o xs f end →
-        fields edition t R i (Read f end)
-    fields_there o f s =
+    pub parts_of_fields_read_as_fields : (o : Option Span) (f : FieldTrees Span) →
+        HaveFieldParts edition t R i o xs f end → fields edition t R i (Read f end)
+    parts_of_fields_read_as_fields o f s =
         goes_on (passed s.beyond)
         (goes_on s.sign
         (goes_on s.value
         (goes_on (passed s.blank)
-        (goes_on (attributes_there s.attributes)
+        (goes_on (parts_of_attributes_read_as_attributes s.attributes)
         given))))
 
-    pub same_value : (o : Option Span) (f : FieldTrees Span) → HaveFieldParts edition t R i o xs f end →
-        is_some f.0 ≡ is_some o
-    same_value None (None, rest) s = refl
-    same_value None (Some v, rest) s = let h = s.there in cc
-    same_value (Some p) (None, rest) s = let h = s.there in cc
-    same_value (Some p) (Some v, rest) s = refl
+    pub value_is_there_where_its_range_is : (o : Option Span) (f : FieldTrees Span) →
+        HaveFieldParts edition t R i o xs f end → is_some f.0 ≡ is_some o
+    value_is_there_where_its_range_is None (None, rest) s = refl
+    value_is_there_where_its_range_is None (Some v, rest) s = let h = s.there in cc
+    value_is_there_where_its_range_is (Some p) (None, rest) s = let h = s.there in cc
+    value_is_there_where_its_range_is (Some p) (Some v, rest) s = refl
 
-    pub with_value : {G : Type 0} (o : Option Span) (f : FieldTrees Span) → HaveFieldParts edition t R i o xs f end →
+    pub fields_with_value_range_have_value : {G : Type 0} (o : Option Span) (f : FieldTrees Span) →
+        HaveFieldParts edition t R i o xs f end →
         is_some o ≡ true → ((v : PatternTree Span) → HaveFieldParts edition t R i o xs (Some v, f.1) end → G) → G
-    with_value None f s e k = cc
-    with_value (Some p) (None, rest) s e k = let h = s.there in cc
-    with_value (Some p) (Some v, rest) s e k = k v s
+    fields_with_value_range_have_value None f s e k = cc
+    fields_with_value_range_have_value (Some p) (None, rest) s e k = let h = s.there in cc
+    fields_with_value_range_have_value (Some p) (Some v, rest) s e k = k v s
 
-    pub without_value : (o : Option Span) (f : FieldTrees Span) → HaveFieldParts edition t R i o xs f end →
-        is_some o ≡ false → HaveFieldParts edition t R i o xs (None, f.1) end
-    without_value None (None, rest) s e = s
-    without_value None (Some v, rest) s e = let h = s.there in cc
-    without_value (Some p) f s e = cc
+    pub fields_without_value_range_have_none : (o : Option Span) (f : FieldTrees Span) →
+        HaveFieldParts edition t R i o xs f end → is_some o ≡ false → HaveFieldParts edition t R i o xs (None, f.1) end
+    fields_without_value_range_have_none None (None, rest) s e = s
+    fields_without_value_range_have_none None (Some v, rest) s e = let h = s.there in cc
+    fields_without_value_range_have_none (Some p) f s e = cc
 
-  pub no_attribute_trees : {i end : ℕ} {xs : List AttributeRanges} {rest : List (AttributeTree Span)} →
+  pub no_attribute_ranges_mean_no_trees : {i end : ℕ} {xs : List AttributeRanges} {rest : List (AttributeTree Span)} →
       HaveAttributeParts edition t R i xs rest end → xs ≡ [] → rest ≡ []
-  no_attribute_trees (no_attribute_parts x) e = refl
-  no_attribute_trees (more_attribute_parts begins s more) e = cc
+  no_attribute_ranges_mean_no_trees (no_attribute_parts x) e = refl
+  no_attribute_ranges_mean_no_trees (more_attribute_parts begins s more) e = cc
 
-  pub no_attribute_ranges : {i end : ℕ} {xs : List AttributeRanges} {rest : List (AttributeTree Span)} →
+  pub no_attribute_trees_mean_no_ranges : {i end : ℕ} {xs : List AttributeRanges} {rest : List (AttributeTree Span)} →
       HaveAttributeParts edition t R i xs rest end → rest ≡ [] → xs ≡ []
-  no_attribute_ranges (no_attribute_parts x) e = refl
-  no_attribute_ranges (more_attribute_parts begins s more) e = cc
+  no_attribute_trees_mean_no_ranges (no_attribute_parts x) e = refl
+  no_attribute_trees_mean_no_ranges (more_attribute_parts begins s more) e = cc
 
   -- ---- a list that a loop gathers
 
@@ -89,23 +91,24 @@ module _ (edition : Edition) (t : List ℕ) (R : Family) where
         HaveAttributeParts edition t R j more rest end
         → HaveAttributeParts edition t R i (xs ++ more) (items ++ rest) end
 
-  pub no_ranges : (i : ℕ) → GathersRanges i [] i
-  no_ranges i = record { items = []; parts_hold = λ more rest end h. h }
+  pub no_ranges_are_gathered_at_start : (i : ℕ) → GathersRanges i [] i
+  no_ranges_are_gathered_at_start i = record { items = []; parts_hold = λ more rest end h. h }
 
-  pub one_extent : (i : ℕ) (xs ys : List AttributeRanges) (j : ℕ) (x : AttributeRanges) → ys ≡ xs ++ x ∷ [] →
+  pub ranges_with_one_more_are_gathered : (i : ℕ) (xs ys : List AttributeRanges) (j : ℕ) (x : AttributeRanges) →
+      ys ≡ xs ++ x ∷ [] →
       GathersRanges i xs j → (a : AttributeTree Span) → HasAttributeParts edition t R x a → x.span.start ≡ j →
       GathersRanges i ys x.span.end
-  one_extent i xs ys j x all g a s begins = record {
+  ranges_with_one_more_are_gathered i xs ys j x all g a s begins = record {
     items = g.items ++ a ∷ [];
     parts_hold = λ more rest end h.
         rw (all, append_assoc xs (x ∷ []) more, append_assoc g.items (a ∷ []) rest)
         (g.parts_hold (x ∷ more) (a ∷ rest) end (more_attribute_parts begins s h));
   }
 
-  pub all_ranges : (i : ℕ) (xs : List AttributeRanges) (j : ℕ) → (g : GathersRanges i xs j) → {from to : ℕ} →
-      {k : Kind} → attribute_of edition t R j (Refused k from to) →
+  pub gathered_ranges_are_all_at_refusal : (i : ℕ) (xs : List AttributeRanges) (j : ℕ) →
+      (g : GathersRanges i xs j) → {from to : ℕ} → {k : Kind} → attribute_of edition t R j (Refused k from to) →
       HaveAttributeParts edition t R i xs g.items j
-  all_ranges i xs j g none =
+  gathered_ranges_are_all_at_refusal i xs j g none =
       rw (← append_nothing xs, ← append_nothing g.items) (g.parts_hold [] [] j (no_attribute_parts none))
 
 -- ---- within a family that is included in another
@@ -114,9 +117,9 @@ module _ (edition : Edition) (t : List ℕ) (R S : Family) (h : IsIncludedFamily
   pub attribute_is_included : IsIncluded (attribute_of edition t R) (attribute_of edition t S)
   attribute_is_included = search (inclusions, pattern_is_included) depth 30
 
-  attribute_included : {x : AttributeRanges} {a : AttributeTree Span} → HasAttributeParts edition t R x a →
+  parts_of_attribute_are_included : {x : AttributeRanges} {a : AttributeTree Span} → HasAttributeParts edition t R x a →
       HasAttributeParts edition t S x a
-  attribute_included s = record {
+  parts_of_attribute_are_included s = record {
     whole = attribute_is_included.part _ _ s.whole;
     dot = s.dot;
     before = s.before;
@@ -130,15 +133,15 @@ module _ (edition : Edition) (t : List ℕ) (R S : Family) (h : IsIncludedFamily
     ends = s.ends;
   }
 
-  attributes_included : {i end : ℕ} {xs : List AttributeRanges} {rest : List (AttributeTree Span)} →
+  parts_of_attributes_are_included : {i end : ℕ} {xs : List AttributeRanges} {rest : List (AttributeTree Span)} →
       HaveAttributeParts edition t R i xs rest end → HaveAttributeParts edition t S i xs rest end
-  attributes_included (no_attribute_parts x) = no_attribute_parts (attribute_is_included.part _ _ x)
-  attributes_included (more_attribute_parts begins s more) =
-      more_attribute_parts begins (attribute_included s) (attributes_included more)
+  parts_of_attributes_are_included (no_attribute_parts x) = no_attribute_parts (attribute_is_included.part _ _ x)
+  parts_of_attributes_are_included (more_attribute_parts begins s more) =
+      more_attribute_parts begins (parts_of_attribute_are_included s) (parts_of_attributes_are_included more)
 
-  fields_included : {i end : ℕ} {o : Option Span} {xs : List AttributeRanges} {f : FieldTrees Span} →
+  parts_of_fields_are_included : {i end : ℕ} {o : Option Span} {xs : List AttributeRanges} {f : FieldTrees Span} →
       HaveFieldParts edition t R i o xs f end → HaveFieldParts edition t S i o xs f end
-  fields_included s = record {
+  parts_of_fields_are_included s = record {
     equals = s.equals;
     beyond = s.beyond;
     place = s.place;
@@ -147,20 +150,22 @@ module _ (edition : Edition) (t : List ℕ) (R S : Family) (h : IsIncludedFamily
     there = s.there;
     line = s.line;
     blank = s.blank;
-    attributes = attributes_included s.attributes;
+    attributes = parts_of_attributes_are_included s.attributes;
   }
 
-  parts_included : {i end : ℕ} {x : EntryRanges} {e : EntryTree Span} → HasEntryParts edition t R i x e end →
-      HasEntryParts edition t S i x e end
-  parts_included (message_has_parts begins name s) = message_has_parts begins name (fields_included s)
-  parts_included (term_has_parts mark name s) = term_has_parts mark name (fields_included s)
+  parts_of_entry_are_included : {i end : ℕ} {x : EntryRanges} {e : EntryTree Span} →
+      HasEntryParts edition t R i x e end → HasEntryParts edition t S i x e end
+  parts_of_entry_are_included (message_has_parts begins name s) =
+      message_has_parts begins name (parts_of_fields_are_included s)
+  parts_of_entry_are_included (term_has_parts mark name s) = term_has_parts mark name (parts_of_fields_are_included s)
 
-  pub found_included : (i : ℕ) (x : EntryRanges) → EntryWithParts edition t R i x → EntryWithParts edition t S i x
-  found_included i x s = record {
+  pub found_parts_of_entry_are_included : (i : ℕ) (x : EntryRanges) → EntryWithParts edition t R i x →
+      EntryWithParts edition t S i x
+  found_parts_of_entry_are_included i x s = record {
     tree = s.tree;
     end = s.end;
     read = (entry_is_included edition t R S h).part _ _ s.read;
-    parts = parts_included s.parts;
+    parts = parts_of_entry_are_included s.parts;
   }
 
 -- ---- where no message and no term is read
@@ -169,12 +174,13 @@ module _ (t : List ℕ) (i j : ℕ) (e : EntryTree Span) where
   abbrev IsComment : Type 0
   IsComment = (level : Level) × (content : List Span) × (e ≡ comment level content)
 
-  comment_read : comment_entry t i (Read e j) → IsComment
-  comment_read (chosen (goes_on x (goes_on {j = m} y z))) = (_, _, sym (yields_value _ e m j z).0)
+  read_comment_is_comment : comment_entry t i (Read e j) → IsComment
+  read_comment_is_comment (chosen (goes_on x (goes_on {j = m} y z))) = (_, _, sym (yields_value _ e m j z).0)
 
   pub hash_is_comment : (edition : Edition) → has_byte t hash i ≡ true → entry_at edition t i (Read e j) → IsComment
   hash_is_comment edition there (chosen x) =
-      comment_read (of_hash edition t (family edition t) i (Read e j) (slice_get t i) there x)
+      read_comment_is_comment
+      (entry_of_hash_is_comment edition t (family edition t) i (Read e j) (slice_get t i) there x)
 
   pub none_is_read : (edition : Edition) (n from to : ℕ) (k : Kind) →
       entry_in edition t (within edition t n) i (Refused k from to) → entry_at edition t i (Read e j) → IsComment
@@ -186,11 +192,12 @@ module _ (t : List ℕ) (i j : ℕ) (e : EntryTree Span) where
       in cc
 
 module _ (edition : Edition) (t : List ℕ) (n i : ℕ) where
-  pub has_ranges : (found : Option EntryRanges) → FindsEntry edition t (within edition t n) i (Ok found) →
-      HasRanges edition t i found
-  has_ranges None there = λ e end h. hash_is_comment t i end e edition there h
-  has_ranges (Some x) s =
-      found_included edition t (within edition t n) (family edition t) (within_family edition t n) i x s
+  pub found_ranges_are_those_of_entry : (found : Option EntryRanges) →
+      FindsEntry edition t (within edition t n) i (Ok found) → HasRanges edition t i found
+  found_ranges_are_those_of_entry None there = λ e end h. hash_is_comment t i end e edition there h
+  found_ranges_are_those_of_entry (Some x) s =
+      found_parts_of_entry_are_included edition t (within edition t n) (family edition t)
+      (within_family edition t n) i x s
 
 -- ---- a place that there is where there is a value
 

@@ -38,55 +38,60 @@ module _ (edition : Edition) (t : List ℕ) (R : Family)
   fields_go_on i j f o (goes_on blank (goes_on equals (goes_on value (goes_on block (goes_on rest given))))) end =
       goes_on blank (goes_on equals (goes_on value (goes_on block (goes_on rest end))))
 
-  pub fields_refused : (i from to : ℕ) (k : Kind) → fields edition t R i (Refused k from to) →
+  pub refused_fields_refuse_entry : (i from to : ℕ) (k : Kind) → fields edition t R i (Refused k from to) →
       EntryAfterName i (Refused k from to)
-  fields_refused i from to k (stops x) = stops x
-  fields_refused i from to k (goes_on blank (stops x)) = goes_on blank (stops x)
-  fields_refused i from to k (goes_on blank (goes_on equals (stops x))) = goes_on blank (goes_on equals (stops x))
-  fields_refused i from to k (goes_on blank (goes_on equals (goes_on value (stops x)))) =
+  refused_fields_refuse_entry i from to k (stops x) = stops x
+  refused_fields_refuse_entry i from to k (goes_on blank (stops x)) = goes_on blank (stops x)
+  refused_fields_refuse_entry i from to k (goes_on blank (goes_on equals (stops x))) =
+      goes_on blank (goes_on equals (stops x))
+  refused_fields_refuse_entry i from to k (goes_on blank (goes_on equals (goes_on value (stops x)))) =
       goes_on blank (goes_on equals (goes_on value (stops x)))
-  fields_refused i from to k (goes_on blank (goes_on equals (goes_on value (goes_on block (stops x))))) =
+  refused_fields_refuse_entry i from to k (goes_on blank (goes_on equals (goes_on value (goes_on block (stops x))))) =
       goes_on blank (goes_on equals (goes_on value (goes_on block (stops x))))
-  fields_refused i from to k (goes_on blank (goes_on equals (goes_on value (goes_on block (goes_on rest x))))) =
+  refused_fields_refuse_entry i from to k
+      (goes_on blank (goes_on equals (goes_on value (goes_on block (goes_on rest x))))) =
       elim x [ ]
 
   -- where what comes after the name nests too deeply
-  fields_deeper : (i : ℕ) → TooDeep (fields edition t R) i → TooDeep EntryAfterName i
-  fields_deeper i h o (stops x) = h _ (stops x)
-  fields_deeper i h o (goes_on blank (stops x)) = h _ (goes_on blank (stops x))
-  fields_deeper i h o (goes_on blank (goes_on equals (stops x))) = h _ (goes_on blank (goes_on equals (stops x)))
-  fields_deeper i h o (goes_on blank (goes_on equals (goes_on value (stops x)))) =
+  too_deep_fields_make_entry_too_deep : (i : ℕ) → TooDeep (fields edition t R) i → TooDeep EntryAfterName i
+  too_deep_fields_make_entry_too_deep i h o (stops x) = h _ (stops x)
+  too_deep_fields_make_entry_too_deep i h o (goes_on blank (stops x)) = h _ (goes_on blank (stops x))
+  too_deep_fields_make_entry_too_deep i h o (goes_on blank (goes_on equals (stops x))) =
+      h _ (goes_on blank (goes_on equals (stops x)))
+  too_deep_fields_make_entry_too_deep i h o (goes_on blank (goes_on equals (goes_on value (stops x)))) =
       h _ (goes_on blank (goes_on equals (goes_on value (stops x))))
-  fields_deeper i h o (goes_on blank (goes_on equals (goes_on value (goes_on block (stops x))))) =
+  too_deep_fields_make_entry_too_deep i h o (goes_on blank (goes_on equals (goes_on value (goes_on block (stops x))))) =
       h _ (goes_on blank (goes_on equals (goes_on value (goes_on block (stops x)))))
-  fields_deeper i h o (goes_on blank (goes_on equals (goes_on value (goes_on block (goes_on rest x))))) =
+  too_deep_fields_make_entry_too_deep i h o
+      (goes_on blank (goes_on equals (goes_on value (goes_on block (goes_on rest x))))) =
       h _ (goes_on blank (goes_on equals (goes_on value (goes_on block (goes_on rest given)))))
 
   pub fields_fail : {i : ℕ} {f : ReadFault} → Fails t (fields edition t R) i f → Fails t EntryAfterName i f
-  fields_fail (refused h) = refused (λ k from to s. fields_refused _ from to k (h k from to s))
-  fields_fail (too_deep h) = too_deep (fields_deeper _ h)
+  fields_fail (refused h) = refused (λ k from to s. refused_fields_refuse_entry _ from to k (h k from to s))
+  fields_fail (too_deep h) = too_deep (too_deep_fields_make_entry_too_deep _ h)
   fields_fail no_memory = no_memory
 
 -- ---- the last part of a message
 
 module _ (t : List ℕ) (start j : ℕ) (id : Span) where
-  pub message_without : (v : Option (PatternTree Span)) (rest : List (AttributeTree Span)) → is_some v ≡ false →
+  pub message_without_fields_is_refused : (v : Option (PatternTree Span)) (rest : List (AttributeTree Span)) →
+      is_some v ≡ false →
       rest ≡ [] → message_with t start id v rest j (Refused (ExpectedMessageField (bytes_at t id)) start j)
-  message_without None rest none empty = rw empty failed_from
-  message_without (Some v) rest none empty = cc
+  message_without_fields_is_refused None rest none empty = rw empty failed_from
+  message_without_fields_is_refused (Some v) rest none empty = cc
 
-  abbrev MessageOf : Option (PatternTree Span) → List (AttributeTree Span) → Type 0
-  MessageOf v rest =
+  abbrev ReadsMessageOf : Option (PatternTree Span) → List (AttributeTree Span) → Type 0
+  ReadsMessageOf v rest =
       message_with t start id v rest j
       (Read (message (record { id = id; value = v; attributes = rest; comment = None })) j)
 
   pub message_form_of_value : (v : Option (PatternTree Span)) (rest : List (AttributeTree Span)) → is_some v ≡ true →
-      MessageOf v rest
+      ReadsMessageOf v rest
   message_form_of_value None rest some = cc
   message_form_of_value (Some v) rest some = given
 
   pub message_form_of_attributes : (v : Option (PatternTree Span)) (rest : List (AttributeTree Span)) → (rest ≡ [] → ⊥)
-      → MessageOf v rest
+      → ReadsMessageOf v rest
   message_form_of_attributes v [] some = absurd (some refl)
   message_form_of_attributes None (a ∷ rest) some = given
   message_form_of_attributes (Some v) (a ∷ rest) some = given
@@ -100,30 +105,31 @@ equals_are_both_some f g None (Some y) e = cc
 equals_are_both_some f g (Some x) None e = cc
 equals_are_both_some f g (Some x) (Some y) e = refl
 
-pub none_of : {A B C : Type 0} (f : A → C) (g : B → C) (xs : List A) (ys : List B) → map f xs ≡ map g ys → xs ≡ [] →
-    ys ≡ []
-none_of f g [] [] e h = refl
-none_of f g [] (y ∷ ys) e h = cc
-none_of f g (x ∷ xs) ys e h = cc
+pub list_with_image_of_empty_is_empty : {A B C : Type 0} (f : A → C) (g : B → C) (xs : List A) (ys : List B) →
+    map f xs ≡ map g ys → xs ≡ [] → ys ≡ []
+list_with_image_of_empty_is_empty f g [] [] e h = refl
+list_with_image_of_empty_is_empty f g [] (y ∷ ys) e h = cc
+list_with_image_of_empty_is_empty f g (x ∷ xs) ys e h = cc
 
-abbrev or : {B : Type 0} → B → Option B → B
-or b None = b
-or b (Some c) = c
+abbrev some_item_or : {B : Type 0} → B → Option B → B
+some_item_or b None = b
+some_item_or b (Some c) = c
 
 module _ {A B C : Type 0} (g : A → C) (c : Construct (Option A × List B)) {i j : ℕ} where
-  pub some_field : {G : Type 0} {b : C} (x : Option A × List B) → c i (Read x j) → Some b ≡ option_map g x.0 →
-      ((a : A) → c i (Read (Some a, x.1) j) → b ≡ g a → G) → G
-  some_field (None, rest) h e k = cc
-  some_field {b = b} (Some a, rest) h e k = k a h (ap (or b) e)
+  pub some_value_is_read_as_some : {G : Type 0} {b : C} (x : Option A × List B) → c i (Read x j) →
+      Some b ≡ option_map g x.0 → ((a : A) → c i (Read (Some a, x.1) j) → b ≡ g a → G) → G
+  some_value_is_read_as_some (None, rest) h e k = cc
+  some_value_is_read_as_some {b = b} (Some a, rest) h e k = k a h (ap (some_item_or b) e)
 
-  pub no_field : (x : Option A × List B) → c i (Read x j) → None ≡ option_map g x.0 → c i (Read (None, x.1) j)
-  no_field (None, rest) h e = h
-  no_field (Some a, rest) h e = cc
+  pub no_value_is_read_as_none : (x : Option A × List B) → c i (Read x j) → None ≡ option_map g x.0 →
+      c i (Read (None, x.1) j)
+  no_value_is_read_as_none (None, rest) h e = h
+  no_value_is_read_as_none (Some a, rest) h e = cc
 
 pub zero_count_is_empty : {X : Type 0} (xs : List X) (n : ℕ) → length xs ≡ n → true ≡ (n == 0) → xs ≡ []
 zero_count_is_empty [] n e h = refl
 zero_count_is_empty (x ∷ xs) n e h = grind (arith, nat_tests)
 
-pub has_items : {X : Type 0} (xs : List X) (n : ℕ) → length xs ≡ n → false ≡ (n == 0) → xs ≡ [] → ⊥
-has_items [] n e h f = grind (arith, nat_tests)
-has_items (x ∷ xs) n e h f = cc
+pub nonzero_count_is_not_empty : {X : Type 0} (xs : List X) (n : ℕ) → length xs ≡ n → false ≡ (n == 0) → xs ≡ [] → ⊥
+nonzero_count_is_not_empty [] n e h f = grind (arith, nat_tests)
+nonzero_count_is_not_empty (x ∷ xs) n e h f = cc

@@ -19,21 +19,21 @@ use Rattle.fluent_syntax_parser.specs.MadeEntries.{MadeBody, NextMade, commented
 use Rattle.fluent_syntax_parser.specs.Rest.{EntryAt, EntryTo, NextTo, Rest, faults_of, may_attach, tree_of}
 use Rattle.fluent_syntax_parser.specs.declared.options.Comments.{Comments}
 use Rattle.fluent_syntax_parser.specs.declared.options.Halt.{Halt}
-use Rattle.fluent_syntax_parser.proofs.readers.SameTrees.{same_entry}
+use Rattle.fluent_syntax_parser.proofs.readers.SameTrees.{identity_keeps_entry}
 
 -- ---- optional values
 
-abbrev or : {B : Type 0} → B → Option B → B
-or b None = b
-or b (Some c) = c
+abbrev option_item_or : {B : Type 0} → B → Option B → B
+option_item_or b None = b
+option_item_or b (Some c) = c
 
 mapped_some_comes_from_some : {A B : Type 0} (g : A → B) (o : Option A) (b : B) → Some b ≡ option_map g o →
     (a : A) × (o ≡ Some a) × (b ≡ g a)
 mapped_some_comes_from_some g None b e = cc
-mapped_some_comes_from_some g (Some a) b e = (a, refl, ap (or b) e)
+mapped_some_comes_from_some g (Some a) b e = (a, refl, ap (option_item_or b) e)
 
 pub some_cancels : {X : Type 0} (a b : X) → Some a ≡ Some b → a ≡ b
-some_cancels a b e = ap (or a) e
+some_cancels a b e = ap (option_item_or a) e
 
 -- what is taken from the end of a list that holds one item at most
 pub taken_is_only_item : {X : Type 0} (item taken : Option X) (left : List X) →
@@ -116,9 +116,10 @@ ends_with_comment-cons : {S : Type 0} (e : Entry S) (es : List (Entry S)) →
 ends_with_comment-cons e [] = refl
 ends_with_comment-cons e (d ∷ es) = ends_with_comment-cons d es
 
-pub last_decides : {S : Type 0} (es : List (Entry S)) → last_seen (slice_get es (length es - 1)) ≡ ends_with_comment es
-last_decides [] = refl
-last_decides (e ∷ es) =
+pub last_entry_decides_ends_with_comment : {S : Type 0} (es : List (Entry S)) →
+    last_seen (slice_get es (length es - 1)) ≡ ends_with_comment es
+last_entry_decides_ends_with_comment [] = refl
+last_entry_decides_ends_with_comment (e ∷ es) =
     let before : suc (length es) - 1 ≡ length es = omega arith in
     ap (λ n. last_seen (slice_get (e ∷ es) n)) before ∙ ends_with_comment-cons e es
 
@@ -138,36 +139,37 @@ one_is_cons before x after = append_assoc before (x ∷ []) after
 module _ {S X : Type 0} (f : Span → X) (v : S → X) where
   module _ (c : Comment S) (e : Entry S) (content : List Span) (tree : EntryTree Span)
       (lines : comment_view v c ≡ map f content) (same : entry_view v e ≡ entry_map f tree) where
-    same_attached : option_map (entry_view v) (commented c e) ≡ option_map (entry_map f) (attached content tree)
-    same_attached =
+    attached_view_is_attached_tree : option_map (entry_view v) (commented c e)
+        ≡ option_map (entry_map f) (attached content tree)
+    attached_view_is_attached_tree =
         sym (with_lines-entry_view v c e) ∙ ap (λ xs. with_lines xs (entry_view v e)) lines
         ∙ ap (λ x. with_lines (map f content) x) same ∙ with_lines-entry_map f content tree
         ∙ ap (option_map (entry_map f)) (sym (attached_is_with_lines content tree))
 
     -- the entry with the comment represents the tree with it
-    pub attached_made : (with_comment : Entry S) → commented c e ≡ Some with_comment →
+    pub attached_entry_has_attached_tree : (with_comment : Entry S) → commented c e ≡ Some with_comment →
         (x : EntryTree Span) × (attached content tree ≡ Some x) × (entry_view v with_comment ≡ entry_map f x)
-    attached_made with_comment h =
+    attached_entry_has_attached_tree with_comment h =
         mapped_some_comes_from_some (entry_map f) (attached content tree) (entry_view v with_comment)
-        (ap (option_map (entry_view v)) (sym h) ∙ same_attached)
+        (ap (option_map (entry_view v)) (sym h) ∙ attached_view_is_attached_tree)
 
-    pub attached_not : commented c e ≡ None → attached content tree ≡ None
-    attached_not h = mapped_none_comes_from_none (entry_map f) (attached content tree)
-        (ap (option_map (entry_view v)) (sym h) ∙ same_attached)
+    pub unattached_entry_has_unattached_tree : commented c e ≡ None → attached content tree ≡ None
+    unattached_entry_has_unattached_tree h = mapped_none_comes_from_none (entry_map f) (attached content tree)
+        (ap (option_map (entry_view v)) (sym h) ∙ attached_view_is_attached_tree)
 
   -- what represents a comment of level 1
-  comment_tree : (tree : EntryTree Span) (xs : List X) → comment regular xs ≡ entry_map f tree →
+  tree_of_comment_is_comment : (tree : EntryTree Span) (xs : List X) → comment regular xs ≡ entry_map f tree →
       (content : List Span) × (tree ≡ comment regular content) × (xs ≡ map f content)
-  comment_tree (message m) xs e = cc
-  comment_tree (term m) xs e = cc
-  comment_tree (comment regular c) xs e = (c, refl, ap (lines_or xs) e)
-  comment_tree (comment group c) xs e = cc
-  comment_tree (comment resource c) xs e = cc
-  comment_tree (junk x) xs e = cc
+  tree_of_comment_is_comment (message m) xs e = cc
+  tree_of_comment_is_comment (term m) xs e = cc
+  tree_of_comment_is_comment (comment regular c) xs e = (c, refl, ap (lines_or xs) e)
+  tree_of_comment_is_comment (comment group c) xs e = cc
+  tree_of_comment_is_comment (comment resource c) xs e = cc
+  tree_of_comment_is_comment (junk x) xs e = cc
 
-  other_tree : (e : Entry S) (tree : EntryTree Span) → entry_view v e ≡ entry_map f tree → is_comment e ≡ false →
-      may_attach tree ≡ false
-  other_tree e tree same h =
+  tree_of_other_entry_may_not_attach : (e : Entry S) (tree : EntryTree Span) → entry_view v e ≡ entry_map f tree →
+      is_comment e ≡ false → may_attach tree ≡ false
+  tree_of_other_entry_may_not_attach e tree same h =
       sym (may_attach-entry_map f tree) ∙ ap may_attach (sym same) ∙ may_attach-entry_view v e ∙ h
 
   -- The entry is a comment of level 1, and so is the tree that it represents.
@@ -180,17 +182,18 @@ module _ {S X : Type 0} (f : Span → X) (v : S → X) where
 
   module _ (before body : List (Entry S)) (e : Entry S) (tree : EntryTree Span) (added : body ≡ before ++ e ∷ [])
       (same : entry_view v e ≡ entry_map f tree) where
-    last_is : (b : Bool) → ends_with_comment body ≡ b → is_comment e ≡ b
-    last_is b h = sym (ends_with_appended before e) ∙ ap ends_with_comment (sym added) ∙ h
+    last_entry_is_comment_as_body_ends : (b : Bool) → ends_with_comment body ≡ b → is_comment e ≡ b
+    last_entry_is_comment_as_body_ends b h = sym (ends_with_appended before e) ∙ ap ends_with_comment (sym added) ∙ h
 
-    pub comment_added : ends_with_comment body ≡ true → IsCommentEntry e tree
-    comment_added h =
-        let seen = is_comment_has_comment e (last_is true h) in
-        let of_tree = comment_tree tree _ (sym (ap (entry_view v) seen.1) ∙ same) in
+    pub body_that_ends_with_comment_added_it : ends_with_comment body ≡ true → IsCommentEntry e tree
+    body_that_ends_with_comment_added_it h =
+        let seen = is_comment_has_comment e (last_entry_is_comment_as_body_ends true h) in
+        let of_tree = tree_of_comment_is_comment tree _ (sym (ap (entry_view v) seen.1) ∙ same) in
         record { lines = seen.0; is = seen.1; content = of_tree.0; tree_is = of_tree.1; same = of_tree.2 }
 
-    pub other_added : ends_with_comment body ≡ false → may_attach tree ≡ false
-    other_added h = other_tree e tree same (last_is false h)
+    pub body_that_ends_otherwise_added_no_comment : ends_with_comment body ≡ false → may_attach tree ≡ false
+    body_that_ends_otherwise_added_no_comment h =
+        tree_of_other_entry_may_not_attach e tree same (last_entry_is_comment_as_body_ends false h)
 
   -- ---- what was read up to a place, before whatever is left from there on
 
@@ -202,27 +205,27 @@ module _ {S X : Type 0} (f : Span → X) (v : S → X) where
         Rest comments edition t 0 (trees ++ others) (map fault_of errors ++ faults)
 
   module _ (comments : Comments) (edition : Edition) (t : List ℕ) where
-    pub none_read : MadeTo comments edition t 0 [] []
-    none_read = record { trees = []; same = refl; rest = λ others faults h. h }
+    pub nothing_is_made_at_start : MadeTo comments edition t 0 [] []
+    nothing_is_made_at_start = record { trees = []; same = refl; rest = λ others faults h. h }
 
     module _ (i : ℕ) (body : List (Entry S)) (errors : List ParserError)
         (read : MadeTo comments edition t i body errors)
       where
         -- with nothing left, all was read
-        pub whole_body_made : Rest comments edition t i [] [] → MadeBody f v comments edition t body errors
-        whole_body_made none = record {
+        pub body_made_to_end_is_whole : Rest comments edition t i [] [] → MadeBody f v comments edition t body errors
+        body_made_to_end_is_whole none = record {
           trees = read.trees;
           same = read.same;
           rest = rw (← append-nil read.trees, ← append-nil (map fault_of errors)) (read.rest [] [] none);
         }
 
         -- with the next entry and its error, what was read reaches to where that ends
-        pub body_read_on : (j : ℕ) (e : Entry S) (tree : EntryTree Span) (faults : List (Option Fault)) →
+        pub made_body_grows_by_entry : (j : ℕ) (e : Entry S) (tree : EntryTree Span) (faults : List (Option Fault)) →
             EntryTo comments edition t i j tree faults → entry_view v e ≡ entry_map f tree → (longer : List (Entry S)) →
             longer ≡ body ++ e ∷ [] → (stated : List ParserError) →
             map fault_of stated ≡ map fault_of errors ++ faults →
             MadeTo comments edition t j longer stated
-        body_read_on j e tree faults next same longer all stated more = record {
+        made_body_grows_by_entry j e tree faults next same longer all stated more = record {
           trees = read.trees ++ tree ∷ [];
           same =
               ap (map (entry_view v)) all ∙ map-append (entry_view v) body (e ∷ [])
@@ -234,29 +237,32 @@ module _ {S X : Type 0} (f : Span → X) (v : S → X) where
         }
 
 -- what one more error says, if there is one
-pub faults_append : (errors stated : List ParserError) (error : Option ParserError) →
+pub faults_of_stated_errors_append : (errors stated : List ParserError) (error : Option ParserError) →
     stated ≡ errors ++ option_to_list error → map fault_of stated ≡ map fault_of errors ++ faults_of error
-faults_append errors stated None same = ap (map fault_of) same ∙ map-append fault_of errors []
-faults_append errors stated (Some e) same = ap (map fault_of) same ∙ map-append fault_of errors (e ∷ [])
+faults_of_stated_errors_append errors stated None same = ap (map fault_of) same ∙ map-append fault_of errors []
+faults_of_stated_errors_append errors stated (Some e) same =
+    ap (map fault_of) same ∙ map-append fault_of errors (e ∷ [])
 
 -- ---- entries of spans
 
-pub entry_of_spans : (comments : Comments) (edition : Edition) (t : List ℕ) (i start j : ℕ) (e : Entry Span)
+pub made_entry_of_spans_is_entry : (comments : Comments) (edition : Edition) (t : List ℕ) (i start j : ℕ)
+    (e : Entry Span)
     (faults : List (Option Fault)) (tree : EntryTree Span) → EntryAt comments edition t i start j tree faults →
     entry_view (λ s. s) e ≡ entry_map (λ s. s) tree → EntryAt comments edition t i start j (tree_of e) faults
-entry_of_spans comments edition t i start j e faults tree next same =
-    subst (λ x. EntryAt comments edition t i start j x faults) (sym (same ∙ same_entry tree)) next
+made_entry_of_spans_is_entry comments edition t i start j e faults tree next same =
+    subst (λ x. EntryAt comments edition t i start j x faults) (sym (same ∙ identity_keeps_entry tree)) next
 
 -- the same of what comes next
-next_of_spans : (comments : Comments) (edition : Edition) (t : List ℕ) (i start j : ℕ)
+made_next_of_spans_is_next : (comments : Comments) (edition : Edition) (t : List ℕ) (i start j : ℕ)
     (found : Option (Entry Span × Option ParserError)) →
     NextMade (λ s. s) (λ s. s) comments edition t i start j found → NextTo comments edition t i start j found
-next_of_spans comments edition t i start j None none = none
-next_of_spans comments edition t i start j (Some (e, error)) (tree, in_place, same) =
-    entry_of_spans comments edition t i start j e (faults_of error) tree in_place same
+made_next_of_spans_is_next comments edition t i start j None none = none
+made_next_of_spans_is_next comments edition t i start j (Some (e, error)) (tree, in_place, same) =
+    made_entry_of_spans_is_entry comments edition t i start j e (faults_of error) tree in_place same
 
-pub answer_of_spans : (comments : Comments) (edition : Edition) (t : List ℕ) (i start j : ℕ)
+pub made_answer_of_spans_is_answer : (comments : Comments) (edition : Edition) (t : List ℕ) (i start j : ℕ)
     (r : Result (Option (Entry Span × Option ParserError)) Halt) →
     IfOk r (NextMade (λ s. s) (λ s. s) comments edition t i start j) → IfOk r (NextTo comments edition t i start j)
-answer_of_spans comments edition t i start j (Ok found) next = next_of_spans comments edition t i start j found next
-answer_of_spans comments edition t i start j (Err halt) next = next
+made_answer_of_spans_is_answer comments edition t i start j (Ok found) next =
+    made_next_of_spans_is_next comments edition t i start j found next
+made_answer_of_spans_is_answer comments edition t i start j (Err halt) next = next

@@ -29,14 +29,18 @@ use Rattle.fluent_syntax_grammar.proofs.Facts.{byte_exists}
 use Rattle.fluent_syntax_grammar.proofs.FunctionalRules.{IsFunctionalFamily, inline_is_functional}
 use Rattle.fluent_syntax_grammar.proofs.FunctionalRules.{next_argument_is_functional}
 use Rattle.fluent_syntax_parser.specs.Gathered.{names_in}
-use Rattle.fluent_syntax_parser.proofs.expressions.GatheredArguments.{arguments_mapped, put_arguments, put_named}
-use Rattle.fluent_syntax_parser.proofs.expressions.GatheredArguments.{put_none, put_positional, put_whole}
-use Rattle.fluent_syntax_parser.proofs.scanning.Names.{names_added}
+use Rattle.fluent_syntax_parser.proofs.expressions.GatheredArguments.{gathered_arguments_are_mapped, put_arguments}
+use Rattle.fluent_syntax_parser.proofs.expressions.GatheredArguments.{named_is_put_last}
+use Rattle.fluent_syntax_parser.proofs.expressions.GatheredArguments.{no_arguments_put_change_nothing}
+use Rattle.fluent_syntax_parser.proofs.expressions.GatheredArguments.{positional_is_put_last}
+use Rattle.fluent_syntax_parser.proofs.expressions.GatheredArguments.{arguments_put_before_none_are_whole}
+use Rattle.fluent_syntax_parser.proofs.scanning.Names.{added_span_names_come_first}
 use Rattle.fluent_syntax_parser.specs.Outcomes.{Fails}
 use Rattle.fluent_syntax_parser.specs.declared.fault.ReadFault.{ReadFault}
 use Rattle.fluent_syntax_parser.specs.Made.{IsMade, made}
 use Rattle.fluent_syntax_parser.proofs.readers.ContinuesFrom.{ContinuesFrom, whole_list_read, one_after}
-use Rattle.fluent_syntax_parser.proofs.readers.Fails.{fails_first, fails_next, fails_no, fails_seen, look_is_functional}
+use Rattle.fluent_syntax_parser.proofs.readers.Fails.{fails_first, bind_fails_second, fails_no, fails_seen}
+use Rattle.fluent_syntax_parser.proofs.readers.Fails.{look_is_functional}
 
 pub byte_is_token : (t : List ℕ) (b i : ℕ) → has_byte t b i ≡ true → token t b i (Read tt (i + 1))
 byte_is_token t b i there =
@@ -44,16 +48,16 @@ byte_is_token t b i there =
 
 module _ (t : List ℕ) (R : Family) where
   -- the text's end
-  pub list_open : (names : List (List ℕ)) (i : ℕ) → length t ≤ i →
+  pub argument_list_at_end_of_text_is_refused : (names : List (List ℕ)) (i : ℕ) → length t ≤ i →
       next_argument t R names i (Refused (ExpectedToken right_parenthesis) i (i + 1))
-  list_open names i past =
+  argument_list_at_end_of_text_is_refused names i past =
       let none = slice_get_past t i past in
       chosen {o = Refused (ExpectedToken right_parenthesis) i (i + 1)} (rw none (failed refl))
 
   -- the list's `)`
-  pub list_closed : (names : List (List ℕ)) (i : ℕ) → has_byte t right_parenthesis i ≡ true →
+  pub argument_list_ends_at_parenthesis : (names : List (List ℕ)) (i : ℕ) → has_byte t right_parenthesis i ≡ true →
       next_argument t R names i (Read no_item (i + 1))
-  list_closed names i there =
+  argument_list_ends_at_parenthesis names i there =
       let found = byte_exists (λ c. c == right_parenthesis) (slice_get t i) there in
       let close = byte_is_token t right_parenthesis i there in
       chosen {o = Read no_item (i + 1)} (rw found.1 (first found.2 (goes_on close given)))
@@ -78,20 +82,21 @@ module _ (t : List ℕ) (R : Family) where
           let test = rw byte at no_end in
           fails_seen (next_argument_at t R names) _ (sym byte) (fails_no test h)
 
-      pub inline_fails : {f : ReadFault} → Fails t (inline_expression t R) i f → Fails t (next_argument t R names) i f
-      inline_fails h = begins_fails (fails_first h)
+      pub argument_fails_with_its_inline : {f : ReadFault} → Fails t (inline_expression t R) i f →
+          Fails t (next_argument t R names) i f
+      argument_fails_with_its_inline h = begins_fails (fails_first h)
 
       module _ (e : InlineTree Span) (j : ℕ) (read : inline_expression t R i (Read e j)) where
         pub named : (name : Span) → argument_name e ≡ Some name → has_byte t colon j ≡ true →
             (o : Outcome (More Argument (List (List ℕ)))) → named_rest t R names name j o → next_argument t R names i o
         named name is mark o h = begins o (goes_on read (goes_on (chosen given) (rw (is, mark) h)))
 
-        pub named_fails : IsFunctionalFamily R → (name : Span) → argument_name e ≡ Some name →
+        pub argument_fails_with_its_named_rest : IsFunctionalFamily R → (name : Span) → argument_name e ≡ Some name →
             has_byte t colon j ≡ true → {f : ReadFault} → Fails t (named_rest t R names name) j f →
             Fails t (next_argument t R names) i f
-        named_fails g name is mark {f = f} h =
-            begins_fails (fails_next (inline_is_functional t R g) read
-            (fails_next (look_is_functional (has_byte t colon)) (chosen given) (rw (is, mark) h)))
+        argument_fails_with_its_named_rest g name is mark {f = f} h =
+            begins_fails (bind_fails_second (inline_is_functional t R g) read
+            (bind_fails_second (look_is_functional (has_byte t colon)) (chosen given) (rw (is, mark) h)))
 
         unmarked : (name : Option Span) (o : Outcome (More Argument (List (List ℕ)))) →
             positional_rest t names e j o → argument_rest t R names e name false j o
@@ -105,10 +110,10 @@ module _ (t : List ℕ) (R : Family) where
             begins o (goes_on read (goes_on (chosen given) (rw none (unmarked (argument_name e) o h))))
 
   -- a positional argument after a named one
-  pub late : (names : List (List ℕ)) (e : InlineTree Span) (j : ℕ) → (names ≡ [] → ⊥) →
+  pub positional_after_named_is_refused : (names : List (List ℕ)) (e : InlineTree Span) (j : ℕ) → (names ≡ [] → ⊥) →
       positional_rest t names e j (Refused PositionalArgumentFollowsNamed j (j + 1))
-  late [] e j some = absurd (some refl)
-  late (name ∷ names) e j some = failed refl
+  positional_after_named_is_refused [] e j some = absurd (some refl)
+  positional_after_named_is_refused (name ∷ names) e j some = failed refl
 
 -- What was gathered represents what was read, with f of each text in its place.
 pub record MadeArguments {S X : Type 0} (t : List ℕ) (R : Family) (f : Span → X) (v : S → X) (from : ℕ)
@@ -122,27 +127,30 @@ pub record MadeArguments {S X : Type 0} (t : List ℕ) (R : Family) (f : Span �
         (put_arguments ps ns) names j
 
 module _ {S X : Type 0} (t : List ℕ) (R : Family) (f : Span → X) (v : S → X) (from : ℕ) where
-  none_read : (b : ArgumentsTree Span) (end : ℕ) → more_arguments t R [] from (Read b end) →
-      more_arguments t R [] from (Read (put_arguments [] [] b) end)
-  none_read b end h = subst (λ a. more_arguments t R [] from (Read a end)) (sym (put_none b)) h
+  read_arguments_put_no_arguments_before : (b : ArgumentsTree Span) (end : ℕ) →
+      more_arguments t R [] from (Read b end) → more_arguments t R [] from (Read (put_arguments [] [] b) end)
+  read_arguments_put_no_arguments_before b end h =
+      subst (λ a. more_arguments t R [] from (Read a end)) (sym (no_arguments_put_change_nothing b)) h
 
-  pub no_arguments_yet : MadeArguments t R f v from [] [] [] from
-  no_arguments_yet = record {
+  pub no_arguments_are_made_at_start : MadeArguments t R f v from [] [] [] from
+  no_arguments_are_made_at_start = record {
     ps = [];
     ns = [];
     same_ps = refl;
     same_ns = refl;
-    beyond = record { read = none_read; fails = λ e h. h };
+    beyond = record { read = read_arguments_put_no_arguments_before; fails = λ e h. h };
   }
 
   -- the list ends
-  pub all_arguments : (ps : List (InlineExpression S)) (ns : List (NamedArgument S)) (names : List (List ℕ))
+  pub arguments_made_to_end_are_all : (ps : List (InlineExpression S)) (ns : List (NamedArgument S))
+      (names : List (List ℕ))
       (j m : ℕ) → MadeArguments t R f v from ps ns names j → next_argument t R names j (Read no_item m) →
       IsMade (arguments_map f) (more_arguments t R []) from
       (arguments (inlines_of (map (inline_view v) ps)) (nameds_of (map (named_view v) ns))) m
-  all_arguments ps ns names j m g x =
-      made (whole_list_read (arguments (inlines_of g.ps) (nameds_of g.ns)) m g.beyond (put_whole g.ps g.ns) x)
-      (rw (g.same_ps, g.same_ns) (arguments_mapped f g.ps g.ns))
+  arguments_made_to_end_are_all ps ns names j m g x =
+      made (whole_list_read (arguments (inlines_of g.ps) (nameds_of g.ns)) m g.beyond
+      (arguments_put_before_none_are_whole g.ps g.ns) x)
+      (rw (g.same_ps, g.same_ns) (gathered_arguments_are_mapped f g.ps g.ns))
 
   module _ (h : IsFunctionalFamily R) (ps : List (InlineExpression S)) (ns : List (NamedArgument S)) (i : ℕ)
       (names : List Span) (g : MadeArguments t R f v from ps ns (names_in t names) i) (within : i < length t)
@@ -157,7 +165,7 @@ module _ {S X : Type 0} (t : List ℕ) (R : Family) (f : Span → X) (v : S → 
         separator t end (Read tt next) → MadeArguments t R f v from ps more (names_in t others) next
     one_named x name is mark new same more pushed others noted m end next blank value read_value same_value after =
         let all : names_in t others ≡ bytes_at t name ∷ names_in t names =
-        ap (names_in t) noted ∙ names_added t names name in
+        ap (names_in t) noted ∙ added_span_names_come_first t names name in
         let added = rules.named name value in
         let tree : NamedTree Span = named_argument name value in
         subst (λ xs. MadeArguments t R f v from ps more xs next) (sym all) (record {
@@ -172,7 +180,7 @@ module _ {S X : Type 0} (t : List ℕ) (R : Family) (f : Span → X) (v : S → 
               ∙ sym (map-append (named_map f) g.ns (tree ∷ []));
           beyond =
               one_after (put_arguments g.ps (g.ns ++ tree ∷ [])) added (bytes_at t name ∷ names_in t names) next
-              g.beyond (next_argument_is_functional t R h (names_in t names)) (put_named g.ps g.ns name value)
+              g.beyond (next_argument_is_functional t R h (names_in t names)) (named_is_put_last g.ps g.ns name value)
               (named t R (names_in t names) i within no_end e j read name is mark
               (Read (item added (bytes_at t name ∷ names_in t names)) next)
               (second new
@@ -183,11 +191,11 @@ module _ {S X : Type 0} (t : List ℕ) (R : Family) (f : Span → X) (v : S → 
         })
 
     -- one more positional argument
-    pub one_positional : (argument_name e ≡ None) ⊎ (has_byte t colon j ≡ false) → names ≡ [] →
+    pub positional_argument_is_made_next : (argument_name e ≡ None) ⊎ (has_byte t colon j ≡ false) → names ≡ [] →
         (x : InlineExpression S) → inline_view v x ≡ inline_map f e → (more : List (InlineExpression S)) →
         more ≡ ps ++ x ∷ [] → (next : ℕ) → separator t j (Read tt next) →
         MadeArguments t R f v from more ns (names_in t names) next
-    one_positional is none x same more pushed next after =
+    positional_argument_is_made_next is none x same more pushed next after =
         let all : names_in t names ≡ [] = rw none refl in
         let added = rules.positional e in
         subst (λ xs. MadeArguments t R f v from more ns xs next) (sym all) (record {
@@ -200,7 +208,7 @@ module _ {S X : Type 0} (t : List ℕ) (R : Family) (f : Span → X) (v : S → 
           same_ns = g.same_ns;
           beyond =
               one_after (put_arguments (g.ps ++ e ∷ []) g.ns) added [] next g.beyond
-              (next_argument_is_functional t R h (names_in t names)) (put_positional g.ps g.ns e)
+              (next_argument_is_functional t R h (names_in t names)) (positional_is_put_last g.ps g.ns e)
               (positional t R (names_in t names) i within no_end e j read is (Read (item added []) next)
               (subst (λ xs. positional_rest t xs e j (Read (item added []) next)) (sym all)
               (goes_on after given)));

@@ -37,15 +37,15 @@ is_name-inline_map f (term_reference x a c) = refl
 is_name-inline_map f (variable_reference x) = refl
 is_name-inline_map f (inline_placeable e) = refl
 
-pub no_argument_name : (e : InlineTree Span) → is_name e ≡ false → argument_name e ≡ None
-no_argument_name (string_literal x) h = refl
-no_argument_name (number_literal x) h = refl
-no_argument_name (function_reference x a) h = refl
-no_argument_name (message_reference x None) h = absurd (true≢false h)
-no_argument_name (message_reference x (Some a)) h = refl
-no_argument_name (term_reference x a c) h = refl
-no_argument_name (variable_reference x) h = refl
-no_argument_name (inline_placeable e) h = refl
+pub inline_but_name_has_no_argument_name : (e : InlineTree Span) → is_name e ≡ false → argument_name e ≡ None
+inline_but_name_has_no_argument_name (string_literal x) h = refl
+inline_but_name_has_no_argument_name (number_literal x) h = refl
+inline_but_name_has_no_argument_name (function_reference x a) h = refl
+inline_but_name_has_no_argument_name (message_reference x None) h = absurd (true≢false h)
+inline_but_name_has_no_argument_name (message_reference x (Some a)) h = refl
+inline_but_name_has_no_argument_name (term_reference x a c) h = refl
+inline_but_name_has_no_argument_name (variable_reference x) h = refl
+inline_but_name_has_no_argument_name (inline_placeable e) h = refl
 
 -- the name of a message reference, and where it ends
 module _ (t : List ℕ) (i : ℕ) where
@@ -53,27 +53,29 @@ module _ (t : List ℕ) (i : ℕ) where
   Named e = is_name e ≡ true → (name : Span) × (end : ℕ) × identifier t i (Read name end) ×
       (argument_name e ≡ Some name)
 
-  yields_unique : {A : Type 0} {a b : A} {i j : ℕ} → yields a i (Read b j) → b ≡ a
-  yields_unique given = refl
+  value_read_by_yields_is_its_value : {A : Type 0} {a b : A} {i j : ℕ} → yields a i (Read b j) → b ≡ a
+  value_read_by_yields_is_its_value given = refl
 
   no_named : (e a : InlineTree Span) {k j : ℕ} → is_name a ≡ false → yields a k (Read e j) → Named e
-  no_named e a none h is = absurd (true≢false (sym is ∙ ap is_name (yields_unique h) ∙ none))
+  no_named e a none h is = absurd (true≢false (sym is ∙ ap is_name (value_read_by_yields_is_its_value h) ∙ none))
 
-  is_of : (id : Span) (a : Option Span) → is_name (message_reference id a) ≡ true →
-      argument_name (message_reference id a) ≡ Some id
-  is_of id None is = refl
-  is_of id (Some a) is = absurd (true≢false (sym is))
+  bare_message_reference_names_its_identifier : (id : Span) (a : Option Span) →
+      is_name (message_reference id a) ≡ true → argument_name (message_reference id a) ≡ Some id
+  bare_message_reference_names_its_identifier id None is = refl
+  bare_message_reference_names_its_identifier id (Some a) is = absurd (true≢false (sym is))
 
-  by_reference : (id : Span) (m : ℕ) → identifier t i (Read id m) → (a : MaybeArguments Span)
+  named_reference_is_named_by_identifier : (id : Span) (m : ℕ) → identifier t i (Read id m) → (a : MaybeArguments Span)
       (e : InlineTree Span) (k j : ℕ) → named_reference t id a k (Read e j) → Named e
-  by_reference id m read (some_arguments a) e k j (first test h) is = no_named e (function_reference id a) refl h is
-  by_reference id m read (some_arguments a) e k j (second test h) is = elim h [ ]
-  by_reference id m read no_arguments e k j (goes_on {a = a} x h) is = (
+  named_reference_is_named_by_identifier id m read (some_arguments a) e k j (first test h) is =
+      no_named e (function_reference id a) refl h is
+  named_reference_is_named_by_identifier id m read (some_arguments a) e k j (second test h) is = elim h [ ]
+  named_reference_is_named_by_identifier id m read no_arguments e k j (goes_on {a = a} x h) is = (
     id,
     m,
     read,
-    ap argument_name (yields_unique h)
-        ∙ is_of id a (ap is_name (sym (yields_unique h)) ∙ is),
+    ap argument_name (value_read_by_yields_is_its_value h)
+        ∙ bare_message_reference_names_its_identifier id a
+        (ap is_name (sym (value_read_by_yields_is_its_value h)) ∙ is),
   )
 
   module _ (R : Family) where
@@ -84,7 +86,8 @@ module _ (t : List ℕ) (i : ℕ) where
     by_start term e j (goes_on x (goes_on {a = id} y (goes_on {a = a} z (goes_on {a = c} w h)))) is =
         no_named e (term_reference id a c) refl h is
     by_start dollar e j (goes_on x (goes_on {a = id} y h)) is = no_named e (variable_reference id) refl h is
-    by_start letter e j (goes_on {j = m} {a = id} x (goes_on {a = a} y h)) is = by_reference id m x a e _ j h is
+    by_start letter e j (goes_on {j = m} {a = id} x (goes_on {a = a} y h)) is =
+        named_reference_is_named_by_identifier id m x a e _ j h is
     by_start brace e j (goes_on {a = v} x h) is = no_named e (inline_placeable v) refl h is
     by_start other e j h is = elim h [ ]
 
@@ -92,16 +95,16 @@ module _ (t : List ℕ) (i : ℕ) where
     argument_name_is_identifier e j (chosen h) = by_start (start t i) e j h
 
     -- the text of a name, by where the argument begins
-    pub argument_text : (e : InlineTree Span) (j : ℕ) → inline_expression t R i (Read e j) → (name : Span) →
-        argument_name e ≡ Some name → bytes_at t name ≡ name_text t i
-    argument_text e j read name is = by (is_name e) refl
+    pub argument_name_is_name_text_there : (e : InlineTree Span) (j : ℕ) → inline_expression t R i (Read e j) →
+        (name : Span) → argument_name e ≡ Some name → bytes_at t name ≡ name_text t i
+    argument_name_is_name_text_there e j read name is = by (is_name e) refl
       where
         by : (b : Bool) → is_name e ≡ b → bytes_at t name ≡ name_text t i
         by true named =
             let found = argument_name_is_identifier e j read named in
             let same : name ≡ found.0 = let both : Some name ≡ Some found.0 = sym is ∙ found.3 in cc in
             rw same (identifier_has_name_text t found.2)
-        by false unnamed = let none : Some name ≡ None = sym is ∙ no_argument_name e unnamed in cc
+        by false unnamed = let none : Some name ≡ None = sym is ∙ inline_but_name_has_no_argument_name e unnamed in cc
 
 -- ---- a name that was looked for
 

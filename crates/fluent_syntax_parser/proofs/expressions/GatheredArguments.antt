@@ -18,8 +18,8 @@ nameds_before (x ∷ xs) es = nameds x (nameds_before xs es)
 abbrev pub put_arguments : List (InlineTree Span) → List (NamedTree Span) → ArgumentsTree Span → ArgumentsTree Span
 put_arguments ps ns (arguments es ms) = arguments (inlines_before ps es) (nameds_before ns ms)
 
-pub put_none : (a : ArgumentsTree Span) → put_arguments [] [] a ≡ a
-put_none (arguments es ms) = refl
+pub no_arguments_put_change_nothing : (a : ArgumentsTree Span) → put_arguments [] [] a ≡ a
+no_arguments_put_change_nothing (arguments es ms) = refl
 
 inlines_before-append : (xs : List (InlineTree Span)) (x : InlineTree Span) (es : InlineTrees Span) →
     inlines_before (xs ++ x ∷ []) es ≡ inlines_before xs (inlines x es)
@@ -32,15 +32,16 @@ nameds_before-append [] x es = refl
 nameds_before-append (y ∷ ys) x es = ap (nameds y) (nameds_before-append ys x es)
 
 -- one more positional argument
-pub put_positional : (ps : List (InlineTree Span)) (ns : List (NamedTree Span)) (e : InlineTree Span)
+pub positional_is_put_last : (ps : List (InlineTree Span)) (ns : List (NamedTree Span)) (e : InlineTree Span)
     (a : ArgumentsTree Span) → put_arguments (ps ++ e ∷ []) ns a ≡ put_arguments ps ns (add_positional e a)
-put_positional ps ns e (arguments es ms) = ap (λ xs. arguments xs (nameds_before ns ms)) (inlines_before-append ps e es)
+positional_is_put_last ps ns e (arguments es ms) =
+    ap (λ xs. arguments xs (nameds_before ns ms)) (inlines_before-append ps e es)
 
 -- one more named argument
-pub put_named : (ps : List (InlineTree Span)) (ns : List (NamedTree Span)) (name : Span) (e : InlineTree Span)
+pub named_is_put_last : (ps : List (InlineTree Span)) (ns : List (NamedTree Span)) (name : Span) (e : InlineTree Span)
     (a : ArgumentsTree Span) →
     put_arguments ps (ns ++ named_argument name e ∷ []) a ≡ put_arguments ps ns (add_named name e a)
-put_named ps ns name e (arguments es ms) =
+named_is_put_last ps ns name e (arguments es ms) =
     ap (λ xs. arguments (inlines_before ps es) xs) (nameds_before-append ns (named_argument name e) ms)
 
 inlines_before-end : (xs : List (InlineTree Span)) → inlines_before xs no_inlines ≡ inlines_of xs
@@ -52,24 +53,26 @@ nameds_before-end [] = refl
 nameds_before-end (x ∷ xs) = ap (nameds x) (nameds_before-end xs)
 
 -- no others
-pub put_whole : (ps : List (InlineTree Span)) (ns : List (NamedTree Span)) →
+pub arguments_put_before_none_are_whole : (ps : List (InlineTree Span)) (ns : List (NamedTree Span)) →
     put_arguments ps ns (arguments no_inlines no_named) ≡ arguments (inlines_of ps) (nameds_of ns)
-put_whole ps ns =
+arguments_put_before_none_are_whole ps ns =
     ap (λ xs. arguments xs (nameds_before ns no_named)) (inlines_before-end ps)
     ∙ ap (λ xs. arguments (inlines_of ps) xs) (nameds_before-end ns)
 
 -- ---- with f of each text in its place
 
 module _ {X : Type 0} (f : Span → X) where
-  inlines_mapped : (xs : List (InlineTree Span)) → inlines_of (map (inline_map f) xs) ≡ inlines_map f (inlines_of xs)
-  inlines_mapped [] = refl
-  inlines_mapped (x ∷ xs) = ap (inlines (inline_map f x)) (inlines_mapped xs)
+  gathered_inlines_are_mapped : (xs : List (InlineTree Span)) →
+      inlines_of (map (inline_map f) xs) ≡ inlines_map f (inlines_of xs)
+  gathered_inlines_are_mapped [] = refl
+  gathered_inlines_are_mapped (x ∷ xs) = ap (inlines (inline_map f x)) (gathered_inlines_are_mapped xs)
 
-  nameds_mapped : (xs : List (NamedTree Span)) → nameds_of (map (named_map f) xs) ≡ nameds_map f (nameds_of xs)
-  nameds_mapped [] = refl
-  nameds_mapped (x ∷ xs) = ap (nameds (named_map f x)) (nameds_mapped xs)
+  gathered_nameds_are_mapped : (xs : List (NamedTree Span)) →
+      nameds_of (map (named_map f) xs) ≡ nameds_map f (nameds_of xs)
+  gathered_nameds_are_mapped [] = refl
+  gathered_nameds_are_mapped (x ∷ xs) = ap (nameds (named_map f x)) (gathered_nameds_are_mapped xs)
 
-  pub arguments_mapped : (ps : List (InlineTree Span)) (ns : List (NamedTree Span)) →
+  pub gathered_arguments_are_mapped : (ps : List (InlineTree Span)) (ns : List (NamedTree Span)) →
       arguments (inlines_of (map (inline_map f) ps)) (nameds_of (map (named_map f) ns))
       ≡ arguments_map f (arguments (inlines_of ps) (nameds_of ns))
-  arguments_mapped ps ns = rw (inlines_mapped ps, nameds_mapped ns) refl
+  gathered_arguments_are_mapped ps ns = rw (gathered_inlines_are_mapped ps, gathered_nameds_are_mapped ns) refl

@@ -41,8 +41,8 @@ pub record MadeVariants {S X : Type 0} (t : List ℕ) (next : Bool → Construct
 
 module _ {S X : Type 0} {t : List ℕ} {next : Bool → Construct (More (VariantTree Span) Bool)} {f : Span → X}
     (v : S → X) {i : ℕ} where
-  pub no_variant : MadeVariants t next f v i [] false i
-  no_variant = record {
+  pub no_variants_are_made_at_start : MadeVariants t next f v i [] false i
+  no_variants_are_made_at_start = record {
     items = [];
     same = refl;
     beyond = record { read = λ b end h. h; fails = λ e h. h };
@@ -50,11 +50,11 @@ module _ {S X : Type 0} {t : List ℕ} {next : Bool → Construct (More (Variant
 
   module _ {j m : ℕ} {starred : Bool} where
     -- one more
-    pub variant_made : (xs ys : List (Variant S)) (x : Variant S) → ys ≡ xs ++ x ∷ [] →
+    pub variant_is_made_next : (xs ys : List (Variant S)) (x : Variant S) → ys ≡ xs ++ x ∷ [] →
         MadeVariants t next f v i xs starred j → IsFunctional (next starred) → (a : VariantTree Span) (later : Bool) →
         next starred j (Read (item a later) m) → variant_view v x ≡ variant_map f a →
         MadeVariants t next f v i ys later m
-    variant_made xs ys x all g h a later read same = record {
+    variant_is_made_next xs ys x all g h a later read same = record {
       items = g.items ++ a ∷ [];
       same =
           ap (map (variant_view v)) all ∙ map-append (variant_view v) xs (x ∷ [])
@@ -65,9 +65,9 @@ module _ {S X : Type 0} {t : List ℕ} {next : Bool → Construct (More (Variant
     }
 
     -- the list ends
-    pub variants_end : (xs : List (Variant S)) → MadeVariants t next f v i xs starred j →
+    pub variants_made_to_end_are_all : (xs : List (Variant S)) → MadeVariants t next f v i xs starred j →
         next starred j (Read no_item m) →
         IsMade (variants_map f) (many next variants no_variants false) i (variants_view v xs) m
-    variants_end xs g x =
+    variants_made_to_end_are_all xs g x =
         made (whole_list_read (variants_of g.items) m g.beyond (put_variants-end g.items) x)
         (ap variants_of g.same ∙ variants_of-map f g.items)

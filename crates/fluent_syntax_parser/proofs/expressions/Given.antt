@@ -3,16 +3,17 @@ use Rattle.std.proofs.Common.{◌≡◌, ap, refl}
 use Rattle.fluent_syntax_tree.specs.Tree.{ArgumentsTree, MaybeArguments, arguments_map, maybe_map, no_arguments}
 use Rattle.fluent_syntax_tree.specs.Tree.{some_arguments}
 
-abbrev or : {X : Type 0} → ArgumentsTree X → MaybeArguments X → ArgumentsTree X
-or b no_arguments = b
-or b (some_arguments c) = c
+abbrev some_arguments_or : {X : Type 0} → ArgumentsTree X → MaybeArguments X → ArgumentsTree X
+some_arguments_or b no_arguments = b
+some_arguments_or b (some_arguments c) = c
 
 module _ {X Y : Type 0} (f : X → Y) where
   pub some_given : (given : MaybeArguments X) {b : ArgumentsTree Y} → some_arguments b ≡ maybe_map f given →
       (a : ArgumentsTree X) × (given ≡ some_arguments a) × (b ≡ arguments_map f a)
   some_given no_arguments e = cc
-  some_given (some_arguments a) {b = b} e = (a, refl, ap (or b) e)
+  some_given (some_arguments a) {b = b} e = (a, refl, ap (some_arguments_or b) e)
 
-  pub none_given : (given : MaybeArguments X) → no_arguments ≡ maybe_map f given → given ≡ no_arguments
-  none_given no_arguments e = refl
-  none_given (some_arguments a) e = cc
+  pub optional_arguments_of_none_are_none : (given : MaybeArguments X) → no_arguments ≡ maybe_map f given →
+      given ≡ no_arguments
+  optional_arguments_of_none_are_none no_arguments e = refl
+  optional_arguments_of_none_are_none (some_arguments a) e = cc

@@ -23,46 +23,46 @@ use denote.Hole.Carrier as carrier
 
 module _ {S X : Type 0} (v : S → X) where
   -- an expression is of one of the forms
-  by_form : (P : InlineExpression S → Type 0) →
+  claim_of_all_forms_holds_of_inline : (P : InlineExpression S → Type 0) →
       ((z : InlineExpression-F S _ _ _ _ _ _ _) → P (roll-InlineExpression S z)) → (e : InlineExpression S) → P e
-  by_form P f e = subst P (roll-out-InlineExpression S e) (f (out-InlineExpression S e))
+  claim_of_all_forms_holds_of_inline P f e = subst P (roll-out-InlineExpression S e) (f (out-InlineExpression S e))
 
   module _ (i : Identifier S) where
-    pub name_of_reference : (o : Option (Identifier S)) → o ≡ None →
+    pub message_reference_is_name : (o : Option (Identifier S)) → o ≡ None →
         is_name (inline_view v (inl.MessageReference i o)) ≡ true
-    name_of_reference o e = rw (view-MessageReference v i o, e) refl
+    message_reference_is_name o e = rw (view-MessageReference v i o, e) refl
 
     pub no_name_of_attribute : (o : Option (Identifier S)) (a : Identifier S) → o ≡ Some a →
         is_name (inline_view v (inl.MessageReference i o)) ≡ false
     no_name_of_attribute o a e = rw (view-MessageReference v i o, e) refl
 
-    pub fault_of_message : (o : Option (Identifier S)) → o ≡ None →
+    pub message_as_selector_has_fault : (o : Option (Identifier S)) → o ≡ None →
         selector_fault (inline_view v (inl.MessageReference i o)) ≡ Some MessageReferenceAsSelector
-    fault_of_message o e = rw (view-MessageReference v i o, e) refl
+    message_as_selector_has_fault o e = rw (view-MessageReference v i o, e) refl
 
-    pub fault_of_attribute : (o : Option (Identifier S)) (a : Identifier S) → o ≡ Some a →
+    pub message_attribute_as_selector_has_fault : (o : Option (Identifier S)) (a : Identifier S) → o ≡ Some a →
         selector_fault (inline_view v (inl.MessageReference i o)) ≡ Some MessageAttributeAsSelector
-    fault_of_attribute o a e = rw (view-MessageReference v i o, e) refl
+    message_attribute_as_selector_has_fault o a e = rw (view-MessageReference v i o, e) refl
 
-    pub fault_of_term : (o : Option (Identifier S)) (c : Option (CallArguments S)) → o ≡ None →
+    pub term_as_selector_has_fault : (o : Option (Identifier S)) (c : Option (CallArguments S)) → o ≡ None →
         selector_fault (inline_view v (inl.TermReference i o c)) ≡ Some TermReferenceAsSelector
-    fault_of_term o c e = rw (view-TermReference v i o c, e) refl
+    term_as_selector_has_fault o c e = rw (view-TermReference v i o c, e) refl
 
     pub no_fault_of_term : (o : Option (Identifier S)) (c : Option (CallArguments S)) (a : Identifier S) →
         o ≡ Some a → selector_fault (inline_view v (inl.TermReference i o c)) ≡ None
     no_fault_of_term o c a e = rw (view-TermReference v i o c, e) refl
 
-    some_name : (o : Option (Identifier S)) → is_some (option_map (identifier_view v) o) ≡ is_some o
-    some_name None = refl
-    some_name (Some a) = refl
+    view_keeps_is_some_name : (o : Option (Identifier S)) → is_some (option_map (identifier_view v) o) ≡ is_some o
+    view_keeps_is_some_name None = refl
+    view_keeps_is_some_name (Some a) = refl
 
-    pub attribute_of_term : (o : Option (Identifier S)) (c : Option (CallArguments S)) →
+    pub term_with_attribute_is_term_attribute : (o : Option (Identifier S)) (c : Option (CallArguments S)) →
         is_term_attribute (inline_view v (inl.TermReference i o c)) ≡ is_some o
-    attribute_of_term o c = rw (view-TermReference v i o c) (some_name o)
+    term_with_attribute_is_term_attribute o c = rw (view-TermReference v i o c) (view_keeps_is_some_name o)
 
-  pub fault_of_placeable : (e : Box (Expression S) Global) →
+  pub placeable_as_selector_has_fault : (e : Box (Expression S) Global) →
       selector_fault (inline_view v (inl.Placeable e)) ≡ Some ExpectedSimpleExpressionAsSelector
-  fault_of_placeable e = rw (view-InlinePlaceable v e) refl
+  placeable_as_selector_has_fault e = rw (view-InlinePlaceable v e) refl
 
   -- what an expression of a form answers
   by_view : {A : Type 0} (f : InlineTree X → A) (a : A) (z : InlineExpression-F S _ _ _ _ _ _ _) →
@@ -120,14 +120,17 @@ module _ {S X : Type 0} (v : S → X) where
   no_fault_by_form (layer.VariableReference i) h k l = by_view selector_fault None (layer.VariableReference i) refl
   no_fault_by_form (layer.InlineExpression::Placeable e) h k l = absurd (l e refl)
 
-  pub no_message_name : (e : InlineExpression S) → IsNoMessage e → is_name (inline_view v e) ≡ false
-  no_message_name = by_form (λ e. IsNoMessage e → is_name (inline_view v e) ≡ false) no_name_by_form
+  pub inline_but_message_is_no_name : (e : InlineExpression S) → IsNoMessage e → is_name (inline_view v e) ≡ false
+  inline_but_message_is_no_name =
+      claim_of_all_forms_holds_of_inline (λ e. IsNoMessage e → is_name (inline_view v e) ≡ false) no_name_by_form
 
   pub no_term : (e : InlineExpression S) → IsNoTerm e → is_term_attribute (inline_view v e) ≡ false
-  no_term = by_form (λ e. IsNoTerm e → is_term_attribute (inline_view v e) ≡ false) no_term_by_form
+  no_term = claim_of_all_forms_holds_of_inline
+      (λ e. IsNoTerm e → is_term_attribute (inline_view v e) ≡ false) no_term_by_form
 
-  pub no_fault : (e : InlineExpression S) → IsNoMessage e → IsNoTerm e → IsNoPlaceable e →
+  pub other_inline_as_selector_has_no_fault : (e : InlineExpression S) → IsNoMessage e → IsNoTerm e → IsNoPlaceable e →
       selector_fault (inline_view v e) ≡ None
-  no_fault =
-      by_form (λ e. IsNoMessage e → IsNoTerm e → IsNoPlaceable e → selector_fault (inline_view v e) ≡ None)
+  other_inline_as_selector_has_no_fault =
+      claim_of_all_forms_holds_of_inline
+      (λ e. IsNoMessage e → IsNoTerm e → IsNoPlaceable e → selector_fault (inline_view v e) ≡ None)
       no_fault_by_form

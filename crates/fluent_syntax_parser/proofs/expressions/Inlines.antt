@@ -9,20 +9,21 @@ use Rattle.fluent_syntax_tree.specs.declared.ast.Expression.{Expression, Select}
 use Rattle.fluent_syntax_tree.specs.declared.ast.InlineExpression.{InlineExpression}
 use Rattle.fluent_syntax_tree.specs.declared.ast.Variant.{Variant}
 
-abbrev or : {X : Type 0} → InlineTree X → ExpressionTree X → InlineTree X
-or b (inline e) = e
-or b (select e vs) = b
+abbrev inline_tree_or : {X : Type 0} → InlineTree X → ExpressionTree X → InlineTree X
+inline_tree_or b (inline e) = e
+inline_tree_or b (select e vs) = b
 
-select_differs : {X : Type 0} {e b : InlineTree X} {vs : VariantTrees X} → select e vs ≡ inline b → ⊥
-select_differs h = cc
+select_is_no_inline : {X : Type 0} {e b : InlineTree X} {vs : VariantTrees X} → select e vs ≡ inline b → ⊥
+select_is_no_inline h = cc
 
 module _ {S X : Type 0} (v : S → X) where
   -- what was read as that expression
   pub inline_seen : {d e : Expression S} (x : InlineExpression S) {b : InlineTree X} → d ≡ e →
       expression_view v d ≡ inline (inline_view v x) → expression_view v e ≡ inline b → inline_view v x ≡ b
-  inline_seen x {b = b} is seen read = ap (or b) (sym seen ∙ ap (expression_view v) is ∙ read)
+  inline_seen x {b = b} is seen read = ap (inline_tree_or b) (sym seen ∙ ap (expression_view v) is ∙ read)
 
   -- it is no select
-  pub select_not_inline : {d : Expression S} {b : InlineTree X} (e : InlineExpression S)
+  pub view_of_select_is_no_inline : {d : Expression S} {b : InlineTree X} (e : InlineExpression S)
       (vs : Vec (Variant S) Global) → d ≡ Select e vs → expression_view v d ≡ inline b → ⊥
-  select_not_inline e vs is read = select_differs (sym (view-Select v e vs) ∙ ap (expression_view v) (sym is) ∙ read)
+  view_of_select_is_no_inline e vs is read =
+      select_is_no_inline (sym (view-Select v e vs) ∙ ap (expression_view v) (sym is) ∙ read)

@@ -14,16 +14,17 @@ item_is_last : {A : Type 0} (xs : List A) (x : A) → slice_get (xs ++ x ∷ [])
 item_is_last [] x = refl
 item_is_last (y ∷ ys) x = item_is_last ys x
 
-abbrev some_or : {A : Type 0} → A → Option A → A
-some_or a None = a
-some_or a (Some b) = b
+abbrev option_value_or : {A : Type 0} → A → Option A → A
+option_value_or a None = a
+option_value_or a (Some b) = b
 
 -- what is at the last place of a list is what was added last
 pub last_is_appended_item : {A : Type 0} (all xs : List A) (x y : A) → all ≡ xs ++ x ∷ [] →
     Some y ≡ slice_get all (length all - 1) → y ≡ x
 last_is_appended_item all xs x y pushed there =
     let before : length all - 1 ≡ length xs = omega (arith, length_push xs x, ap length pushed) in
-    ap (some_or y) (there ∙ ap (slice_get all) before ∙ ap (λ ys. slice_get ys (length xs)) pushed ∙ item_is_last xs x)
+    ap (option_value_or y)
+    (there ∙ ap (slice_get all) before ∙ ap (λ ys. slice_get ys (length xs)) pushed ∙ item_is_last xs x)
 
 abbrev placed_or : {X : Type 0} → ExpressionTree X → ElementTree X → ExpressionTree X
 placed_or e (placeable d) = d
@@ -34,18 +35,20 @@ text_is_not_placeable h = cc
 
 module _ {S X : Type 0} (v : S → X) where
   -- a placeable was added
-  pub inline_added : (x : InlineExpression S) (old new : List (PatternElement S)) {tree : InlineTree X} →
+  pub pushed_inline_is_added_as_placeable : (x : InlineExpression S)
+      (old new : List (PatternElement S)) {tree : InlineTree X} →
       new ≡ old ++ Placeable (Inline x) ∷ [] → inline_view v x ≡ tree → AddsPlaced v old new (inline tree)
-  inline_added x old new pushed same =
+  pushed_inline_is_added_as_placeable x old new pushed same =
       (_, pushed, view-Placeable v (Inline x) ∙ ap placeable (view-Inline v x ∙ ap inline same))
 
-  pub placed_added : (x : Expression S) (old new : List (PatternElement S)) {tree : ExpressionTree X} →
+  pub pushed_placeable_is_added : (x : Expression S) (old new : List (PatternElement S)) {tree : ExpressionTree X} →
       new ≡ old ++ Placeable x ∷ [] → expression_view v x ≡ tree → AddsPlaced v old new tree
-  placed_added x old new pushed same = (_, pushed, view-Placeable v x ∙ ap placeable same)
+  pushed_placeable_is_added x old new pushed same = (_, pushed, view-Placeable v x ∙ ap placeable same)
 
-  pub placed_as : (old new : List (PatternElement S)) (tree : ExpressionTree X) {other : ExpressionTree X} →
+  pub added_placeable_has_equal_tree : (old new : List (PatternElement S))
+      (tree : ExpressionTree X) {other : ExpressionTree X} →
       AddsPlaced v old new tree → tree ≡ other → AddsPlaced v old new other
-  placed_as old new tree (e, pushed, seen) same = (e, pushed, seen ∙ ap placeable same)
+  added_placeable_has_equal_tree old new tree (e, pushed, seen) same = (e, pushed, seen ∙ ap placeable same)
 
   -- in a list that is the same
   pub placed_in : (old : List (PatternElement S)) {new all : List (PatternElement S)} (tree : ExpressionTree X) →
@@ -53,12 +56,13 @@ module _ {S X : Type 0} (v : S → X) where
   placed_in old tree same (e, pushed, seen) = (e, same ∙ pushed, seen)
 
   -- the placeable that was added represents that expression
-  pub placed_is : (x : Expression S) {e : PatternElement S} {tree : ExpressionTree X} → Placeable x ≡ e →
-      element_view v e ≡ placeable tree → expression_view v x ≡ tree
-  placed_is x {tree = tree} is seen =
+  pub element_of_placeable_has_its_tree : (x : Expression S) {e : PatternElement S} {tree : ExpressionTree X} →
+      Placeable x ≡ e → element_view v e ≡ placeable tree → expression_view v x ≡ tree
+  element_of_placeable_has_its_tree x {tree = tree} is seen =
       ap (placed_or tree) (sym (view-Placeable v x) ∙ ap (element_view v) is ∙ seen)
 
   -- it is no text
-  pub text_not_placed : (s : S) {e : PatternElement S} {tree : ExpressionTree X} → TextElement s ≡ e →
+  pub text_element_is_no_placeable : (s : S) {e : PatternElement S} {tree : ExpressionTree X} → TextElement s ≡ e →
       element_view v e ≡ placeable tree → ⊥
-  text_not_placed s is seen = text_is_not_placeable (sym (view-TextElement v s) ∙ ap (element_view v) is ∙ seen)
+  text_element_is_no_placeable s is seen =
+      text_is_not_placeable (sym (view-TextElement v s) ∙ ap (element_view v) is ∙ seen)

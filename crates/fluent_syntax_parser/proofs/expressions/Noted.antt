@@ -10,7 +10,7 @@ use Rattle.std.specs.declared.cmp.Ordering.{Ordering}
 use Rattle.std.specs.declared.cmp.Ordering.TheVariants.{Equal}
 use Rattle.fluent_syntax_grammar.specs.Arguments.{is_used}
 use Rattle.fluent_syntax_grammar.specs.NameKeys.{NotesAll, is_key}
-use Rattle.fluent_syntax_grammar.proofs.NameKeys.{any_key, notes_after}
+use Rattle.fluent_syntax_grammar.proofs.NameKeys.{any_key, inserted_key_notes_its_name}
 use Rattle.fluent_syntax_parser.specs.Noted.{Notes}
 
 used_is_not_new : (held used new : Bool) → new ≡ not held → held ≡ used → used ≡ not new
@@ -19,14 +19,15 @@ used_is_not_new false used new e same = rw e (sym same)
 
 module _ {K : Type 0} (text : K → List ℕ) where
   -- one name more, where they are many then
-  pub notes_many : (cmp : K → K → Ordering) → ((x y : K) → cmp x y ≡ Equal → text x ≡ text y) → (keys new : List K)
+  pub keys_note_name_among_many : (cmp : K → K → Ordering) → ((x y : K) → cmp x y ≡ Equal → text x ≡ text y) →
+      (keys new : List K)
       (names : List (List ℕ)) (k : K) (n : List ℕ) → NotesAll text keys names → new ≡ insert_key cmp keys k →
       text k ≡ n → 31 ≤ length names → Notes text new (names ++ n ∷ [])
-  notes_many cmp same keys new names k n all e f l =
+  keys_note_name_among_many cmp same keys new names k n all e f l =
       let size = length-append names (n ∷ []) in (
         λ few. absurd (omega arith),
         λ many. rw e (subst (λ n. NotesAll text (insert_key cmp keys k) (names ++ n ∷ [])) f
-            (notes_after text cmp same keys names k all)),
+            (inserted_key_notes_its_name text cmp same keys names k all)),
       )
 
   -- a name is new to the table just where none of the names there is it

@@ -21,9 +21,9 @@ use Rattle.fluent_syntax_parser.specs.Last.{Pushes}
 use Rattle.fluent_syntax_parser.specs.Outcomes.{Fails, no_memory, refused, too_deep}
 use Rattle.fluent_syntax_parser.specs.Selects.{arrow_variants, select_start}
 use Rattle.fluent_syntax_parser.specs.declared.fault.ReadFault.{ReadFault}
-use Rattle.fluent_syntax_parser.proofs.readers.Fails.{fails_next, fails_yes}
+use Rattle.fluent_syntax_parser.proofs.readers.Fails.{bind_fails_second, branch_fails_with_first_when_true}
 use Rattle.fluent_syntax_parser.proofs.readers.Fails.{arrow_end_is_functional, look_is_functional, steps_are_functional}
-use Rattle.fluent_syntax_parser.proofs.readers.Made.{same_selector_fault}
+use Rattle.fluent_syntax_parser.proofs.readers.Made.{mapping_keeps_selector_fault}
 
 -- what is no selector
 pub non_selector_refused : (t : List ℕ) (i : ℕ) (fault : Option Kind) (kind : Kind) → fault ≡ Some kind →
@@ -62,37 +62,42 @@ module _ (edition : Edition) (t : List ℕ) (R : Family) (e : InlineTree Span) (
   from_arrow None (Refused kind from to) (goes_on (goes_on a (goes_on b (goes_on c d))) x) =
       stops (goes_on a (goes_on b (goes_on c (goes_on d x))))
 
-  regrouped : (o : Outcome (VariantTrees Span)) → variants_of_select edition t R i o →
+  variants_of_select_are_arrow_variants : (o : Outcome (VariantTrees Span)) → variants_of_select edition t R i o →
       arrow_variants edition t R None i o
-  regrouped o (stops a) = stops (stops a)
-  regrouped o (goes_on a (stops b)) = stops (goes_on a (stops b))
-  regrouped o (goes_on a (goes_on b (stops c))) = stops (goes_on a (goes_on b (stops c)))
-  regrouped o (goes_on a (goes_on b (goes_on c (stops d)))) = stops (goes_on a (goes_on b (goes_on c d)))
-  regrouped o (goes_on a (goes_on b (goes_on c (goes_on d x)))) = goes_on (goes_on a (goes_on b (goes_on c d))) x
+  variants_of_select_are_arrow_variants o (stops a) = stops (stops a)
+  variants_of_select_are_arrow_variants o (goes_on a (stops b)) = stops (goes_on a (stops b))
+  variants_of_select_are_arrow_variants o (goes_on a (goes_on b (stops c))) = stops (goes_on a (goes_on b (stops c)))
+  variants_of_select_are_arrow_variants o (goes_on a (goes_on b (goes_on c (stops d)))) =
+      stops (goes_on a (goes_on b (goes_on c d)))
+  variants_of_select_are_arrow_variants o (goes_on a (goes_on b (goes_on c (goes_on d x)))) =
+      goes_on (goes_on a (goes_on b (goes_on c d))) x
 
-  to_arrow : (fault : Option Kind) (o : Outcome (ExpressionTree Span)) → select_with edition t R e fault i o →
-      (p : Outcome (VariantTrees Span)) × arrow_variants edition t R fault i p
-  to_arrow (Some fault) o (failed is) = (_, stops (failed is))
-  to_arrow None o (stops x) = (_, regrouped _ x)
-  to_arrow None o (goes_on x given) = (_, regrouped _ x)
+  select_was_made_of_variants_after_arrow : (fault : Option Kind) (o : Outcome (ExpressionTree Span)) →
+      select_with edition t R e fault i o → (p : Outcome (VariantTrees Span)) × arrow_variants edition t R fault i p
+  select_was_made_of_variants_after_arrow (Some fault) o (failed is) = (_, stops (failed is))
+  select_was_made_of_variants_after_arrow None o (stops x) = (_, variants_of_select_are_arrow_variants _ x)
+  select_was_made_of_variants_after_arrow None o (goes_on x given) = (_, variants_of_select_are_arrow_variants _ x)
 
   fails_from_arrow : (fault : Option Kind) {f : ReadFault} → Fails t (arrow_variants edition t R fault) i f →
       Fails t (select_with edition t R e fault) i f
   fails_from_arrow fault (refused h) = refused (λ k from to s. from_arrow fault _ (h k from to s))
-  fails_from_arrow fault (too_deep h) = too_deep (λ o x. let (p, y) = to_arrow fault o x in h p y)
+  fails_from_arrow fault (too_deep h) =
+      too_deep (λ o x. let (p, y) = select_was_made_of_variants_after_arrow fault o x in h p y)
   fails_from_arrow fault no_memory = no_memory
 
   -- ---- the same by why the selector is none, if it is none
 
   module _ {fault : Option Kind} (is : fault ≡ selector_fault e) where
-    pub select_read : {j : ℕ} {vs : VariantTrees Span} → arrow_variants edition t R fault i (Read vs j) →
+    pub read_variants_are_read_as_select : {j : ℕ} {vs : VariantTrees Span} →
+        arrow_variants edition t R fault i (Read vs j) →
         select_with edition t R e (selector_fault e) i (Read (select e vs) j)
-    select_read {j = j} {vs = vs} h =
+    read_variants_are_read_as_select {j = j} {vs = vs} h =
         subst (λ x. select_with edition t R e x i (Read (select e vs) j)) is (from_arrow fault _ h)
 
-    pub select_fails : {f : ReadFault} → Fails t (arrow_variants edition t R fault) i f →
+    pub select_fails_with_its_variants : {f : ReadFault} → Fails t (arrow_variants edition t R fault) i f →
         Fails t (select_with edition t R e (selector_fault e)) i f
-    select_fails {f = f} h = subst (λ x. Fails t (select_with edition t R e x) i f) is (fails_from_arrow fault h)
+    select_fails_with_its_variants {f = f} h =
+        subst (λ x. Fails t (select_with edition t R e x) i f) is (fails_from_arrow fault h)
 
 -- The rest of an expression after which there is an arrow, by its select.
 pub select_is_read_past_blank : {S X : Type 0} (v : S → X) (edition : Edition) (t : List ℕ) (R : Family)
@@ -103,13 +108,13 @@ pub select_is_read_past_blank : {S X : Type 0} (v : S → X) (edition : Edition)
 select_is_read_past_blank v edition t R f old new (Ok x) read blank arrow g (b, there, added) =
     (b, goes_on read (goes_on (passed blank) (goes_on (chosen given) (first arrow there))), added)
 select_is_read_past_blank v edition t R f old new (Err _) read blank arrow g h =
-    fails_next (inline_is_functional t R g) read
-    (fails_next (blank_is_functional t) (passed blank)
-    (fails_next (look_is_functional (has_arrow t)) (chosen given)
-    (fails_yes arrow h)))
+    bind_fails_second (inline_is_functional t R g) read
+    (bind_fails_second (blank_is_functional t) (passed blank)
+    (bind_fails_second (look_is_functional (has_arrow t)) (chosen given)
+    (branch_fails_with_first_when_true arrow h)))
 
 -- Why an expression is no selector is reported alike of what represents it.
 pub same_selector_fault_of_tree : {X : Type 0} (f : Span → X) (b : InlineTree X) (e : InlineTree Span) → b ≡ inline_map
     f e →
     selector_fault b ≡ selector_fault e
-same_selector_fault_of_tree f b e same = ap selector_fault same ∙ same_selector_fault f e
+same_selector_fault_of_tree f b e same = ap selector_fault same ∙ mapping_keeps_selector_fault f e

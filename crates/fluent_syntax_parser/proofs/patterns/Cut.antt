@@ -7,33 +7,36 @@ use Rattle.fluent_syntax_parser.specs.Elements.{item_view}
 use Rattle.fluent_syntax_parser.specs.declared.pattern.line.Piece.{Piece}
 
 module _ {S X : Type 0} (v : S → X) (t : List ℕ) where
-  before_some : (y x : ItemOf (ExpressionTree X)) (xs : List (ItemOf (ExpressionTree X))) →
+  cut_before_some_item_keeps_item : (y x : ItemOf (ExpressionTree X)) (xs : List (ItemOf (ExpressionTree X))) →
       cut_before t y (xs ++ x ∷ []) ≡ y ∷ (xs ++ x ∷ [])
-  before_some y x [] = refl
-  before_some y x (z ∷ xs) = refl
+  cut_before_some_item_keeps_item y x [] = refl
+  cut_before_some_item_keeps_item y x (z ∷ xs) = refl
 
   -- what stays ends the list
-  cut_stays : (xs : List (ItemOf (ExpressionTree X))) (x : ItemOf (ExpressionTree X)) → stays t x ≡ true →
-      cut t (xs ++ x ∷ []) ≡ xs ++ x ∷ []
-  cut_stays [] x e = rw e refl
-  cut_stays (y ∷ xs) x e = ap (cut_before t y) (cut_stays xs x e) ∙ before_some y x xs
+  cut_keeps_last_item_that_stays : (xs : List (ItemOf (ExpressionTree X))) (x : ItemOf (ExpressionTree X)) →
+      stays t x ≡ true → cut t (xs ++ x ∷ []) ≡ xs ++ x ∷ []
+  cut_keeps_last_item_that_stays [] x e = rw e refl
+  cut_keeps_last_item_that_stays (y ∷ xs) x e =
+      ap (cut_before t y) (cut_keeps_last_item_that_stays xs x e) ∙ cut_before_some_item_keeps_item y x xs
 
   -- what falls is dropped
-  cut_falls : (xs : List (ItemOf (ExpressionTree X))) (x : ItemOf (ExpressionTree X)) → stays t x ≡ false →
-      cut t (xs ++ x ∷ []) ≡ cut t xs
-  cut_falls [] x e = rw e refl
-  cut_falls (y ∷ xs) x e = ap (cut_before t y) (cut_falls xs x e)
+  cut_drops_last_item_that_falls : (xs : List (ItemOf (ExpressionTree X))) (x : ItemOf (ExpressionTree X)) →
+      stays t x ≡ false → cut t (xs ++ x ∷ []) ≡ cut t xs
+  cut_drops_last_item_that_falls [] x e = rw e refl
+  cut_drops_last_item_that_falls (y ∷ xs) x e = ap (cut_before t y) (cut_drops_last_item_that_falls xs x e)
 
   module _ (all items left : List (Piece S)) (x : Piece S) (last : items ≡ left ++ x ∷ []) where
-    split : map (item_view v) items ≡ map (item_view v) left ++ (item_view v) x ∷ []
-    split = ap (map (item_view v)) last ∙ map-append (item_view v) left (x ∷ [])
+    items_split_before_last : map (item_view v) items ≡ map (item_view v) left ++ (item_view v) x ∷ []
+    items_split_before_last = ap (map (item_view v)) last ∙ map-append (item_view v) left (x ∷ [])
 
-    pub popped_stays : stays t ((item_view v) x) ≡ true → cut t (map (item_view v) items) ≡ cut t
+    pub popped_item_that_stays_ends_cut : stays t ((item_view v) x) ≡ true → cut t (map (item_view v) items) ≡ cut t
         (map (item_view v) all) →
         cut t (map (item_view v) all) ≡ map (item_view v) left ++ (item_view v) x ∷ []
-    popped_stays e same = sym same ∙ ap (cut t) split ∙ cut_stays (map (item_view v) left) ((item_view v) x) e
+    popped_item_that_stays_ends_cut e same = sym same ∙ ap (cut t) items_split_before_last
+        ∙ cut_keeps_last_item_that_stays (map (item_view v) left) ((item_view v) x) e
 
-    pub popped_falls : stays t ((item_view v) x) ≡ false → cut t (map (item_view v) items) ≡ cut t
+    pub popped_item_that_falls_leaves_cut : stays t ((item_view v) x) ≡ false → cut t (map (item_view v) items) ≡ cut t
         (map (item_view v) all) →
         cut t (map (item_view v) left) ≡ cut t (map (item_view v) all)
-    popped_falls e same = sym (cut_falls (map (item_view v) left) ((item_view v) x) e) ∙ ap (cut t) (sym split) ∙ same
+    popped_item_that_falls_leaves_cut e same = sym (cut_drops_last_item_that_falls (map (item_view v) left)
+        ((item_view v) x) e) ∙ ap (cut t) (sym items_split_before_last) ∙ same

@@ -13,21 +13,22 @@ use Rattle.fluent_syntax_grammar.specs.Layout.{counted_spaces, counted, least, c
 use Rattle.fluent_syntax_parser.specs.Layouts.{piece_map, line_map, item_map}
 
 module _ {E F : Type 0} (h : E → F) where
-  counted_mapped : (edition : Edition) (spaces : ℕ) (ps : List (PieceOf E)) →
+  mapping_keeps_counted_spaces : (edition : Edition) (spaces : ℕ) (ps : List (PieceOf E)) →
       counted_spaces edition spaces (map (piece_map h) ps) ≡ counted_spaces edition spaces ps
-  counted_mapped edition spaces [] = refl
-  counted_mapped edition spaces (run from to ∷ ps) = refl
-  counted_mapped One spaces (placed e ∷ ps) = refl
-  counted_mapped Two spaces (placed e ∷ ps) = refl
+  mapping_keeps_counted_spaces edition spaces [] = refl
+  mapping_keeps_counted_spaces edition spaces (run from to ∷ ps) = refl
+  mapping_keeps_counted_spaces One spaces (placed e ∷ ps) = refl
+  mapping_keeps_counted_spaces Two spaces (placed e ∷ ps) = refl
 
-  lines_counted : (edition : Edition) (ls : List (LineOf E)) →
+  mapping_keeps_counted_lines : (edition : Edition) (ls : List (LineOf E)) →
       flat_map (counted edition) (map (line_map h) ls) ≡ flat_map (counted edition) ls
-  lines_counted edition [] = refl
-  lines_counted edition (l ∷ ls) = rw (counted_mapped edition l.spaces l.pieces, lines_counted edition ls) refl
+  mapping_keeps_counted_lines edition [] = refl
+  mapping_keeps_counted_lines edition (l ∷ ls) =
+      rw (mapping_keeps_counted_spaces edition l.spaces l.pieces, mapping_keeps_counted_lines edition ls) refl
 
-  pub common_mapped : (edition : Edition) (y : LayoutOf E) →
+  pub mapping_keeps_common_indent : (edition : Edition) (y : LayoutOf E) →
       least (flat_map (counted edition) (map (line_map h) y.lines)) ≡ common_indent edition y
-  common_mapped edition y = ap least (lines_counted edition y.lines)
+  mapping_keeps_common_indent edition y = ap least (mapping_keeps_counted_lines edition y.lines)
 
   pub ending_mapped : (ps : List (PieceOf E)) (end : Ending) →
       with_ending (map (piece_map h) ps) end ≡ map (item_map h) (with_ending ps end)
@@ -41,76 +42,79 @@ module _ {E F : Type 0} (h : E → F) where
   ending_mapped (run from to ∷ placed e ∷ ps) end = ap (λ xs. text from to ∷ xs) (ending_mapped (placed e ∷ ps) end)
   ending_mapped (placed e ∷ ps) end = ap (λ xs. placeable_item (h e) ∷ xs) (ending_mapped ps end)
 
-  kept_mapped : (common : Option ℕ) (l : LineOf E)
+  mapping_keeps_common_indent_end : (common : Option ℕ) (l : LineOf E)
       → common_indent_end common (line_map h l) ≡ common_indent_end common l
-  kept_mapped None l = refl
-  kept_mapped (Some common) l = refl
+  mapping_keeps_common_indent_end None l = refl
+  mapping_keeps_common_indent_end (Some common) l = refl
 
-  some_mapped : (b : Bool) (kept first : ℕ) →
+  optional_text_item_maps_to_itself : (b : Bool) (kept first : ℕ) →
       (if b then text kept first ∷ [] else []) ≡ map (item_map h) (if b then text kept first ∷ [] else [])
-  some_mapped true kept first = refl
-  some_mapped false kept first = refl
+  optional_text_item_maps_to_itself true kept first = refl
+  optional_text_item_maps_to_itself false kept first = refl
 
-  indented_mapped : (edition : Edition) (kept first : ℕ) →
+  indent_items_map_to_themselves : (edition : Edition) (kept first : ℕ) →
       indented edition kept first ≡ map (item_map h) (indented edition kept first)
-  indented_mapped One kept first = refl
-  indented_mapped Two kept first = some_mapped (nat_lt kept first) kept first
+  indent_items_map_to_themselves One kept first = refl
+  indent_items_map_to_themselves Two kept first = optional_text_item_maps_to_itself (nat_lt kept first) kept first
 
-  from_mapped : (edition : Edition) (kept first : ℕ) (ps : List (PieceOf E)) (end : Ending) →
+  items_from_mapped_pieces_are_mapped : (edition : Edition) (kept first : ℕ) (ps : List (PieceOf E)) (end : Ending) →
       items_from edition kept first (map (piece_map h) ps) end
       ≡ map (item_map h) (items_from edition kept first ps end)
-  from_mapped edition kept first [] (lf_at p) = refl
-  from_mapped edition kept first [] (crlf_at p) = refl
-  from_mapped edition kept first [] text_end = refl
-  from_mapped edition kept first (run from to ∷ ps) end = ending_mapped (run kept to ∷ ps) end
-  from_mapped edition kept first (placed e ∷ ps) end =
-      rw (indented_mapped edition kept first, ending_mapped (placed e ∷ ps) end)
+  items_from_mapped_pieces_are_mapped edition kept first [] (lf_at p) = refl
+  items_from_mapped_pieces_are_mapped edition kept first [] (crlf_at p) = refl
+  items_from_mapped_pieces_are_mapped edition kept first [] text_end = refl
+  items_from_mapped_pieces_are_mapped edition kept first (run from to ∷ ps) end = ending_mapped (run kept to ∷ ps) end
+  items_from_mapped_pieces_are_mapped edition kept first (placed e ∷ ps) end =
+      rw (indent_items_map_to_themselves edition kept first, ending_mapped (placed e ∷ ps) end)
       (sym (map-append (item_map h) (indented edition kept first) (with_ending (placed e ∷ ps) end)))
 
-  line_mapped : (edition : Edition) (common : Option ℕ) (l : LineOf E) →
+  items_of_mapped_line_are_mapped : (edition : Edition) (common : Option ℕ) (l : LineOf E) →
       line_items edition common (line_map h l) ≡ map (item_map h) (line_items edition common l)
-  line_mapped edition common l =
+  items_of_mapped_line_are_mapped edition common l =
       ap (λ kept. items_from edition kept (l.start + l.spaces) (map (piece_map h) l.pieces) l.ending)
-      (kept_mapped common l)
-      ∙ from_mapped edition (common_indent_end common l) (l.start + l.spaces) l.pieces l.ending
+      (mapping_keeps_common_indent_end common l)
+      ∙ items_from_mapped_pieces_are_mapped edition (common_indent_end common l) (l.start + l.spaces) l.pieces l.ending
 
-  pub lines_mapped : (edition : Edition) (common : Option ℕ) (ls : List (LineOf E)) →
+  pub items_of_mapped_lines_are_mapped : (edition : Edition) (common : Option ℕ) (ls : List (LineOf E)) →
       flat_map (line_items edition common) (map (line_map h) ls)
       ≡ map (item_map h) (flat_map (line_items edition common) ls)
-  lines_mapped edition common [] = refl
-  lines_mapped edition common (l ∷ ls) =
-      rw (line_mapped edition common l, lines_mapped edition common ls)
+  items_of_mapped_lines_are_mapped edition common [] = refl
+  items_of_mapped_lines_are_mapped edition common (l ∷ ls) =
+      rw (items_of_mapped_line_are_mapped edition common l, items_of_mapped_lines_are_mapped edition common ls)
       (sym (map-append (item_map h) (line_items edition common l) (flat_map (line_items edition common) ls)))
 
-  opening_mapped : (o : Option (LineOf E)) →
+  items_of_mapped_opening_are_mapped : (o : Option (LineOf E)) →
       opening_items (option_map (line_map h) o) ≡ map (item_map h) (opening_items o)
-  opening_mapped None = refl
-  opening_mapped (Some l) = ending_mapped l.pieces l.ending
+  items_of_mapped_opening_are_mapped None = refl
+  items_of_mapped_opening_are_mapped (Some l) = ending_mapped l.pieces l.ending
 
-  pub items_mapped : (edition : Edition) (y : LayoutOf E) →
+  pub items_of_mapped_layout_are_mapped : (edition : Edition) (y : LayoutOf E) →
       opening_items (option_map (line_map h) y.opening)
       ++ flat_map (line_items edition (common_indent edition y)) (map (line_map h) y.lines)
       ≡ map (item_map h) (items edition y)
-  items_mapped edition y =
+  items_of_mapped_layout_are_mapped edition y =
       let common = common_indent edition y in
-      rw (opening_mapped y.opening, lines_mapped edition common y.lines)
+      rw (items_of_mapped_opening_are_mapped y.opening, items_of_mapped_lines_are_mapped edition common y.lines)
       (sym (map-append (item_map h) (opening_items y.opening) (flat_map (line_items edition common) y.lines)))
 
   module _ (t : List ℕ) where
-    stays_mapped : (x : ItemOf E) → stays t (item_map h x) ≡ stays t x
-    stays_mapped (text from to) = refl
-    stays_mapped (placeable_item e) = refl
+    mapping_keeps_which_items_stay : (x : ItemOf E) → stays t (item_map h x) ≡ stays t x
+    mapping_keeps_which_items_stay (text from to) = refl
+    mapping_keeps_which_items_stay (placeable_item e) = refl
 
-    cut_one : (x : ItemOf E) (b : Bool) →
+    optional_mapped_item_is_mapped : (x : ItemOf E) (b : Bool) →
         (if b then item_map h x ∷ [] else []) ≡ map (item_map h) (if b then x ∷ [] else [])
-    cut_one x true = refl
-    cut_one x false = refl
+    optional_mapped_item_is_mapped x true = refl
+    optional_mapped_item_is_mapped x false = refl
 
-    before_mapped : (x : ItemOf E) (xs : List (ItemOf E)) →
+    cut_before_mapped_item_is_mapped : (x : ItemOf E) (xs : List (ItemOf E)) →
         cut_before t (item_map h x) (map (item_map h) xs) ≡ map (item_map h) (cut_before t x xs)
-    before_mapped x [] = rw (stays_mapped x) (cut_one x (stays t x))
-    before_mapped x (y ∷ ys) = refl
+    cut_before_mapped_item_is_mapped x [] =
+        rw (mapping_keeps_which_items_stay x) (optional_mapped_item_is_mapped x (stays t x))
+    cut_before_mapped_item_is_mapped x (y ∷ ys) = refl
 
-    pub cut_mapped : (xs : List (ItemOf E)) → cut t (map (item_map h) xs) ≡ map (item_map h) (cut t xs)
-    cut_mapped [] = refl
-    cut_mapped (x ∷ xs) = ap (cut_before t (item_map h x)) (cut_mapped xs) ∙ before_mapped x (cut t xs)
+    pub cut_of_mapped_items_is_mapped : (xs : List (ItemOf E)) →
+        cut t (map (item_map h) xs) ≡ map (item_map h) (cut t xs)
+    cut_of_mapped_items_is_mapped [] = refl
+    cut_of_mapped_items_is_mapped (x ∷ xs) = ap (cut_before t (item_map h x)) (cut_of_mapped_items_is_mapped xs)
+        ∙ cut_before_mapped_item_is_mapped x (cut t xs)

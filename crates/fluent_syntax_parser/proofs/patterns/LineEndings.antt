@@ -10,8 +10,9 @@ use Rattle.fluent_syntax_grammar.specs.Patterns.{layout_at}
 use Rattle.fluent_syntax_grammar.specs.Places.{after_eol}
 
 module _ (t : List ℕ) where
-  pub ends_text : (i : ℕ) → after_eol t i ≡ None → ending t i (Read text_end i)
-  ends_text i e = goes_on at_place (chosen (subst (λ o. ending_of t i o i (Read text_end i)) (sym e) given))
+  pub ending_without_eol_is_text_end : (i : ℕ) → after_eol t i ≡ None → ending t i (Read text_end i)
+  ending_without_eol_is_text_end i e =
+      goes_on at_place (chosen (subst (λ o. ending_of t i o i (Read text_end i)) (sym e) given))
 
   pub line_ending_read : (i j : ℕ) → after_eol t i ≡ Some j → ending t i
       (Read (if j == i + 1 then lf_at i else crlf_at i) j)
@@ -22,6 +23,6 @@ module _ (t : List ℕ) where
       (goes_on (passed (record { there = refl })) given)))
 
   -- a layout, by the line end at its place
-  pub by_eol : (R : Family) (i : ℕ) (x : Option ℕ) (o : Outcome layout.Layout) → x ≡ after_eol t i →
-      layout_at t R x i o → peek (after_eol t) (layout_at t R) i o
-  by_eol R i x o e h = chosen (subst (λ x. layout_at t R x i o) e h)
+  pub layout_by_its_eol_is_layout : (R : Family) (i : ℕ) (x : Option ℕ) (o : Outcome layout.Layout) →
+      x ≡ after_eol t i → layout_at t R x i o → peek (after_eol t) (layout_at t R) i o
+  layout_by_its_eol_is_layout R i x o e h = chosen (subst (λ x. layout_at t R x i o) e h)

@@ -23,11 +23,13 @@ use Rattle.fluent_syntax_parser.specs.Outcomes.{Fails}
 use Rattle.fluent_syntax_parser.specs.declared.fault.ReadFault.{ReadFault}
 use Rattle.fluent_syntax_parser.proofs.patterns.BlankLines.{crlf_has_lf, lf_is_blank}
 use Rattle.fluent_syntax_grammar.proofs.FunctionalRules.{ending_is_functional}
-use Rattle.fluent_syntax_parser.proofs.patterns.LineEndings.{line_ending_read, ends_text}
-use Rattle.fluent_syntax_parser.proofs.patterns.OneLine.{run_item}
-use Rattle.fluent_syntax_parser.proofs.patterns.Pieces.{end_pieces, no_pieces, run_there}
-use Rattle.fluent_syntax_parser.proofs.patterns.Rest.{run_mapped}
-use Rattle.fluent_syntax_parser.proofs.patterns.Settled.{placed_after, run_and_placed_settled, settled_ending}
+use Rattle.fluent_syntax_parser.proofs.patterns.LineEndings.{line_ending_read, ending_without_eol_is_text_end}
+use Rattle.fluent_syntax_parser.proofs.patterns.OneLine.{longest_run_is_read_as_piece}
+use Rattle.fluent_syntax_parser.proofs.patterns.Pieces.{no_piece_is_read_at_end_of_text, no_piece_is_read_at_eol}
+use Rattle.fluent_syntax_parser.proofs.patterns.Pieces.{run_there}
+use Rattle.fluent_syntax_parser.proofs.patterns.Rest.{run_maps_to_itself}
+use Rattle.fluent_syntax_parser.proofs.patterns.Settled.{pieces_with_placeable_last_are_settled, run_and_placed_settled}
+use Rattle.fluent_syntax_parser.proofs.patterns.Settled.{settled_ending}
 use Rattle.fluent_syntax_parser.proofs.patterns.Settled.{Settled-map}
 use Rattle.fluent_syntax_parser.proofs.readers.ContinuesFrom.{ContinuesFrom, item_fails, whole_list_read, one_after}
 
@@ -40,8 +42,8 @@ pub record MadeOpening {S X : Type 0} (t : List ℕ) (R : Family) (f : Span → 
   pub beyond : ContinuesFrom t (λ u. next_piece t R) (λ a rest. a ∷ rest) [] tt i (λ more. pieces ++ more) tt j
 
 module _ {S X : Type 0} (t : List ℕ) (R : Family) (f : Span → X) (v : S → X) (i : ℕ) where
-  pub no_opening : MadeOpening t R f v i [] i
-  no_opening =
+  pub no_opening_is_made_at_start : MadeOpening t R f v i [] i
+  no_opening_is_made_at_start =
       record { pieces = []; settled = none; same = refl; beyond = record { read = λ b end h. h; fails = λ e h. h } }
 
   module _ (h : IsFunctional (next_piece t R)) (place to : ℕ) (w : LongestRun (is_run_place t) place to) where
@@ -62,7 +64,7 @@ module _ {S X : Type 0} (t : List ℕ) (R : Family) (f : Span → X) (v : S → 
           by true e =
               one_after (λ more. (pieces ++ run place to ∷ []) ++ more) (run place to) tt to g h
               (λ more. append_assoc pieces (run place to ∷ []) more)
-              (run_item t R place to w (grind (arith, nat_tests)))
+              (longest_run_is_read_as_piece t R place to w (grind (arith, nat_tests)))
           by false e =
               let here : place ≡ to = let l = w.forward in grind (arith, nat_tests) in
               subst (λ k. ContinuesFrom t (λ u. next_piece t R) (λ a rest. a ∷ rest) [] tt i
@@ -72,31 +74,33 @@ module _ {S X : Type 0} (t : List ℕ) (R : Family) (f : Span → X) (v : S → 
               (λ more. ps ++ more) tt place)
               (sym (append-nil pieces)) g)
 
-      pub opening_fails : {fault : ReadFault} → Fails t (next_piece t R) to fault →
+      pub opening_fails_with_its_next_piece : {fault : ReadFault} → Fails t (next_piece t R) to fault →
           Fails t (list_of (next_piece t R)) i fault
-      opening_fails x = item_fails beyond_run x
+      opening_fails_with_its_next_piece x = item_fails beyond_run x
 
-      pub opening_read : next_piece t R to (Read no_item to) →
+      pub opening_is_read_with_its_last_run : next_piece t R to (Read no_item to) →
           list_of (next_piece t R) i (Read (pieces ++ run_of span) to)
-      opening_read x = whole_list_read (pieces ++ run_of span) to beyond_run (append-nil (pieces ++ run_of span)) x
+      opening_is_read_with_its_last_run x =
+          whole_list_read (pieces ++ run_of span) to beyond_run (append-nil (pieces ++ run_of span)) x
 
       -- one more placeable
-      placed_settled : (e : ExpressionTree Span) (b : Bool) → Settled pieces →
+      pieces_with_placeable_stay_settled : (e : ExpressionTree Span) (b : Bool) → Settled pieces →
           Settled ((pieces ++ (if b then run place to ∷ [] else [])) ++ placed e ∷ [])
-      placed_settled e true s =
+      pieces_with_placeable_stay_settled e true s =
           subst Settled (sym (append_assoc pieces (run place to ∷ []) (placed e ∷ [])))
           (run_and_placed_settled place to e s)
-      placed_settled e false s =
-          subst (λ ps. Settled (ps ++ placed e ∷ [])) (sym (append-nil pieces)) (placed_after e s)
+      pieces_with_placeable_stay_settled e false s =
+          subst (λ ps. Settled (ps ++ placed e ∷ [])) (sym (append-nil pieces))
+          (pieces_with_placeable_last_are_settled e s)
 
-      pub opening_placed : Settled pieces → (xs ys : List (PatternElement S)) (x : PatternElement S)
+      pub placeable_is_made_next_in_opening : Settled pieces → (xs ys : List (PatternElement S)) (x : PatternElement S)
           (zs : List (PatternElement S)) → map (element_view v) xs ≡ map (piece_element f) pieces →
           map (element_view v) ys ≡ map (element_view v) xs ++ map (piece_element f) (run_of span) → zs ≡ ys ++ x ∷ [] →
           (e : ExpressionTree Span) → element_view v x ≡ placeable (expression_map f e) → (next : ℕ) →
           next_piece t R to (Read (item (placed e) tt) next) → MadeOpening t R f v i zs next
-      opening_placed settled xs ys x zs same added pushed e seen next read = record {
+      placeable_is_made_next_in_opening settled xs ys x zs same added pushed e seen next read = record {
         pieces = (pieces ++ run_of span) ++ placed e ∷ [];
-        settled = placed_settled e (nat_lt place to) settled;
+        settled = pieces_with_placeable_stay_settled e (nat_lt place to) settled;
         same =
             ap (map (element_view v)) pushed ∙ map-append (element_view v) ys (x ∷ [])
             ∙ ap (λ es. es ++ element_view v x ∷ [])
@@ -118,10 +122,10 @@ module _ {S X : Type 0} (f : Span → X) (v : S → X) (place to : ℕ) (xs ys :
       ≡ map (element_view v) xs ++ map (piece_element f) (if b then run place to ∷ [] else [])
 
   -- it was added
-  pub run_added : place < to →
+  pub pushed_text_adds_run : place < to →
       map (element_view v) ys ≡ map (element_view v) xs ++ text_element (f (record { start = place; end = to })) ∷ [] →
       AddsRun (nat_lt place to)
-  run_added before added = by (nat_lt place to) refl
+  pushed_text_adds_run before added = by (nat_lt place to) refl
     where
       by : (b : Bool) → nat_lt place to ≡ b → AddsRun b
       by true e = added
@@ -141,8 +145,8 @@ abbrev byte_or : Option ℕ → ℕ
 byte_or None = 0
 byte_or (Some b) = b
 
-pub byte_differs : {o : Option ℕ} (b n : ℕ) → o ≡ Some b → (b ≡ n → ⊥) → o ≡ Some n → ⊥
-byte_differs b n is other e = other (ap byte_or (sym is ∙ e))
+pub place_of_byte_has_no_other : {o : Option ℕ} (b n : ℕ) → o ≡ Some b → (b ≡ n → ⊥) → o ≡ Some n → ⊥
+place_of_byte_has_no_other b n is other e = other (ap byte_or (sym is ∙ e))
 
 pub none_is_no_byte : {o : Option ℕ} {n : ℕ} → o ≡ None → o ≡ Some n → ⊥
 none_is_no_byte is e = let f = sym is ∙ e in cc
@@ -154,8 +158,8 @@ pub run_ends_line : (t : List ℕ) (R : Family) (place to : ℕ) → LongestRun 
 run_ends_line t R place to w opening close = by (slice_get t to) refl (has_eol t to) refl
   where
     by : (o : Option ℕ) → slice_get t to ≡ o → (eol : Bool) → has_eol t to ≡ eol → next_piece t R to (Read no_item to)
-    by None e eol f = end_pieces t R to e
-    by (Some b) e true f = no_pieces t R to (Some b) e (λ g. cc) f
+    by None e eol f = no_piece_is_read_at_end_of_text t R to e
+    by (Some b) e true f = no_piece_is_read_at_eol t R to (Some b) e (λ g. cc) f
     by (Some b) e false f =
         let there = run_there t R to b e f (λ is. close (e ∙ ap Some is)) (λ is. opening (e ∙ ap Some is)) in
         absurd (true≢false (sym there ∙ w.longest))
@@ -178,7 +182,7 @@ EndsAt-ending_read t to e next read = by (after_eol t to) refl
     same d j other = ap (ending_or d) ((ending_is_functional t).same to (Read d j) (Read e next) other read)
 
     by : (o : Option ℕ) → after_eol t to ≡ o → EndsAt t to e
-    by None eol = subst (λ x. EndsAt t to x) (same text_end to (ends_text t to eol)) tt
+    by None eol = subst (λ x. EndsAt t to x) (same text_end to (ending_without_eol_is_text_end t to eol)) tt
     by (Some k) eol =
         subst (λ x. EndsAt t to x) (same (if k == to + 1 then lf_at to else crlf_at to) k (line_ending_read t to k eol))
         (test k eol (k == to + 1) refl)
@@ -186,18 +190,20 @@ EndsAt-ending_read t to e next read = by (after_eol t to) refl
 -- ---- with f of each text in its place
 
 module _ {X : Type 0} (f : Span → X) where
-  pub as_elements : (ps : List Piece) →
+  pub elements_of_pieces_are_those_of_items : (ps : List Piece) →
       map (piece_element f) ps ≡ map (element_of f) (map as_item (map (piece_of f) ps))
-  as_elements [] = refl
-  as_elements (p ∷ ps) = ap (λ es. piece_element f p ∷ es) (as_elements ps)
+  elements_of_pieces_are_those_of_items [] = refl
+  elements_of_pieces_are_those_of_items (p ∷ ps) =
+      ap (λ es. piece_element f p ∷ es) (elements_of_pieces_are_those_of_items ps)
 
-  pub opening_settled : {ps : List Piece} → Settled ps → Settled (map (piece_of f) ps)
-  opening_settled s = Settled-map (expression_map f) s
+  pub settled_pieces_map_to_settled : {ps : List Piece} → Settled ps → Settled (map (piece_of f) ps)
+  settled_pieces_map_to_settled s = Settled-map (expression_map f) s
 
-  pub opening_ending : {ps : List Piece} → Settled ps → (s : Span) (end : Ending) →
+  pub ending_of_opening_comes_after_its_items : {ps : List Piece} → Settled ps → (s : Span) (end : Ending) →
       with_ending (map (piece_of f) (ps ++ run_of s)) end
       ≡ map as_item (map (piece_of f) ps) ++ with_ending (run_of s) end
-  opening_ending {ps = ps} settled s end =
+  ending_of_opening_comes_after_its_items {ps = ps} settled s end =
       ap (λ qs. with_ending qs end)
-      (map-append (piece_of f) ps (run_of s) ∙ ap (λ qs. map (piece_of f) ps ++ qs) (run_mapped (expression_map f) s))
-      ∙ settled_ending (opening_settled settled) (run_of s) end
+      (map-append (piece_of f) ps (run_of s)
+      ∙ ap (λ qs. map (piece_of f) ps ++ qs) (run_maps_to_itself (expression_map f) s))
+      ∙ settled_ending (settled_pieces_map_to_settled settled) (run_of s) end

@@ -18,7 +18,7 @@ use Rattle.fluent_syntax_grammar.specs.Places.{LongestRun, holds, has_eol, Inlin
 use Rattle.fluent_syntax_grammar.proofs.Functional.{longest_run_is_functional}
 use Rattle.fluent_syntax_parser.specs.Outcomes.{Fails, no_memory, refused, too_deep}
 use Rattle.fluent_syntax_parser.specs.declared.fault.ReadFault.{ReadFault}
-use Rattle.fluent_syntax_parser.proofs.readers.Fails.{fails_no, fails_seen, fails_yes}
+use Rattle.fluent_syntax_parser.proofs.readers.Fails.{fails_no, fails_seen, branch_fails_with_first_when_true}
 
 text_byte_passes_run_test : (o : Option ℕ) (b : ℕ) (eol : Bool) → o ≡ Some b → eol ≡ false → (b ≡ right_brace → ⊥) →
     (b ≡ left_brace → ⊥) → (b ≡ lf → ⊥) →
@@ -26,40 +26,46 @@ text_byte_passes_run_test : (o : Option ℕ) (b : ℕ) (eol : Bool) → o ≡ So
 text_byte_passes_run_test o b eol e f close opening line = rw (e, f) (grind (arith, nat_tests))
 
 module _ (t : List ℕ) (R : Family) (i b : ℕ) (e : slice_get t i ≡ Some b) (eol : has_eol t i ≡ false) where
-  by_piece : (o : Outcome (More Piece (Unit {0}))) → next_piece_at t R (Some b) i o → next_piece t R i o
-  by_piece o h = chosen (subst (λ x. next_piece_at t R x i o) (sym e) h)
+  piece_by_its_byte_is_next_piece : (o : Outcome (More Piece (Unit {0}))) → next_piece_at t R (Some b) i o →
+      next_piece t R i o
+  piece_by_its_byte_is_next_piece o h = chosen (subst (λ x. next_piece_at t R x i o) (sym e) h)
 
-  pub bare_brace : b ≡ right_brace → next_piece t R i (Refused UnbalancedClosingBrace i (i + 1))
-  bare_brace is = by_piece _ (chosen (second eol (first (rw is refl) (failed refl))))
+  pub closing_brace_is_refused_as_piece : b ≡ right_brace → next_piece t R i (Refused UnbalancedClosingBrace i (i + 1))
+  closing_brace_is_refused_as_piece is =
+      piece_by_its_byte_is_next_piece _ (chosen (second eol (first (rw is refl) (failed refl))))
 
-  pub placed_piece : b ≡ left_brace → (o : Outcome (More Piece (Unit {0}))) →
+  pub placeable_at_brace_is_next_piece : b ≡ left_brace → (o : Outcome (More Piece (Unit {0}))) →
       (placeable t R >>= λ e. yields (item (placed e) tt)) i o → next_piece t R i o
-  placed_piece is o h = by_piece o (chosen (second eol (second (rw is refl) (first (rw is refl) h))))
+  placeable_at_brace_is_next_piece is o h =
+      piece_by_its_byte_is_next_piece o (chosen (second eol (second (rw is refl) (first (rw is refl) h))))
 
-  pub placed_fails : b ≡ left_brace → {f : ReadFault} →
+  pub piece_at_brace_fails_as_placeable : b ≡ left_brace → {f : ReadFault} →
       Fails t (placeable t R >>= λ e. yields {A = More Piece (Unit {0})} (item (placed e) tt)) i f →
       Fails t (next_piece t R) i f
-  placed_fails is h =
+  piece_at_brace_fails_as_placeable is h =
       fails_seen (next_piece_at t R) (Some b) (sym e)
-      (fails_seen _ false (sym eol) (fails_no refl (fails_no (rw is refl) (fails_yes (rw is refl) h))))
+      (fails_seen _ false (sym eol)
+      (fails_no refl (fails_no (rw is refl) (branch_fails_with_first_when_true (rw is refl) h))))
 
   module _ (close : b ≡ right_brace → ⊥) (opening : b ≡ left_brace → ⊥) where
-    no_close : (b == right_brace) ≡ false
-    no_close = grind (arith, nat_tests)
+    byte_is_no_closing_brace : (b == right_brace) ≡ false
+    byte_is_no_closing_brace = grind (arith, nat_tests)
 
-    no_open : (b == left_brace) ≡ false
-    no_open = grind (arith, nat_tests)
+    byte_is_no_opening_brace : (b == left_brace) ≡ false
+    byte_is_no_opening_brace = grind (arith, nat_tests)
 
-    pub run_piece : (j : ℕ) → LongestRun (is_run_place t) i j → next_piece t R i (Read (item (run i j) tt) j)
-    run_piece j w =
+    pub run_at_plain_byte_is_next_piece : (j : ℕ) → LongestRun (is_run_place t) i j →
+        next_piece t R i (Read (item (run i j) tt) j)
+    run_at_plain_byte_is_next_piece j w =
         let text : text_run t i (Read (run i j) j) = goes_on at_place (goes_on (passed w) (goes_on at_place given)) in
-        by_piece _ (chosen (second eol (second no_close (second no_open (goes_on text given)))))
+        piece_by_its_byte_is_next_piece _
+        (chosen (second eol (second byte_is_no_closing_brace (second byte_is_no_opening_brace (goes_on text given)))))
 
-    no_line : b ≡ lf → ⊥
-    no_line is = let f = rw e at eol in cc
+    plain_byte_is_no_lf : b ≡ lf → ⊥
+    plain_byte_is_no_lf is = let f = rw e at eol in cc
 
     pub run_there : is_run_place t i ≡ true
-    run_there = text_byte_passes_run_test (slice_get t i) b (has_eol t i) e eol close opening no_line
+    run_there = text_byte_passes_run_test (slice_get t i) b (has_eol t i) e eol close opening plain_byte_is_no_lf
 
 -- a stretch that begins with what it is of
 pub further : (test : ℕ → Bool) (i j : ℕ) → LongestRun test i j → test i ≡ true → i < j
@@ -79,33 +85,34 @@ line_takes_bytes t from end next inside forward on stops further = by (has_eol t
         omega (arith, past)
 
 module _ (t : List ℕ) (R : Family) where
-  pub no_pieces : (i : ℕ) (o : Option ℕ) → slice_get t i ≡ o → (o ≡ None → ⊥) → has_eol t i ≡ true →
+  pub no_piece_is_read_at_eol : (i : ℕ) (o : Option ℕ) → slice_get t i ≡ o → (o ≡ None → ⊥) → has_eol t i ≡ true →
       next_piece t R i (Read no_item i)
-  no_pieces i None e some eol = absurd (some refl)
-  no_pieces i (Some b) e some eol = chosen (rw e (chosen (first eol given)))
+  no_piece_is_read_at_eol i None e some eol = absurd (some refl)
+  no_piece_is_read_at_eol i (Some b) e some eol = chosen (rw e (chosen (first eol given)))
 
-  pub end_pieces : (i : ℕ) → slice_get t i ≡ None → next_piece t R i (Read no_item i)
-  end_pieces i e = chosen (rw e given)
+  pub no_piece_is_read_at_end_of_text : (i : ℕ) → slice_get t i ≡ None → next_piece t R i (Read no_item i)
+  no_piece_is_read_at_end_of_text i e = chosen (rw e given)
 
-  pub line_read : (i k : ℕ) → InlineBlank t i k → (ps : List Piece) (j m : ℕ) (end : Ending) →
+  pub line_is_read_from_its_parts : (i k : ℕ) → InlineBlank t i k → (ps : List Piece) (j m : ℕ) (end : Ending) →
       more_pieces t R k (Read ps j) → ending t j (Read end m) →
       line t R i (Read (record { start = i; spaces = k - i; pieces = ps; ending = end }) m)
-  line_read i k blank ps j m end pieces ends =
+  line_is_read_from_its_parts i k blank ps j m end pieces ends =
       goes_on at_place (goes_on (passed blank) (goes_on at_place (goes_on pieces (goes_on ends given))))
 
-  own_too_deep : {i k : ℕ} → InlineBlank t i k → belongs t (nat_lt i k) k ≡ true → {b : ℕ} → slice_get t k ≡ Some b →
+  own_line_too_deep_makes_lines_too_deep : {i k : ℕ} → InlineBlank t i k → belongs t (nat_lt i k) k ≡ true → {b : ℕ} →
+      slice_get t k ≡ Some b →
       TooDeep (line t R >>= λ l. yields {A = More Line (Unit {0})} (item l tt)) i → TooDeep (next_line t R) i
-  own_too_deep {i = i} {k = k} w own e h o (no_byte {k = m} v none) =
+  own_line_too_deep_makes_lines_too_deep {i = i} {k = k} w own e h o (no_byte {k = m} v none) =
       let same : m ≡ k = longest_run_is_functional.same i m k v w in
       let f = rw same at none in cc
-  own_too_deep {i = i} {k = k} w own e h o (other_line {k = m} v there other) =
+  own_line_too_deep_makes_lines_too_deep {i = i} {k = k} w own e h o (other_line {k = m} v there other) =
       let same : m ≡ k = longest_run_is_functional.same i m k v w in
       let f = rw same at other in cc
-  own_too_deep w own e h o (own_line v there is x) = h o x
+  own_line_too_deep_makes_lines_too_deep w own e h o (own_line v there is x) = h o x
 
   pub own_line_fails : {i k b : ℕ} → InlineBlank t i k → slice_get t k ≡ Some b → belongs t (nat_lt i k) k ≡ true →
       {f : ReadFault} → Fails t (line t R >>= λ l. yields {A = More Line (Unit {0})} (item l tt)) i f →
       Fails t (next_line t R) i f
   own_line_fails w e own (refused h) = refused (λ k from to s. own_line w e own (h k from to s))
-  own_line_fails w e own (too_deep h) = too_deep (own_too_deep w own e h)
+  own_line_fails w e own (too_deep h) = too_deep (own_line_too_deep_makes_lines_too_deep w own e h)
   own_line_fails w e own no_memory = no_memory

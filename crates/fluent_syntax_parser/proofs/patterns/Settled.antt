@@ -10,10 +10,11 @@ use Rattle.fluent_syntax_parser.specs.Opened.{Settled, as_item, none, by_placeab
 
 module _ {E : Type 0} where
   -- one more placeable, and one after a run
-  pub placed_after : {ps : List (PieceOf E)} (e : E) → Settled ps → Settled (ps ++ placed e ∷ [])
-  placed_after e none = by_placeable none
-  placed_after e (by_placeable s) = by_placeable (placed_after e s)
-  placed_after e (by_run s) = by_run (placed_after e s)
+  pub pieces_with_placeable_last_are_settled : {ps : List (PieceOf E)} (e : E) → Settled ps →
+      Settled (ps ++ placed e ∷ [])
+  pieces_with_placeable_last_are_settled e none = by_placeable none
+  pieces_with_placeable_last_are_settled e (by_placeable s) = by_placeable (pieces_with_placeable_last_are_settled e s)
+  pieces_with_placeable_last_are_settled e (by_run s) = by_run (pieces_with_placeable_last_are_settled e s)
 
   pub run_and_placed_settled : {ps : List (PieceOf E)} (from to : ℕ) (e : E) → Settled ps →
       Settled (ps ++ run from to ∷ placed e ∷ [])
@@ -28,9 +29,10 @@ module _ {E : Type 0} where
   settled_ending (by_placeable {e = e} s) qs end = ap (λ xs. placeable_item e ∷ xs) (settled_ending s qs end)
   settled_ending (by_run {from = from} {to = to} s) qs end = ap (λ xs. text from to ∷ xs) (settled_ending s qs end)
 
-  cut_filled : (t : List ℕ) (e : E) (xs : List (ItemOf E)) → cut_before t (placeable_item e) xs ≡ placeable_item e ∷ xs
-  cut_filled t e [] = refl
-  cut_filled t e (x ∷ xs) = refl
+  cut_keeps_placeable_item : (t : List ℕ) (e : E) (xs : List (ItemOf E)) →
+      cut_before t (placeable_item e) xs ≡ placeable_item e ∷ xs
+  cut_keeps_placeable_item t e [] = refl
+  cut_keeps_placeable_item t e (x ∷ xs) = refl
 
 pub Settled-map : {E F : Type 0} (h : E → F) {ps : List (PieceOf E)} → Settled ps → Settled (map (piece_map h) ps)
 Settled-map h none = none
@@ -39,15 +41,15 @@ Settled-map h (by_run s) = by_run (Settled-map h s)
 
 -- they are elements, before those of what follows them
 module _ {X : Type 0} (f : Span → X) (t : List ℕ) where
-  pub settled_spelled : {ps : List (PieceOf (ExpressionTree X))} → Settled ps →
+  pub settled_pieces_are_spelled_as_elements : {ps : List (PieceOf (ExpressionTree X))} → Settled ps →
       (ys : List (ItemOf (ExpressionTree X))) →
       spelled f t (cut t (map as_item ps ++ ys)) ≡ map (element_of f) (map as_item ps) ++ spelled f t (cut t ys)
-  settled_spelled none ys = refl
-  settled_spelled (by_placeable {e = e} {ps = ps} s) ys =
-      ap (spelled f t) (cut_filled t e (cut t (map as_item ps ++ ys)))
-      ∙ ap (λ xs. placeable e ∷ xs) (settled_spelled s ys)
-  settled_spelled (by_run {from = from} {to = to} {e = e} {ps = ps} s) ys =
+  settled_pieces_are_spelled_as_elements none ys = refl
+  settled_pieces_are_spelled_as_elements (by_placeable {e = e} {ps = ps} s) ys =
+      ap (spelled f t) (cut_keeps_placeable_item t e (cut t (map as_item ps ++ ys)))
+      ∙ ap (λ xs. placeable e ∷ xs) (settled_pieces_are_spelled_as_elements s ys)
+  settled_pieces_are_spelled_as_elements (by_run {from = from} {to = to} {e = e} {ps = ps} s) ys =
       let beyond = cut t (map as_item ps ++ ys) in
-      ap (λ xs. spelled f t (cut_before t (text from to) xs)) (cut_filled t e beyond)
+      ap (λ xs. spelled f t (cut_before t (text from to) xs)) (cut_keeps_placeable_item t e beyond)
       ∙ ap (λ xs. text_element (f (record { start = from; end = to })) ∷ xs)
-      (ap (spelled f t) (sym (cut_filled t e beyond)) ∙ settled_spelled s ys)
+      (ap (spelled f t) (sym (cut_keeps_placeable_item t e beyond)) ∙ settled_pieces_are_spelled_as_elements s ys)

@@ -18,8 +18,9 @@ use Rattle.fluent_syntax_grammar.specs.Layout.{Layout, LineOf, PieceOf}
 use Rattle.fluent_syntax_parser.specs.Elements.{dedented_items, element_of, last_of, spelled}
 use Rattle.fluent_syntax_parser.specs.Layouts.{item_of, line_of}
 use Rattle.fluent_syntax_parser.specs.Opened.{Settled, as_item}
-use Rattle.fluent_syntax_parser.proofs.patterns.Layouts.{common_mapped, cut_mapped, items_mapped}
-use Rattle.fluent_syntax_parser.proofs.patterns.Settled.{settled_spelled}
+use Rattle.fluent_syntax_parser.proofs.patterns.Layouts.{mapping_keeps_common_indent, cut_of_mapped_items_is_mapped}
+use Rattle.fluent_syntax_parser.proofs.patterns.Layouts.{items_of_mapped_layout_are_mapped}
+use Rattle.fluent_syntax_parser.proofs.patterns.Settled.{settled_pieces_are_spelled_as_elements}
 
 if_any-nonempty : {S X : Type 0} (v : S → X) (xs : List (PatternElement S)) → (xs ≡ [] → ⊥) →
     Some (elements_of (map (element_view v) xs)) ≡ if_any (map (element_view v) xs)
@@ -27,27 +28,29 @@ if_any-nonempty v [] some = absurd (some refl)
 if_any-nonempty v (x ∷ xs) some = refl
 
 module _ {X : Type 0} (f : Span → X) where
-  elements_map : (es : List (ElementTree Span)) →
+  mapped_elements_make_mapped_pattern : (es : List (ElementTree Span)) →
       pattern_map f (elements_of es) ≡ elements_of (map (element_map f) es)
-  elements_map [] = refl
-  elements_map (e ∷ es) = ap (elements (element_map f e)) (elements_map es)
+  mapped_elements_make_mapped_pattern [] = refl
+  mapped_elements_make_mapped_pattern (e ∷ es) =
+      ap (elements (element_map f e)) (mapped_elements_make_mapped_pattern es)
 
-  any_of : (es : List (ElementTree Span)) →
+  pattern_if_any_is_mapped : (es : List (ElementTree Span)) →
       option_map (pattern_map f) (if_any es) ≡ if_any (map (element_map f) es)
-  any_of [] = refl
-  any_of (e ∷ es) = ap Some (elements_map (e ∷ es))
+  pattern_if_any_is_mapped [] = refl
+  pattern_if_any_is_mapped (e ∷ es) = ap Some (mapped_elements_make_mapped_pattern (e ∷ es))
 
   -- the pattern that elements are, if there are some
   module _ {S : Type 0} (v : S → X) (es : List (ElementTree Span)) where
-    pub none_spelled : (xs : List (PatternElement S)) → map (element_view v) xs ≡ map (element_map f) es → xs ≡ [] →
-        None ≡ option_map (pattern_map f) (if_any es)
-    none_spelled xs made none =
-        sym (any_of es ∙ ap if_any (sym made) ∙ ap (λ ys. if_any (map (element_view v) ys)) none)
+    pub no_elements_spell_no_pattern : (xs : List (PatternElement S)) →
+        map (element_view v) xs ≡ map (element_map f) es → xs ≡ [] → None ≡ option_map (pattern_map f) (if_any es)
+    no_elements_spell_no_pattern xs made none =
+        sym (pattern_if_any_is_mapped es ∙ ap if_any (sym made) ∙ ap (λ ys. if_any (map (element_view v) ys)) none)
 
-    pub some_spelled : (p : Pattern S) → map (element_view v) p.elements.items ≡ map (element_map f) es →
+    pub some_elements_spell_pattern : (p : Pattern S) → map (element_view v) p.elements.items ≡ map (element_map f) es →
         (p.elements.items ≡ [] → ⊥) → Some (pattern_view v p) ≡ option_map (pattern_map f) (if_any es)
-    some_spelled p made some =
-        ap Some (view-Pattern v p) ∙ if_any-nonempty v p.elements.items some ∙ ap if_any made ∙ sym (any_of es)
+    some_elements_spell_pattern p made some =
+        ap Some (view-Pattern v p) ∙ if_any-nonempty v p.elements.items some ∙ ap if_any made
+        ∙ sym (pattern_if_any_is_mapped es)
 
 module _ {X : Type 0} (f : Span → X) (t : List ℕ) where
   spelled_of : (xs : List Item) →
@@ -60,27 +63,29 @@ module _ {X : Type 0} (f : Span → X) (t : List ℕ) where
       ap (λ zs. text_element (f (record { start = from; end = to })) ∷ zs) (spelled_of (placeable_item e ∷ xs))
   spelled_of (placeable_item e ∷ xs) = ap (λ zs. element_map f (placeable e) ∷ zs) (spelled_of xs)
 
-  spelled_end : (xs : List (ItemOf (ExpressionTree X))) (x : ItemOf (ExpressionTree X)) →
+  spelled_items_end_with_last_spelled : (xs : List (ItemOf (ExpressionTree X))) (x : ItemOf (ExpressionTree X)) →
       spelled f t (xs ++ x ∷ []) ≡ map (element_of f) xs ++ last_of f t x ∷ []
-  spelled_end [] (text from to) = refl
-  spelled_end [] (placeable_item e) = refl
-  spelled_end (text from to ∷ []) x =
-      ap (λ zs. text_element (f (record { start = from; end = to })) ∷ zs) (spelled_end [] x)
-  spelled_end (text from to ∷ y ∷ ys) x =
-      ap (λ zs. text_element (f (record { start = from; end = to })) ∷ zs) (spelled_end (y ∷ ys) x)
-  spelled_end (placeable_item e ∷ xs) x = ap (λ zs. placeable e ∷ zs) (spelled_end xs x)
+  spelled_items_end_with_last_spelled [] (text from to) = refl
+  spelled_items_end_with_last_spelled [] (placeable_item e) = refl
+  spelled_items_end_with_last_spelled (text from to ∷ []) x =
+      ap (λ zs. text_element (f (record { start = from; end = to })) ∷ zs) (spelled_items_end_with_last_spelled [] x)
+  spelled_items_end_with_last_spelled (text from to ∷ y ∷ ys) x =
+      ap (λ zs. text_element (f (record { start = from; end = to })) ∷ zs)
+      (spelled_items_end_with_last_spelled (y ∷ ys) x)
+  spelled_items_end_with_last_spelled (placeable_item e ∷ xs) x =
+      ap (λ zs. placeable e ∷ zs) (spelled_items_end_with_last_spelled xs x)
 
   -- what is added for items that were cut
   module _ (zs : List (ItemOf (ExpressionTree X))) (es : List (ElementTree X)) where
-    pub none_added : cut t zs ≡ [] → es ≡ es ++ spelled f t (cut t zs)
-    none_added none = sym (ap (λ xs. es ++ spelled f t xs) none ∙ append-nil es)
+    pub cut_without_items_adds_no_elements : cut t zs ≡ [] → es ≡ es ++ spelled f t (cut t zs)
+    cut_without_items_adds_no_elements none = sym (ap (λ xs. es ++ spelled f t xs) none ∙ append-nil es)
 
-    pub some_added : (xs : List (ItemOf (ExpressionTree X))) (x : ItemOf (ExpressionTree X)) →
+    pub cut_with_items_adds_their_elements : (xs : List (ItemOf (ExpressionTree X))) (x : ItemOf (ExpressionTree X)) →
         cut t zs ≡ xs ++ x ∷ [] →
         (es ++ map (element_of f) xs) ++ last_of f t x ∷ [] ≡ es ++ spelled f t (cut t zs)
-    some_added xs x cuts =
+    cut_with_items_adds_their_elements xs x cuts =
         append_assoc es (map (element_of f) xs) (last_of f t x ∷ [])
-        ∙ ap (λ ys. es ++ ys) (sym (spelled_end xs x) ∙ ap (spelled f t) (sym cuts))
+        ∙ ap (λ ys. es ++ ys) (sym (spelled_items_end_with_last_spelled xs x) ∙ ap (spelled f t) (sym cuts))
 
   -- the elements of a layout: those of its opening line up to the last placeable there, and those of the rest
   pub layout_spelled : (edition : Edition) (y : Layout) {ps : List (PieceOf (ExpressionTree X))} → Settled ps →
@@ -92,13 +97,13 @@ module _ {X : Type 0} (f : Span → X) (t : List ℕ) where
   layout_spelled edition y {ps = ps} settled rest opening seen lines =
       let beyond = dedented_items edition seen in
       let first = opening_items (option_map (line_of f) y.opening) in
-      sym (settled_spelled f t settled (rest ++ beyond))
+      sym (settled_pieces_are_spelled_as_elements f t settled (rest ++ beyond))
       ∙ ap (λ xs. spelled f t (cut t xs))
       (sym (append_assoc (map as_item ps) rest beyond)
       ∙ ap (λ xs. xs ++ beyond) (sym opening)
       ∙ ap (λ ls. first ++ dedented_items edition ls) lines
       ∙ ap (λ common. first ++ flat_map (line_items edition common) (map (line_of f) y.lines))
-      (common_mapped (expression_map f) edition y)
-      ∙ items_mapped (expression_map f) edition y)
-      ∙ ap (spelled f t) (cut_mapped (expression_map f) t (items edition y))
+      (mapping_keeps_common_indent (expression_map f) edition y)
+      ∙ items_of_mapped_layout_are_mapped (expression_map f) edition y)
+      ∙ ap (spelled f t) (cut_of_mapped_items_is_mapped (expression_map f) t (items edition y))
       ∙ sym (spelled_of (cut t (items edition y)))

@@ -10,32 +10,34 @@ use Rattle.fluent_syntax_grammar.specs.Elements.{ItemOf, placeable_item, items_f
 use Rattle.fluent_syntax_grammar.specs.Elements.{text, with_ending}
 
 module _ {E : Type 0} where
-  pub none_leads : (led : Option ℕ) → leading {E = E} led [] ≡ []
-  none_leads None = refl
-  none_leads (Some k) = refl
+  pub no_pieces_are_led_by_nothing : (led : Option ℕ) → leading {E = E} led [] ≡ []
+  no_pieces_are_led_by_nothing None = refl
+  no_pieces_are_led_by_nothing (Some k) = refl
 
-  run_leads : (led : Option ℕ) (from to : ℕ) (ps : List (PieceOf E)) →
+  first_run_is_led_from_indent : (led : Option ℕ) (from to : ℕ) (ps : List (PieceOf E)) →
       leading led (run from to ∷ ps) ≡ run (unwrap_or led from) to ∷ ps
-  run_leads None from to ps = refl
-  run_leads (Some k) from to ps = refl
+  first_run_is_led_from_indent None from to ps = refl
+  first_run_is_led_from_indent (Some k) from to ps = refl
 
-  placed_leads : (led : Option ℕ) (e : E) (ps : List (PieceOf E)) → leading led (placed e ∷ ps) ≡ placed e ∷ ps
-  placed_leads None e ps = refl
-  placed_leads (Some k) e ps = refl
+  placeable_is_led_by_nothing : (led : Option ℕ) (e : E) (ps : List (PieceOf E)) →
+      leading led (placed e ∷ ps) ≡ placed e ∷ ps
+  placeable_is_led_by_nothing None e ps = refl
+  placeable_is_led_by_nothing (Some k) e ps = refl
 
   module _ (end : Ending) where
-    flush : (xs : List (ItemOf E)) (pending : Option (ℕ × ℕ)) (p : PieceOf E) (ps : List (PieceOf E)) →
+    flushed_pieces_are_pending_pieces : (xs : List (ItemOf E)) (pending : Option (ℕ × ℕ)) (p : PieceOf E)
+        (ps : List (PieceOf E)) →
         flushed xs pending ++ with_ending (p ∷ ps) end ≡ xs ++ with_ending (pending_run pending (p ∷ ps)) end
-    flush xs None p ps = refl
-    flush xs (Some r) p ps = append_assoc xs (text r.0 r.1 ∷ []) (with_ending (p ∷ ps) end)
+    flushed_pieces_are_pending_pieces xs None p ps = refl
+    flushed_pieces_are_pending_pieces xs (Some r) p ps = append_assoc xs (text r.0 r.1 ∷ []) (with_ending (p ∷ ps) end)
 
-    pub run_waits : (xs : List (ItemOf E)) (pending : Option (ℕ × ℕ)) (led : Option ℕ) (from to : ℕ)
+    pub run_waits_as_pending_text : (xs : List (ItemOf E)) (pending : Option (ℕ × ℕ)) (led : Option ℕ) (from to : ℕ)
         (ps : List (PieceOf E)) →
         flushed xs pending ++ with_ending (run (unwrap_or led from) to ∷ ps) end
         ≡ xs ++ with_ending (pending_run pending (leading led (run from to ∷ ps))) end
-    run_waits xs pending led from to ps =
-        flush xs pending (run (unwrap_or led from) to) ps
-        ∙ ap (λ qs. xs ++ with_ending (pending_run pending qs) end) (sym (run_leads led from to ps))
+    run_waits_as_pending_text xs pending led from to ps =
+        flushed_pieces_are_pending_pieces xs pending (run (unwrap_or led from) to) ps
+        ∙ ap (λ qs. xs ++ with_ending (pending_run pending qs) end) (sym (first_run_is_led_from_indent led from to ps))
 
     pub waiting_placed_added : (xs : List (ItemOf E)) (pending : Option (ℕ × ℕ)) (led : Option ℕ) (e : E)
         (ps : List (PieceOf E)) →
@@ -43,55 +45,59 @@ module _ {E : Type 0} where
         ≡ xs ++ with_ending (pending_run pending (leading led (placed e ∷ ps))) end
     waiting_placed_added xs pending led e ps =
         append_assoc (flushed xs pending) (placeable_item e ∷ []) (with_ending ps end)
-        ∙ flush xs pending (placed e) ps
-        ∙ ap (λ qs. xs ++ with_ending (pending_run pending qs) end) (sym (placed_leads led e ps))
+        ∙ flushed_pieces_are_pending_pieces xs pending (placed e) ps
+        ∙ ap (λ qs. xs ++ with_ending (pending_run pending qs) end) (sym (placeable_is_led_by_nothing led e ps))
 
   -- ---- a line, by whether it holds something
 
-  kept_is : (common : Option ℕ) (l : LineOf E) → kept_place common l.start l.spaces ≡ common_indent_end common l
-  kept_is None l = refl
-  kept_is (Some common) l = refl
+  kept_place_is_common_indent_end : (common : Option ℕ) (l : LineOf E) →
+      kept_place common l.start l.spaces ≡ common_indent_end common l
+  kept_place_is_common_indent_end None l = refl
+  kept_place_is_common_indent_end (Some common) l = refl
 
-  bare_from : (edition : Edition) (kept first : ℕ) (end : Ending) →
+  items_of_blank_line_are_items_of_no_pieces : (edition : Edition) (kept first : ℕ) (end : Ending) →
       blank_line_items {E = E} kept end ≡ items_from {E = E} edition kept first [] end
-  bare_from edition kept first (lf_at p) = refl
-  bare_from edition kept first (crlf_at p) = refl
-  bare_from edition kept first text_end = refl
+  items_of_blank_line_are_items_of_no_pieces edition kept first (lf_at p) = refl
+  items_of_blank_line_are_items_of_no_pieces edition kept first (crlf_at p) = refl
+  items_of_blank_line_are_items_of_no_pieces edition kept first text_end = refl
 
-  indent_placed : (b : Bool) (xs rest : List (ItemOf E)) (kept first : ℕ) →
+  pending_indent_is_placed_before_rest : (b : Bool) (xs rest : List (ItemOf E)) (kept first : ℕ) →
       flushed xs (if b then Some (kept, first) else None) ++ rest
       ≡ xs ++ ((if b then text kept first ∷ [] else []) ++ rest)
-  indent_placed true xs rest kept first = append_assoc xs (text kept first ∷ []) rest
-  indent_placed false xs rest kept first = refl
+  pending_indent_is_placed_before_rest true xs rest kept first = append_assoc xs (text kept first ∷ []) rest
+  pending_indent_is_placed_before_rest false xs rest kept first = refl
 
-  full_from : (xs : List (ItemOf E)) (edition : Edition) (kept first : ℕ) (ps : List (PieceOf E)) (end : Ending) →
-      (ps ≡ [] → ⊥) →
+  pending_indent_and_pieces_are_items : (xs : List (ItemOf E)) (edition : Edition) (kept first : ℕ)
+      (ps : List (PieceOf E)) (end : Ending) → (ps ≡ [] → ⊥) →
       flushed xs (indent_of edition kept first ps) ++ with_ending (leading (Some kept) ps) end
       ≡ xs ++ items_from edition kept first ps end
-  full_from xs edition kept first [] end some = absurd (some refl)
-  full_from xs edition kept first (run from to ∷ ps) end some = refl
-  full_from xs One kept first (placed e ∷ ps) end some = refl
-  full_from xs Two kept first (placed e ∷ ps) end some =
-      indent_placed (nat_lt kept first) xs (with_ending (placed e ∷ ps) end) kept first
+  pending_indent_and_pieces_are_items xs edition kept first [] end some = absurd (some refl)
+  pending_indent_and_pieces_are_items xs edition kept first (run from to ∷ ps) end some = refl
+  pending_indent_and_pieces_are_items xs One kept first (placed e ∷ ps) end some = refl
+  pending_indent_and_pieces_are_items xs Two kept first (placed e ∷ ps) end some =
+      pending_indent_is_placed_before_rest (nat_lt kept first) xs (with_ending (placed e ∷ ps) end) kept first
 
   module _ (edition : Edition) (common : Option ℕ) (l : LineOf E) (kept : ℕ)
       (is : kept ≡ kept_place common l.start l.spaces) where
-    kept_items : items_from edition kept (l.start + l.spaces) l.pieces l.ending ≡ line_items edition common l
-    kept_items =
-        ap (λ k. items_from edition k (l.start + l.spaces) l.pieces l.ending) (is ∙ kept_is common l)
+    items_from_kept_indent_are_line_items : items_from edition kept (l.start + l.spaces) l.pieces l.ending
+        ≡ line_items edition common l
+    items_from_kept_indent_are_line_items =
+        ap (λ k. items_from edition k (l.start + l.spaces) l.pieces l.ending)
+        (is ∙ kept_place_is_common_indent_end common l)
 
-    pub bare_line : l.pieces ≡ [] → blank_line_items kept l.ending ≡ line_items edition common l
-    bare_line none =
-        bare_from edition kept (l.start + l.spaces) l.ending
+    pub items_of_bare_line_are_line_items : l.pieces ≡ [] → blank_line_items kept l.ending ≡ line_items edition common l
+    items_of_bare_line_are_line_items none =
+        items_of_blank_line_are_items_of_no_pieces edition kept (l.start + l.spaces) l.ending
         ∙ ap (λ ps. items_from edition kept (l.start + l.spaces) ps l.ending) (sym none)
-        ∙ kept_items
+        ∙ items_from_kept_indent_are_line_items
 
-    pub full_line : (xs : List (ItemOf E)) → (l.pieces ≡ [] → ⊥) →
+    pub items_of_full_line_are_line_items : (xs : List (ItemOf E)) → (l.pieces ≡ [] → ⊥) →
         flushed xs (indent_of edition kept (l.start + l.spaces) l.pieces)
         ++ with_ending (leading (Some kept) l.pieces) l.ending
         ≡ xs ++ line_items edition common l
-    full_line xs some =
-        full_from xs edition kept (l.start + l.spaces) l.pieces l.ending some ∙ ap (λ ys. xs ++ ys) kept_items
+    items_of_full_line_are_line_items xs some =
+        pending_indent_and_pieces_are_items xs edition kept (l.start + l.spaces) l.pieces l.ending some
+        ∙ ap (λ ys. xs ++ ys) items_from_kept_indent_are_line_items
 
 pub empty_map_comes_from_empty : {A B : Type 0} (f : A → B) (xs : List A) → map f xs ≡ [] → xs ≡ []
 empty_map_comes_from_empty f [] e = refl

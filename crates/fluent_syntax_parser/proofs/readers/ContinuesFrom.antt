@@ -5,7 +5,7 @@ use Rattle.fluent_syntax_grammar.specs.Construct.{Construct, Read, More, no_item
 use Rattle.fluent_syntax_grammar.specs.Construct.{item_and_more, list_of, stops_later}
 use Rattle.fluent_syntax_grammar.specs.UniqueReading.{IsFunctional}
 use Rattle.fluent_syntax_grammar.proofs.Facts.{append_nothing}
-use Rattle.fluent_syntax_grammar.proofs.Deeper.{deeper_item, deeper_later}
+use Rattle.fluent_syntax_grammar.proofs.Deeper.{list_is_too_deep_by_first_item, list_is_too_deep_by_later_item}
 use Rattle.fluent_syntax_parser.specs.declared.fault.ReadFault.{ReadFault}
 use Rattle.fluent_syntax_parser.specs.Outcomes.{Fails, refused, too_deep, no_memory}
 use Rattle.fluent_syntax_parser.specs.Made.{IsMade, made}
@@ -21,7 +21,7 @@ item_then_fails : {A S B : Type 0} (t : List ℕ) (next : S → Construct (More 
     (j m : ℕ) (a : A) → IsFunctional (next r) → next r j (Read (item a q) m) → (f : ReadFault) →
     Fails t (many next add none q) m f → Fails t (many next add none r) j f
 item_then_fails t next add none r q j m a h x f (refused n) = refused (λ k from to e. stops_later x (n k from to e))
-item_then_fails t next add none r q j m a h x f (too_deep n) = too_deep (deeper_later h a q m x n)
+item_then_fails t next add none r q j m a h x f (too_deep n) = too_deep (list_is_too_deep_by_later_item h a q m x n)
 item_then_fails t next add none r q j m a h x f no_memory = no_memory
 
 module _ {A S B : Type 0} {t : List ℕ} {next : S → Construct (More A S)} {add : A → B → B} {none : B} {s : S} {i : ℕ}
@@ -30,7 +30,7 @@ module _ {A S B : Type 0} {t : List ℕ} {next : S → Construct (More A S)} {ad
   pub item_fails : {f : ReadFault} → ContinuesFrom t next add none s i put r j → Fails t (next r) j f →
       Fails t (many next add none s) i f
   item_fails g (refused h) = g.fails _ (refused (λ k from to e. list_stops (h k from to e)))
-  item_fails g (too_deep h) = g.fails _ (too_deep (deeper_item h))
+  item_fails g (too_deep h) = g.fails _ (too_deep (list_is_too_deep_by_first_item h))
   item_fails g no_memory = no_memory
 
   -- one more item
@@ -59,8 +59,8 @@ pub record MadeItems {A B X : Type 0} (t : List ℕ) (next : Construct (More A (
   pub beyond : ContinuesFrom t (λ u. next) (λ a rest. a ∷ rest) [] tt i (λ more. items ++ more) tt j
 
 module _ {A B X : Type 0} {t : List ℕ} {next : Construct (More A (Unit {0}))} {f : A → B} (view : X → B) {i : ℕ} where
-  pub no_items : MadeItems t next f view i [] i
-  no_items = record {
+  pub no_items_are_made_at_start : MadeItems t next f view i [] i
+  no_items_are_made_at_start = record {
     items = [];
     same = refl;
     beyond = record { read = λ b end h. h; fails = λ e h. h };
@@ -68,9 +68,9 @@ module _ {A B X : Type 0} {t : List ℕ} {next : Construct (More A (Unit {0}))} 
 
   module _ {j m : ℕ} where
     -- one more item
-    pub item_made : (xs ys : List X) (x : X) → ys ≡ xs ++ x ∷ [] → MadeItems t next f view i xs j →
+    pub item_is_made_next : (xs ys : List X) (x : X) → ys ≡ xs ++ x ∷ [] → MadeItems t next f view i xs j →
         IsFunctional next → (a : A) → next j (Read (item a tt) m) → view x ≡ f a → MadeItems t next f view i ys m
-    item_made xs ys x all g h a read same = record {
+    item_is_made_next xs ys x all g h a read same = record {
       items = g.items ++ a ∷ [];
       same =
           ap (map view) all ∙ map-append view xs (x ∷ []) ∙ ap (λ zs. zs ++ view x ∷ []) g.same
@@ -81,6 +81,6 @@ module _ {A B X : Type 0} {t : List ℕ} {next : Construct (More A (Unit {0}))} 
     }
 
     -- the list ends
-    pub all_made : (xs : List X) → MadeItems t next f view i xs j → next j (Read no_item m) →
+    pub items_made_to_end_are_list : (xs : List X) → MadeItems t next f view i xs j → next j (Read no_item m) →
         IsMade (map f) (list_of next) i (map view xs) m
-    all_made xs g x = made (whole_list_read g.items m g.beyond (append_nothing g.items) x) g.same
+    items_made_to_end_are_list xs g x = made (whole_list_read g.items m g.beyond (append_nothing g.items) x) g.same

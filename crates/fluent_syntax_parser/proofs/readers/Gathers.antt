@@ -14,14 +14,14 @@ pub record MadeList {A B X : Type 0} (c : Construct (List A)) (f : A → B) (v :
   pub read : (more : List A) (end : ℕ) → c j (Read more end) → c i (Read (items ++ more) end)
 
 module _ {A B X : Type 0} (c : Construct (List A)) (f : A → B) (v : X → B) (i : ℕ) where
-  pub no_list : MadeList c f v i [] i
-  no_list = record { items = []; same = refl; read = λ more end h. h }
+  pub no_list_is_made_at_start : MadeList c f v i [] i
+  no_list_is_made_at_start = record { items = []; same = refl; read = λ more end h. h }
 
   -- one more
-  pub one_made : (xs ys : List X) (x : X) (j m : ℕ) → ys ≡ xs ++ x ∷ [] → MadeList c f v i xs j → (a : A) →
-      v x ≡ f a → ((more : List A) (end : ℕ) → c m (Read more end) → c j (Read (a ∷ more) end)) →
+  pub list_with_one_more_is_made : (xs ys : List X) (x : X) (j m : ℕ) → ys ≡ xs ++ x ∷ [] → MadeList c f v i xs j →
+      (a : A) → v x ≡ f a → ((more : List A) (end : ℕ) → c m (Read more end) → c j (Read (a ∷ more) end)) →
       MadeList c f v i ys m
-  one_made xs ys x j m all g a same read = record {
+  list_with_one_more_is_made xs ys x j m all g a same read = record {
     items = g.items ++ a ∷ [];
     same =
         ap (map v) all ∙ map-append v xs (x ∷ []) ∙ ap (λ zs. zs ++ v x ∷ []) g.same
@@ -30,6 +30,6 @@ module _ {A B X : Type 0} (c : Construct (List A)) (f : A → B) (v : X → B) (
   }
 
   -- the list ends
-  pub list_made : (xs : List X) (j end : ℕ) → MadeList c f v i xs j → c j (Read [] end) →
+  pub list_made_to_end_is_whole : (xs : List X) (j end : ℕ) → MadeList c f v i xs j → c j (Read [] end) →
       IsMade (map f) c i (map v xs) end
-  list_made xs j end g h = made (rw (← append_nothing g.items) (g.read [] end h)) g.same
+  list_made_to_end_is_whole xs j end g h = made (rw (← append_nothing g.items) (g.read [] end h)) g.same

@@ -16,17 +16,17 @@ use Rattle.fluent_syntax_grammar.proofs.Facts.{has_inside}
 use Rattle.fluent_syntax_parser.specs.Outcomes.{name_text}
 
 module _ (t : List ℕ) (p : ℕ → Bool) where
-  at_place_of : (b : Bool) (k : ℕ) → k < length t → has t p k ≡ b → p (get_or t k 0) ≡ b
-  at_place_of b k inside e = rw (slice_get-get_or t k 0 inside) at e
+  byte_at_place_passes_as_place : (b : Bool) (k : ℕ) → k < length t → has t p k ≡ b → p (get_or t k 0) ≡ b
+  byte_at_place_passes_as_place b k inside e = rw (slice_get-get_or t k 0 inside) at e
 
   beyond : (b : Bool) (i k n : ℕ) → i + k ≡ n → n < length t → has t p n ≡ b → p (get_or (drop i t) k 0) ≡ b
   beyond b i k n is inside e =
-      ap p (get_or-drop i t k 0 ∙ ap (λ m. get_or t m 0) is) ∙ at_place_of b n inside e
+      ap p (get_or-drop i t k 0 ∙ ap (λ m. get_or t m 0) is) ∙ byte_at_place_passes_as_place b n inside e
 
   -- the longest run of bytes that pass a test
-  pub word_text : (i j : ℕ) → i ≤ length t → j ≤ length t → ByteRun t p i j
+  pub text_of_byte_run_is_taken_while : (i j : ℕ) → i ≤ length t → j ≤ length t → ByteRun t p i j
       → slice_range t i j ≡ take_while p (drop i t)
-  word_text i j from within w =
+  text_of_byte_run_is_taken_while i j from within w =
       let size = length-drop i t in
       let long : prefix_len p (drop i t) ≡ j - i =
       prefix_len_is p (drop i t) (j - i) 0 (omega (arith, size, w.forward, within))
@@ -35,9 +35,9 @@ module _ (t : List ℕ) (p : ℕ → Bool) where
       ap (λ n. take n (drop i t)) (sym long)
 
   -- it ends within the text
-  word_within : (i j : ℕ) → i < length t → ByteRun t p i j → j ≤ length t
-  word_within i zero inside w = omega arith
-  word_within i (suc m) inside w =
+  byte_run_in_text_ends_in_text : (i j : ℕ) → i < length t → ByteRun t p i j → j ≤ length t
+  byte_run_in_text_ends_in_text i zero inside w = omega arith
+  byte_run_in_text_ends_in_text i (suc m) inside w =
       let last : i ≤ m → m < length t = λ l. has_inside p t m (w.each m l (omega arith)) in
       grind (arith, last)
 
@@ -47,7 +47,8 @@ pub identifier_has_name_text : (t : List ℕ) {i j : ℕ} {name : Span} → iden
 identifier_has_name_text t {i = i} {j = j}
     (goes_on at_place (goes_on (chosen given) (first letter (goes_on (passed w) (goes_on at_place given))))) =
     let inside = has_inside is_letter t i letter in
-    word_text t is_name_byte i j (omega (arith, inside)) (word_within t is_name_byte i j inside w) w
+    text_of_byte_run_is_taken_while t is_name_byte i j (omega (arith, inside))
+    (byte_run_in_text_ends_in_text t is_name_byte i j inside w) w
 identifier_has_name_text t
     (goes_on at_place (goes_on (chosen given) (second other h))) = elim h [ ]
 

@@ -13,64 +13,65 @@ module _ (t : List ℕ) (test : ℕ → Bool) (i : ℕ) (within : i ≤ length t
   abbrev pub rest : List ℕ
   rest = take (length t - i) (drop i t)
 
-  length_rest : length rest ≡ length t - i
-  length_rest = omega (arith, length-take {A = ℕ}, length-drop {A = ℕ})
+  rest_has_length_to_end : length rest ≡ length t - i
+  rest_has_length_to_end = omega (arith, length-take {A = ℕ}, length-drop {A = ℕ})
 
-  at_rest : (k : ℕ) → i + k < length t → get_or rest k 0 ≡ get_or t (i + k) 0
-  at_rest k l =
+  byte_of_rest_is_byte_of_text : (k : ℕ) → i + k < length t → get_or rest k 0 ≡ get_or t (i + k) 0
+  byte_of_rest_is_byte_of_text k l =
       let h : k < length t - i = omega arith in get_or-take (length t - i) (drop i t) k 0 h ∙ get_or-drop i t k 0
 
-  at_place : (k : ℕ) → k < length t → i ≤ k → get_or rest (k - i) 0 ≡ get_or t k 0
-  at_place k l r =
+  byte_of_text_is_byte_of_rest : (k : ℕ) → k < length t → i ≤ k → get_or rest (k - i) 0 ≡ get_or t k 0
+  byte_of_text_is_byte_of_rest k l r =
       let e : i + (k - i) ≡ k = omega arith in
-      at_rest (k - i) (omega arith) ∙ ap (λ n. get_or t n 0) e
+      byte_of_rest_is_byte_of_text (k - i) (omega arith) ∙ ap (λ n. get_or t n 0) e
 
-  fails_at : (k : ℕ) → k < length t → test (get_or t k 0) ≡ false → has t (λ b. not (test b)) k ≡ true
-  fails_at k l e = rw (slice_get-get_or t k 0 l) (not_from_false _ e)
+  failing_byte_is_off_test : (k : ℕ) → k < length t → test (get_or t k 0) ≡ false → has t (λ b. not (test b)) k ≡ true
+  failing_byte_is_off_test k l e = rw (slice_get-get_or t k 0 l) (not_from_false _ e)
 
-  passes_at : (k : ℕ) → k < length t → test (get_or t k 0) ≡ true → has t (λ b. not (test b)) k ≡ false
-  passes_at k l e = rw (slice_get-get_or t k 0 l) (not_from_true _ e)
+  passing_byte_stops_run : (k : ℕ) → k < length t → test (get_or t k 0) ≡ true → has t (λ b. not (test b)) k ≡ false
+  passing_byte_stops_run k l e = rw (slice_get-get_or t k 0 l) (not_from_true _ e)
 
-  passed_over : (len k : ℕ) → len ≤ length t - i → Nowhere (Passes test rest) 0 len → i ≤ k → k < i + len →
-      has t (λ b. not (test b)) k ≡ true
-  passed_over len k most none l r =
-      fails_at k (omega arith)
+  places_before_first_byte_are_passed : (len k : ℕ) → len ≤ length t - i → Nowhere (Passes test rest) 0 len → i ≤ k →
+      k < i + len → has t (λ b. not (test b)) k ≡ true
+  places_before_first_byte_are_passed len k most none l r =
+      failing_byte_is_off_test k (omega arith)
       (false_from_ne_true _
       (λ e. none (k - i) (omega arith) (omega arith)
-      (ap test (at_place k (omega arith) l) ∙ e)))
+      (ap test (byte_of_text_is_byte_of_rest k (omega arith) l) ∙ e)))
 
-  ends_text : has t (λ b. not (test b)) (length t) ≡ false
-  ends_text = rw (slice_get_past t (length t) (omega arith)) refl
+  end_of_text_is_off_test : has t (λ b. not (test b)) (length t) ≡ false
+  end_of_text_is_off_test = rw (slice_get_past t (length t) (omega arith)) refl
 
   -- the search has found nothing
-  scanned_all : Nowhere (Passes test rest) 0 (length rest) → ByteRun t (λ b. not (test b)) i (length t)
-  scanned_all none =
-      let e = length_rest in
+  scan_to_end_is_byte_run : Nowhere (Passes test rest) 0 (length rest) → ByteRun t (λ b. not (test b)) i (length t)
+  scan_to_end_is_byte_run none =
+      let e = rest_has_length_to_end in
       record {
         forward = within;
-        each = λ k l r. passed_over (length rest) k (omega arith) none l (omega arith);
-        longest = ends_text;
+        each = λ k l r. places_before_first_byte_are_passed (length rest) k (omega arith) none l (omega arith);
+        longest = end_of_text_is_off_test;
       }
 
   -- the search has found a byte
-  scanned_to : (len : ℕ) → NoneBefore (Passes test rest) 0 (length rest) len → Passes test rest len →
-      ByteRun t (λ b. not (test b)) i (i + len)
-  scanned_to len before here =
-      let e = length_rest in
+  scan_to_first_byte_is_byte_run : (len : ℕ) → NoneBefore (Passes test rest) 0 (length rest) len →
+      Passes test rest len → ByteRun t (λ b. not (test b)) i (i + len)
+  scan_to_first_byte_is_byte_run len before here =
+      let e = rest_has_length_to_end in
       let h = before.high in
       record {
         forward = omega arith;
-        each = λ k l r. passed_over len k (omega arith) before.before l r;
-        longest = passes_at (i + len) (omega arith) (ap test (sym (at_rest len (omega arith))) ∙ here);
+        each = λ k l r. places_before_first_byte_are_passed len k (omega arith) before.before l r;
+        longest = passing_byte_stops_run (i + len) (omega arith)
+            (ap test (sym (byte_of_rest_is_byte_of_text len (omega arith))) ∙ here);
       }
 
-  pub scanned : (r : Option ℕ) → IsFirstByte test rest r
+  pub scan_is_byte_run : (r : Option ℕ) → IsFirstByte test rest r
       → ByteRun t (λ b. not (test b)) i (i + unwrap_or r (length rest))
-  scanned None h =
-      let e : length t ≡ i + length rest = omega (arith, length_rest) in
+  scan_is_byte_run None h =
+      let e : length t ≡ i + length rest = omega (arith, rest_has_length_to_end) in
       let P = λ (n : ℕ). ByteRun t (λ b. not (test b)) i n in
-      subst P e (scanned_all h)
-  scanned (Some len) h = scanned_to len h.0 h.1
+      subst P e (scan_to_end_is_byte_run h)
+  scan_is_byte_run (Some len) h = scan_to_first_byte_is_byte_run len h.0 h.1
 
 -- A run that begins where all before passed begins with that.
 pub passing_prefix_extends_run : (t : List ℕ) (test : ℕ → Bool) (i j m : ℕ) → i ≤ j →

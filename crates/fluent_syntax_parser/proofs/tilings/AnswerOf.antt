@@ -16,7 +16,7 @@ use Rattle.fluent_syntax_parser.specs.Faults.{fault_of}
 use Rattle.fluent_syntax_parser.specs.declared.fault.ParseFault.{ParseFault}
 use Rattle.fluent_syntax_parser.specs.declared.fault.ParseFault.TheVariants.{Memory, Syntax}
 use Rattle.fluent_syntax_parser.specs.declared.options.Comments.{Comments}
-use Rattle.fluent_syntax_parser.proofs.readers.SameTrees.{same_body}
+use Rattle.fluent_syntax_parser.proofs.readers.SameTrees.{identity_keeps_body}
 
 no_errors_mean_no_faults : (fs : List Fault) → map Some fs ≡ [] → fs ≡ []
 no_errors_mean_no_faults [] e = refl
@@ -32,17 +32,17 @@ module _ {S X : Type 0} (text : S → X) (whole : BodyTree Span → BodyTree X) 
     (syntax' : errors.items ≢ [] → result ≡ Err (Syntax (record { body = entries }) errors))
     (same : map (entry_view text) entries.items ≡ whole (body tiles))
     (stated : map Some (faults tiles) ≡ map fault_of errors.items) where
-  answers_with : (found : List ParserError) → errors.items ≡ found → Answers text whole tiles result
-  answers_with [] none =
+  result_with_errors_answers_tiles : (found : List ParserError) → errors.items ≡ found → Answers text whole tiles result
+  result_with_errors_answers_tiles [] none =
       subst (Answers text whole tiles) (sym (clean none))
       (same, no_errors_mean_no_faults (faults tiles) (stated ∙ ap (λ es. map fault_of es) none))
-  answers_with (error ∷ others) some =
+  result_with_errors_answers_tiles (error ∷ others) some =
       let not_none : errors.items ≢ [] = λ none. cc in
       subst (Answers text whole tiles) (sym (syntax' not_none))
       (same, sym stated, errors_mean_some_faults error others (faults tiles) (stated ∙ ap (λ es. map fault_of es) some))
 
-  pub answers_of : Answers text whole tiles result
-  answers_of = answers_with errors.items refl
+  pub result_answers_tiles : Answers text whole tiles result
+  result_answers_tiles = result_with_errors_answers_tiles errors.items refl
 
 -- ---- trees of spans
 
@@ -59,4 +59,4 @@ pub answer_is_in_spans : (comments : Comments) (edition : Edition) (t : List ℕ
     (result : Result (Resource Span) (ParseFault Span)) →
     AnswersIn (λ s. s) (body_map (λ s. s)) comments edition t result → AnswersSpansIn comments edition t result
 answer_is_in_spans comments edition t result (tiles, tiled, there) =
-    (tiles, tiled, Answers-equal_bodies (λ s. s) (body_map (λ s. s)) (λ b. b) same_body tiles result there)
+    (tiles, tiled, Answers-equal_bodies (λ s. s) (body_map (λ s. s)) (λ b. b) identity_keeps_body tiles result there)

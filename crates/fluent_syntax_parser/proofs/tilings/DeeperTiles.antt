@@ -14,7 +14,7 @@ use Rattle.fluent_syntax_grammar.specs.Tiling.{Tile, Tiled, done, next, drops, e
 use Rattle.fluent_syntax_grammar.specs.Tiling.{whole_line}
 use Rattle.fluent_syntax_grammar.proofs.Functional.{single_block}
 use Rattle.fluent_syntax_grammar.proofs.Nesting.{within_is_functional}
-use Rattle.fluent_syntax_grammar.proofs.OneTiling.{IsOneTile, one_runtime_tile_in, one_tile_in}
+use Rattle.fluent_syntax_grammar.proofs.OneTiling.{IsOneTile, one_runtime_tile_in, tile_in_functional_family_is_one}
 use Rattle.fluent_syntax_parser.specs.Rest.{GivesTile, TiledHere, TileDeeper, TileIn, are_dropped, at_end, at_tile}
 use Rattle.fluent_syntax_parser.specs.declared.options.Comments.{Comments}
 use Rattle.fluent_syntax_parser.specs.declared.options.Comments.TheVariants.{Kept, Dropped}
@@ -24,28 +24,31 @@ use Rattle.fluent_syntax_parser.proofs.tilings.Rests.{after_block, is_no_bare_co
 
 module _ (t : List ℕ) (at : (i j : ℕ) → Tile → Type 0) where
   -- after a blank block the tiles are those from its end on
-  standing_there : (i start : ℕ) (tiles : List Tile) → BlankBlock t i start → Tiled t at i tiles →
+  tiles_after_block_are_here : (i start : ℕ) (tiles : List Tile) → BlankBlock t i start → Tiled t at i tiles →
       TiledHere t at start tiles
-  standing_there i start tiles block (done all) = at_end (single_block.same i start (length t) block all)
-  standing_there i start tiles block (next {start = s} {end = end} {tile = tile} {tiles = more} other l x rest) =
+  tiles_after_block_are_here i start tiles block (done all) = at_end (single_block.same i start (length t) block all)
+  tiles_after_block_are_here i start tiles block
+      (next {start = s} {end = end} {tile = tile} {tiles = more} other l x rest) =
       let same = single_block.same i s start other block in
       at_tile (subst (λ k. k < length t) same l) (subst (λ k. at k end tile) same x) rest
 
 module _ (edition : Edition) (t : List ℕ) (n : ℕ) where
-  one_within : (comments : Comments) → IsOneTile (TileIn comments edition t (within edition t n))
-  one_within Kept = one_tile_in edition t (within edition t n) (within_is_functional edition t n)
-  one_within Dropped = one_runtime_tile_in edition t (within edition t n) (within_is_functional edition t n)
+  tile_within_depth_is_one : (comments : Comments) → IsOneTile (TileIn comments edition t (within edition t n))
+  tile_within_depth_is_one Kept =
+      tile_in_functional_family_is_one edition t (within edition t n) (within_is_functional edition t n)
+  tile_within_depth_is_one Dropped =
+      one_runtime_tile_in edition t (within edition t n) (within_is_functional edition t n)
 
   module _ (comments : Comments) (i j : ℕ) where
     -- a blank block holds no entry
-    pub text_deeper : BlankBlock t i j → TileDeeper edition t (TileIn comments edition t) n j →
+    pub text_is_deeper_by_its_tile : BlankBlock t i j → TileDeeper edition t (TileIn comments edition t) n j →
         TextDeeper edition t (TileIn comments edition t) n i
-    text_deeper block d tiles tiled =
-        d tiles (standing_there t (TileIn comments edition t (within edition t n)) i j tiles block tiled)
+    text_is_deeper_by_its_tile block d tiles tiled =
+        d tiles (tiles_after_block_are_here t (TileIn comments edition t (within edition t n)) i j tiles block tiled)
 
-    pub tile_deeper : BlankBlock t i j → TextDeeper edition t (TileIn comments edition t) n i →
+    pub tile_is_deeper_by_its_text : BlankBlock t i j → TextDeeper edition t (TileIn comments edition t) n i →
         TileDeeper edition t (TileIn comments edition t) n j
-    tile_deeper block d tiles tiled_here =
+    tile_is_deeper_by_its_text block d tiles tiled_here =
         d tiles (after_block t (TileIn comments edition t (within edition t n)) i j tiles block tiled_here)
 
     module _ (inside : i < length t) (tile : Tile)
@@ -55,7 +58,7 @@ module _ (edition : Edition) (t : List ℕ) (n : ℕ) where
           TileDeeper edition t (TileIn comments edition t) n i
       after_one d tiles (at_end e) = omega (arith, e, inside)
       after_one d tiles (at_tile {end = k} {tile = x} {tiles = more} l y rest) =
-          let same : k ≡ j = (one_within comments).same_end i k j x tile y there in
+          let same : k ≡ j = (tile_within_depth_is_one comments).same_end i k j x tile y there in
           d more (subst (λ k. Tiled t (TileIn comments edition t (within edition t n)) k more) same rest)
 
       pub one_led : TileDeeper edition t (TileIn comments edition t) n i →
@@ -74,26 +77,26 @@ module _ (edition : Edition) (t : List ℕ) (n : ℕ) where
   entry_deeper Dropped i none inside d tiles (at_tile l (keeps_tile bare (refuses x end)) rest) = d _ x
 
   -- tiles at the text's end: none
-  pub tile_at_end : (comments : Comments) (i : ℕ) → i ≡ length t →
+  pub no_tile_is_deeper_at_end_of_text : (comments : Comments) (i : ℕ) → i ≡ length t →
       TileDeeper edition t (TileIn comments edition t) n i → ⊥
-  tile_at_end comments i end d = d [] (at_end end)
+  no_tile_is_deeper_at_end_of_text comments i end d = d [] (at_end end)
 
   -- ---- after a line that is dropped
 
   module _ (i j : ℕ) (inside : i < length t) (comments : Comments) (dropped : are_dropped comments ≡ true)
       (there : has_byte t hash i ≡ true) (line : whole_line t i (Read tt j)) where
-    dropped_there : (comments : Comments) → are_dropped comments ≡ true →
+    dropped_comment_is_tile : (comments : Comments) → are_dropped comments ≡ true →
         TileIn comments edition t (within edition t n) i j tiling.dropped
-    dropped_there Kept no_drop = cc
-    dropped_there Dropped drop = drops there line
+    dropped_comment_is_tile Kept no_drop = cc
+    dropped_comment_is_tile Dropped drop = drops there line
 
-    pub after_dropped : TextDeeper edition t (TileIn comments edition t) n j →
+    pub tile_is_deeper_by_text_after_dropped : TextDeeper edition t (TileIn comments edition t) n j →
         TileDeeper edition t (TileIn comments edition t) n i
-    after_dropped = after_one comments i j inside _ (dropped_there comments dropped)
+    tile_is_deeper_by_text_after_dropped = after_one comments i j inside _ (dropped_comment_is_tile comments dropped)
 
-    pub dropped_led : TileDeeper edition t (TileIn comments edition t) n i →
+    pub text_after_dropped_is_deeper_by_tile : TileDeeper edition t (TileIn comments edition t) n i →
         TextDeeper edition t (TileIn comments edition t) n j
-    dropped_led = one_led comments i j inside _ (dropped_there comments dropped)
+    text_after_dropped_is_deeper_by_tile = one_led comments i j inside _ (dropped_comment_is_tile comments dropped)
 
   -- ---- after a comment of level 1, which is read where comments are kept
 

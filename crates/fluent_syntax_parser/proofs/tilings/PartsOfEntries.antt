@@ -9,8 +9,9 @@ use Rattle.fluent_syntax_tree.specs.declared.spans.Span.{Span}
 use Rattle.fluent_syntax_grammar.specs.Body.{body, faults}
 use Rattle.fluent_syntax_grammar.specs.Grammar.{family}
 use Rattle.fluent_syntax_grammar.specs.Tiling.{Fault, Tile, Tiled}
-use Rattle.fluent_syntax_grammar.proofs.JunkAndSpans.{body_in_text, runtime_body_in_text}
-use Rattle.fluent_syntax_grammar.proofs.SomeTiling.{some_runtime_tiles, some_tiles}
+use Rattle.fluent_syntax_grammar.proofs.JunkAndSpans.{body_in_text, runtime_body_is_in_text}
+use Rattle.fluent_syntax_grammar.proofs.SomeTiling.{some_runtime_tiles_cover_rest_of_text}
+use Rattle.fluent_syntax_grammar.proofs.SomeTiling.{some_tiles_cover_rest_of_text}
 use Rattle.fluent_syntax_parser.specs.Rest.{Rest, TileIn}
 use Rattle.fluent_syntax_parser.specs.declared.options.Comments.{Comments}
 use Rattle.fluent_syntax_parser.specs.declared.options.Comments.TheVariants.{Kept, Dropped}
@@ -23,9 +24,9 @@ body_every_holds_for_entry P (x ∷ before) e after (here, others) = body_every_
 
 module _ (t : List ℕ) (edition : Edition) where
   -- from each place of a text on something is left
-  pub some_rest : (comments : Comments) (i : ℕ) → i ≤ length t →
+  pub rest_of_text_has_entries : (comments : Comments) (i : ℕ) → i ≤ length t →
       (entries : BodyTree Span) × (errors : List (Option Fault)) × Rest comments edition t i entries errors
-  some_rest Kept i inside = let some = some_tiles edition t i inside in (
+  rest_of_text_has_entries Kept i inside = let some = some_tiles_cover_rest_of_text edition t i inside in (
     body some.0,
     map Some (faults some.0),
     record {
@@ -36,7 +37,7 @@ module _ (t : List ℕ) (edition : Edition) where
           refl;
     },
   )
-  some_rest Dropped i inside = let some = some_runtime_tiles edition t i inside in (
+  rest_of_text_has_entries Dropped i inside = let some = some_runtime_tiles_cover_rest_of_text edition t i inside in (
     body some.0,
     map Some (faults some.0),
     record {
@@ -48,16 +49,18 @@ module _ (t : List ℕ) (edition : Edition) where
     },
   )
 
-  pub body_parts : (comments : Comments) (tiles : List Tile) → IsUtf8 t →
+  pub body_of_tiles_has_parts_in_text : (comments : Comments) (tiles : List Tile) → IsUtf8 t →
       Tiled t (TileIn comments edition t (family edition t)) 0 tiles →
       body_every (IsTextRange t) (body tiles)
-  body_parts Kept tiles utf8 tiled = body_in_text edition t tiles utf8 tiled
-  body_parts Dropped tiles utf8 tiled = runtime_body_in_text edition t tiles utf8 tiled
+  body_of_tiles_has_parts_in_text Kept tiles utf8 tiled = body_in_text edition t tiles utf8 tiled
+  body_of_tiles_has_parts_in_text Dropped tiles utf8 tiled = runtime_body_is_in_text edition t tiles utf8 tiled
 
   -- the texts of an entry that comes in the whole text after others are parts
-  pub parts_of_entry : (comments : Comments) (before : BodyTree Span) (e : EntryTree Span) (after : BodyTree Span)
+  pub entry_of_rest_has_parts_in_text : (comments : Comments) (before : BodyTree Span) (e : EntryTree Span)
+      (after : BodyTree Span)
       (errors : List (Option Fault)) → IsUtf8 t → Rest comments edition t 0 (before ++ e ∷ after) errors →
       entry_every (IsTextRange t) e
-  parts_of_entry comments before e after errors utf8 rest =
+  entry_of_rest_has_parts_in_text comments before e after errors utf8 rest =
       body_every_holds_for_entry (IsTextRange t) before e after
-      (subst (body_every (IsTextRange t)) rest.yields (body_parts comments rest.tiles utf8 rest.tiled))
+      (subst (body_every (IsTextRange t)) rest.yields
+      (body_of_tiles_has_parts_in_text comments rest.tiles utf8 rest.tiled))

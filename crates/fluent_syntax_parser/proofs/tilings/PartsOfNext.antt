@@ -14,7 +14,8 @@ use Rattle.fluent_syntax_tree.specs.declared.spans.Span.{Span}
 use Rattle.fluent_syntax_tree.proofs.EveryProps.{entry_every-prop}
 use Rattle.fluent_syntax_grammar.specs.Tiling.{Fault}
 use Rattle.fluent_syntax_parser.specs.Rest.{EntryTo, NextTo, ReadSoFar, faults_of, tree_of}
-use Rattle.fluent_syntax_parser.proofs.tilings.PartsOfEntries.{parts_of_entry, some_rest}
+use Rattle.fluent_syntax_parser.proofs.tilings.PartsOfEntries.{entry_of_rest_has_parts_in_text}
+use Rattle.fluent_syntax_parser.proofs.tilings.PartsOfEntries.{rest_of_text_has_entries}
 use Rattle.fluent_syntax_parser.proofs.tilings.Rests.{entry_to}
 use Rattle.fluent_syntax_parser.specs.declared.options.Comments.{Comments}
 
@@ -24,19 +25,21 @@ module _ (t : List ℕ) where
 
   module _ (comments : Comments) (edition : Edition) (utf8 : IsUtf8 t) where
     -- the texts of an entry that comes after what was reached
-    parts_after : (i j : ℕ) (e : EntryTree Span) (faults : List (Option Fault)) → j ≤ length t →
+    entry_read_so_far_has_parts_in_text : (i j : ℕ) (e : EntryTree Span) (faults : List (Option Fault)) → j ≤ length t →
         ∥ ReadSoFar comments edition t i ∥₁ → EntryTo comments edition t i j e faults → entry_every (IsTextRange t) e
-    parts_after i j e faults inside reached there =
-        let left = some_rest t edition comments j inside in
+    entry_read_so_far_has_parts_in_text i j e faults inside reached there =
+        let left = rest_of_text_has_entries t edition comments j inside in
         ∥∥₁_elim reached (entry_every-prop (IsTextRange t) IsTextRange-prop e)
-        (λ r. parts_of_entry t edition comments r.entries e left.0 _ utf8 (r.rest _ _ (there _ _ left.2)))
+        (λ r. entry_of_rest_has_parts_in_text t edition comments r.entries e left.0 _ utf8
+        (r.rest _ _ (there _ _ left.2)))
 
     -- the texts of what is read next, where something is
-    pub parts_of_next : {E : Type 0} (i start j : ℕ) (result : Result (Option (Entry Span × Option ParserError)) E) →
+    pub next_entry_has_parts_in_text : {E : Type 0} (i start j : ℕ)
+        (result : Result (Option (Entry Span × Option ParserError)) E) →
         j ≤ length t → ∥ ReadSoFar comments edition t i ∥₁ → IfOk result (NextTo comments edition t i start j) →
         IfOk result (λ found. IfSome found (λ read. entry_every (IsTextRange t) (tree_of read.0)))
-    parts_of_next i start j (Ok None) inside reached next = tt
-    parts_of_next i start j (Ok (Some read)) inside reached next =
-        parts_after i j (tree_of read.0) (faults_of read.1) inside reached
+    next_entry_has_parts_in_text i start j (Ok None) inside reached next = tt
+    next_entry_has_parts_in_text i start j (Ok (Some read)) inside reached next =
+        entry_read_so_far_has_parts_in_text i j (tree_of read.0) (faults_of read.1) inside reached
         (entry_to comments edition t i start j (tree_of read.0) (faults_of read.1) next)
-    parts_of_next i start j (Err e) inside reached next = tt
+    next_entry_has_parts_in_text i start j (Err e) inside reached next = tt

@@ -12,20 +12,23 @@ use Rattle.fluent_syntax_grammar.specs.Body.{body}
 use Rattle.fluent_syntax_parser.specs.Answers.{Answers}
 use Rattle.fluent_syntax_parser.specs.Rest.{AnswersSpansIn}
 use Rattle.fluent_syntax_parser.specs.Parts.{HasParts}
-use Rattle.fluent_syntax_parser.proofs.tilings.PartsOfEntries.{body_parts}
+use Rattle.fluent_syntax_parser.proofs.tilings.PartsOfEntries.{body_of_tiles_has_parts_in_text}
 use Rattle.fluent_syntax_parser.specs.declared.options.Comments.{Comments}
 use Rattle.fluent_syntax_parser.specs.declared.fault.ParseFault.{ParseFault}
 use Rattle.fluent_syntax_parser.specs.declared.fault.ParseFault.TheVariants.{Syntax, Memory}
 
 module _ (t : List ℕ) where
-  parts_given : (tiles : List Tile) (result : Result (Resource Span) (ParseFault Span)) →
+  answer_of_tiles_has_parts_in_text : (tiles : List Tile) (result : Result (Resource Span) (ParseFault Span)) →
       body_every (IsTextRange t) (body tiles) → Answers (λ s. s) (λ b. b) tiles result → HasParts t result
-  parts_given tiles (Ok tree) parts (same, none) = subst (body_every (IsTextRange t)) (sym same) parts
-  parts_given tiles (Err (Syntax tree errors)) parts (same, stated, some) =
+  answer_of_tiles_has_parts_in_text tiles (Ok tree) parts (same, none) =
       subst (body_every (IsTextRange t)) (sym same) parts
-  parts_given tiles (Err Memory) parts given = tt
+  answer_of_tiles_has_parts_in_text tiles (Err (Syntax tree errors)) parts (same, stated, some) =
+      subst (body_every (IsTextRange t)) (sym same) parts
+  answer_of_tiles_has_parts_in_text tiles (Err Memory) parts given = tt
 
-  pub parts_answered : (comments : Comments) (edition : Edition) (result : Result (Resource Span) (ParseFault Span)) →
+  pub answer_has_parts_in_text : (comments : Comments) (edition : Edition)
+      (result : Result (Resource Span) (ParseFault Span)) →
       IsUtf8 t → AnswersSpansIn comments edition t result → HasParts t result
-  parts_answered comments edition result utf8 (tiles, tiled, given) =
-      parts_given tiles result (body_parts t edition comments tiles utf8 tiled) given
+  answer_has_parts_in_text comments edition result utf8 (tiles, tiled, given) =
+      answer_of_tiles_has_parts_in_text tiles result
+      (body_of_tiles_has_parts_in_text t edition comments tiles utf8 tiled) given

@@ -9,7 +9,7 @@ use Rattle.fluent_syntax_grammar.specs.Grammar.{family, within}
 use Rattle.fluent_syntax_grammar.specs.Tiling.{entry_in, Tile, JunkEnd, failing_place, TileAt, reads, refuses}
 use Rattle.fluent_syntax_grammar.proofs.Boundaries.{text_cuts}
 use Rattle.fluent_syntax_grammar.proofs.SoundStrings.{InText}
-use Rattle.fluent_syntax_grammar.proofs.SoundTiling.{entry_refused, tile_good}
+use Rattle.fluent_syntax_grammar.proofs.SoundTiling.{refused_entry_has_entry_fault, tile_good}
 use Rattle.fluent_syntax_grammar.proofs.IncludedEntries.{entry_is_included}
 use Rattle.fluent_syntax_grammar.proofs.Nesting.{within_family}
 use Rattle.fluent_syntax_parser.specs.Faults.{fault_of, refused_as}
@@ -26,28 +26,28 @@ fault_fails_at_its_place t fault.MessageField from place = refl
 fault_fails_at_its_place t f from place = refl
 
 module _ (edition : Edition) (t : List ℕ) (i j : ℕ) (inside : i < length t) where
-  pub tile_within : (tile : Tile) → TileAt edition t i j tile → (i < j) × (j ≤ length t)
-  tile_within tile in_place =
+  pub tile_is_inside_text : (tile : Tile) → TileAt edition t i j tile → (i < j) × (j ≤ length t)
+  tile_is_inside_text tile in_place =
       let ended = tile_good edition t (InText t) (text_cuts t) i j tile (omega (arith, inside)) inside in_place in
       (ended.onward, ended.place)
 
-  pub gives_entry : (n : ℕ) (e : EntryTree Span) → entry_in edition t (within edition t n) i (Read e j) →
+  pub read_entry_gives_tile : (n : ℕ) (e : EntryTree Span) → entry_in edition t (within edition t n) i (Read e j) →
       GivesTile edition t n i j e None
-  gives_entry n e read = record { tile = _; in_place = reads read; entry = refl; errors = refl }
+  read_entry_gives_tile n e read = record { tile = _; in_place = reads read; entry = refl; errors = refl }
 
   module _ (n : ℕ) (r : Refusal) (refused : IsRefusedAs t (entry_in edition t (within edition t n)) i r) where
-    pub refused_in_text : r.place ≤ length t
-    refused_in_text =
+    pub refusal_is_in_text : r.place ≤ length t
+    refusal_is_in_text =
         let same = fault_fails_at_its_place t r.fault r.from r.place in
-        let here = entry_refused edition t (InText t) (text_cuts t) i _ _ _ (omega (arith, inside))
+        let here = refused_entry_has_entry_fault edition t (InText t) (text_cuts t) i _ _ _ (omega (arith, inside))
         ((entry_is_included edition t (within edition t n) (family edition t) (within_family edition t n)).part i _
         (refused _ _ _ (refl, refl, refl))) in
         omega (arith, same, here.in_text)
 
-    pub gives_junk : (error : ParserError) → JunkEnd t r.place j →
+    pub refused_entry_gives_junk_tile : (error : ParserError) → JunkEnd t r.place j →
         fault_of error ≡ Some (refused_as t r (record { start = i; end = j })) →
         GivesTile edition t n i j (junk (record { start = i; end = j })) (Some error)
-    gives_junk error end stated =
+    refused_entry_gives_junk_tile error end stated =
         let there = subst (λ place. JunkEnd t place j) (sym (fault_fails_at_its_place t r.fault r.from r.place)) end in
         record {
           tile = _;

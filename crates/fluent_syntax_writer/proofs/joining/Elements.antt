@@ -51,12 +51,12 @@ joined_from-placeable None e rest = refl
 joined_from-placeable (Some v) e rest = refl
 
 -- a placeable, after the last text
-pub placeable_follows : (done : List (ElementTree Text)) (last : Option Text) (e : ExpressionTree Text)
+pub placeable_follows_joined_text : (done : List (ElementTree Text)) (last : Option Text) (e : ExpressionTree Text)
     (rest : PatternTree Text) →
     before_pattern ((done ++ map text_element (option_to_list last)) ++ placeable (joined_expression e) ∷ [])
     (joined_pattern rest)
     ≡ before_pattern done (joined_from last (elements (placeable e) rest))
-placeable_follows done last e rest =
+placeable_follows_joined_text done last e rest =
     before_pattern-append (done ++ map text_element (option_to_list last)) (placeable (joined_expression e) ∷ [])
     (joined_pattern rest)
     ∙ before_pattern-append done (map text_element (option_to_list last)) _
@@ -68,9 +68,9 @@ joined_from-end None = refl
 joined_from-end (Some v) = refl
 
 -- nothing, after the last text
-pub pattern_ends : (done : List (ElementTree Text)) (last : Option Text) →
+pub last_text_ends_joined_pattern : (done : List (ElementTree Text)) (last : Option Text) →
     elements_of (done ++ map text_element (option_to_list last)) ≡ before_pattern done (joined_from last no_elements)
-pattern_ends done last =
+last_text_ends_joined_pattern done last =
     sym (before_pattern-none (done ++ map text_element (option_to_list last)))
     ∙ before_pattern-append done (map text_element (option_to_list last)) no_elements
     ∙ ap (before_pattern done) (joined_from-end last)
@@ -78,29 +78,31 @@ pattern_ends done last =
 -- ---- What is left of the list of elements
 
 module _ {X : Type 0} (view : X → ElementTree Text) where
-  pub left_more : (xs : List X) (i : ℕ) (x : X) → i < length xs → x ≡ get_or xs i x →
+  pub elements_left_begin_with_next : (xs : List X) (i : ℕ) (x : X) → i < length xs → x ≡ get_or xs i x →
       elements_of (map view (drop i xs)) ≡ elements (view x) (elements_of (map view (drop (i + 1) xs)))
-  left_more xs i x h e =
+  elements_left_begin_with_next xs i x h e =
       ap (λ l. elements_of (map view l)) (drop_more xs i x h)
       ∙ ap (λ y. elements (view y) (elements_of (map view (drop (i + 1) xs)))) (sym e)
 
-  pub left_none : (xs : List X) (n : ℕ) → length xs ≤ n → elements_of (map view (drop n xs)) ≡ no_elements
-  left_none xs n h = ap (λ l. elements_of (map view l)) (drop_all n xs h)
+  pub no_elements_are_left_at_end : (xs : List X) (n : ℕ) → length xs ≤ n →
+      elements_of (map view (drop n xs)) ≡ no_elements
+  no_elements_are_left_at_end xs n h = ap (λ l. elements_of (map view l)) (drop_all n xs h)
 
 -- ---- A list of elements and one more
 
 module _ {S : Type 0} (f : S → Text) where
-  pub text_pushed : (old new : List (PatternElement S)) (v : S) → new ≡ old ++ elem.TextElement v ∷ [] →
+  pub pushed_text_is_last_element : (old new : List (PatternElement S)) (v : S) → new ≡ old ++ elem.TextElement v ∷ [] →
       map (element_view f) new ≡ map (element_view f) old ++ text_element (f v) ∷ []
-  text_pushed old new v made =
+  pushed_text_is_last_element old new v made =
       ap (map (element_view f)) made ∙ map-append (element_view f) old (elem.TextElement v ∷ [])
       ∙ ap (λ x. map (element_view f) old ++ x ∷ []) (view-TextElement f v)
 
   -- of a placeable whose expression represents e, after elements that represent done
-  pub placeable_pushed : (old new : List (PatternElement S)) (made : Expression S) (done : List (ElementTree Text))
+  pub pushed_placeable_is_last_element : (old new : List (PatternElement S)) (made : Expression S)
+      (done : List (ElementTree Text))
       (e : ExpressionTree Text) → new ≡ old ++ elem.Placeable made ∷ [] → map (element_view f) old ≡ done →
       expression_view f made ≡ e → map (element_view f) new ≡ done ++ placeable e ∷ []
-  placeable_pushed old new made done e is before same =
+  pushed_placeable_is_last_element old new made done e is before same =
       ap (map (element_view f)) is ∙ map-append (element_view f) old (elem.Placeable made ∷ [])
       ∙ ap (λ l. l ++ element_view f (elem.Placeable made) ∷ []) before
       ∙ ap (λ x. done ++ x ∷ []) (view-Placeable f made ∙ ap placeable same)

@@ -19,20 +19,23 @@ use Rattle.fluent_syntax_grammar.specs.Joined.{joined_variant, joined_variants}
 use Rattle.fluent_syntax_grammar.specs.Written.{Text}
 
 module _ {X : Type 0} where
-  pub each_inline : (view : X → InlineTree Text) (xs : List X) →
+  pub inlines_joined_each_are_joined : (view : X → InlineTree Text) (xs : List X) →
       inlines_of (map (λ x. joined_inline (view x)) xs) ≡ joined_inlines (inlines_of (map view xs))
-  each_inline view [] = refl
-  each_inline view (x ∷ xs) = ap (inlines (joined_inline (view x))) (each_inline view xs)
+  inlines_joined_each_are_joined view [] = refl
+  inlines_joined_each_are_joined view (x ∷ xs) =
+      ap (inlines (joined_inline (view x))) (inlines_joined_each_are_joined view xs)
 
-  pub each_named : (view : X → NamedTree Text) (xs : List X) →
+  pub named_joined_each_are_joined : (view : X → NamedTree Text) (xs : List X) →
       nameds_of (map (λ x. joined_named (view x)) xs) ≡ joined_nameds (nameds_of (map view xs))
-  each_named view [] = refl
-  each_named view (x ∷ xs) = ap (nameds (joined_named (view x))) (each_named view xs)
+  named_joined_each_are_joined view [] = refl
+  named_joined_each_are_joined view (x ∷ xs) =
+      ap (nameds (joined_named (view x))) (named_joined_each_are_joined view xs)
 
-  pub each_variant : (view : X → VariantTree Text) (xs : List X) →
+  pub variants_joined_each_are_joined : (view : X → VariantTree Text) (xs : List X) →
       variants_of (map (λ x. joined_variant (view x)) xs) ≡ joined_variants (variants_of (map view xs))
-  each_variant view [] = refl
-  each_variant view (x ∷ xs) = ap (variants (joined_variant (view x))) (each_variant view xs)
+  variants_joined_each_are_joined view [] = refl
+  variants_joined_each_are_joined view (x ∷ xs) =
+      ap (variants (joined_variant (view x))) (variants_joined_each_are_joined view xs)
 
 -- Two values of which one represents the joined tree of the other, from their parts.
 module _ {S T : Type 0} (f : S → Text) (h : T → Text) where
@@ -47,8 +50,8 @@ module _ {S T : Type 0} (f : S → Text) (h : T → Text) where
         view-roll-CallArguments f a,
         ps,
         ns,
-        each_inline (inline_view h) (out-CallArguments T b).positional.items,
-        each_named (named_view h) (out-CallArguments T b).named.items,
+        inlines_joined_each_are_joined (inline_view h) (out-CallArguments T b).positional.items,
+        named_joined_each_are_joined (named_view h) (out-CallArguments T b).named.items,
         ap joined_arguments (view-CallArguments h b),
       )
 
@@ -62,7 +65,7 @@ module _ {S T : Type 0} (f : S → Text) (h : T → Text) where
         view-Select f e vs,
         selector,
         each,
-        each_variant (variant_view h) ws.items,
+        variants_joined_each_are_joined (variant_view h) ws.items,
         ap joined_expression (ap (expression_view h) is ∙ view-Select h i ws),
       )
 

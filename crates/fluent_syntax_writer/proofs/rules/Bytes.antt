@@ -10,7 +10,7 @@ use Rattle.fluent_syntax_grammar.specs.PatternTexts.{is_brace, is_empty, has_crl
 use Rattle.fluent_syntax_grammar.specs.Readable.{is_text}
 use Rattle.fluent_syntax_grammar.specs.Written.{Text, has_lf}
 use Rattle.fluent_syntax_grammar.proofs.Facts.{equal}
-use Rattle.fluent_syntax_grammar.proofs.Tests.{and_false, neither_left, neither_right}
+use Rattle.fluent_syntax_grammar.proofs.Tests.{and_with_false_is_false, neither_left, neither_right}
 use Rattle.fluent_syntax_writer.specs.Texts.{ends_in_crlf}
 
 -- whether an LF directly follows a CR, which may be before the text
@@ -42,7 +42,7 @@ without_last_lf_keeps_braces (b ∷ c ∷ bs) = ap (λ r. is_brace b || r) (with
 
 is_passed_splits_in_two : (l x y braces lfs : Bool)
     → (not (l || x || y) && (not braces && not lfs)) ≡ (not ((x || y) || braces) && not (l || lfs))
-is_passed_splits_in_two true x y braces lfs = sym (and_false (not ((x || y) || braces)))
+is_passed_splits_in_two true x y braces lfs = sym (and_with_false_is_false (not ((x || y) || braces)))
 is_passed_splits_in_two false true y braces lfs = refl
 is_passed_splits_in_two false false true braces lfs = refl
 is_passed_splits_in_two false false false braces lfs = refl
@@ -63,20 +63,20 @@ crlf_is_last (b ∷ []) none =
     holds_by_lf_or_other (λ c. has_crlf (c ∷ []) ≡ ends_in_crlf (c ∷ [])) refl (λ c other. rw other refl) b
 crlf_is_last (b ∷ c ∷ []) none =
     holds_by_lf_or_other (λ d. has_crlf (b ∷ d ∷ []) ≡ ends_in_crlf (b ∷ d ∷ [])) (last_lf_makes_crlf (b == cr))
-    (λ d other. rw (other, and_false (b == cr)) refl) c
+    (λ d other. rw (other, and_with_false_is_false (b == cr)) refl) c
 crlf_is_last (b ∷ c ∷ d ∷ bs) none =
     let rest = neither_right (b == lf) _ none in
     let other = neither_left (c == lf) (has_lf (without_last_lf (d ∷ bs))) rest in
-    rw (other, and_false (b == cr)) (crlf_is_last (c ∷ d ∷ bs) rest)
+    rw (other, and_with_false_is_false (b == cr)) (crlf_is_last (c ∷ d ∷ bs) rest)
 
-parts_agree : (placeable_item braces lfs crlf at_end : Bool) → (lfs ≡ false → crlf ≡ at_end)
+tests_by_parts_agree : (placeable_item braces lfs crlf at_end : Bool) → (lfs ≡ false → crlf ≡ at_end)
     → (placeable_item && ((not braces && not lfs) && not at_end))
     ≡ (placeable_item && (not braces && (not crlf && not lfs)))
-parts_agree false braces lfs crlf at_end same = refl
-parts_agree true true lfs crlf at_end same = refl
-parts_agree true false true crlf at_end same = sym (and_false (not crlf))
-parts_agree true false false true at_end same = ap not (sym (same refl))
-parts_agree true false false false at_end same = ap not (sym (same refl))
+tests_by_parts_agree false braces lfs crlf at_end same = refl
+tests_by_parts_agree true true lfs crlf at_end same = refl
+tests_by_parts_agree true false true crlf at_end same = sym (and_with_false_is_false (not crlf))
+tests_by_parts_agree true false false true at_end same = ap not (sym (same refl))
+tests_by_parts_agree true false false false at_end same = ap not (sym (same refl))
 
 pub is_empty-length : (v : Text) → is_empty v ≡ (length v == 0)
 is_empty-length [] = refl
@@ -88,4 +88,5 @@ is_text-line v =
     let line = without_last_lf v in
     ap (λ passed. not (is_empty v) && (passed && not (ends_in_crlf v)))
     (passed_has_no_brace_or_lf line ∙ ap (λ braces. not braces && not (has_lf line)) (without_last_lf_keeps_braces v))
-    ∙ parts_agree (not (is_empty v)) (list_any is_brace v) (has_lf line) (has_crlf v) (ends_in_crlf v) (crlf_is_last v)
+    ∙ tests_by_parts_agree (not (is_empty v)) (list_any is_brace v) (has_lf line) (has_crlf v) (ends_in_crlf v)
+    (crlf_is_last v)

@@ -30,8 +30,9 @@ use Rattle.fluent_syntax_writer.specs.SingleRule.{expression_keeps, have_values,
 use Rattle.fluent_syntax_writer.specs.declared.canonical.rules.Rule.{Rule}
 use Rattle.fluent_syntax_writer.specs.declared.canonical.rules.Rule.TheVariants as rule
 use Rattle.fluent_syntax_writer.proofs.rules.Named.{are_named_well_by_parts}
-use Rattle.fluent_syntax_writer.proofs.rules.Sets.{and_assoc, and_true}
-use Rattle.fluent_syntax_grammar.proofs.RuleConjunction.{ArePartsOf, both_pass, none_asked, entry_obeys_each}
+use Rattle.fluent_syntax_writer.proofs.rules.Sets.{and_is_associative, and_with_true_is_same}
+use Rattle.fluent_syntax_grammar.proofs.RuleConjunction.{ArePartsOf, both_pass, true_holds_of_all_parts}
+use Rattle.fluent_syntax_grammar.proofs.RuleConjunction.{entry_obeys_each}
 
 -- ---- What is asked of a node
 
@@ -47,7 +48,7 @@ asked_now_or_later : (here later passes : Bool)
     → (not (here || later) || passes) ≡ ((if here then passes else true) && (not later || passes))
 asked_now_or_later true true true = refl
 asked_now_or_later true true false = refl
-asked_now_or_later true false passes = sym (and_true passes)
+asked_now_or_later true false passes = sym (and_with_true_is_same passes)
 asked_now_or_later false later passes = refl
 
 asked_is_all_asks : (ks : List Rule) (asker : Rule) (passes : Bool)
@@ -61,8 +62,8 @@ module _ {ks : List Rule} where
   one : (asker : Rule) (passes : Bool) → Are ks (λ k. asks asker k passes) (asked ks asker passes)
   one asker passes = record { each = asked_is_all_asks ks asker passes }
 
-  none : Are ks (λ k. true) true
-  none = record { each = none_asked ks }
+  true_is_right_by_each_rule : Are ks (λ k. true) true
+  true_is_right_by_each_rule = record { each = true_holds_of_all_parts ks }
 
   -- of two parts of a node, or of two tests
   both : {a b : Rule → Bool} {x y : Bool} → Are ks a x → Are ks b y → Are ks (λ k. a k && b k) (x && y)
@@ -72,7 +73,7 @@ module _ {ks : List Rule} where
   by same m = record { each = same ∙ m.each }
 
 and_of_four_is_associative : (a b c d : Bool) → (a && (b && (c && d))) ≡ (((a && b) && c) && d)
-and_of_four_is_associative a b c d = sym (and_assoc (a && b) c d ∙ and_assoc a b (c && d))
+and_of_four_is_associative a b c d = sym (and_is_associative (a && b) c d ∙ and_is_associative a b (c && d))
 
 or_false : (b : Bool) → b ≡ (b || false)
 or_false true = refl
@@ -84,17 +85,17 @@ module _ (more : List Rule) where
   abbrev ks : List Rule
   ks = take 23 every_rule ++ more
 
-  comment_each : (content : List Text) → Are ks (λ k. comment_keeps k content)
+  comment_is_right_by_each_rule : (content : List Text) → Are ks (λ k. comment_keeps k content)
       ((are_lines content && asked more rule.EmptyComment (has_line content))
       && asked more rule.BlankCommentLine (list_all is_plain_line content))
-  comment_each content =
+  comment_is_right_by_each_rule content =
       both (both (one rule.LfInComment (are_lines content)) (one rule.EmptyComment (has_line content)))
       (one rule.BlankCommentLine (list_all is_plain_line content))
 
   -- ---- Patterns
 
-  spelling_each : (v : Text) → Are ks (λ k. spelling_keeps k v) (is_text v)
-  spelling_each v =
+  spelling_is_right_by_each_rule : (v : Text) → Are ks (λ k. spelling_keeps k v) (is_text v)
+  spelling_is_right_by_each_rule v =
       let brace = not (list_any is_brace v) in
       let lf = not (has_lf (without_last_lf v)) in
       by (and_of_four_is_associative (not (is_empty v)) brace (not (has_crlf v)) lf)
@@ -102,39 +103,41 @@ module _ (more : List Rule) where
       (one rule.CrBeforeLf (not (has_crlf v)))) (one rule.LfWithinText lf))
 
   module _ (edition : Edition) where
-    place_each : (multiline : Bool) (s : ElementPosition) (v : Text) (es : PatternTree Text)
+    place_is_right_by_each_rule : (multiline : Bool) (s : ElementPosition) (v : Text) (es : PatternTree Text)
         → Are ks (λ k. place_keeps edition k multiline s v es) (may_occur_at edition multiline s v es)
-    place_each true opening v es =
-        by (sym (and_true (may_begin edition true v es)))
+    place_is_right_by_each_rule true opening v es =
+        by (sym (and_with_true_is_same (may_begin edition true v es)))
         (both (one rule.BlankFirstText (may_begin edition true v es)) (one rule.LeadingSpace (is_tight true v)))
-    place_each false opening v es =
+    place_is_right_by_each_rule false opening v es =
         by (ap (λ b. b && not (begins_with_space v)) (or_false (is_nonblank v)))
         (both (one rule.BlankFirstText (may_begin edition false v es)) (one rule.LeadingSpace (is_tight false v)))
-    place_each multiline after_line v es =
+    place_is_right_by_each_rule multiline after_line v es =
         both (one rule.LineOfSpaces (may_begin_line edition v es))
         (one rule.MarkedLine (not (begins_with_mark (after_spaces v))))
-    place_each multiline within_line v es = one rule.TextAfterText false
-    place_each multiline after_placeable v es = none
+    place_is_right_by_each_rule multiline within_line v es = one rule.TextAfterText false
+    place_is_right_by_each_rule multiline after_placeable v es = true_is_right_by_each_rule
 
-    texts_each : (multiline : Bool) (s : ElementPosition) (p : PatternTree Text)
+    texts_are_right_by_each_rule : (multiline : Bool) (s : ElementPosition) (p : PatternTree Text)
         → Are ks (λ k. texts_keep edition k multiline s p) (are_elements edition multiline s p)
-    texts_each multiline s no_elements = none
-    texts_each multiline s (elements (placeable e) es) = texts_each multiline after_placeable es
-    texts_each multiline s (elements (text_element v) es) =
+    texts_are_right_by_each_rule multiline s no_elements = true_is_right_by_each_rule
+    texts_are_right_by_each_rule multiline s (elements (placeable e) es) =
+        texts_are_right_by_each_rule multiline after_placeable es
+    texts_are_right_by_each_rule multiline s (elements (text_element v) es) =
         by (and_of_four_is_associative (is_text v) (may_occur_at edition multiline s v es) (may_precede v es)
         (are_elements edition multiline (position_after v) es))
-        (both (both (both (spelling_each v) (place_each multiline s v es)) (one rule.BlankEnd (may_precede v es)))
-        (texts_each multiline (position_after v) es))
+        (both (both (both (spelling_is_right_by_each_rule v) (place_is_right_by_each_rule multiline s v es))
+        (one rule.BlankEnd (may_precede v es)))
+        (texts_are_right_by_each_rule multiline (position_after v) es))
 
     -- what is asked of the lines
     abbrev flush_asked : Option ℕ → ElementPosition → PatternTree Text → Bool
     flush_asked (Some n) s p = asked more rule.CommonIndent (n == 0)
     flush_asked None s p = asked more rule.SpacesOnBlankLine (are_lone s p)
 
-    flush_each : (o : Option ℕ) (s : ElementPosition) (p : PatternTree Text)
+    flush_is_right_by_each_rule : (o : Option ℕ) (s : ElementPosition) (p : PatternTree Text)
         → Are ks (λ k. flush_keeps k o s p) (flush_asked o s p)
-    flush_each (Some n) s p = one rule.CommonIndent (n == 0)
-    flush_each None s p = one rule.SpacesOnBlankLine (are_lone s p)
+    flush_is_right_by_each_rule (Some n) s p = one rule.CommonIndent (n == 0)
+    flush_is_right_by_each_rule None s p = one rule.SpacesOnBlankLine (are_lone s p)
 
     abbrev lines_asked : (multiline : Bool) → PatternTree Text → Bool
     lines_asked multiline p =
@@ -142,35 +145,36 @@ module _ (more : List Rule) where
         || asked more rule.HiddenMark (not (hides_mark p))
         && flush_asked (least (line_indents edition (first_position p) p)) (first_position p) p
 
-    lines_each : (multiline : Bool) (p : PatternTree Text)
+    lines_are_right_by_each_rule : (multiline : Bool) (p : PatternTree Text)
         → Are ks (λ k. lines_keep edition k multiline p) (lines_asked multiline p)
-    lines_each false p = none
-    lines_each true p =
+    lines_are_right_by_each_rule false p = true_is_right_by_each_rule
+    lines_are_right_by_each_rule true p =
         both (one rule.HiddenMark (not (hides_mark p)))
-        (flush_each (least (line_indents edition (first_position p) p)) (first_position p) p)
+        (flush_is_right_by_each_rule (least (line_indents edition (first_position p) p)) (first_position p) p)
 
-    pattern_form : (p : PatternTree Text)
+    pattern_test_is_of_its_form : (p : PatternTree Text)
         → is_pattern edition p ≡ (has_element p && are_elements edition (is_multiline p) opening p)
-    pattern_form no_elements = refl
-    pattern_form (elements e es) = refl
+    pattern_test_is_of_its_form no_elements = refl
+    pattern_test_is_of_its_form (elements e es) = refl
 
-    pattern_each : (p : PatternTree Text)
+    pattern_is_right_by_each_rule : (p : PatternTree Text)
         → Are ks (λ k. pattern_keeps edition k p) (is_pattern edition p && lines_asked (is_multiline p) p)
-    pattern_each p =
-        by (ap (λ b. b && lines_asked (is_multiline p) p) (pattern_form p))
-        (both (both (one rule.EmptyPattern (has_element p)) (texts_each (is_multiline p) opening p))
-        (lines_each (is_multiline p) p))
+    pattern_is_right_by_each_rule p =
+        by (ap (λ b. b && lines_asked (is_multiline p) p) (pattern_test_is_of_its_form p))
+        (both (both (one rule.EmptyPattern (has_element p)) (texts_are_right_by_each_rule (is_multiline p) opening p))
+        (lines_are_right_by_each_rule (is_multiline p) p))
 
   -- ---- Expressions and arguments
 
-  select_each : (e : InlineTree Text) (vs : VariantTrees Text) → Are ks (λ k. expression_keeps k (select e vs))
+  select_is_right_by_each_rule : (e : InlineTree Text) (vs : VariantTrees Text)
+      → Are ks (λ k. expression_keeps k (select e vs))
       (is_expression (select e vs) && asked more rule.NoDefault (nat_le 1 (defaults vs)))
-  select_each e vs =
+  select_is_right_by_each_rule e vs =
       both (both (one rule.ForbiddenSelector (is_none (selector_fault e)))
       (one rule.SecondDefault (nat_le (defaults vs) 1))) (one rule.NoDefault (nat_le 1 (defaults vs)))
 
-  arguments_each : (a : ArgumentsTree Text) → Are ks (λ k. arguments_keep k a) (are_arguments a)
-  arguments_each (arguments ps ns) =
+  arguments_are_right_by_each_rule : (a : ArgumentsTree Text) → Are ks (λ k. arguments_keep k a) (are_arguments a)
+  arguments_are_right_by_each_rule (arguments ps ns) =
       by (are_named_well_by_parts [] ns)
       (both (one rule.ForbiddenArgument (have_values ns)) (one rule.RepeatedArgument (have_new_names [] ns)))
 
@@ -179,37 +183,41 @@ module _ (more : List Rule) where
 abbrev pub readable : List Rule
 readable = take 23 every_rule
 
-readable_lines : (edition : Edition) (multiline : Bool) (o : Option ℕ) (s : ElementPosition) (p : PatternTree Text)
-    → true ≡ (not multiline || flush_asked [] edition o s p)
-readable_lines edition false o s p = refl
-readable_lines edition true (Some n) s p = refl
-readable_lines edition true None s p = refl
+readable_rules_ask_no_flush : (edition : Edition) (multiline : Bool) (o : Option ℕ) (s : ElementPosition)
+    (p : PatternTree Text) → true ≡ (not multiline || flush_asked [] edition o s p)
+readable_rules_ask_no_flush edition false o s p = refl
+readable_rules_ask_no_flush edition true (Some n) s p = refl
+readable_rules_ask_no_flush edition true None s p = refl
 
-readable_pattern : (edition : Edition) (p : PatternTree Text)
+readable_rules_judge_pattern : (edition : Edition) (p : PatternTree Text)
     → Are readable (λ k. pattern_keeps edition k p) (is_pattern edition p)
-readable_pattern edition p =
+readable_rules_judge_pattern edition p =
     let number = least (line_indents edition (first_position p) p) in
-    by (sym (and_true (is_pattern edition p))
-    ∙ ap (λ b. is_pattern edition p && b) (readable_lines edition (is_multiline p) number (first_position p) p))
-    (pattern_each [] edition p)
+    by (sym (and_with_true_is_same (is_pattern edition p))
+    ∙ ap (λ b. is_pattern edition p && b)
+    (readable_rules_ask_no_flush edition (is_multiline p) number (first_position p) p))
+    (pattern_is_right_by_each_rule [] edition p)
 
-readable_expression : (e : ExpressionTree Text) → Are readable (λ k. expression_keeps k e) (is_expression e)
-readable_expression (select e vs) = by (sym (and_true (is_expression (select e vs)))) (select_each [] e vs)
-readable_expression (inline e) = one rule.TermAttribute (not (is_term_attribute e))
+readable_rules_judge_expression : (e : ExpressionTree Text) → Are readable (λ k. expression_keeps k e) (is_expression e)
+readable_rules_judge_expression (select e vs) =
+    by (sym (and_with_true_is_same (is_expression (select e vs)))) (select_is_right_by_each_rule [] e vs)
+readable_rules_judge_expression (inline e) = one rule.TermAttribute (not (is_term_attribute e))
 
-readable_comment : (content : List Text) → Are readable (λ k. comment_keeps k content) (are_lines content)
-readable_comment content =
-    by (sym (and_true (are_lines content && true) ∙ and_true (are_lines content))) (comment_each [] content)
+readable_rules_judge_comment : (content : List Text) → Are readable (λ k. comment_keeps k content) (are_lines content)
+readable_rules_judge_comment content =
+    by (sym (and_with_true_is_same (are_lines content && true) ∙ and_with_true_is_same (are_lines content)))
+    (comment_is_right_by_each_rule [] content)
 
-readable_parts : (edition : Edition) → ArePartsOf readable (single_rule edition) (readable_rules edition)
-readable_parts edition = record {
+single_rules_are_parts_of_readable : (edition : Edition)
+    → ArePartsOf readable (single_rule edition) (readable_rules edition)
+single_rules_are_parts_of_readable edition = record {
   junk_parts = asked_is_all_asks readable rule.Junk false;
   message_parts = λ m. asked_is_all_asks readable rule.EmptyMessage (is_message m);
-  comment_parts = λ content. (readable_comment content).each;
-  pattern_parts = λ p. (readable_pattern edition p).each;
-  expression_parts = λ e. (readable_expression e).each;
+  comment_parts = λ content. (readable_rules_judge_comment content).each;
+  pattern_parts = λ p. (readable_rules_judge_pattern edition p).each;
+  expression_parts = λ e. (readable_rules_judge_expression e).each;
   callee_parts = λ v. asked_is_all_asks readable rule.ForbiddenCallee (is_callee v);
-  arguments_parts = λ a. (arguments_each [] a).each;
+  arguments_parts = λ a. (arguments_are_right_by_each_rule [] a).each;
   string_parts = λ v. asked_is_all_asks readable rule.MisspelledString (is_string v);
   number_parts = λ v. asked_is_all_asks readable rule.MisspelledNumber (is_number v);
   name_parts = λ v. asked_is_all_asks readable rule.MisspelledName (is_name v);
@@ -219,60 +227,63 @@ readable_parts edition = record {
 pub readable_entry_keeps_each : (edition : Edition) (e : EntryTree Text)
     → entry_obeys (readable_rules edition) e ≡ list_all (λ k. entry_keeps edition k e) readable
 readable_entry_keeps_each edition e =
-    entry_obeys_each readable (single_rule edition) (readable_rules edition) (readable_parts edition) e
+    entry_obeys_each readable (single_rule edition) (readable_rules edition)
+    (single_rules_are_parts_of_readable edition) e
 
 -- ---- Canonical trees
 
 abbrev further : List Rule
 further = drop 23 every_rule
 
-canonical_comment : (content : List Text)
+canonical_rules_judge_comment : (content : List Text)
     → Are every_rule (λ k. comment_keeps k content) (are_lines content && is_plain_comment content)
-canonical_comment [] = comment_each further []
-canonical_comment (line ∷ lines) =
-    by (ap (λ b. b && list_all is_plain_line (line ∷ lines)) (sym (and_true (are_lines (line ∷ lines)))))
-    (comment_each further (line ∷ lines))
+canonical_rules_judge_comment [] = comment_is_right_by_each_rule further []
+canonical_rules_judge_comment (line ∷ lines) =
+    by (ap (λ b. b && list_all is_plain_line (line ∷ lines)) (sym (and_with_true_is_same (are_lines (line ∷ lines)))))
+    (comment_is_right_by_each_rule further (line ∷ lines))
 
-canonical_flush : (edition : Edition) (o : Option ℕ) (s : ElementPosition) (p : PatternTree Text)
+canonical_rules_judge_flush : (edition : Edition) (o : Option ℕ) (s : ElementPosition) (p : PatternTree Text)
     → are_flush o s p ≡ flush_asked further edition o s p
-canonical_flush edition (Some n) s p = refl
-canonical_flush edition None s p = refl
+canonical_rules_judge_flush edition (Some n) s p = refl
+canonical_rules_judge_flush edition None s p = refl
 
-canonical_pattern : (edition : Edition) (p : PatternTree Text)
+canonical_rules_judge_pattern : (edition : Edition) (p : PatternTree Text)
     → Are every_rule (λ k. pattern_keeps edition k p) (is_pattern edition p && is_flush edition p)
-canonical_pattern edition p =
+canonical_rules_judge_pattern edition p =
     let number = least (line_indents edition (first_position p) p) in
     by (ap (λ b. is_pattern edition p && (not (is_multiline p) || not (hides_mark p) && b))
-    (canonical_flush edition number (first_position p) p)) (pattern_each further edition p)
+    (canonical_rules_judge_flush edition number (first_position p) p)) (pattern_is_right_by_each_rule further edition p)
 
-false_absorbs : (a b c : Bool) → a ≡ false → (a && b) ≡ (a && c)
-false_absorbs true b c is = cc
-false_absorbs false b c is = refl
+false_and_anything_is_same : (a b c : Bool) → a ≡ false → (a && b) ≡ (a && c)
+false_and_anything_is_same true b c is = cc
+false_and_anything_is_same false b c is = refl
 
 one_default_is_bounded : (n : ℕ) → (nat_le n 1 && n == 1) ≡ (nat_le n 1 && nat_le 1 n)
 one_default_is_bounded zero = refl
 one_default_is_bounded (suc zero) = refl
-one_default_is_bounded (suc (suc n)) = false_absorbs (nat_le (suc (suc n)) 1) _ _ (lt-leb (suc (suc n)) 1 (omega arith))
+one_default_is_bounded (suc (suc n)) =
+    false_and_anything_is_same (nat_le (suc (suc n)) 1) _ _ (lt-leb (suc (suc n)) 1 (omega arith))
 
-canonical_expression : (e : ExpressionTree Text)
+canonical_rules_judge_expression : (e : ExpressionTree Text)
     → Are every_rule (λ k. expression_keeps k e) (is_expression e && has_one_default e)
-canonical_expression (select e vs) =
+canonical_rules_judge_expression (select e vs) =
     let allowed = is_none (selector_fault e) in
     let n = defaults vs in
-    by (and_assoc allowed (nat_le n 1) (n == 1) ∙ ap (λ b. allowed && b) (one_default_is_bounded n)
-    ∙ sym (and_assoc allowed (nat_le n 1) (nat_le 1 n))) (select_each further e vs)
-canonical_expression (inline e) =
-    by (and_true (not (is_term_attribute e))) (one rule.TermAttribute (not (is_term_attribute e)))
+    by (and_is_associative allowed (nat_le n 1) (n == 1) ∙ ap (λ b. allowed && b) (one_default_is_bounded n)
+    ∙ sym (and_is_associative allowed (nat_le n 1) (nat_le 1 n))) (select_is_right_by_each_rule further e vs)
+canonical_rules_judge_expression (inline e) =
+    by (and_with_true_is_same (not (is_term_attribute e))) (one rule.TermAttribute (not (is_term_attribute e)))
 
-canonical_parts : (edition : Edition) → ArePartsOf every_rule (single_rule edition) (canonical_rules edition)
-canonical_parts edition = record {
+single_rules_are_parts_of_canonical : (edition : Edition)
+    → ArePartsOf every_rule (single_rule edition) (canonical_rules edition)
+single_rules_are_parts_of_canonical edition = record {
   junk_parts = asked_is_all_asks every_rule rule.Junk false;
   message_parts = λ m. asked_is_all_asks every_rule rule.EmptyMessage (is_message m);
-  comment_parts = λ content. (canonical_comment content).each;
-  pattern_parts = λ p. (canonical_pattern edition p).each;
-  expression_parts = λ e. (canonical_expression e).each;
+  comment_parts = λ content. (canonical_rules_judge_comment content).each;
+  pattern_parts = λ p. (canonical_rules_judge_pattern edition p).each;
+  expression_parts = λ e. (canonical_rules_judge_expression e).each;
   callee_parts = λ v. asked_is_all_asks every_rule rule.ForbiddenCallee (is_callee v);
-  arguments_parts = λ a. (arguments_each further a).each;
+  arguments_parts = λ a. (arguments_are_right_by_each_rule further a).each;
   string_parts = λ v. asked_is_all_asks every_rule rule.MisspelledString (is_string v);
   number_parts = λ v. asked_is_all_asks every_rule rule.MisspelledNumber (is_number v);
   name_parts = λ v. asked_is_all_asks every_rule rule.MisspelledName (is_name v);
@@ -282,4 +293,5 @@ canonical_parts edition = record {
 pub canonical_entry_keeps_each : (edition : Edition) (e : EntryTree Text)
     → entry_obeys (canonical_rules edition) e ≡ list_all (λ k. entry_keeps edition k e) every_rule
 canonical_entry_keeps_each edition e =
-    entry_obeys_each every_rule (single_rule edition) (canonical_rules edition) (canonical_parts edition) e
+    entry_obeys_each every_rule (single_rule edition) (canonical_rules edition)
+    (single_rules_are_parts_of_canonical edition) e

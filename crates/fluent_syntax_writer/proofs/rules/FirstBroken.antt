@@ -25,14 +25,14 @@ module _ {X : Type 0} (test : X → Bool) where
   abbrev refused : List X → Option X
   refused xs = find (λ x. not (test x)) xs
 
-  none_after : (b : Bool) (x : X) (o : Option X) (all : Bool) → is_none o ≡ all
+  none_is_found_after_passing_first : (b : Bool) (x : X) (o : Option X) (all : Bool) → is_none o ≡ all
       → is_none (cond (not b) (Some x) o) ≡ (b && all)
-  none_after true x o all e = e
-  none_after false x o all e = refl
+  none_is_found_after_passing_first true x o all e = e
+  none_is_found_after_passing_first false x o all e = refl
 
   none_refused : (xs : List X) → is_none (refused xs) ≡ list_all test xs
   none_refused [] = refl
-  none_refused (x ∷ xs) = none_after (test x) x (refused xs) (list_all test xs) (none_refused xs)
+  none_refused (x ∷ xs) = none_is_found_after_passing_first (test x) x (refused xs) (list_all test xs) (none_refused xs)
 
   -- the item is refused, and all before it pass
   record IsRefused (xs : List X) (found : X) : Type 0 where
@@ -41,52 +41,55 @@ module _ {X : Type 0} (test : X → Bool) where
     fails : test found ≡ false
     pass : list_all test (take before xs) ≡ true
 
-  refused_later : (x : X) (xs : List X) (found : X) → test x ≡ true → IsRefused xs found → IsRefused (x ∷ xs) found
-  refused_later x xs found passes rest =
+  refused_of_rest_is_refused : (x : X) (xs : List X) (found : X) → test x ≡ true → IsRefused xs found
+      → IsRefused (x ∷ xs) found
+  refused_of_rest_is_refused x xs found passes rest =
       record { before = suc rest.before; there = rest.there; fails = rest.fails; pass = rw passes rest.pass }
 
-  refused_now : (x : X) (xs : List X) (found : X) → test x ≡ false → x ≡ found → IsRefused (x ∷ xs) found
-  refused_now x xs found fails same =
+  failing_first_is_refused : (x : X) (xs : List X) (found : X) → test x ≡ false → x ≡ found → IsRefused (x ∷ xs) found
+  failing_first_is_refused x xs found fails same =
       record { before = 0; there = ap Some same; fails = ap test (sym same) ∙ fails; pass = refl }
 
-  refused_by : (x : X) (xs : List X) (found : X) (b : Bool) → test x ≡ b
+  refused_by_its_test_is_refused : (x : X) (xs : List X) (found : X) (b : Bool) → test x ≡ b
       → (refused xs ≡ Some found → IsRefused xs found)
       → cond (not b) (Some x) (refused xs) ≡ Some found → IsRefused (x ∷ xs) found
-  refused_by x xs found true passes rest is = refused_later x xs found passes (rest is)
-  refused_by x xs found false fails rest is =
+  refused_by_its_test_is_refused x xs found true passes rest is = refused_of_rest_is_refused x xs found passes (rest is)
+  refused_by_its_test_is_refused x xs found false fails rest is =
       let same : x ≡ found = cc in
-      refused_now x xs found fails same
+      failing_first_is_refused x xs found fails same
 
-  refused_is : (xs : List X) (found : X) → refused xs ≡ Some found → IsRefused xs found
-  refused_is [] found is = cc
-  refused_is (x ∷ xs) found is = refused_by x xs found (test x) refl (refused_is xs found) is
+  found_refused_is_first_that_fails : (xs : List X) (found : X) → refused xs ≡ Some found → IsRefused xs found
+  found_refused_is_first_that_fails [] found is = cc
+  found_refused_is_first_that_fails (x ∷ xs) found is =
+      refused_by_its_test_is_refused x xs found (test x) refl (found_refused_is_first_that_fails xs found) is
 
   -- tests that give the same refuse the same first
-  refused_same : (other : X → Bool) → ((x : X) → other x ≡ test x) → (xs : List X)
+  equal_tests_refuse_the_same : (other : X → Bool) → ((x : X) → other x ≡ test x) → (xs : List X)
       → find (λ x. not (other x)) xs ≡ refused xs
-  refused_same other same [] = refl
-  refused_same other same (x ∷ xs) =
+  equal_tests_refuse_the_same other same [] = refl
+  equal_tests_refuse_the_same other same (x ∷ xs) =
       ap (λ b. cond (not b) (Some x) (find (λ x. not (other x)) xs)) (same x)
-      ∙ ap (λ o. cond (not (test x)) (Some x) o) (refused_same other same xs)
+      ∙ ap (λ o. cond (not (test x)) (Some x) o) (equal_tests_refuse_the_same other same xs)
 
 -- nothing is found exactly where this is answered
-pub nothing_found : {X : Type 0} (found : Option X) (answer : Bool) → is_some found ≡ not answer
+pub answer_is_whether_none_is_found : {X : Type 0} (found : Option X) (answer : Bool) → is_some found ≡ not answer
     → answer ≡ is_none found
-nothing_found None true is = refl
-nothing_found None false is = cc
-nothing_found (Some x) true is = cc
-nothing_found (Some x) false is = refl
+answer_is_whether_none_is_found None true is = refl
+answer_is_whether_none_is_found None false is = cc
+answer_is_whether_none_is_found (Some x) true is = cc
+answer_is_whether_none_is_found (Some x) false is = refl
 
 -- ---- The rule that an entry breaks
 
 pub set_finds_first : (edition : Edition) (e : EntryTree Text) (broken : RuleSet)
     → HoldsBroken broken (λ rule. entry_keeps edition rule e) → (rules : List Rule)
     → find (λ rule. not (keeps broken rule)) rules ≡ first_of edition e rules
-set_finds_first edition e broken are rules = refused_same (λ rule. entry_keeps edition rule e) (keeps broken) are rules
+set_finds_first edition e broken are rules =
+    equal_tests_refuse_the_same (λ rule. entry_keeps edition rule e) (keeps broken) are rules
 
-pub none_broken : (edition : Edition) (e : EntryTree Text)
+pub no_rule_is_broken_where_all_are_obeyed : (edition : Edition) (e : EntryTree Text)
     → is_none (broken_rule edition e) ≡ entry_obeys (canonical_rules edition) e
-none_broken edition e =
+no_rule_is_broken_where_all_are_obeyed edition e =
     none_refused (λ rule. entry_keeps edition rule e) every_rule ∙ sym (canonical_entry_keeps_each edition e)
 
 pub no_readable_rule_broken : (edition : Edition) (e : EntryTree Text)
@@ -106,12 +109,12 @@ first_from-none : (edition : Edition) (n : ℕ) (body : BodyTree Text)
 first_from-none edition n [] = refl
 first_from-none edition n (e ∷ es) =
     or_after-none n (broken_rule edition e) (first_from edition (n + 1) es)
-    ∙ rw (none_broken edition e, first_from-none edition (n + 1) es)
+    ∙ rw (no_rule_is_broken_where_all_are_obeyed edition e, first_from-none edition (n + 1) es)
 
 -- Nothing is found exactly where the tree is canonical.
-pub no_entry_uncanonical : (edition : Edition) (body : BodyTree Text)
+pub no_entry_is_uncanonical_when_canonical : (edition : Edition) (body : BodyTree Text)
     → is_none (first_uncanonical edition body) ≡ is_canonical edition body
-no_entry_uncanonical edition body = first_from-none edition 0 body
+no_entry_is_uncanonical_when_canonical edition body = first_from-none edition 0 body
 
 module _ (edition : Edition) where
   -- what was found among entries of which the first has the number n
@@ -120,12 +123,13 @@ module _ (edition : Edition) where
     number : found.entry ≡ n + before
     first : IsFirstBroken edition body (record { entry = before; rule = found.rule })
 
-  found_now : (n : ℕ) (e : EntryTree Text) (es : BodyTree Text) (rule : Rule) (found : Uncanonical)
+  entry_with_broken_rule_is_found : (n : ℕ) (e : EntryTree Text) (es : BodyTree Text) (rule : Rule)
+      (found : Uncanonical)
       → broken_rule edition e ≡ Some rule → record { entry = n; rule = rule } ≡ found → IsFound n (e ∷ es) found
-  found_now n e es rule found broken same =
+  entry_with_broken_rule_is_found n e es rule found broken same =
       let number : found.entry ≡ n = cc in
       let named : found.rule ≡ rule = cc in
-      let is = refused_is (λ r. entry_keeps edition r e) every_rule rule broken in
+      let is = found_refused_is_first_that_fails (λ r. entry_keeps edition r e) every_rule rule broken in
       record {
         before = 0;
         number = omega (arith, number);
@@ -140,10 +144,11 @@ module _ (edition : Edition) where
         };
       }
 
-  found_later : (n : ℕ) (e : EntryTree Text) (es : BodyTree Text) (found : Uncanonical)
+  entry_found_in_rest_is_found : (n : ℕ) (e : EntryTree Text) (es : BodyTree Text) (found : Uncanonical)
       → broken_rule edition e ≡ None → IsFound (n + 1) es found → IsFound n (e ∷ es) found
-  found_later n e es found keeps rest =
-      let canonical : entry_obeys (canonical_rules edition) e ≡ true = sym (none_broken edition e) ∙ ap is_none keeps in
+  entry_found_in_rest_is_found n e es found keeps rest =
+      let canonical : entry_obeys (canonical_rules edition) e ≡ true =
+      sym (no_rule_is_broken_where_all_are_obeyed edition e) ∙ ap is_none keeps in
       let first = rest.first in
       record {
         before = suc rest.before;
@@ -159,28 +164,31 @@ module _ (edition : Edition) where
         };
       }
 
-  found_by : (n : ℕ) (e : EntryTree Text) (es : BodyTree Text) (found : Uncanonical) (o : Option Rule)
-      → broken_rule edition e ≡ o
+  entry_found_by_its_rule_is_found : (n : ℕ) (e : EntryTree Text) (es : BodyTree Text) (found : Uncanonical)
+      (o : Option Rule) → broken_rule edition e ≡ o
       → (first_from edition (n + 1) es ≡ Some found → IsFound (n + 1) es found)
       → or_after n o (first_from edition (n + 1) es) ≡ Some found → IsFound n (e ∷ es) found
-  found_by n e es found None keeps rest is = found_later n e es found keeps (rest is)
-  found_by n e es found (Some rule) broken rest is = found_now n e es rule found broken cc
+  entry_found_by_its_rule_is_found n e es found None keeps rest is =
+      entry_found_in_rest_is_found n e es found keeps (rest is)
+  entry_found_by_its_rule_is_found n e es found (Some rule) broken rest is =
+      entry_with_broken_rule_is_found n e es rule found broken cc
 
-  found_is : (n : ℕ) (body : BodyTree Text) (found : Uncanonical) → first_from edition n body ≡ Some found
-      → IsFound n body found
-  found_is n [] found is = cc
-  found_is n (e ∷ es) found is =
-      found_by n e es found (broken_rule edition e) refl (found_is (n + 1) es found) is
+  entry_found_from_number_is_first : (n : ℕ) (body : BodyTree Text) (found : Uncanonical)
+      → first_from edition n body ≡ Some found → IsFound n body found
+  entry_found_from_number_is_first n [] found is = cc
+  entry_found_from_number_is_first n (e ∷ es) found is =
+      entry_found_by_its_rule_is_found n e es found (broken_rule edition e) refl
+      (entry_found_from_number_is_first (n + 1) es found) is
 
   -- What is found is so.
-  found_first : (body : BodyTree Text) (found : Uncanonical) → first_uncanonical edition body ≡ Some found
-      → IsFirstBroken edition body found
-  found_first body found is =
-      let here = found_is 0 body found is in
+  first_uncanonical_is_first_broken : (body : BodyTree Text) (found : Uncanonical)
+      → first_uncanonical edition body ≡ Some found → IsFirstBroken edition body found
+  first_uncanonical_is_first_broken body found is =
+      let here = entry_found_from_number_is_first 0 body found is in
       let number : here.before ≡ found.entry = omega (arith, here.number) in
       subst (λ n. IsFirstBroken edition body (record { entry = n; rule = found.rule })) number here.first
 
   pub first_is_broken : (body : BodyTree Text) (o : Option Uncanonical) → o ≡ first_uncanonical edition body
       → IfSome o (λ found. IsFirstBroken edition body found)
   first_is_broken body None is = tt
-  first_is_broken body (Some found) is = found_first body found (sym is)
+  first_is_broken body (Some found) is = first_uncanonical_is_first_broken body found (sym is)

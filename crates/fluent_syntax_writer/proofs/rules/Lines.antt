@@ -19,11 +19,11 @@ least_of_two-assoc (Some a) (Some b) (Some c) = let same : min a (min b c) ≡ m
 least-option_append : (number : Option ℕ) (numbers : List ℕ)
     → least (option_to_list number ++ numbers) ≡ least_of_two number (least numbers)
 least-option_append None numbers = refl
-least-option_append (Some n) numbers = by_rest (least numbers)
+least-option_append (Some n) numbers = least_with_rest_is_least_of_two (least numbers)
   where
-    by_rest : (m : Option ℕ) → Some (least_with n m) ≡ least_of_two (Some n) m
-    by_rest None = refl
-    by_rest (Some m) = refl
+    least_with_rest_is_least_of_two : (m : Option ℕ) → Some (least_with n m) ≡ least_of_two (Some n) m
+    least_with_rest_is_least_of_two None = refl
+    least_with_rest_is_least_of_two (Some m) = refl
 
 line_indents-elements : (edition : Edition) (s : ElementPosition) (e : ElementTree Text) (es : PatternTree Text)
     → line_indents edition s (elements e es) ≡ indents_at edition s e ++ line_indents edition (position_past e) es

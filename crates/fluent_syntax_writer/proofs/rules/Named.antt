@@ -67,9 +67,9 @@ module _ {S : Type 0} (text : S → Text) where
   abbrev pub no_state : Unit {0} → NamedArgument S → Unit {0}
   no_state u n = u
 
-  pub first_value : (u : Unit {0}) (n : NamedArgument S) (ns : List (NamedArgument S))
+  pub values_are_first_and_rest : (u : Unit {0}) (n : NamedArgument S) (ns : List (NamedArgument S))
       → values u (n ∷ ns) ≡ (one_value u n ns && values (no_state u n) ns)
-  first_value u n ns =
+  values_are_first_and_rest u n ns =
       ap (λ v. have_values (nameds v (nameds_of (map (named_view text) ns)))) (view-NamedArgument text n)
 
   abbrev pub new_names : List Text → List (NamedArgument S) → Bool

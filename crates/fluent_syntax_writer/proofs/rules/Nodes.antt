@@ -24,7 +24,7 @@ use Rattle.fluent_syntax_tree.specs.declared.ast.NamedArgument.{NamedArgument}
 use Rattle.fluent_syntax_tree.specs.declared.ast.Pattern.{Pattern}
 use Rattle.fluent_syntax_tree.specs.declared.ast.Variant.{Variant}
 use Rattle.fluent_syntax_grammar.specs.Written.{Text, holds_select}
-use Rattle.fluent_syntax_writer.proofs.rules.Sets.{and_true}
+use Rattle.fluent_syntax_writer.proofs.rules.Sets.{and_with_true_is_same}
 use denote.Hole.Carrier as carrier
 
 -- ---- Inline expressions that are no placeables
@@ -34,7 +34,7 @@ module _ {S : Type 0} (text : S → Text) where
   NoPlaceable e = (b : Box (Expression S) Global) → e ≡ inl.Placeable b → ⊥
 
   -- what holds of every other form
-  pub record HoldsElsewhere (Claim : InlineTree Text → Type 0) : Type 0 where
+  pub record HoldsButOfPlaceables (Claim : InlineTree Text → Type 0) : Type 0 where
     pub string : (x : Text) → Claim (string_literal x)
     pub number : (x : Text) → Claim (number_literal x)
     pub function : (x : Text) (a : ArgumentsTree Text) → Claim (function_reference x a)
@@ -42,7 +42,7 @@ module _ {S : Type 0} (text : S → Text) where
     pub term : (x : Text) (o : Option Text) (a : MaybeArguments Text) → Claim (term_reference x o a)
     pub variable : (x : Text) → Claim (variable_reference x)
 
-  elsewhere-layer : (Claim : InlineTree Text → Type 0) → HoldsElsewhere Claim
+  elsewhere-layer : (Claim : InlineTree Text → Type 0) → HoldsButOfPlaceables Claim
       → (y : InlineExpression-F S (Expression S) (InlineExpression S) (PatternElement S) (CallArguments S)
       (NamedArgument S) (Pattern S) (Variant S))
       → NoPlaceable (roll-InlineExpression S y) → Claim (inline_view text (roll-InlineExpression S y))
@@ -59,15 +59,16 @@ module _ {S : Type 0} (text : S → Text) where
       subst Claim (sym (view-VariableReference text i)) (h.variable _)
   elsewhere-layer Claim h (layer.InlineExpression::Placeable b) other = absurd (other b refl)
 
-  pub elsewhere : (Claim : InlineTree Text → Type 0) → HoldsElsewhere Claim → (e : InlineExpression S) → NoPlaceable e
-      → Claim (inline_view text e)
-  elsewhere Claim h e other =
+  pub claim_holds_of_inline_but_placeable : (Claim : InlineTree Text → Type 0) → HoldsButOfPlaceables Claim
+      → (e : InlineExpression S) → NoPlaceable e → Claim (inline_view text e)
+  claim_holds_of_inline_but_placeable Claim h e other =
       let back : roll-InlineExpression S (out-InlineExpression S e) ≡ e = roll-out-InlineExpression S e in
       subst (λ e. Claim (inline_view text e)) back
       (elsewhere-layer Claim h (out-InlineExpression S e) (λ b is. other b (sym back ∙ is)))
 
-  pub holds_no_select : (e : InlineExpression S) → NoPlaceable e → false ≡ holds_select (inline_view text e)
-  holds_no_select = elsewhere (λ t. false ≡ holds_select t) (record {
+  pub inline_but_placeable_holds_no_select : (e : InlineExpression S) → NoPlaceable e
+      → false ≡ holds_select (inline_view text e)
+  inline_but_placeable_holds_no_select = claim_holds_of_inline_but_placeable (λ t. false ≡ holds_select t) (record {
     string = λ x. refl;
     number = λ x. refl;
     function = λ x a. refl;
@@ -105,5 +106,5 @@ defaults-next key value false vs before after is = omega arith
 -- ---- Patterns
 
 pub pattern_obeys_by_parts : (r : Rules) (p : PatternTree Text) → (r.pattern p && elements_obey r p) ≡ pattern_obeys r p
-pattern_obeys_by_parts r no_elements = and_true (r.pattern no_elements)
+pattern_obeys_by_parts r no_elements = and_with_true_is_same (r.pattern no_elements)
 pattern_obeys_by_parts r (elements e es) = refl

@@ -18,7 +18,7 @@ use Rattle.fluent_syntax_writer.specs.Texts.{is_plain_pattern, is_plain_text}
 use Rattle.fluent_syntax_writer.specs.declared.canonical.rules.Rule.{Rule}
 use Rattle.fluent_syntax_writer.specs.declared.canonical.rules.Rule.TheVariants as rule
 use Rattle.fluent_syntax_grammar.proofs.Facts.{left_true, right_true}
-use Rattle.fluent_syntax_grammar.proofs.Tests.{both_true, differ, not_true, true_by_right}
+use Rattle.fluent_syntax_grammar.proofs.Tests.{both_true, differ, not_true_is_false, true_by_right}
 
 -- a text that ends plainly
 record Ends (v : Text) : Type 0 where
@@ -44,8 +44,8 @@ if_of_trues_is_true false = refl
 asks_passes : (asker k : Rule) (passes : Bool) → passes ≡ true → asks asker k passes ≡ true
 asks_passes asker k passes e = ap (asks asker k) e ∙ if_of_trues_is_true (number asker == number k)
 
-pub text_spelled : (k : Rule) (v : Text) → is_text v ≡ true → spelling_keeps k v ≡ true
-text_spelled k v text =
+pub text_keeps_every_spelling_rule : (k : Rule) (v : Text) → is_text v ≡ true → spelling_keeps k v ≡ true
+text_keeps_every_spelling_rule k v text =
     let later = right_true (not (is_empty v)) _ text in
     let no_crlf = right_true (not (list_any is_brace v)) _ later in
     both_true (both_true (both_true (asks_passes rule.EmptyText k _ (left_true (not (is_empty v)) _ text))
@@ -64,13 +64,14 @@ plain_text_keeps edition k v plain =
     let ends = ends_plainly_has_ends v plainly in
     let later = right_true (not (is_empty v)) _ text in
     let no_crlf = right_true (not (list_any is_brace v)) _ later in
-    let no_lf = not_true (has_lf (without_last_lf v)) (right_true (not (has_crlf v)) _ no_crlf) in
+    let no_lf = not_true_is_false (has_lf (without_last_lf v)) (right_true (not (has_crlf v)) _ no_crlf) in
     let on_one_line : (has_lf v || false) ≡ false =
     ap (λ u. has_lf u || false) (sym ends.no_lf) ∙ ap (λ b. b || false) no_lf in
     let shown = ap (list_any (λ b. not (is_space b))) ends.no_lf ∙ ends.shown in
     let place = both_true (asks_passes rule.BlankFirstText k _ (ap (λ b. b || false) shown))
     (asks_passes rule.LeadingSpace k _ tight) in
-    let texts = both_true (both_true (both_true (text_spelled k v text) place) (asks_passes rule.BlankEnd k _ plainly))
+    let texts = both_true
+    (both_true (both_true (text_keeps_every_spelling_rule k v text) place) (asks_passes rule.BlankEnd k _ plainly))
     refl in
     ap (λ multiline. (asks rule.EmptyPattern k true && texts_keep edition k multiline opening p)
     && lines_keep edition k multiline p) on_one_line
@@ -95,8 +96,10 @@ pub others_are_not_plain : {E : Type 0} (view : E → ElementTree Text) (es : Li
     → is_plain_pattern (elements_of (map view es)) ≡ false
 others_are_not_plain view [] other = refl
 others_are_not_plain view (x ∷ []) other = absurd (omega (arith, other refl))
-others_are_not_plain view (x ∷ y ∷ es) other = two (view x) (view y) (elements_of (map view es))
+others_are_not_plain view (x ∷ y ∷ es) other =
+    two_elements_are_no_plain_pattern (view x) (view y) (elements_of (map view es))
   where
-    two : (a b : ElementTree Text) (rest : PatternTree Text) → is_plain_pattern (elements a (elements b rest)) ≡ false
-    two (text_element v) b rest = refl
-    two (placeable e) b rest = refl
+    two_elements_are_no_plain_pattern : (a b : ElementTree Text) (rest : PatternTree Text)
+        → is_plain_pattern (elements a (elements b rest)) ≡ false
+    two_elements_are_no_plain_pattern (text_element v) b rest = refl
+    two_elements_are_no_plain_pattern (placeable e) b rest = refl

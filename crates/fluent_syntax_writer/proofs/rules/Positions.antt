@@ -47,9 +47,9 @@ hides_mark-first (placeable e) es = refl
 
 -- ---- Each element by its place
 
-or_true : (b : Bool) → true ≡ (b || true)
-or_true true = refl
-or_true false = refl
+true_is_or_with_true : (b : Bool) → true ≡ (b || true)
+true_is_or_with_true true = refl
+true_is_or_with_true false = refl
 
 module _ {E : Type 0} (view : E → ElementTree Text) where
   abbrev pub tree : List E → PatternTree Text
@@ -72,9 +72,9 @@ module _ {E : Type 0} (view : E → ElementTree Text) where
     keep_by_form s (text_element v) es = refl
     keep_by_form s (placeable e) es = refl
 
-    pub first_keeps : (s : ElementPosition) (e : E) (es : List E)
+    pub elements_keep_by_first_and_rest : (s : ElementPosition) (e : E) (es : List E)
         → keep s (e ∷ es) ≡ (keeps s e es && keep (past s e) es)
-    first_keeps s e es = keep_by_form s (view e) (tree es)
+    elements_keep_by_first_and_rest s e es = keep_by_form s (view e) (tree es)
 
   abbrev pub lone : ElementPosition → List E → Bool
   lone s es = are_lone s (tree es)
@@ -82,15 +82,15 @@ module _ {E : Type 0} (view : E → ElementTree Text) where
   abbrev pub one_lone : ElementPosition → E → List E → Bool
   one_lone s e es = is_lone_lf_at_line_start s (view e)
 
-  lone_by_form : (s : ElementPosition) (e : ElementTree Text) (es : PatternTree Text)
+  lone_elements_are_lone_first_and_rest : (s : ElementPosition) (e : ElementTree Text) (es : PatternTree Text)
       → are_lone s (elements e es) ≡ (is_lone_lf_at_line_start s e && are_lone (position_past e) es)
-  lone_by_form s (text_element v) es = refl
-  lone_by_form s (placeable e) es =
-      ap (λ b. b && are_lone (position_past (placeable e)) es) (or_true (not (is_line_start s)))
+  lone_elements_are_lone_first_and_rest s (text_element v) es = refl
+  lone_elements_are_lone_first_and_rest s (placeable e) es =
+      ap (λ b. b && are_lone (position_past (placeable e)) es) (true_is_or_with_true (not (is_line_start s)))
 
-  pub first_lone : (s : ElementPosition) (e : E) (es : List E)
+  pub elements_are_lone_by_first_and_rest : (s : ElementPosition) (e : E) (es : List E)
       → lone s (e ∷ es) ≡ (one_lone s e es && lone (past s e) es)
-  first_lone s e es = lone_by_form s (view e) (tree es)
+  elements_are_lone_by_first_and_rest s e es = lone_elements_are_lone_first_and_rest s (view e) (tree es)
 
 -- ---- Whether there are elements
 

@@ -1,7 +1,7 @@
 -- Loops over a list, by what a function gives of what is left.
 use Rattle.std.proofs.Common.{◌≡◌, ℕ, ◌+◌, ◌<◌, List, ◌∷◌, length, get_or, drop, Bool, true, false, ◌&&◌, sym, ap, ◌∙◌}
 use Rattle.std.proofs.lemmas.List.{at_drop_more}
-use Rattle.fluent_syntax_writer.proofs.rules.Sets.{and_assoc}
+use Rattle.fluent_syntax_writer.proofs.rules.Sets.{and_is_associative}
 
 pub drop_is_cons : {X Y : Type 0} (F : List X → Y) (xs : List X) (i : ℕ) (x : X) → i < length xs → x ≡ get_or xs i x
     → F (drop i xs) ≡ F (x ∷ drop (i + 1) xs)
@@ -27,12 +27,12 @@ module _ {S X : Type 0} (all : S → List X → Bool) (one : S → X → List X 
       sym same ∙ rest
 
   -- What is kept so far and by what is left is kept by all, with an item more.
-  pub item_joins : (s : S) (xs : List X) (i : ℕ) (x : X) (before after whole : Bool) → i < length xs → x ≡ get_or xs i x
-      → after ≡ (before && one s x (drop (i + 1) xs)) → (before && all s (drop i xs)) ≡ whole
+  pub item_joins_what_came_before : (s : S) (xs : List X) (i : ℕ) (x : X) (before after whole : Bool) → i < length xs
+      → x ≡ get_or xs i x → after ≡ (before && one s x (drop (i + 1) xs)) → (before && all s (drop i xs)) ≡ whole
       → (after && all (next s x) (drop (i + 1) xs)) ≡ whole
-  item_joins s xs i x before after whole within is joined rest =
+  item_joins_what_came_before s xs i x before after whole within is joined rest =
       let others = drop (i + 1) xs in
       let same : all s (drop i xs) ≡ (one s x others && all (next s x) others) =
       drop_is_cons (all s) xs i x within is ∙ step s x others in
-      ap (λ b. b && all (next s x) others) joined ∙ and_assoc before (one s x others) (all (next s x) others)
+      ap (λ b. b && all (next s x) others) joined ∙ and_is_associative before (one s x others) (all (next s x) others)
       ∙ ap (λ b. before && b) (sym same) ∙ rest

@@ -8,12 +8,12 @@ use Rattle.fluent_syntax_grammar.specs.Written.{written}
 use Rattle.fluent_syntax_grammar.proofs.marks.Entries.{written_is_read_back}
 use Rattle.fluent_syntax_grammar.proofs.marks.JoinedTrees.{joined_reads_back}
 use Rattle.fluent_syntax_parser.specs.Answers.{AnswersTiling}
-use Rattle.fluent_syntax.proofs.RoundTripLemmas.{nothing_written, tree_answered}
+use Rattle.fluent_syntax.proofs.RoundTripLemmas.{memory_error_writes_nothing, tree_answered}
 use Rattle.fluent_syntax.proofs.laws.reparse.Goals as goal
 
 pub returns-in-Err-clause-answers : goal.returns-in-Err-clause-answers
 returns-in-Err-clause-answers g c =
-    nothing_written (string_bytes {Z = Global}) (resource_view g.S.Slice.text c.args.r.now)
+    memory_error_writes_nothing (string_bytes {Z = Global}) (resource_view g.S.Slice.text c.args.r.now)
 
 pub returns-clause-answers : goal.returns-clause-answers
 returns-clause-answers g c =

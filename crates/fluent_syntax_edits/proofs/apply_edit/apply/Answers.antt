@@ -2,7 +2,7 @@ use Rattle.std.proofs.Common.{◌≡◌, ◌∙◌, ap, arith, length, refl, str
 use Rattle.std.specs.Vec.{vec_len}
 use Rattle.fluent_syntax_tree.specs.View.{entry_view, pattern_view}
 use Rattle.fluent_syntax_edits.specs.Changes.{with_target}
-use Rattle.fluent_syntax_edits.proofs.Numbered.{insert_there, none_there, remove_there, set_there}
+use Rattle.fluent_syntax_edits.proofs.Numbered.{insert_maps_to_insert, none_there, remove_maps_to_remove, set_there}
 use Rattle.fluent_syntax_edits.proofs.apply_edit.apply.Goals as goal
 
 pub returns-in_ok-insert-in-Insert : goal.returns-in_ok-insert-in-Insert
@@ -10,7 +10,7 @@ returns-in_ok-insert-in-Insert c =
     let body = c.args.body.now in
     let size : length body.items ≡ vec_len body = omega (arith, body.ok.0) in
     rw (c.in-Insert.is, c.in_ok-insert-in-Insert.ensures.items)
-    (insert_there (entry_view (λ s. string_bytes s)) c.args.index c.min.result body.items c.in-Insert.entry
+    (insert_maps_to_insert (entry_view (λ s. string_bytes s)) c.args.index c.min.result body.items c.in-Insert.entry
     (omega arith) (omega (arith, size)) (λ l. omega (arith, size)))
 
 pub returns-in-Replace : goal.returns-in-Replace
@@ -36,7 +36,7 @@ returns-in-Set c =
 pub returns-in-Remove : goal.returns-in-Remove
 returns-in-Remove c =
     rw (c.in-Remove.is, c.remove.ensures.items)
-    (remove_there (entry_view (λ s. string_bytes s)) c.args.index c.args.body.now.items)
+    (remove_maps_to_remove (entry_view (λ s. string_bytes s)) c.args.index c.args.body.now.items)
 
 pub returns-in-Replace-2 : goal.returns-in-Replace-2
 returns-in-Replace-2 c =

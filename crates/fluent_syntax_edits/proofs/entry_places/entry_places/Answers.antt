@@ -4,7 +4,7 @@ use Rattle.std.specs.Global.{Global}
 use Rattle.std.proofs.Common.{Vec}
 use Rattle.fluent_syntax_edits.specs.EntryPlaces.{entry_places_after}
 use Rattle.fluent_syntax_edits.specs.declared.entry_places.EntryPlace.{EntryPlace}
-use Rattle.fluent_syntax_edits.proofs.EntryPlacesRead.{read_all, places_read_on}
+use Rattle.fluent_syntax_edits.proofs.EntryPlacesRead.{places_read_to_end_are_entry_places, entry_places_grow_by_tile}
 use Rattle.fluent_syntax_edits.proofs.entry_places.entry_places.Goals as goal
 use Rattle.fluent_syntax_edits.proofs.entry_places.entry_places.Goals.{in-Some+in_ok-push-in-Ok-None, in_default}
 
@@ -18,7 +18,7 @@ loop-found-preserved c =
     record {
       text = ap (λ source. source.bytes.now) here.text ∙ inv.text;
       edition = here.edition ∙ inv.edition;
-      read = places_read_on c.new-tiles.result.edition t c.loop-found.tiles.ptr c.next_tile.new.self.ptr ps _
+      read = entry_places_grow_by_tile c.new-tiles.result.edition t c.loop-found.tiles.ptr c.next_tile.new.self.ptr ps _
           c.loop-found.last _
           c.in-Ok-Some.found inv.read next
           (λ tile more place. c.in_ok-add_place-in-Ok-Some.ensures tile more (place ∙ sym c.entry_place.ensures));
@@ -32,7 +32,8 @@ returns-in-Ok-None c =
     let edition = c.new-tiles.result.edition in
     let ps = c.loop-found.entry_places.items in
     let block = rw (inv.text, inv.edition, c.in-Ok-None.field-0-is) at here.next in
-    let all = read_all edition t c.loop-found.tiles.ptr ps c.match-last.entry_places.items c.loop-found.last inv.read
+    let all = places_read_to_end_are_entry_places edition t c.loop-found.tiles.ptr ps c.match-last.entry_places.items
+    c.loop-found.last inv.read
     block in
     rw (← c.new-tiles.ensures.text, ← c.new-tiles.ensures.edition)
     (elim c.match-last.branch [

@@ -1,5 +1,5 @@
 use Rattle.std.proofs.Common.{◌≡◌, ◌-◌, length}
-use Rattle.fluent_syntax_edits.proofs.EntryPlacesRead.{PlacesReadTo}
+use Rattle.fluent_syntax_edits.proofs.EntryPlacesRead.{HasEntryPlacesBefore}
 use Rattle.fluent_syntax_edits.proofs.entry_places.entry_places.Given as goal
 
 abbrev pub invariant-loop-found : goal.invariant-loop-found
@@ -8,7 +8,7 @@ invariant-loop-found l =
     record {
       text : l.tiles.source.bytes.now ≡ t;
       edition : l.tiles.edition ≡ l.initial.tiles.edition;
-      read : PlacesReadTo l.initial.tiles.edition t l.tiles.ptr l.entry_places.items l.last;
+      read : HasEntryPlacesBefore l.initial.tiles.edition t l.tiles.ptr l.entry_places.items l.last;
     }
 
 abbrev pub decreases-loop-found : goal.decreases-loop-found

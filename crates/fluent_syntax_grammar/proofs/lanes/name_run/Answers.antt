@@ -2,7 +2,7 @@ use Rattle.std.proofs.Common.{ℕ, leb, cond, bit_and, refl, arith}
 use Rattle.std.proofs.lemmas.Simd.{length-chunk, splat_is_map, zip2_of_maps, zip2_splat}
 use lib.Lanes.{chunk}
 use Rattle.fluent_syntax_grammar.specs.Bytes.{is_name_byte}
-use Rattle.fluent_syntax_grammar.proofs.LaneRuns.{run_of}
+use Rattle.fluent_syntax_grammar.proofs.LaneRuns.{lanes_count_run}
 use Rattle.fluent_syntax_grammar.proofs.lanes.name_run.Goals as goal
 
 pub returns : goal.returns
@@ -17,7 +17,7 @@ returns c =
     let no_hyphen = zip2_splat {Y = ℕ} _ v 16 45 long in
     let no_underscore = zip2_splat {Y = ℕ} _ v 16 95 long in
     record {
-      run = run_of is_name_byte t c.args.at 16 _ c.requires (omega arith) c.type_inv.bytes _ refl _
+      run = lanes_count_run is_name_byte t c.args.at 16 _ c.requires (omega arith) c.type_inv.bytes _ refl _
           (zip2_of_maps bit_and _ _ v (zip2_of_maps bit_and _ _ v no_letter no_digit)
           (zip2_of_maps bit_and _ _ v no_hyphen no_underscore))
           c.lanes_before.ensures;

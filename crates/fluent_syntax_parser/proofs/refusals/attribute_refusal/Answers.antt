@@ -4,7 +4,8 @@ use Rattle.fluent_syntax_grammar.specs.Entries.{attribute_of}
 use Rattle.fluent_syntax_grammar.specs.Grammar.{family, within}
 use Rattle.fluent_syntax_grammar.proofs.Nesting.{within_family}
 use Rattle.fluent_syntax_grammar.proofs.TotalEntries.{attribute_too_deep_left}
-use Rattle.fluent_syntax_parser.proofs.entry_forms.AttributeRefusals.{attribute_refused, refusal_place_in_text}
+use Rattle.fluent_syntax_parser.proofs.entry_forms.AttributeRefusals.{attribute_is_refused_where_its_fault_is}
+use Rattle.fluent_syntax_parser.proofs.entry_forms.AttributeRefusals.{refusal_place_in_text}
 use Rattle.fluent_syntax_parser.proofs.entry_forms.AttributeRefusals.{refusal_starts_in_text}
 use Rattle.fluent_syntax_parser.proofs.entry_forms.ExtentForms.{attribute_is_included}
 use Rattle.fluent_syntax_parser.proofs.readers.Fails.{failure_is_too_deep}
@@ -36,7 +37,7 @@ returns-clause-refusal c =
           )
       | in-Err-Refused+in_ok-kind-in-Err-Refused w ↦
           let found = rw (c.as_bytes.ensures.value, w.in-Err-Refused.field-0-is) at w.in-Err-Refused.ensures.finds in
-          let refused = attribute_refused edition t n c.args.start _ _ _ c.requires found in
+          let refused = attribute_is_refused_where_its_fault_is edition t n c.args.start _ _ _ c.requires found in
           rw (
             w.result-is,
             w.in_ok-kind-in-Err-Refused.ensures,

@@ -1,13 +1,14 @@
 use Rattle.std.proofs.Common.{arith}
 use Rattle.fluent_syntax_tree.specs.Entry.{body_map}
-use Rattle.fluent_syntax_parser.proofs.tilings.AnswerOf.{answers_of}
-use Rattle.fluent_syntax_parser.proofs.tilings.ErrorPlaces.{errors_answered_in_text}
-use Rattle.fluent_syntax_parser.proofs.tilings.PartsOfEntries.{some_rest}
+use Rattle.fluent_syntax_parser.proofs.tilings.AnswerOf.{result_answers_tiles}
+use Rattle.fluent_syntax_parser.proofs.tilings.ErrorPlaces.{errors_of_answer_in_mode_are_in_text}
+use Rattle.fluent_syntax_parser.proofs.tilings.PartsOfEntries.{rest_of_text_has_entries}
 use Rattle.fluent_syntax_parser.proofs.spans.parse_texts.Goals as goal
 
 pub returns-in-Err-Memory-clause-tiling : goal.returns-in-Err-Memory-clause-tiling
 returns-in-Err-Memory-clause-tiling g c =
-    let some = some_rest c.args.source.now c.args.options.edition c.args.options.comments 0 (omega arith) in
+    let some = rest_of_text_has_entries c.args.source.now c.args.options.edition c.args.options.comments 0
+    (omega arith) in
     (some.2.tiles, some.2.tiled, tt)
 
 pub returns-in-Ok-clause-tiling : goal.returns-in-Ok-clause-tiling
@@ -16,13 +17,14 @@ returns-in-Ok-clause-tiling g c =
     let answer = c.answer_of.ensures in (
       read.rest.tiles,
       read.rest.tiled,
-      answers_of g.M.MakeTexts.made (body_map (g.M.MakeTexts.source c.args.texts.now)) read.rest.tiles _ _
+      result_answers_tiles g.M.MakeTexts.made (body_map (g.M.MakeTexts.source c.args.texts.now)) read.rest.tiles _ _
           c.answer_of.result answer.clean answer.syntax (rw read.rest.yields read.same) read.rest.errors_are,
     )
 
 pub returns-in-Ok-clause-places : goal.returns-in-Ok-clause-places
 returns-in-Ok-clause-places g c =
-    errors_answered_in_text c.args.source.now g.M.MakeTexts.made (body_map (g.M.MakeTexts.source c.args.texts.now))
+    errors_of_answer_in_mode_are_in_text c.args.source.now g.M.MakeTexts.made
+    (body_map (g.M.MakeTexts.source c.args.texts.now))
     c.args.options.edition c.answer_of.result c.args.options.comments (returns-in-Ok-clause-tiling g c)
 
 pub returns-in-Ok-clause-blank : goal.returns-in-Ok-clause-blank

@@ -10,7 +10,7 @@ use Rattle.fluent_syntax_writer.proofs.Splits.{Writes-split}
 use Rattle.fluent_syntax_grammar.proofs.Remaining.{RemainingMarks-start, RemainingMarks-more, RemainingMarks-end}
 use Rattle.fluent_syntax_grammar.proofs.Remaining.{RemainingMarks-last, drop_gives_item}
 use Rattle.fluent_syntax_writer.proofs.Arguments.{arguments_left-cons, arguments_left-none}
-use Rattle.fluent_syntax_writer.proofs.Placeables.{in_braces}
+use Rattle.fluent_syntax_writer.proofs.Placeables.{inline_but_placeable_is_in_braces}
 use Rattle.fluent_syntax_writer.proofs.serializer.+serialized.Goals as goal
 
 pub expressions::serialize_inline_expression-returns-in-StringLiteral :
@@ -148,7 +148,7 @@ patterns::serialize_inline_placeable-returns-in-Placeable g t c =
 pub patterns::serialize_inline_placeable-returns-in_default :
     goal.patterns::serialize_inline_placeable-returns-in_default
 patterns::serialize_inline_placeable-returns-in_default g t c =
-    rw (in_braces g.T.ReadTexts.text _ _ c.in_default.not-Placeable) (search (rules, writing))
+    rw (inline_but_placeable_is_in_braces g.T.ReadTexts.text _ _ c.in_default.not-Placeable) (search (rules, writing))
 
 pub patterns::serialize_variant_value-returns-then-is_multiline :
     goal.patterns::serialize_variant_value-returns-then-is_multiline

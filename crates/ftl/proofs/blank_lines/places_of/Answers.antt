@@ -7,11 +7,11 @@ use Rattle.ftl.specs.BlankLines.{place_in, places_of}
 use Rattle.ftl.specs.declared.blank_lines.Gap.{Gap}
 use Rattle.ftl.proofs.blank_lines.places_of.Goals as goal
 
-places_on : (xs ys : List Gap) (i : ℕ) (d e : Gap) (before now all : List ℕ) → i < length xs → i < length ys →
-    now ≡ before ++ place_in (get_or xs i d) (get_or ys i e) →
+places_grow_by_next_gap : (xs ys : List Gap) (i : ℕ) (d e : Gap) (before now all : List ℕ) → i < length xs →
+    i < length ys → now ≡ before ++ place_in (get_or xs i d) (get_or ys i e) →
     before ++ places_of (drop i xs) (drop i ys) ≡ all →
     now ++ places_of (drop (i + 1) xs) (drop (i + 1) ys) ≡ all
-places_on xs ys i d e before now all a b is so =
+places_grow_by_next_gap xs ys i d e before now all a b is so =
     let x = get_or xs i d in
     let y = get_or ys i e in
     let more = places_of (drop (i + 1) xs) (drop (i + 1) ys) in
@@ -21,19 +21,21 @@ places_on xs ys i d e before now all a b is so =
     ap (λ ps. ps ++ more) is
     ∙ (append_assoc before (place_in x y) more ∙ (ap (λ ps. before ++ ps) (sym step) ∙ so))
 
-none_there : (xs : List Gap) → places_of xs [] ≡ []
-none_there [] = refl
-none_there (x ∷ xs) = refl
+no_gaps_there_have_no_places : (xs : List Gap) → places_of xs [] ≡ []
+no_gaps_there_have_no_places [] = refl
+no_gaps_there_have_no_places (x ∷ xs) = refl
 
-no_more : (xs ys : List Gap) (i : ℕ) → min (length xs) (length ys) ≤ i → places_of (drop i xs) (drop i ys) ≡ []
-no_more [] ys i h = ap (λ zs. places_of zs (drop i ys)) (drop-nil i)
-no_more (x ∷ xs) [] i h = ap (places_of (drop i (x ∷ xs))) (drop-nil i) ∙ none_there (drop i (x ∷ xs))
-no_more (x ∷ xs) (y ∷ ys) zero h = absurd (omega (arith, h))
-no_more (x ∷ xs) (y ∷ ys) (suc i) h = no_more xs ys i (omega (arith, h))
+no_places_are_past_shorter_list : (xs ys : List Gap) (i : ℕ) → min (length xs) (length ys) ≤ i →
+    places_of (drop i xs) (drop i ys) ≡ []
+no_places_are_past_shorter_list [] ys i h = ap (λ zs. places_of zs (drop i ys)) (drop-nil i)
+no_places_are_past_shorter_list (x ∷ xs) [] i h =
+    ap (places_of (drop i (x ∷ xs))) (drop-nil i) ∙ no_gaps_there_have_no_places (drop i (x ∷ xs))
+no_places_are_past_shorter_list (x ∷ xs) (y ∷ ys) zero h = absurd (omega (arith, h))
+no_places_are_past_shorter_list (x ∷ xs) (y ∷ ys) (suc i) h = no_places_are_past_shorter_list xs ys i (omega (arith, h))
 
 pub loop-index-preserved : goal.loop-index-preserved
 loop-index-preserved c = record {
-  rest = places_on _ _ c.loop-index.index _ _ _ _ _ (omega arith) (omega arith) c.in_ok-add_place.ensures
+  rest = places_grow_by_next_gap _ _ c.loop-index.index _ _ _ _ _ (omega arith) (omega arith) c.in_ok-add_place.ensures
       c.loop-index.invariant.rest;
 }
 
@@ -42,6 +44,6 @@ returns c =
     let w = c.args.wanted.now in
     let t = c.args.there.now in
     let i = c.loop-index.index in
-    let none = no_more w t i (omega arith) in
+    let none = no_places_are_past_shorter_list w t i (omega arith) in
     sym (append-nil c.loop-index.places.items)
     ∙ (ap (λ ps. c.loop-index.places.items ++ ps) (sym none) ∙ c.loop-index.invariant.rest)

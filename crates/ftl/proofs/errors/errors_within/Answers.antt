@@ -6,14 +6,16 @@ use Rattle.fluent_syntax_tree.specs.declared.errors.ParserError.{ParserError}
 use Rattle.fluent_syntax_parser.specs.Rest.{faults_of}
 use Rattle.fluent_syntax_parser.specs.declared.options.Comments.TheVariants.{Kept}
 use Rattle.fluent_syntax_parser.proofs.tilings.Rests.{entry_to}
-use Rattle.ftl.proofs.ErrorsTo.{ErrorsTo, all_errors, all_with_error, errors_on, no_errors}
+use Rattle.ftl.proofs.ErrorsTo.{ErrorsTo, errors_before_end_are_all, all_hold_with_one_more_error}
+use Rattle.ftl.proofs.ErrorsTo.{errors_grow_by_those_of_entry, no_errors_are_before_start}
 use Rattle.ftl.proofs.errors.errors_within.Goals as goal
 
 pub loop-errors-init : goal.loop-errors-init
 loop-errors-init c = record {
   text = c.new-entries.ensures.text;
   options = c.new-entries.ensures.options;
-  errors = rw (c.new-entries.ensures.start, c.new-errors.ensures.items) (no_errors c.args.edition c.args.text.now);
+  errors = rw (c.new-entries.ensures.start, c.new-errors.ensures.items)
+      (no_errors_are_before_start c.args.edition c.args.text.now);
   places = rw c.new-errors.ensures.items (All-nil (λ (e : ParserError). e.pos.start ≤ length c.args.text.now));
   deeper = rw c.new-entries.ensures.start (λ d. d, λ d. d);
 }
@@ -31,11 +33,11 @@ loop-errors-preserved c =
       options = here.reads.options ∙ inv.options;
       errors =
           subst (ErrorsTo c.args.edition t _) (sym c.in_ok-push_if_error.ensures)
-          (errors_on c.args.edition t _ _ _ next.0 error inv.errors there);
+          (errors_grow_by_those_of_entry c.args.edition t _ _ _ next.0 error inv.errors there);
       places =
           let is_inside : ParserError → Type 0 = λ e. e.pos.start ≤ length t in
           subst (All is_inside) (sym c.in_ok-push_if_error.ensures)
-          (all_with_error is_inside _ error inv.places (rw (inv.text, c.in-Some.is) at here.places));
+          (all_hold_with_one_more_error is_inside _ error inv.places (rw (inv.text, c.in-Some.is) at here.places));
       deeper =
           let shallow = rw (inv.text, inv.options, c.in-Some.is) at here.reads.shallow in
           (λ d. inv.deeper.0 (shallow.1 d), λ d. shallow.0 (inv.deeper.1 d));
@@ -47,7 +49,7 @@ pub returns-clause-errors : goal.returns-clause-errors
 returns-clause-errors c =
     let inv = c.loop-errors.invariant in
     let none = rw (inv.text, inv.options, c.in_default.is) at c.in_ok-error.ensures.next in
-    all_errors c.args.edition c.args.text.now _ _ inv.errors none
+    errors_before_end_are_all c.args.edition c.args.text.now _ _ inv.errors none
 
 -- ---- where it nests too deeply
 

@@ -4,7 +4,7 @@ use Rattle.fluent_syntax_tree.specs.View.{entry_view}
 use Rattle.fluent_syntax_parser.specs.Rest.{faults_of}
 use Rattle.fluent_syntax_parser.proofs.tilings.Rests.{entry_to}
 use Rattle.ftl.specs.OneByOne.{wrote_none, one_more}
-use Rattle.ftl.proofs.ReadTo.{all_read, nothing_read, read_on}
+use Rattle.ftl.proofs.ReadTo.{all_is_read_before_end, nothing_is_read_before_start, reading_goes_on_by_entry}
 use Rattle.ftl.proofs.one_by_one.write_one_by_one.Goals as goal
 
 pub loop-errors-init : goal.loop-errors-init
@@ -18,7 +18,7 @@ loop-errors-init g c =
       so_far = (
         [],
         wrote_none,
-        rw c.new-entries.ensures.start (nothing_read options.comments options.edition c.args.text.now),
+        rw c.new-entries.ensures.start (nothing_is_read_before_start options.comments options.edition c.args.text.now),
       );
       deeper = rw c.new-entries.ensures.start (λ d. d, λ d. d);
     }
@@ -33,7 +33,8 @@ loop-errors-preserved g c =
     let span = rw c.in-Some.is at here.in_place in
     let in_place = rw span at put.in_place in
     let there = entry_to options.comments options.edition t _ _ _ put.tree (faults_of put.error) in_place in
-    let longer = read_on options.comments options.edition t _ _ _ inv.so_far.2 _ put.tree put.error there in
+    let longer =
+    reading_goes_on_by_entry options.comments options.edition t _ _ _ inv.so_far.2 _ put.tree put.error there in
     let entry = put.added ∙ ap (λ xs. xs ++ put.entry ∷ []) inv.no_entry in
     let error = put.errors_are ∙ ap (λ xs. xs ++ option_to_list put.error) inv.no_error in
     let written = c.write_read-outcome.ensures.written (entry_view (λ s. s.now) put.entry)
@@ -59,5 +60,5 @@ returns-clause-written g c =
     let options = c.args.options in
     let inv = c.loop-errors.invariant in
     let none = rw (inv.text, inv.options, c.in_default.is) at c.in_ok-_span.ensures.next in
-    let tiled = all_read options.comments options.edition c.args.text.now _ _ _ inv.so_far.2 none.0 in
+    let tiled = all_is_read_before_end options.comments options.edition c.args.text.now _ _ _ inv.so_far.2 none.0 in
     (tiled.0, tiled.1, rw tiled.2 at inv.so_far.1, tiled.3)

@@ -1,6 +1,6 @@
 use Rattle.std.proofs.Common.{sym, ◌∙◌, arith}
 use Rattle.std.proofs.lemmas.Str.{IsCharBoundary-after_ascii}
-use Rattle.fluent_syntax_json.proofs.Escapes.{escaped_is_ascii, plain_more}
+use Rattle.fluent_syntax_json.proofs.Escapes.{escaped_is_ascii, plain_bytes_extend_by_plain_byte}
 use Rattle.fluent_syntax_json.proofs.writing.escapes.split_at_escape.Goals as goal
 
 pub range_from-requires : goal.range_from-requires
@@ -17,6 +17,6 @@ loop-end-preserved c =
     let in_place = sym c.is_plain.ensures ∙ c.if-not-is_plain.false in
     record {
       within = omega (arith, c.loop-end-test.true);
-      plain = plain_more c.as_bytes-bytes.result.now c.loop-end.end c.loop-end-test.true in_place
+      plain = plain_bytes_extend_by_plain_byte c.as_bytes-bytes.result.now c.loop-end.end c.loop-end-test.true in_place
           c.loop-end.invariant.plain;
     }

@@ -1,6 +1,6 @@
 use Rattle.std.proofs.Common.{◌∷◌, ◌++◌, [], Some, ap, arith, length, sym, ◌∙◌}
 use Rattle.std.specs.Prelude.{option_to_list}
-use Rattle.fluent_syntax_parser.proofs.tilings.ErrorPlaces.{error_after}
+use Rattle.fluent_syntax_parser.proofs.tilings.ErrorPlaces.{error_of_entry_read_so_far_is_in_text}
 use Rattle.fluent_syntax_parser.proofs.entry_forms.MadeEntries.{some_cancels}
 use Rattle.fluent_syntax_parser.proofs.tilings.Rests.{entry_to}
 use Rattle.fluent_syntax_parser.proofs.entries.Entries.next_entry_with.Goals as goal
@@ -39,5 +39,5 @@ returns-clause-places g c =
     (put.errors_are ∙ ap (λ xs. xs ++ option_to_list put.error) c.new-errors.ensures.items) in
     let there = entry_to options.comments options.edition t _ _ _ put.tree _ (rw in_place at put.in_place) in
     rw stated
-    (error_after t options.comments options.edition _ _ put.tree put.error
+    (error_of_entry_read_so_far_is_in_text t options.comments options.edition _ _ put.tree put.error
     (omega (arith, source, c.add_next_entry.new.self.within)) c.args.self.now.reached there)

@@ -1,8 +1,9 @@
 use Rattle.std.proofs.Common.{◌∙◌, ap, refl, sym}
 use Rattle.fluent_syntax_tree.specs.View.{expression_view}
 use Rattle.fluent_syntax_tree.proofs.Views.{view-Inline}
-use Rattle.fluent_syntax_parser.proofs.expressions.Inlines.{inline_seen, select_not_inline}
-use Rattle.fluent_syntax_parser.proofs.expressions.LastPlaced.{last_is_appended_item, placed_is, text_not_placed}
+use Rattle.fluent_syntax_parser.proofs.expressions.Inlines.{inline_seen, view_of_select_is_no_inline}
+use Rattle.fluent_syntax_parser.proofs.expressions.LastPlaced.{last_is_appended_item, element_of_placeable_has_its_tree}
+use Rattle.fluent_syntax_parser.proofs.expressions.LastPlaced.{text_element_is_no_placeable}
 use Rattle.fluent_syntax_parser.proofs.expression.last.last_inline.Goals as goal
 
 pub unreachable-requires : goal.unreachable-requires
@@ -12,8 +13,8 @@ unreachable-requires g c =
     let (e, pushed, seen) = added in
     let found = c.in-Some-Placeable in
     let is = last_is_appended_item c.args.elements.now old e found.field-0.now pushed found.ensures.value in
-    select_not_inline v c.in-Select.selector c.in-Select.variants c.in-Select.is
-    (placed_is v found.expression (sym found.field-0-is ∙ is) seen)
+    view_of_select_is_no_inline v c.in-Select.selector c.in-Select.variants c.in-Select.is
+    (element_of_placeable_has_its_tree v found.expression (sym found.field-0-is ∙ is) seen)
 
 pub unreachable-requires-in-Some-TextElement : goal.unreachable-requires-in-Some-TextElement
 unreachable-requires-in-Some-TextElement g c =
@@ -21,7 +22,7 @@ unreachable-requires-in-Some-TextElement g c =
     let (e, pushed, seen) = added in
     let found = c.in-Some-TextElement in
     let is = last_is_appended_item c.args.elements.now old e found.field-0.now pushed found.ensures.value in
-    text_not_placed g.M.MakeTexts.made found.field-0-0 (sym found.field-0-is ∙ is) seen
+    text_element_is_no_placeable g.M.MakeTexts.made found.field-0-0 (sym found.field-0-is ∙ is) seen
 
 pub returns : goal.returns
 returns g c = λ old tree (e, pushed, seen).
@@ -29,4 +30,4 @@ returns g c = λ old tree (e, pushed, seen).
     let found = c.in-Some-Placeable in
     let is = last_is_appended_item c.args.elements.now old e found.field-0.now pushed found.ensures.value in
     inline_seen v c.in-Inline.inline refl (ap (expression_view v) c.in-Inline.is ∙ view-Inline v c.in-Inline.inline)
-    (placed_is v found.expression (sym found.field-0-is ∙ is) seen)
+    (element_of_placeable_has_its_tree v found.expression (sym found.field-0-is ∙ is) seen)

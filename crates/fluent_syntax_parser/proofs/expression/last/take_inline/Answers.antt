@@ -1,7 +1,7 @@
 use Rattle.std.proofs.Common.{refl}
 use Rattle.fluent_syntax_tree.specs.Tree.{inline}
 use Rattle.fluent_syntax_tree.proofs.Views.{view-Inline}
-use Rattle.fluent_syntax_parser.proofs.expressions.Inlines.{inline_seen, select_not_inline}
+use Rattle.fluent_syntax_parser.proofs.expressions.Inlines.{inline_seen, view_of_select_is_no_inline}
 use Rattle.fluent_syntax_parser.proofs.expression.last.take_inline.Goals as goal
 
 pub take_expression-requires : goal.take_expression-requires
@@ -9,7 +9,7 @@ take_expression-requires g c = (c.requires.0, inline c.requires.1, c.requires.2)
 
 pub unreachable-requires : goal.unreachable-requires
 unreachable-requires g c =
-    select_not_inline g.M.MakeTexts.made c.in-Select.selector c.in-Select.variants refl
+    view_of_select_is_no_inline g.M.MakeTexts.made c.in-Select.selector c.in-Select.variants refl
     (c.in-Select.ensures c.requires.0 (inline c.requires.1) c.requires.2).1
 
 pub returns : goal.returns

@@ -5,7 +5,8 @@ use Rattle.fluent_syntax_parser.specs.Elements.{flushed, indent_of, item_shape, 
 use Rattle.fluent_syntax_grammar.specs.Elements.{with_ending}
 use Rattle.fluent_syntax_parser.specs.Lines.{ending_view, line_shape, piece_shape}
 use Rattle.fluent_syntax_parser.proofs.scanning.Names.{none_are_named, some_are_named}
-use Rattle.fluent_syntax_parser.proofs.patterns.Waiting.{bare_line, full_line, empty_map_comes_from_empty}
+use Rattle.fluent_syntax_parser.proofs.patterns.Waiting.{items_of_bare_line_are_line_items}
+use Rattle.fluent_syntax_parser.proofs.patterns.Waiting.{items_of_full_line_are_line_items, empty_map_comes_from_empty}
 use Rattle.fluent_syntax_parser.proofs.pattern.elements.add_line.Goals as goal
 
 pub returns-then-is_empty : goal.returns-then-is_empty
@@ -15,7 +16,7 @@ returns-then-is_empty g c =
     let none = none_are_named l.pieces.items (c.if-is_empty.ensures ∙ ap (λ n. n == 0) size) in
     IfOk-equal c.add_bare_line.result _ _ _ c.add_bare_line.ensures
     (ap (λ xs. map item_shape c.args.items.now.items ++ xs)
-    (bare_line c.args.edition c.args.common (line_shape l) _ c.common_indent_end-kept.ensures
+    (items_of_bare_line_are_line_items c.args.edition c.args.common (line_shape l) _ c.common_indent_end-kept.ensures
     (ap (map piece_shape) none)))
 
 pub returns : goal.returns
@@ -31,5 +32,6 @@ returns g c =
     ∙ ap (λ ps. indent_of c.args.edition kept (l.start + l.spaces) (map piece_shape ps)) c.deref.ensures.value in
     IfOk-equal c.add_pieces.result _ _ _ c.add_pieces.ensures
     (ap (λ xs. xs ++ line) (c.in_ok-add_pending_run.ensures ∙ ap (flushed old) indent)
-    ∙ full_line c.args.edition c.args.common (line_shape l) kept c.common_indent_end-kept.ensures old
+    ∙ items_of_full_line_are_line_items c.args.edition c.args.common
+    (line_shape l) kept c.common_indent_end-kept.ensures old
     (λ e. some (empty_map_comes_from_empty piece_shape l.pieces.items e)))

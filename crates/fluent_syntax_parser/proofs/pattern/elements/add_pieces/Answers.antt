@@ -7,7 +7,8 @@ use Rattle.fluent_syntax_parser.specs.Elements.{flushed, item_shape, leading, pe
 use Rattle.fluent_syntax_grammar.specs.Elements.{placeable_item, with_ending}
 use Rattle.fluent_syntax_grammar.specs.Layout.{placed, run}
 use Rattle.fluent_syntax_parser.specs.Lines.{ending_view, piece_shape}
-use Rattle.fluent_syntax_parser.proofs.patterns.Waiting.{none_leads, waiting_placed_added, run_waits}
+use Rattle.fluent_syntax_parser.proofs.patterns.Waiting.{no_pieces_are_led_by_nothing, waiting_placed_added}
+use Rattle.fluent_syntax_parser.proofs.patterns.Waiting.{run_waits_as_pending_text}
 use Rattle.fluent_syntax_parser.proofs.pattern.elements.add_pieces.Goals as goal
 
 pub loop-piece-preserved-in-Run : goal.loop-piece-preserved-in-Run
@@ -23,7 +24,7 @@ loop-piece-preserved-in-Run g c =
       whole =
           ap (λ ys. ys ++ with_ending (run c.unwrap_or.result to ∷ rest) end) c.in_ok-add_pending_run.ensures
           ∙ ap (λ k. flushed xs old.pending ++ with_ending (run k to ∷ rest) end) c.unwrap_or.ensures
-          ∙ run_waits end xs old.pending old.led c.in-Run.from to rest
+          ∙ run_waits_as_pending_text end xs old.pending old.led c.in-Run.from to rest
           ∙ ap (λ ps. xs ++ with_ending (pending_run old.pending (leading old.led ps)) end) (sym found)
           ∙ old.invariant.whole;
     }
@@ -56,6 +57,6 @@ returns g c =
     let nothing = nil_from_length left.items (sym left.ok.0 ∙ c.in-None.ensures.steps.0) in
     let end = ending_view c.args.ending in
     let ended : leading old.led (map piece_shape (into_iter_items old.piece-iterator)) ≡ [] =
-    ap (λ ps. leading old.led (map piece_shape ps)) nothing ∙ none_leads old.led in
+    ap (λ ps. leading old.led (map piece_shape ps)) nothing ∙ no_pieces_are_led_by_nothing old.led in
     IfOk-equal c.add_ending.result _ _ _ c.add_ending.ensures
     (ap (λ ps. xs ++ with_ending (pending_run old.pending ps) end) (sym ended) ∙ old.invariant.whole)

@@ -7,16 +7,18 @@ use Rattle.fluent_syntax_grammar.specs.Construct.{stops, goes_on, at_place}
 use Rattle.fluent_syntax_grammar.specs.Entries.{message_with}
 use Rattle.fluent_syntax_parser.proofs.entry_forms.FieldForms.{fields_fail, fields_go_on, equals_are_both_some}
 use Rattle.fluent_syntax_parser.proofs.entry_forms.FieldForms.{message_form_of_attributes, message_form_of_value}
-use Rattle.fluent_syntax_parser.proofs.entry_forms.FieldForms.{message_without, zero_count_is_empty, none_of, has_items}
+use Rattle.fluent_syntax_parser.proofs.entry_forms.FieldForms.{message_without_fields_is_refused, zero_count_is_empty}
+use Rattle.fluent_syntax_parser.proofs.entry_forms.FieldForms.{list_with_image_of_empty_is_empty}
+use Rattle.fluent_syntax_parser.proofs.entry_forms.FieldForms.{nonzero_count_is_not_empty}
 use Rattle.fluent_syntax_parser.proofs.reader.Reader.add_message.Goals.{else-is_none-via-then-is_none+else-is_empty}
 use Rattle.fluent_syntax_parser.proofs.reader.Reader.add_message.Goals.{else-is_none-via-else-is_none}
 use Rattle.fluent_syntax_grammar.proofs.FunctionalWords.{identifier_is_functional}
 use Rattle.fluent_syntax_parser.specs.Outcomes.{no_memory, refused}
 use Rattle.fluent_syntax_parser.specs.declared.fault.Fault.TheVariants as fault
 use Rattle.fluent_syntax_parser.specs.Made.{made}
-use Rattle.fluent_syntax_parser.proofs.readers.Made.{on_made}
+use Rattle.fluent_syntax_parser.proofs.readers.Made.{made_was_read}
 use Rattle.fluent_syntax_grammar.proofs.Functional.{here_is_functional}
-use Rattle.fluent_syntax_parser.proofs.readers.Fails.{fails_next, memory_is_err}
+use Rattle.fluent_syntax_parser.proofs.readers.Fails.{bind_fails_second, memory_is_err}
 use Rattle.fluent_syntax_parser.proofs.scanning.NameTexts.{identifier_has_name_text}
 use Rattle.fluent_syntax_parser.proofs.reader.Reader.add_message.Goals as goal
 
@@ -31,8 +33,8 @@ returns-in_err-fields-clause-adds g c =
     let name : Span = record { start = c.args.start; end = c.in_ok-end.end } in
     let p = err_from_is_err_and c.from_residual-in_err-fields.result c.from_residual-in_err-fields.ensures.1 in
     rw (p.1, p.2) (
-      fails_next here_is_functional at_place
-          (fails_next (identifier_is_functional t) c.in_ok-end.ensures.parses
+      bind_fails_second here_is_functional at_place
+          (bind_fails_second (identifier_is_functional t) c.in_ok-end.ensures.parses
           (fields_fail c.args.self.now.edition t _ (message_with t c.args.start name) c.in_err-fields.ensures.parses)),
       refl,
     )
@@ -45,15 +47,15 @@ returns-then-is_empty-clause-adds g c =
     let size : length found.attributes.items ≡ vec_len found.attributes = omega (arith, found.attributes.ok.0) in
     let none = zero_count_is_empty found.attributes.items _ size c.if-is_empty.ensures in
     let text = sym (identifier_has_name_text t c.in_ok-end.ensures.parses) in
-    on_made c.in_ok-fields.ensures.parses (λ x read same. (
+    made_was_read c.in_ok-fields.ensures.parses (λ x read same. (
       refused {f = fault.MessageField} {from = c.args.start} {place = c.in_ok-fields.place} (λ k from to (a, b, d).
           rw (a ∙ ap ExpectedMessageField text, b, d)
           (goes_on at_place
           (goes_on c.in_ok-end.ensures.parses
           (fields_go_on c.args.self.now.edition t _ (message_with t c.args.start name) _ _ x _ read
-          (message_without t c.args.start _ name x.0 x.1
+          (message_without_fields_is_refused t c.args.start _ name x.0 x.1
           (equals_are_both_some _ _ found.value x.0 (ap (λ y. y.0) same) ∙ c.if-is_none.ensures)
-          (none_of _ _ found.attributes.items x.1 (ap (λ y. y.1) same) none)))))),
+          (list_with_image_of_empty_is_empty _ _ found.attributes.items x.1 (ap (λ y. y.1) same) none)))))),
       refl,
     ))
 
@@ -74,7 +76,7 @@ returns-clause-adds g c =
     let found = c.in_ok-fields.fields in
     let rest = found.attributes.items in
     let size : length rest ≡ vec_len found.attributes = omega (arith, found.attributes.ok.0) in
-    on_made c.in_ok-fields.ensures.parses (λ x read same. (
+    made_was_read c.in_ok-fields.ensures.parses (λ x read same. (
       _,
       c.in_ok-add.ensures.added,
       made
@@ -84,8 +86,8 @@ returns-clause-adds g c =
           (elim c.else-is_none.branch [
             | else-is_none-via-then-is_none+else-is_empty w ↦
                 message_form_of_attributes t c.args.start place name x.0 x.1
-                (λ none. has_items rest _ size w.if-is_empty.ensures
-                (none_of _ _ x.1 rest (sym (ap (λ y. y.1) same)) none))
+                (λ none. nonzero_count_is_not_empty rest _ size w.if-is_empty.ensures
+                (list_with_image_of_empty_is_empty _ _ x.1 rest (sym (ap (λ y. y.1) same)) none))
             | else-is_none-via-else-is_none w ↦
                 message_form_of_value t c.args.start place name x.0 x.1
                 (equals_are_both_some _ _ found.value x.0 (ap (λ y. y.0) same) ∙ w.if-is_none.ensures)

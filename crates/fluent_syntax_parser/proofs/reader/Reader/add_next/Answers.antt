@@ -1,10 +1,12 @@
 use Rattle.std.proofs.Common.{◌<◌, ◌∷◌, ◌++◌, ◌∙◌, [], length, refl, sym, ap, arith}
 use Rattle.std.proofs.lemmas.Result.{err_from_is_err_and}
 use Rattle.fluent_syntax_parser.proofs.tilings.DeeperTiles.{after_comment, after_attached, after_one, entry_deeper}
-use Rattle.fluent_syntax_parser.proofs.tilings.DeeperTiles.{attached_led, one_led, tile_at_end}
-use Rattle.fluent_syntax_parser.proofs.entry_forms.MadeEntries.{comment_added, other_added}
+use Rattle.fluent_syntax_parser.proofs.tilings.DeeperTiles.{attached_led, one_led, no_tile_is_deeper_at_end_of_text}
+use Rattle.fluent_syntax_parser.proofs.entry_forms.MadeEntries.{body_that_ends_with_comment_added_it}
+use Rattle.fluent_syntax_parser.proofs.entry_forms.MadeEntries.{body_that_ends_otherwise_added_no_comment}
 use Rattle.fluent_syntax_parser.specs.MadeEntries.{ends_with_comment}
-use Rattle.fluent_syntax_parser.proofs.tilings.Rests.{mode_has_tile, text_ends, rest_comment, rest_tile}
+use Rattle.fluent_syntax_parser.proofs.tilings.Rests.{mode_has_tile, end_of_text_has_empty_rest, rest_comment}
+use Rattle.fluent_syntax_parser.proofs.tilings.Rests.{rest_holds_from_unattachable_tile}
 use Rattle.fluent_syntax_parser.proofs.reader.Reader.add_next.Goals as goal
 
 -- ---- what is added
@@ -12,7 +14,8 @@ use Rattle.fluent_syntax_parser.proofs.reader.Reader.add_next.Goals as goal
 pub returns-then-start-self-clause-next : goal.returns-then-start-self-clause-next
 returns-then-start-self-clause-next g c = (
   c.tile_start-start.ensures.rest c.args.self.now.edition _ _
-      (text_ends c.args.comments c.args.self.now.edition c.args.self.now.source.bytes.now _ c.if-start-self.true),
+      (end_of_text_has_empty_rest c.args.comments c.args.self.now.edition c.args.self.now.source.bytes.now _
+      c.if-start-self.true),
   refl,
   refl,
 )
@@ -29,7 +32,7 @@ returns-then-not-ends_with_comment-clause-next g c =
     let inside : start.result < length t = omega (arith, read.within.0, read.within.1) in
     let last = ap ends_with_comment (sym c.deref.ensures.value) ∙ sym c.ends_with_comment.ensures in
     let other =
-    other_added f g.M.MakeTexts.made _ _ put.entry tile.tree put.added tile.same
+    body_that_ends_otherwise_added_no_comment f g.M.MakeTexts.made _ _ put.entry tile.tree put.added tile.same
     (last ∙ c.if-not-ends_with_comment.true) in
     record {
       entry = put.entry;
@@ -41,8 +44,8 @@ returns-then-not-ends_with_comment-clause-next g c =
         order = (start.ensures.within.0, read.within.0);
         kept = start.ensures.dropped;
         before = start.ensures.rest edition;
-        in_place = rest_tile edition t _ _ inside c.args.comments start.ensures.dropped tile.tree put.error
-            c.args.nesting tile.yields other;
+        in_place = rest_holds_from_unattachable_tile edition t _ _ inside c.args.comments start.ensures.dropped
+            tile.tree put.error c.args.nesting tile.yields other;
       };
       same = tile.same;
     }
@@ -59,7 +62,7 @@ returns-clause-next g c =
     let inside : start.result < length t = omega (arith, read.within.0, read.within.1) in
     let last = ap ends_with_comment (sym c.deref.ensures.value) ∙ sym c.ends_with_comment.ensures in
     let is =
-    comment_added f g.M.MakeTexts.made _ _ put.entry tile.tree put.added tile.same
+    body_that_ends_with_comment_added_it f g.M.MakeTexts.made _ _ put.entry tile.tree put.added tile.same
     (last ∙ c.if-not-ends_with_comment.false) in
     let before = c.args.body.now.items in
     let attached = c.in_ok-end-2.ensures.attaches before is.lines (put.added ∙ ap (λ x. before ++ x ∷ []) is.is) in
@@ -104,7 +107,7 @@ returns-in_err-end-2-clause-deeper g c =
     let inside : start.result < length t = omega (arith, read.within.0, read.within.1) in
     let last = ap ends_with_comment (sym c.deref.ensures.value) ∙ sym c.ends_with_comment.ensures in
     let is =
-    comment_added f g.M.MakeTexts.made _ _ put.entry tile.tree put.added tile.same
+    body_that_ends_with_comment_added_it f g.M.MakeTexts.made _ _ put.entry tile.tree put.added tile.same
     (last ∙ c.if-not-ends_with_comment.false) in
     let p = err_from_is_err_and c.from_residual-in_err-end-2.result c.from_residual-in_err-end-2.ensures.1 in
     rw (p.1, p.2) (λ e. start.ensures.deeper edition c.args.nesting
@@ -114,7 +117,8 @@ returns-in_err-end-2-clause-deeper g c =
 pub returns-then-start-self-clause-shallow : goal.returns-then-start-self-clause-shallow
 returns-then-start-self-clause-shallow g c =
     let t = c.args.self.now.source.bytes.now in
-    λ h. tile_at_end c.args.self.now.edition t c.args.nesting c.args.comments _ c.if-start-self.true
+    λ h. no_tile_is_deeper_at_end_of_text c.args.self.now.edition t c.args.nesting c.args.comments _
+    c.if-start-self.true
     (c.tile_start-start.ensures.shallow c.args.self.now.edition c.args.nesting h)
 
 pub returns-clause-shallow : goal.returns-clause-shallow
@@ -129,7 +133,7 @@ returns-clause-shallow g c =
     let inside : start.result < length t = omega (arith, read.within.0, read.within.1) in
     let last = ap ends_with_comment (sym c.deref.ensures.value) ∙ sym c.ends_with_comment.ensures in
     let is =
-    comment_added f g.M.MakeTexts.made _ _ put.entry tile.tree put.added tile.same
+    body_that_ends_with_comment_added_it f g.M.MakeTexts.made _ _ put.entry tile.tree put.added tile.same
     (last ∙ c.if-not-ends_with_comment.false) in
     let attached = c.in_ok-end-2.ensures in (
       λ h. attached_led edition t c.args.nesting _ _ inside tile.tree put.error tile.yields is.content is.tree_is

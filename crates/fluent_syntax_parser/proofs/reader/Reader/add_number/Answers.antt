@@ -4,8 +4,8 @@ use Rattle.fluent_syntax_tree.specs.Tree.{number_literal}
 use Rattle.fluent_syntax_tree.proofs.Views.{view-NumberLiteral}
 use Rattle.fluent_syntax_grammar.specs.Construct.{stops, goes_on, given}
 use Rattle.fluent_syntax_parser.specs.Outcomes.{no_memory, refused}
-use Rattle.fluent_syntax_parser.proofs.expressions.InlineStarts.{by_number}
-use Rattle.fluent_syntax_parser.proofs.expressions.LastPlaced.{inline_added}
+use Rattle.fluent_syntax_parser.proofs.expressions.InlineStarts.{number_at_digit_or_minus_is_inline}
+use Rattle.fluent_syntax_parser.proofs.expressions.LastPlaced.{pushed_inline_is_added_as_placeable}
 use Rattle.fluent_syntax_parser.proofs.readers.Fails.{memory_is_err}
 use Rattle.fluent_syntax_parser.proofs.reader.Reader.add_number.Goals as goal
 
@@ -13,7 +13,7 @@ pub returns-in_err-end-clause-parses : goal.returns-in_err-end-clause-parses
 returns-in_err-end-clause-parses g c = λ n.
     let p = err_from_is_err_and c.from_residual.result c.from_residual.ensures.1 in
     rw (p.1, p.2) (refused (λ k from to h.
-    by_number c.args.self.now.source.bytes.now _ _ _ c.requires.starts
+    number_at_digit_or_minus_is_inline c.args.self.now.source.bytes.now _ _ _ c.requires.starts
     (stops (c.in_err-end.ensures.parses k from to h))))
 
 pub returns-in_err-value-clause-parses : goal.returns-in_err-value-clause-parses
@@ -28,9 +28,9 @@ pub returns-clause-parses : goal.returns-clause-parses
 returns-clause-parses g c = λ n.
     let v = g.M.MakeTexts.made in (
       _,
-      by_number c.args.self.now.source.bytes.now _ _ _ c.requires.starts
+      number_at_digit_or_minus_is_inline c.args.self.now.source.bytes.now _ _ _ c.requires.starts
           (goes_on c.in_ok-end.ensures.parses
           given),
-      inline_added v _ _ _ c.in_ok-add_inline.ensures
+      pushed_inline_is_added_as_placeable v _ _ _ c.in_ok-add_inline.ensures
           (view-NumberLiteral v c.in_ok-value.value ∙ ap number_literal c.in_ok-value.ensures),
     )

@@ -7,15 +7,16 @@ use Rattle.fluent_syntax_tree.specs.Tree.{pattern_map}
 use Rattle.fluent_syntax_grammar.specs.Entries.{term_with}
 use Rattle.fluent_syntax_grammar.specs.Grammar.{within}
 use Rattle.fluent_syntax_parser.specs.Fields.{fields}
-use Rattle.fluent_syntax_parser.proofs.entry_forms.FieldForms.{fields_fail, fields_go_on, no_field, some_field}
+use Rattle.fluent_syntax_parser.proofs.entry_forms.FieldForms.{fields_fail, fields_go_on, no_value_is_read_as_none}
+use Rattle.fluent_syntax_parser.proofs.entry_forms.FieldForms.{some_value_is_read_as_some}
 use Rattle.fluent_syntax_grammar.specs.Bytes.{hyphen}
 use Rattle.fluent_syntax_grammar.proofs.FunctionalWords.{identifier_is_functional, token_is_functional}
 use Rattle.fluent_syntax_parser.specs.Outcomes.{no_memory, refused}
 use Rattle.fluent_syntax_parser.specs.declared.fault.Fault.TheVariants as fault
 use Rattle.fluent_syntax_parser.specs.Made.{made}
-use Rattle.fluent_syntax_parser.proofs.readers.Made.{on_made}
+use Rattle.fluent_syntax_parser.proofs.readers.Made.{made_was_read}
 use Rattle.fluent_syntax_grammar.proofs.Functional.{here_is_functional}
-use Rattle.fluent_syntax_parser.proofs.readers.Fails.{fails_next, memory_is_err}
+use Rattle.fluent_syntax_parser.proofs.readers.Fails.{bind_fails_second, memory_is_err}
 use Rattle.fluent_syntax_parser.proofs.scanning.NameTexts.{identifier_has_name_text, token_is_one_byte}
 use Rattle.fluent_syntax_parser.proofs.reader.Reader.add_term.Goals as goal
 
@@ -41,9 +42,9 @@ returns-in_err-fields-clause-adds g c =
     let name : Span = record { start = c.in_ok-letter.letter; end = c.in_ok-end.end } in
     let p = err_from_is_err_and c.from_residual-in_err-fields.result c.from_residual-in_err-fields.ensures.1 in
     rw (p.1, p.2) (
-      fails_next here_is_functional at_place
-          (fails_next (token_is_functional t hyphen) c.in_ok-letter.ensures.parses
-          (fails_next (identifier_is_functional t) c.in_ok-end.ensures.parses
+      bind_fails_second here_is_functional at_place
+          (bind_fails_second (token_is_functional t hyphen) c.in_ok-letter.ensures.parses
+          (bind_fails_second (identifier_is_functional t) c.in_ok-end.ensures.parses
           (fields_fail c.args.self.now.edition t _ (term_with t c.args.start name) c.in_err-fields.ensures.parses))),
       refl,
     )
@@ -64,8 +65,8 @@ returns-in_ok-add-in-Some-clause-adds g c =
     let name : Span = record { start = c.in_ok-letter.letter; end = c.in_ok-end.end } in
     let edition = c.args.self.now.edition in
     let found = rw c.in-Some.is at c.in_ok-fields.ensures.parses in
-    on_made found (λ x read same.
-    some_field (pattern_map (g.M.MakeTexts.source c.args.self.now.texts.now))
+    made_was_read found (λ x read same.
+    some_value_is_read_as_some (pattern_map (g.M.MakeTexts.source c.args.self.now.texts.now))
     (fields edition t (within edition t c.args.nesting)) x read (ap (λ y. y.0) same) (λ value there same_value. (
       _,
       c.in_ok-add-in-Some.ensures.added,
@@ -86,14 +87,14 @@ returns-in-None-clause-adds g c =
     let text = sym (identifier_has_name_text t c.in_ok-end.ensures.parses) in
     let before = token_is_one_byte t c.in_ok-letter.ensures.parses in
     let letter = c.in_ok-letter.letter in
-    on_made found (λ x read same. (
+    made_was_read found (λ x read same. (
       refused {f = fault.TermField} {from = letter} {place = c.in_ok-fields.place} (λ k from to (a, b, d).
           rw (a ∙ ap ExpectedTermField text, b ∙ before, d)
           (goes_on at_place
           (goes_on c.in_ok-letter.ensures.parses
           (goes_on c.in_ok-end.ensures.parses
           (fields_go_on c.args.self.now.edition t _ (term_with t c.args.start name) _ _ (None, x.1) _
-          (no_field (pattern_map (g.M.MakeTexts.source c.args.self.now.texts.now))
+          (no_value_is_read_as_none (pattern_map (g.M.MakeTexts.source c.args.self.now.texts.now))
           (fields edition t (within edition t c.args.nesting)) x read (ap (λ y. y.0) same)) failed_from))))),
       refl,
     ))

@@ -5,8 +5,8 @@ use Rattle.fluent_syntax_tree.proofs.Views.{view-VariableReference}
 use Rattle.fluent_syntax_grammar.specs.Construct.{stops, goes_on, given}
 use Rattle.fluent_syntax_grammar.specs.Starts as starts
 use Rattle.fluent_syntax_parser.specs.Outcomes.{no_memory, refused}
-use Rattle.fluent_syntax_parser.proofs.expressions.InlineStarts.{by_start}
-use Rattle.fluent_syntax_parser.proofs.expressions.LastPlaced.{inline_added}
+use Rattle.fluent_syntax_parser.proofs.expressions.InlineStarts.{inline_of_its_start_is_inline}
+use Rattle.fluent_syntax_parser.proofs.expressions.LastPlaced.{pushed_inline_is_added_as_placeable}
 use Rattle.fluent_syntax_parser.proofs.readers.Fails.{memory_is_err}
 use Rattle.fluent_syntax_parser.proofs.reader.Reader.add_variable.Goals as goal
 
@@ -14,14 +14,14 @@ pub returns-in_err-start-clause-parses : goal.returns-in_err-start-clause-parses
 returns-in_err-start-clause-parses g c = λ n.
     let p = err_from_is_err_and c.from_residual.result c.from_residual.ensures.1 in
     rw (p.1, p.2) (refused (λ k from to h.
-    by_start c.args.self.now.source.bytes.now _ _ starts.dollar _ c.requires.starts
+    inline_of_its_start_is_inline c.args.self.now.source.bytes.now _ _ starts.dollar _ c.requires.starts
     (stops (c.in_err-start.ensures.parses k from to h))))
 
 pub returns-in_err-end-clause-parses : goal.returns-in_err-end-clause-parses
 returns-in_err-end-clause-parses g c = λ n.
     let p = err_from_is_err_and c.from_residual-in_err-end.result c.from_residual-in_err-end.ensures.1 in
     rw (p.1, p.2) (refused (λ k from to h.
-    by_start c.args.self.now.source.bytes.now _ _ starts.dollar _ c.requires.starts
+    inline_of_its_start_is_inline c.args.self.now.source.bytes.now _ _ starts.dollar _ c.requires.starts
     (goes_on c.in_ok-start.ensures.parses
     (stops (c.in_err-end.ensures.parses k from to h)))))
 
@@ -37,10 +37,10 @@ pub returns-clause-parses : goal.returns-clause-parses
 returns-clause-parses g c = λ n.
     let v = g.M.MakeTexts.made in (
       _,
-      by_start c.args.self.now.source.bytes.now _ _ starts.dollar _ c.requires.starts
+      inline_of_its_start_is_inline c.args.self.now.source.bytes.now _ _ starts.dollar _ c.requires.starts
           (goes_on c.in_ok-start.ensures.parses
           (goes_on c.in_ok-end.ensures.parses
           given)),
-      inline_added v _ _ _ c.in_ok-add_inline.ensures
+      pushed_inline_is_added_as_placeable v _ _ _ c.in_ok-add_inline.ensures
           (view-VariableReference v c.in_ok-id.id ∙ ap variable_reference c.in_ok-id.ensures),
     )

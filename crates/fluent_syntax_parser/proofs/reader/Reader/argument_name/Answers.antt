@@ -1,9 +1,10 @@
 use Rattle.std.proofs.Common.{◌≡◌, ◌∙◌, ap, false, sym, true}
 use Rattle.fluent_syntax_grammar.specs.Grammar.{within}
 use Rattle.fluent_syntax_parser.proofs.expressions.ArgumentNames.{is_name, argument_name_is_identifier}
-use Rattle.fluent_syntax_parser.proofs.expressions.ArgumentNames.{no_argument_name, is_name-inline_map}
-use Rattle.fluent_syntax_parser.proofs.expressions.InlineForms.{name_of_reference, no_name_of_attribute}
-use Rattle.fluent_syntax_parser.proofs.expressions.InlineForms.{no_message_name}
+use Rattle.fluent_syntax_parser.proofs.expressions.ArgumentNames.{inline_but_name_has_no_argument_name}
+use Rattle.fluent_syntax_parser.proofs.expressions.ArgumentNames.{is_name-inline_map}
+use Rattle.fluent_syntax_parser.proofs.expressions.InlineForms.{message_reference_is_name, no_name_of_attribute}
+use Rattle.fluent_syntax_parser.proofs.expressions.InlineForms.{inline_but_message_is_no_name}
 use Rattle.fluent_syntax_parser.proofs.reader.Reader.argument_name.Goals as goal
 
 pub returns-in-None : goal.returns-in-None
@@ -12,7 +13,8 @@ returns-in-None g c =
     let t = c.args.self.now.source.bytes.now in
     λ n end e read same.
     let is : is_name e ≡ true =
-    sym (is_name-inline_map _ e) ∙ ap is_name (sym same) ∙ rw arm.is (name_of_reference g.M.MakeTexts.made arm.id
+    sym (is_name-inline_map _ e) ∙ ap is_name (sym same)
+    ∙ rw arm.is (message_reference_is_name g.M.MakeTexts.made arm.id
     arm.attribute
     c.in-None.is) in
     let found = argument_name_is_identifier t c.args.place (within c.args.self.now.edition t n) e end read is in
@@ -25,12 +27,12 @@ returns-in-Some g c =
     let is : is_name e ≡ false =
     sym (is_name-inline_map _ e) ∙ ap is_name (sym same) ∙ rw arm.is (no_name_of_attribute g.M.MakeTexts.made arm.id
     arm.attribute _ c.in-Some.is) in
-    sym (no_argument_name e is)
+    sym (inline_but_name_has_no_argument_name e is)
 
 pub returns-in_default : goal.returns-in_default
 returns-in_default g c =
     λ n end e read same.
     let is : is_name e ≡ false =
     sym (is_name-inline_map _ e) ∙ ap is_name (sym same)
-    ∙ no_message_name g.M.MakeTexts.made c.args.expression.now c.in_default.not-MessageReference in
-    sym (no_argument_name e is)
+    ∙ inline_but_message_is_no_name g.M.MakeTexts.made c.args.expression.now c.in_default.not-MessageReference in
+    sym (inline_but_name_has_no_argument_name e is)

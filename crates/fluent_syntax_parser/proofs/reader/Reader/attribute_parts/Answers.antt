@@ -8,8 +8,8 @@ use Rattle.fluent_syntax_grammar.specs.Patterns.{pattern}
 use Rattle.fluent_syntax_grammar.proofs.FunctionalWords.{identifier_is_functional, inline_blank_is_functional}
 use Rattle.fluent_syntax_grammar.proofs.FunctionalWords.{token_is_functional}
 use Rattle.fluent_syntax_parser.specs.Outcomes.{refused}
-use Rattle.fluent_syntax_parser.proofs.readers.Made.{no_value_read, on_made, on_value}
-use Rattle.fluent_syntax_parser.proofs.readers.Fails.{fails_first, fails_next}
+use Rattle.fluent_syntax_parser.proofs.readers.Made.{no_value_read, made_was_read, made_value_was_read}
+use Rattle.fluent_syntax_parser.proofs.readers.Fails.{fails_first, bind_fails_second}
 use Rattle.fluent_syntax_parser.proofs.reader.Reader.attribute_parts.Goals as goal
 
 pub returns-in_err-letter-clause-finds : goal.returns-in_err-letter-clause-finds
@@ -42,11 +42,11 @@ returns-in_err-value-clause-finds g c =
     let t = c.args.self.now.source.bytes.now in
     let p = err_from_is_err_and c.from_residual-in_err-value.result c.from_residual-in_err-value.ensures.1 in
     rw (p.1, p.2)
-    (fails_next (inline_blank_is_functional t) (passed c.skip_blank_inline-dot.ensures.blank)
-    (fails_next (token_is_functional t full_stop) c.in_ok-letter.ensures.parses
-    (fails_next (identifier_is_functional t) c.in_ok-name_end.ensures.parses
-    (fails_next (inline_blank_is_functional t) (passed c.skip_blank_inline-equals.ensures.blank)
-    (fails_next (token_is_functional t equals_sign) c.in_ok-start.ensures.parses
+    (bind_fails_second (inline_blank_is_functional t) (passed c.skip_blank_inline-dot.ensures.blank)
+    (bind_fails_second (token_is_functional t full_stop) c.in_ok-letter.ensures.parses
+    (bind_fails_second (identifier_is_functional t) c.in_ok-name_end.ensures.parses
+    (bind_fails_second (inline_blank_is_functional t) (passed c.skip_blank_inline-equals.ensures.blank)
+    (bind_fails_second (token_is_functional t equals_sign) c.in_ok-start.ensures.parses
     (fails_first c.in_err-value.ensures.parses))))))
 
 pub returns-in-Some-clause-finds : goal.returns-in-Some-clause-finds
@@ -55,8 +55,9 @@ returns-in-Some-clause-finds g c =
     let edition = c.args.self.now.edition in
     let n = c.args.nesting in
     let found = rw c.in-Some.is at c.in_ok-value.ensures.parses in
-    on_made found (λ o read same.
-    on_value (pattern_map (g.M.MakeTexts.source c.args.self.now.texts.now)) (pattern edition t (within edition t n)) o
+    made_was_read found (λ o read same.
+    made_value_was_read (pattern_map (g.M.MakeTexts.source c.args.self.now.texts.now))
+    (pattern edition t (within edition t n)) o
     read same (λ value there same_value. (
       _,
       record {
@@ -89,7 +90,7 @@ returns-in-None-clause-finds g c =
     let edition = c.args.self.now.edition in
     let n = c.args.nesting in
     let found = rw c.in-None.is at c.in_ok-value.ensures.parses in
-    on_made found (λ o read same. refused (λ k from to (a, b, d). rw (a, b, d)
+    made_was_read found (λ o read same. refused (λ k from to (a, b, d). rw (a, b, d)
     (goes_on (passed c.skip_blank_inline-dot.ensures.blank)
     (goes_on c.in_ok-letter.ensures.parses
     (goes_on c.in_ok-name_end.ensures.parses

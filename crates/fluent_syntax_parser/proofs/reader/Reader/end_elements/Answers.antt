@@ -8,7 +8,7 @@ use Rattle.fluent_syntax_tree.specs.View.{element_view}
 use Rattle.fluent_syntax_parser.specs.Elements.{rest_end}
 use Rattle.fluent_syntax_parser.specs.Lines.{ending_view}
 use Rattle.fluent_syntax_parser.proofs.entry_forms.FieldForms.{zero_count_is_empty}
-use Rattle.fluent_syntax_parser.proofs.patterns.Rest.{one_spelled}
+use Rattle.fluent_syntax_parser.proofs.patterns.Rest.{lone_run_is_spelled_trimmed}
 use Rattle.fluent_syntax_parser.proofs.reader.Reader.end_elements.Goals as goal
 
 pub returns-then-not-is_nonblank : goal.returns-then-not-is_nonblank
@@ -25,7 +25,7 @@ returns-then-not-is_nonblank g c =
     ∙ sym c.if-not-is_nonblank.ensures in
     rw none
     (sym (ap (λ es. old ++ es)
-    (one_spelled f t run (ending_view c.args.opening.ending) c.requires.0 c.requires.1 false stays)
+    (lone_run_is_spelled_trimmed f t run (ending_view c.args.opening.ending) c.requires.0 c.requires.1 false stays)
     ∙ append-nil old))
 
 pub returns : goal.returns
@@ -45,4 +45,5 @@ returns g c =
     (IfOk-equal c.add_text.result _ _ _ c.add_text.ensures
     (ap (λ es. old ++ es)
     (ap (λ end. text_element (f (record { start = run.start; end = end })) ∷ []) trimmed
-    ∙ sym (one_spelled f t run (ending_view c.args.opening.ending) c.requires.0 c.requires.1 true stays))))
+    ∙ sym (lone_run_is_spelled_trimmed f t run
+    (ending_view c.args.opening.ending) c.requires.0 c.requires.1 true stays))))

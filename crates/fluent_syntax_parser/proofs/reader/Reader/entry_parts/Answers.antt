@@ -1,7 +1,8 @@
 use Rattle.std.proofs.Common.{sym}
 use Rattle.std.proofs.lemmas.Result.{err_from_is_err_and}
 use Rattle.fluent_syntax_grammar.specs.Grammar.{within}
-use Rattle.fluent_syntax_parser.proofs.entry_forms.EntryForms.{message_fails, message_there, term_fails, term_there}
+use Rattle.fluent_syntax_parser.proofs.entry_forms.EntryForms.{message_fails, message_there, term_fails}
+use Rattle.fluent_syntax_parser.proofs.entry_forms.EntryForms.{term_at_hyphen_is_entry}
 use Rattle.fluent_syntax_parser.proofs.reader.Reader.entry_parts.Goals as goal
 
 pub returns-in_err-ranges : goal.returns-in_err-ranges
@@ -27,7 +28,7 @@ returns-in_ok-ranges g c =
       tree = tree;
       end = end;
       read =
-          term_there edition t (within edition t c.args.nesting) _ _ (sym c.if-is_byte_at.ensures)
+          term_at_hyphen_is_entry edition t (within edition t c.args.nesting) _ _ (sym c.if-is_byte_at.ensures)
           (sym c.if-is_byte_at-2.ensures) read;
       parts = parts;
     }

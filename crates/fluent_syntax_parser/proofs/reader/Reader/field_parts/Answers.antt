@@ -11,8 +11,8 @@ use Rattle.fluent_syntax_grammar.proofs.FunctionalWords.{token_is_functional}
 use Rattle.fluent_syntax_grammar.proofs.Nesting.{within_is_functional}
 use Rattle.fluent_syntax_parser.specs.Outcomes.{refused}
 use Rattle.fluent_syntax_parser.proofs.entry_forms.ExtentForms.{equal_options_same_place}
-use Rattle.fluent_syntax_parser.proofs.readers.Made.{on_made}
-use Rattle.fluent_syntax_parser.proofs.readers.Fails.{fails_first, fails_next}
+use Rattle.fluent_syntax_parser.proofs.readers.Made.{made_was_read}
+use Rattle.fluent_syntax_parser.proofs.readers.Fails.{fails_first, bind_fails_second}
 use Rattle.fluent_syntax_parser.proofs.reader.Reader.field_parts.Goals as goal
 
 pub returns-in_err-start : goal.returns-in_err-start
@@ -27,8 +27,8 @@ returns-in_err-value g c =
     let t = c.args.self.now.source.bytes.now in
     let p = err_from_is_err_and c.from_residual-in_err-value.result c.from_residual-in_err-value.ensures.1 in
     rw (p.1, p.2)
-    (fails_next (inline_blank_is_functional t) (passed c.skip_blank_inline-equals.ensures.blank)
-    (fails_next (token_is_functional t equals_sign) c.in_ok-start.ensures.parses
+    (bind_fails_second (inline_blank_is_functional t) (passed c.skip_blank_inline-equals.ensures.blank)
+    (bind_fails_second (token_is_functional t equals_sign) c.in_ok-start.ensures.parses
     (fails_first c.in_err-value.ensures.parses)))
 
 pub returns-in_err-attributes : goal.returns-in_err-attributes
@@ -37,11 +37,11 @@ returns-in_err-attributes g c =
     let edition = c.args.self.now.edition in
     let p = err_from_is_err_and c.from_residual-in_err-attributes.result c.from_residual-in_err-attributes.ensures.1 in
     rw (p.1, p.2)
-    (on_made c.in_ok-value.ensures.parses (λ value read same.
-    fails_next (inline_blank_is_functional t) (passed c.skip_blank_inline-equals.ensures.blank)
-    (fails_next (token_is_functional t equals_sign) c.in_ok-start.ensures.parses
-    (fails_next (pattern_over_is_functional edition t _ (within_is_functional edition t _)) read
-    (fails_next (blank_block_is_functional t) (passed c.in_ok-value.ensures.beyond)
+    (made_was_read c.in_ok-value.ensures.parses (λ value read same.
+    bind_fails_second (inline_blank_is_functional t) (passed c.skip_blank_inline-equals.ensures.blank)
+    (bind_fails_second (token_is_functional t equals_sign) c.in_ok-start.ensures.parses
+    (bind_fails_second (pattern_over_is_functional edition t _ (within_is_functional edition t _)) read
+    (bind_fails_second (blank_block_is_functional t) (passed c.in_ok-value.ensures.beyond)
     (fails_first c.in_err-attributes.ensures.finds))))))
 
 pub returns : goal.returns
@@ -50,7 +50,7 @@ returns g c =
     let f = g.M.MakeTexts.source c.args.self.now.texts.now in
     let view = pattern_view g.M.MakeTexts.made in
     let place : Span = record { start = c.in_ok-start.start; end = c.in_ok-value.end } in
-    on_made c.in_ok-value.ensures.parses (λ value read same.
+    made_was_read c.in_ok-value.ensures.parses (λ value read same.
     let (rest, attributes) = c.in_ok-attributes.ensures.finds in (
       (value, rest),
       record {

@@ -5,7 +5,7 @@ use Rattle.fluent_syntax_grammar.specs.Comments.{one_more, other_level, no_comme
 use Rattle.fluent_syntax_grammar.specs.Construct.{stops, goes_on, given}
 use Rattle.fluent_syntax_parser.specs.CommentLines.{line_of}
 use Rattle.fluent_syntax_parser.specs.Outcomes.{no_memory, refused}
-use Rattle.fluent_syntax_parser.proofs.entry_forms.CommentEntries.{comment_ends}
+use Rattle.fluent_syntax_parser.proofs.entry_forms.CommentEntries.{comment_of_made_lines_is_made}
 use Rattle.fluent_syntax_parser.proofs.readers.Fails.{memory_is_err}
 use Rattle.fluent_syntax_parser.proofs.reader.Reader.get_comment_content.Goals as goal
 
@@ -55,11 +55,12 @@ loop-line-preserved g c =
 pub returns-in-Err-clause-parses : goal.returns-in-Err-clause-parses
 returns-in-Err-clause-parses g c =
     let level = sym c.comment_level.ensures.level ∙ c.loop-line-test.true in
-    comment_ends c.loop-line.invariant.lines (no_comment_line level (c.in-Err.ensures.parses _ _ _ (refl, refl, refl)))
+    comment_of_made_lines_is_made c.loop-line.invariant.lines
+    (no_comment_line level (c.in-Err.ensures.parses _ _ _ (refl, refl, refl)))
 
 pub returns-clause-parses : goal.returns-clause-parses
 returns-clause-parses g c =
-    comment_ends c.loop-line.invariant.lines
+    comment_of_made_lines_is_made c.loop-line.invariant.lines
     (other_level (λ level. c.loop-line-test.false (c.comment_level.ensures.level ∙ level)))
 
 pub returns-in_err-add_line-clause-parses : goal.returns-in_err-add_line-clause-parses

@@ -8,8 +8,8 @@ use Rattle.fluent_syntax_grammar.proofs.FunctionalWords.{token_is_functional}
 use Rattle.fluent_syntax_grammar.proofs.Nesting.{within_is_functional}
 use Rattle.fluent_syntax_parser.specs.Outcomes.{refused}
 use Rattle.fluent_syntax_parser.specs.Made.{made}
-use Rattle.fluent_syntax_parser.proofs.readers.Made.{on_made}
-use Rattle.fluent_syntax_parser.proofs.readers.Fails.{fails_first, fails_next}
+use Rattle.fluent_syntax_parser.proofs.readers.Made.{made_was_read}
+use Rattle.fluent_syntax_parser.proofs.readers.Fails.{fails_first, bind_fails_second}
 use Rattle.fluent_syntax_parser.proofs.reader.Reader.get_fields.Goals as goal
 
 pub returns-in_err-start-clause-parses : goal.returns-in_err-start-clause-parses
@@ -24,8 +24,8 @@ returns-in_err-value-clause-parses g c =
     let t = c.args.self.now.source.bytes.now in
     let p = err_from_is_err_and c.from_residual-in_err-value.result c.from_residual-in_err-value.ensures.1 in
     rw (p.1, p.2)
-    (fails_next (inline_blank_is_functional t) (passed c.skip_blank_inline-equals.ensures.blank)
-    (fails_next (token_is_functional t equals_sign) c.in_ok-start.ensures.parses
+    (bind_fails_second (inline_blank_is_functional t) (passed c.skip_blank_inline-equals.ensures.blank)
+    (bind_fails_second (token_is_functional t equals_sign) c.in_ok-start.ensures.parses
     (fails_first c.in_err-value.ensures.parses)))
 
 pub returns-in_err-attributes-clause-parses : goal.returns-in_err-attributes-clause-parses
@@ -34,17 +34,17 @@ returns-in_err-attributes-clause-parses g c =
     let edition = c.args.self.now.edition in
     let p = err_from_is_err_and c.from_residual-in_err-attributes.result c.from_residual-in_err-attributes.ensures.1 in
     rw (p.1, p.2)
-    (on_made c.in_ok-value.ensures.parses (λ value read same.
-    fails_next (inline_blank_is_functional t) (passed c.skip_blank_inline-equals.ensures.blank)
-    (fails_next (token_is_functional t equals_sign) c.in_ok-start.ensures.parses
-    (fails_next (pattern_over_is_functional edition t _ (within_is_functional edition t _)) read
-    (fails_next (blank_block_is_functional t) (passed c.in_ok-value.ensures.beyond)
+    (made_was_read c.in_ok-value.ensures.parses (λ value read same.
+    bind_fails_second (inline_blank_is_functional t) (passed c.skip_blank_inline-equals.ensures.blank)
+    (bind_fails_second (token_is_functional t equals_sign) c.in_ok-start.ensures.parses
+    (bind_fails_second (pattern_over_is_functional edition t _ (within_is_functional edition t _)) read
+    (bind_fails_second (blank_block_is_functional t) (passed c.in_ok-value.ensures.beyond)
     (fails_first c.in_err-attributes.ensures.parses))))))
 
 pub returns-clause-parses : goal.returns-clause-parses
 returns-clause-parses g c =
-    on_made c.in_ok-value.ensures.parses (λ value read same.
-    on_made c.in_ok-attributes.ensures.parses (λ rest read_rest same_rest. made
+    made_was_read c.in_ok-value.ensures.parses (λ value read same.
+    made_was_read c.in_ok-attributes.ensures.parses (λ rest read_rest same_rest. made
     (goes_on (passed c.skip_blank_inline-equals.ensures.blank)
     (goes_on c.in_ok-start.ensures.parses
     (goes_on read

@@ -10,13 +10,16 @@ use Rattle.fluent_syntax_grammar.proofs.FunctionalWords.{identifier_is_functiona
 use Rattle.fluent_syntax_parser.specs.PartRanges.{message_has_parts}
 use Rattle.fluent_syntax_parser.specs.Outcomes.{refused}
 use Rattle.fluent_syntax_parser.specs.declared.fault.Fault.TheVariants as fault
-use Rattle.fluent_syntax_parser.proofs.entry_forms.ExtentForms.{fields_there, no_attribute_ranges, no_attribute_trees}
-use Rattle.fluent_syntax_parser.proofs.entry_forms.ExtentForms.{same_value}
+use Rattle.fluent_syntax_parser.proofs.entry_forms.ExtentForms.{parts_of_fields_read_as_fields}
+use Rattle.fluent_syntax_parser.proofs.entry_forms.ExtentForms.{no_attribute_trees_mean_no_ranges}
+use Rattle.fluent_syntax_parser.proofs.entry_forms.ExtentForms.{no_attribute_ranges_mean_no_trees}
+use Rattle.fluent_syntax_parser.proofs.entry_forms.ExtentForms.{value_is_there_where_its_range_is}
 use Rattle.fluent_syntax_grammar.proofs.Functional.{here_is_functional}
-use Rattle.fluent_syntax_parser.proofs.readers.Fails.{fails_next}
+use Rattle.fluent_syntax_parser.proofs.readers.Fails.{bind_fails_second}
 use Rattle.fluent_syntax_parser.proofs.entry_forms.FieldForms.{fields_fail, fields_go_on}
 use Rattle.fluent_syntax_parser.proofs.entry_forms.FieldForms.{message_form_of_attributes, message_form_of_value}
-use Rattle.fluent_syntax_parser.proofs.entry_forms.FieldForms.{message_without, zero_count_is_empty, has_items}
+use Rattle.fluent_syntax_parser.proofs.entry_forms.FieldForms.{message_without_fields_is_refused, zero_count_is_empty}
+use Rattle.fluent_syntax_parser.proofs.entry_forms.FieldForms.{nonzero_count_is_not_empty}
 use Rattle.fluent_syntax_parser.proofs.reader.Reader.message_parts.Goals.{else-is_none-via-else-is_none}
 use Rattle.fluent_syntax_parser.proofs.reader.Reader.message_parts.Goals.{else-is_none-via-then-is_none+else-is_empty}
 use Rattle.fluent_syntax_parser.proofs.scanning.NameTexts.{identifier_has_name_text}
@@ -33,8 +36,8 @@ returns-in_err-value g c =
     let name : Span = record { start = c.args.start; end = c.in_ok-end.end } in
     let p = err_from_is_err_and c.from_residual-in_err-value.result c.from_residual-in_err-value.ensures.1 in
     rw (p.1, p.2)
-    (fails_next here_is_functional at_place
-    (fails_next (identifier_is_functional t) c.in_ok-end.ensures.parses
+    (bind_fails_second here_is_functional at_place
+    (bind_fails_second (identifier_is_functional t) c.in_ok-end.ensures.parses
     (fields_fail c.args.self.now.edition t _ (message_with t c.args.start name) c.in_err-value.ensures)))
 
 pub returns-then-is_empty : goal.returns-then-is_empty
@@ -53,10 +56,10 @@ returns-then-is_empty g c =
     (goes_on at_place
     (goes_on c.in_ok-end.ensures.parses
     (fields_go_on edition t R (message_with t c.args.start name) _ _ f _
-    (fields_there edition t R _ _ _ found.value f parts_hold)
-    (message_without t c.args.start _ name f.0 f.1
-    (same_value edition t R _ _ _ found.value f parts_hold ∙ c.if-is_none.ensures)
-    (no_attribute_trees edition t R parts_hold.attributes none))))))
+    (parts_of_fields_read_as_fields edition t R _ _ _ found.value f parts_hold)
+    (message_without_fields_is_refused t c.args.start _ name f.0 f.1
+    (value_is_there_where_its_range_is edition t R _ _ _ found.value f parts_hold ∙ c.if-is_none.ensures)
+    (no_attribute_ranges_mean_no_trees edition t R parts_hold.attributes none))))))
 
 pub returns : goal.returns
 returns g c =
@@ -72,15 +75,15 @@ returns g c =
       goes_on at_place
           (goes_on c.in_ok-end.ensures.parses
           (fields_go_on edition t R (message_with t c.args.start name) _ _ f _
-          (fields_there edition t R _ _ _ found.value f parts_hold)
+          (parts_of_fields_read_as_fields edition t R _ _ _ found.value f parts_hold)
           (elim c.else-is_none.branch [
             | else-is_none-via-then-is_none+else-is_empty w ↦
                 message_form_of_attributes t c.args.start found.place name f.0 f.1
-                (λ none. has_items found.attributes.items _ size w.if-is_empty.ensures
-                (no_attribute_ranges edition t R parts_hold.attributes none))
+                (λ none. nonzero_count_is_not_empty found.attributes.items _ size w.if-is_empty.ensures
+                (no_attribute_trees_mean_no_ranges edition t R parts_hold.attributes none))
             | else-is_none-via-else-is_none w ↦
                 message_form_of_value t c.args.start found.place name f.0 f.1
-                (same_value edition t R _ _ _ found.value f parts_hold ∙ w.if-is_none.ensures)
+                (value_is_there_where_its_range_is edition t R _ _ _ found.value f parts_hold ∙ w.if-is_none.ensures)
           ]))),
       message_has_parts refl c.in_ok-end.ensures.parses parts_hold,
     )

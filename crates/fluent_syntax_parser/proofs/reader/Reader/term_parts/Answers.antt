@@ -10,9 +10,11 @@ use Rattle.fluent_syntax_grammar.proofs.FunctionalWords.{identifier_is_functiona
 use Rattle.fluent_syntax_parser.specs.PartRanges.{term_has_parts}
 use Rattle.fluent_syntax_parser.specs.Outcomes.{refused}
 use Rattle.fluent_syntax_parser.specs.declared.fault.Fault.TheVariants as fault
-use Rattle.fluent_syntax_parser.proofs.entry_forms.ExtentForms.{fields_there, with_value, without_value}
+use Rattle.fluent_syntax_parser.proofs.entry_forms.ExtentForms.{parts_of_fields_read_as_fields}
+use Rattle.fluent_syntax_parser.proofs.entry_forms.ExtentForms.{fields_with_value_range_have_value}
+use Rattle.fluent_syntax_parser.proofs.entry_forms.ExtentForms.{fields_without_value_range_have_none}
 use Rattle.fluent_syntax_grammar.proofs.Functional.{here_is_functional}
-use Rattle.fluent_syntax_parser.proofs.readers.Fails.{fails_next}
+use Rattle.fluent_syntax_parser.proofs.readers.Fails.{bind_fails_second}
 use Rattle.fluent_syntax_parser.proofs.entry_forms.FieldForms.{fields_fail, fields_go_on}
 use Rattle.fluent_syntax_parser.proofs.scanning.NameTexts.{identifier_has_name_text, token_is_one_byte}
 use Rattle.fluent_syntax_parser.proofs.reader.Reader.term_parts.Goals as goal
@@ -36,9 +38,9 @@ returns-in_err-value g c =
     let name : Span = record { start = c.in_ok-letter.letter; end = c.in_ok-end.end } in
     let p = err_from_is_err_and c.from_residual-in_err-value.result c.from_residual-in_err-value.ensures.1 in
     rw (p.1, p.2)
-    (fails_next here_is_functional at_place
-    (fails_next (token_is_functional t hyphen) c.in_ok-letter.ensures.parses
-    (fails_next (identifier_is_functional t) c.in_ok-end.ensures.parses
+    (bind_fails_second here_is_functional at_place
+    (bind_fails_second (token_is_functional t hyphen) c.in_ok-letter.ensures.parses
+    (bind_fails_second (identifier_is_functional t) c.in_ok-end.ensures.parses
     (fields_fail c.args.self.now.edition t _ (term_with t c.args.start name) c.in_err-value.ensures))))
 
 pub returns-then-is_none : goal.returns-then-is_none
@@ -57,8 +59,8 @@ returns-then-is_none g c =
     (goes_on c.in_ok-letter.ensures.parses
     (goes_on c.in_ok-end.ensures.parses
     (fields_go_on edition t R (term_with t c.args.start name) _ _ (None, f.1) _
-    (fields_there edition t R _ _ _ found.value (None, f.1)
-    (without_value edition t R _ _ _ found.value f parts_hold c.if-is_none.ensures))
+    (parts_of_fields_read_as_fields edition t R _ _ _ found.value (None, f.1)
+    (fields_without_value_range_have_none edition t R _ _ _ found.value f parts_hold c.if-is_none.ensures))
     failed_from)))))
 
 pub returns : goal.returns
@@ -69,14 +71,14 @@ returns g c =
     let name : Span = record { start = c.in_ok-letter.letter; end = c.in_ok-end.end } in
     let found = c.in_ok-value in
     let (f, parts_hold) = found.ensures in
-    with_value edition t R _ _ _ found.value f parts_hold c.if-is_none.ensures (λ value parts. (
+    fields_with_value_range_have_value edition t R _ _ _ found.value f parts_hold c.if-is_none.ensures (λ value parts. (
       _,
       _,
       goes_on at_place
           (goes_on c.in_ok-letter.ensures.parses
           (goes_on c.in_ok-end.ensures.parses
           (fields_go_on edition t R (term_with t c.args.start name) _ _ (Some value, f.1) _
-          (fields_there edition t R _ _ _ found.value (Some value, f.1) parts)
+          (parts_of_fields_read_as_fields edition t R _ _ _ found.value (Some value, f.1) parts)
           given))),
       term_has_parts c.in_ok-letter.ensures.parses c.in_ok-end.ensures.parses parts,
     ))

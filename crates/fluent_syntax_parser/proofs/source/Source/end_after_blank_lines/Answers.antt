@@ -1,7 +1,7 @@
 use Rattle.std.proofs.Common.{sym}
 use Rattle.fluent_syntax_grammar.specs.Construct.{list_ends}
 use Rattle.fluent_syntax_grammar.specs.Lines.{no_byte, other_line}
-use Rattle.fluent_syntax_parser.proofs.patterns.BlankLines.{none_at_end, none_before_other}
+use Rattle.fluent_syntax_parser.proofs.patterns.BlankLines.{block_at_no_byte_is_empty, block_before_other_line_is_empty}
 use Rattle.fluent_syntax_parser.proofs.source.Source.end_after_blank_lines.Goals as goal
 
 pub returns-in-None-clause-lines : goal.returns-in-None-clause-lines
@@ -13,7 +13,7 @@ returns-in-None-clause-lines c = record {
 
 pub returns-in-None-clause-beyond : goal.returns-in-None-clause-beyond
 returns-in-None-clause-beyond c =
-    none_at_end c.args.self.now.bytes.now c.past_blank_lines-line.ensures.spaces (sym c.in-None.ensures)
+    block_at_no_byte_is_empty c.args.self.now.bytes.now c.past_blank_lines-line.ensures.spaces (sym c.in-None.ensures)
 
 pub returns-else-belongs-clause-lines : goal.returns-else-belongs-clause-lines
 returns-else-belongs-clause-lines c = record {
@@ -25,4 +25,5 @@ returns-else-belongs-clause-lines c = record {
 
 pub returns-else-belongs-clause-beyond : goal.returns-else-belongs-clause-beyond
 returns-else-belongs-clause-beyond c =
-    none_before_other c.args.self.now.bytes.now c.past_blank_lines-line.ensures.spaces _ (sym c.if-belongs.ensures)
+    block_before_other_line_is_empty c.args.self.now.bytes.now c.past_blank_lines-line.ensures.spaces _
+    (sym c.if-belongs.ensures)

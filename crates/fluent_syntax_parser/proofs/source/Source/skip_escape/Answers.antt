@@ -5,7 +5,9 @@ use Rattle.fluent_syntax_grammar.specs.Construct.{Refused, goes_on, failed, pass
 use Rattle.fluent_syntax_grammar.specs.Strings.{hex_digits}
 use Rattle.fluent_syntax_parser.specs.Strings.{escape}
 use Rattle.fluent_syntax_parser.proofs.readers.Carried.{ParsesEnd-same_outcomes}
-use Rattle.fluent_syntax_parser.proofs.scanning.StringBytes.{decimal_32, simple_passes, others_fail, unequal_by_test}
+use Rattle.fluent_syntax_parser.proofs.scanning.StringBytes.{decimal_32, simple_escape_passes_its_test}
+use Rattle.fluent_syntax_parser.proofs.scanning.StringBytes.{other_byte_fails_simple_escape_test}
+use Rattle.fluent_syntax_parser.proofs.scanning.StringBytes.{unequal_bytes_fail_equality_test}
 use Rattle.fluent_syntax_parser.proofs.source.Source.skip_escape.Goals as goal
 
 pub returns-in-None-clause-parses : goal.returns-in-None-clause-parses
@@ -16,7 +18,7 @@ pub returns-in-Some-eq92-clause-parses : goal.returns-in-Some-eq92-clause-parses
 returns-in-Some-eq92-clause-parses c =
     chosen
     (rw (← c.in-Some-eq92.ensures)
-    (first (simple_passes _ c.in-Some-eq92.field-0-test)
+    (first (simple_escape_passes_its_test _ c.in-Some-eq92.field-0-test)
     (passed
     (record { by = refl }))))
 
@@ -51,7 +53,7 @@ returns-in-Some-clause-parses c =
     let test = c.in-Some.byte-test in
     λ k from to (a, b, d). chosen {o = Refused k from to}
     (rw (a, b, d, ← c.in-Some.ensures)
-    (second (others_fail _ test.0.0.1)
-    (second (unequal_by_test _ small_u test.0.1)
-    (second (unequal_by_test _ capital_u test.1)
+    (second (other_byte_fails_simple_escape_test _ test.0.0.1)
+    (second (unequal_bytes_fail_equality_test _ small_u test.0.1)
+    (second (unequal_bytes_fail_equality_test _ capital_u test.1)
     (failed refl)))))

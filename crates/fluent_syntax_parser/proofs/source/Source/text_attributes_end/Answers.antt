@@ -1,7 +1,7 @@
 use Rattle.std.proofs.Common.{[], arith, refl}
 use Rattle.fluent_syntax_grammar.specs.Construct.{goes_on, passed, stops}
 use Rattle.fluent_syntax_grammar.specs.Entries.{no_more, one_more}
-use Rattle.fluent_syntax_parser.proofs.entry_forms.AnyDepth.{attribute_there}
+use Rattle.fluent_syntax_parser.proofs.entry_forms.AnyDepth.{parts_of_attribute_read_as_attribute}
 use Rattle.fluent_syntax_parser.proofs.source.Source.text_attributes_end.Goals as goal
 
 pub loop-start-init : goal.loop-start-init
@@ -30,7 +30,8 @@ loop-start-preserved c =
       );
       inside = text.within.1;
       passed = λ n rest end found.
-          let attribute = attribute_there c.args.edition t _ _ _ _ _ _ c.skip_blank_inline-dot.ensures.blank
+          let attribute =
+          parts_of_attribute_read_as_attribute c.args.edition t _ _ _ _ _ _ c.skip_blank_inline-dot.ensures.blank
           mark.parses field.opens opens n in
           inv.passed n _ end (one_more attribute.1 found);
     }

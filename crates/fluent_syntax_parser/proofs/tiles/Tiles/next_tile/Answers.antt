@@ -4,10 +4,12 @@ use Rattle.std.specs.Prelude.{option_to_list}
 use Rattle.fluent_syntax_parser.specs.Rest.{faults_of, tree_of}
 use Rattle.fluent_syntax_parser.proofs.entry_forms.MadeEntries.{some_cancels}
 use Rattle.fluent_syntax_parser.specs.declared.options.Comments.TheVariants.{Kept}
-use Rattle.fluent_syntax_parser.proofs.tilings.DeeperTiles.{after_one, entry_deeper, one_led, text_deeper, tile_at_end}
-use Rattle.fluent_syntax_parser.proofs.tilings.DeeperTiles.{tile_deeper}
+use Rattle.fluent_syntax_parser.proofs.tilings.DeeperTiles.{after_one, entry_deeper, one_led}
+use Rattle.fluent_syntax_parser.proofs.tilings.DeeperTiles.{text_is_deeper_by_its_tile}
+use Rattle.fluent_syntax_parser.proofs.tilings.DeeperTiles.{no_tile_is_deeper_at_end_of_text}
+use Rattle.fluent_syntax_parser.proofs.tilings.DeeperTiles.{tile_is_deeper_by_its_text}
 use Rattle.fluent_syntax_parser.proofs.tilings.Rests.{TileAt-within}
-use Rattle.fluent_syntax_parser.proofs.readers.SameTrees.{same_entry}
+use Rattle.fluent_syntax_parser.proofs.readers.SameTrees.{identity_keeps_entry}
 use Rattle.fluent_syntax_parser.proofs.tiles.Tiles.next_tile.Goals as goal
 
 pub returns-in_default : goal.returns-in_default
@@ -39,7 +41,7 @@ returns-clause-next c =
           found.tile found.in_place;
       yields = record {
         entry =
-            found.entry ∙ ap (λ e. e ∷ []) (sym (made.same ∙ same_entry made.tree))
+            found.entry ∙ ap (λ e. e ∷ []) (sym (made.same ∙ identity_keeps_entry made.tree))
             ∙ ap (λ e. tree_of e ∷ []) (sym (some_cancels c.in-Some.entry put.entry same));
         errors = found.errors ∙ ap faults_of (sym stated);
       };
@@ -55,15 +57,15 @@ returns-in_err-end-clause-deeper c =
     let start = c.skip_blank_block-start.ensures in
     let inside : c.skip_blank_block-start.result < length t = omega (arith, start.within, c.if-start-source.false) in
     let halt = err_from_is_err_and c.from_residual.result c.from_residual.ensures.1 in
-    rw (halt.1, halt.2) (λ e. text_deeper tiles.edition t tiles.nesting Kept _ _ start.blank
+    rw (halt.1, halt.2) (λ e. text_is_deeper_by_its_tile tiles.edition t tiles.nesting Kept _ _ start.blank
     (entry_deeper tiles.edition t tiles.nesting Kept _ (λ dropped. cc) inside (c.in_err-end.ensures.deeper e)))
 
 pub returns-then-start-source-clause-shallow : goal.returns-then-start-source-clause-shallow
 returns-then-start-source-clause-shallow c = λ deeper.
     let tiles = c.args.self.now in
     let t = tiles.source.bytes.now in
-    tile_at_end tiles.edition t tiles.nesting Kept _ c.if-start-source.true
-    (tile_deeper tiles.edition t tiles.nesting Kept _ _ c.skip_blank_block-start.ensures.blank deeper)
+    no_tile_is_deeper_at_end_of_text tiles.edition t tiles.nesting Kept _ c.if-start-source.true
+    (tile_is_deeper_by_its_text tiles.edition t tiles.nesting Kept _ _ c.skip_blank_block-start.ensures.blank deeper)
 
 pub returns-clause-shallow : goal.returns-clause-shallow
 returns-clause-shallow c =
@@ -74,7 +76,7 @@ returns-clause-shallow c =
     let inside : c.skip_blank_block-start.result < length t = omega (arith, read.within.0, read.within.1) in
     let tile = read.adds.tile.yields in (
       λ deeper. one_led tiles.edition t tiles.nesting Kept _ _ inside tile.tile tile.in_place
-          (tile_deeper tiles.edition t tiles.nesting Kept _ _ blank deeper),
-      λ deeper. text_deeper tiles.edition t tiles.nesting Kept _ _ blank
+          (tile_is_deeper_by_its_text tiles.edition t tiles.nesting Kept _ _ blank deeper),
+      λ deeper. text_is_deeper_by_its_tile tiles.edition t tiles.nesting Kept _ _ blank
           (after_one tiles.edition t tiles.nesting Kept _ _ inside tile.tile tile.in_place deeper),
     )

@@ -3,7 +3,7 @@ use Rattle.std.specs.Cmp.Lexicographic.{slice_cmp}
 use Rattle.std.specs.Ordering.{nat_cmp}
 use Rattle.std.proofs.lemmas.List.{map_more}
 use Rattle.std.proofs.lemmas.Map.Lookups.{exact_bytes}
-use Rattle.fluent_syntax_grammar.proofs.NameKeys.{notes_after}
+use Rattle.fluent_syntax_grammar.proofs.NameKeys.{inserted_key_notes_its_name}
 use Rattle.fluent_syntax_writer.specs.Names.{name_of}
 use Rattle.fluent_syntax_writer.proofs.rules.Named.{new_names, one_new_name, with_name, first_new_name, used}
 use Rattle.fluent_syntax_writer.proofs.rules.Named.{used-next, table-used}
@@ -44,7 +44,7 @@ loop-argument-preserved g c =
     map_more (name_of f) named i c.argument-item.result c.loop-argument-test.true
     ∙ ap (λ n. names ++ name_of f n ∷ []) (sym c.argument-item.is) ∙ ap (λ name. names ++ name ∷ []) (sym is) in
     let more =
-    notes_after (λ k. k.now) (λ x y. slice_cmp nat_cmp x.now y.now) (λ x y e. exact_bytes x.now y.now e)
+    inserted_key_notes_its_name (λ k. k.now) (λ x y. slice_cmp nat_cmp x.now y.now) (λ x y e. exact_bytes x.now y.now e)
     c.loop-argument.table.keys names c.as_bytes.result c.loop-argument.invariant.noted in
     record {
       noted = rw (c.in_ok-insert.ensures.keys, all) more;

@@ -2,7 +2,7 @@ use Rattle.std.proofs.Common.{ap, ◌∙◌}
 use Rattle.std.specs.Prelude.{is_none}
 use Rattle.fluent_syntax_tree.specs.View.{entry_view}
 use Rattle.fluent_syntax_writer.specs.SingleRule.{every_rule}
-use Rattle.fluent_syntax_writer.proofs.rules.FirstBroken.{set_finds_first, none_broken}
+use Rattle.fluent_syntax_writer.proofs.rules.FirstBroken.{set_finds_first, no_rule_is_broken_where_all_are_obeyed}
 use Rattle.fluent_syntax_writer.proofs.canonical.broken_rules.broken_rule.Goals as goal
 
 pub returns-clause-exact : goal.returns-clause-exact
@@ -14,4 +14,4 @@ returns-clause-exact g c =
 pub returns-clause-none : goal.returns-clause-none
 returns-clause-none g c =
     ap is_none (returns-clause-exact g c)
-    ∙ none_broken c.args.check.edition (entry_view g.T.ReadTexts.text c.args.entry.now)
+    ∙ no_rule_is_broken_where_all_are_obeyed c.args.check.edition (entry_view g.T.ReadTexts.text c.args.entry.now)

@@ -2,7 +2,7 @@ use Rattle.std.proofs.Common.{sym, ap, ◌∙◌}
 use Rattle.fluent_syntax_tree.specs.View.{expression_view, inline_view}
 use Rattle.fluent_syntax_tree.proofs.Views.{view-Select, view-Inline, view-InlinePlaceable}
 use Rattle.fluent_syntax_grammar.specs.Written.{is_select, holds_select}
-use Rattle.fluent_syntax_writer.proofs.rules.Nodes.{holds_no_select}
+use Rattle.fluent_syntax_writer.proofs.rules.Nodes.{inline_but_placeable_holds_no_select}
 use Rattle.fluent_syntax_writer.proofs.canonical.patterns.+selects.Goals as goal
 
 pub is_select-returns-in-Select : goal.is_select-returns-in-Select
@@ -25,4 +25,5 @@ holds_select-returns-in-Placeable g t c =
     c.is_select.ensures ∙ sym (ap (λ e. holds_select (inline_view f e)) c.in-Placeable.is ∙ placeable ∙ boxed)
 
 pub holds_select-returns-in_default : goal.holds_select-returns-in_default
-holds_select-returns-in_default g t c = holds_no_select g.T.ReadTexts.text c.args.content.now c.in_default.not-Placeable
+holds_select-returns-in_default g t c =
+    inline_but_placeable_holds_no_select g.T.ReadTexts.text c.args.content.now c.in_default.not-Placeable

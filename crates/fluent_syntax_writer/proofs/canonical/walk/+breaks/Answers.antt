@@ -13,8 +13,8 @@ use Rattle.fluent_syntax_writer.specs.RuleSets.{keeps}
 use Rattle.fluent_syntax_writer.specs.SingleRule.{single_rule, expression_keeps, arguments_keep, callee_keeps}
 use Rattle.fluent_syntax_writer.specs.SingleRule.{name_keeps}
 use Rattle.fluent_syntax_writer.proofs.rules.Nodes.{pattern_obeys_by_parts}
-use Rattle.fluent_syntax_writer.proofs.rules.Sets.{and_assoc}
-use Rattle.fluent_syntax_writer.proofs.rules.Steps.{item_joins}
+use Rattle.fluent_syntax_writer.proofs.rules.Sets.{and_is_associative}
+use Rattle.fluent_syntax_writer.proofs.rules.Steps.{item_joins_what_came_before}
 use Rattle.fluent_syntax_writer.proofs.canonical.walk.+breaks.Goals as goal
 
 pub pattern_breaks-returns : goal.pattern_breaks-returns
@@ -35,7 +35,7 @@ elements_break-loop-element-preserved g t c =
     record {
       rest = λ k.
           let r = single_rule c.args.check.edition k in
-          item_joins {S = Unit {0}} (λ u es. elements_obey r (elements_of (map view es)))
+          item_joins_what_came_before {S = Unit {0}} (λ u es. elements_obey r (elements_of (map view es)))
           (λ u e es. element_obeys r (view e)) (λ u e. u) (λ u e es. refl) tt c.args.elements.now _ _ _ _ _
           c.loop-element-test.true c.element-item.is
           (c.union-broken.ensures k ∙ ap (λ b. keeps c.loop-element.broken k && b) (c.element_breaks.ensures k))
@@ -58,7 +58,7 @@ expression_breaks-returns-in-Select g t c = λ k.
       c.variants_break.ensures k,
       c.deref.ensures.value,
       c.deref-in-Select.ensures.value,
-    ) (and_assoc (expression_keeps k (select e vs)) (inline_obeys r e) (variants_obey r vs))
+    ) (and_is_associative (expression_keeps k (select e vs)) (inline_obeys r e) (variants_obey r vs))
 
 pub inline_breaks-returns-in-FunctionReference : goal.inline_breaks-returns-in-FunctionReference
 inline_breaks-returns-in-FunctionReference g t c = λ k.
@@ -73,7 +73,7 @@ inline_breaks-returns-in-FunctionReference g t c = λ k.
       c.function_name_breaks.ensures k,
       c.as_str-in-FunctionReference.ensures,
       c.arguments_break.ensures k,
-    ) (and_assoc (name_keeps k name) (callee_keeps k name) given)
+    ) (and_is_associative (name_keeps k name) (callee_keeps k name) given)
 
 pub inline_breaks-returns-in-TermReference : goal.inline_breaks-returns-in-TermReference
 inline_breaks-returns-in-TermReference g t c = λ k.
@@ -88,7 +88,7 @@ inline_breaks-returns-in-TermReference g t c = λ k.
       c.union-in-TermReference.ensures k,
       c.reference_breaks-in-TermReference.ensures k,
       c.optional_arguments_break.ensures k,
-    ) (and_assoc (name_keeps k (f reference.id.name)) attribute given)
+    ) (and_is_associative (name_keeps k (f reference.id.name)) attribute given)
 
 pub arguments_break-returns : goal.arguments_break-returns
 arguments_break-returns g t c = λ k.
@@ -106,5 +106,5 @@ arguments_break-returns g t c = λ k.
       c.deref.ensures.value,
       c.deref-2.ensures.value,
       view-CallArguments,
-    ) (and_assoc (arguments_keep k (arguments positional named)) (inlines_obey r positional)
+    ) (and_is_associative (arguments_keep k (arguments positional named)) (inlines_obey r positional)
     (named_arguments_obey r named))

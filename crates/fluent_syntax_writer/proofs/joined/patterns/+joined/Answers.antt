@@ -5,8 +5,9 @@ use Rattle.fluent_syntax_tree.proofs.Lists.{maps_agree}
 use Rattle.fluent_syntax_tree.proofs.Views.{view-Pattern, view-Placeable}
 use Rattle.fluent_syntax_grammar.specs.Joined.{joined_maybe, joined_named, joined_pattern, joined_variant}
 use Rattle.fluent_syntax_writer.specs.Joining.{before_pattern, joined_from}
-use Rattle.fluent_syntax_writer.proofs.joining.Elements.{placeable_follows, pattern_ends, left_more, left_none}
-use Rattle.fluent_syntax_writer.proofs.joining.Elements.{placeable_pushed}
+use Rattle.fluent_syntax_writer.proofs.joining.Elements.{placeable_follows_joined_text, last_text_ends_joined_pattern}
+use Rattle.fluent_syntax_writer.proofs.joining.Elements.{elements_left_begin_with_next, no_elements_are_left_at_end}
+use Rattle.fluent_syntax_writer.proofs.joining.Elements.{pushed_placeable_is_last_element}
 use Rattle.fluent_syntax_writer.proofs.joining.Trees.{joined-CallArguments, joined-Select, joined-TermReference}
 use Rattle.fluent_syntax_writer.proofs.joined.patterns.+joined.Goals as goal
 
@@ -51,7 +52,8 @@ pattern-loop-item-preserved g t c =
     let last = option_map string_bytes c.loop-item.last in
     c.loop-item.invariant
     ∙ ap (λ p. before_pattern done (joined_from last p))
-    (left_more view items c.loop-item.item-index c.item-item.result c.loop-item-test.true c.item-item.is)
+    (elements_left_begin_with_next view items c.loop-item.item-index c.item-item.result c.loop-item-test.true
+    c.item-item.is)
     ∙ sym (c.in_ok-last.ensures (elements_of (map view (drop (c.loop-item.item-index + 1) items))))
 
 pub push_element-returns-in_ok-push-in-Placeable : goal.push_element-returns-in_ok-push-in-Placeable
@@ -60,9 +62,9 @@ push_element-returns-in_ok-push-in-Placeable g t c = λ rest.
     let done = map (element_view string_bytes) c.args.made.now.items in
     let last = option_map string_bytes c.args.last in
     ap (λ l. before_pattern l (joined_pattern rest))
-    (placeable_pushed string_bytes _ _ _ _ _ c.in_ok-push-in-Placeable.ensures.items
+    (pushed_placeable_is_last_element string_bytes _ _ _ _ _ c.in_ok-push-in-Placeable.ensures.items
     c.in_ok-push_last-in-Placeable.ensures c.in_ok-expression-in-Placeable.ensures)
-    ∙ placeable_follows done last (expression_view text c.in-Placeable.inner) rest
+    ∙ placeable_follows_joined_text done last (expression_view text c.in-Placeable.inner) rest
     ∙ ap (λ x. before_pattern done (joined_from last (elements x rest)))
     (sym (ap (element_view text) c.in-Placeable.is ∙ view-Placeable text c.in-Placeable.inner))
 
@@ -74,8 +76,8 @@ pattern-returns g t c =
     let last = option_map string_bytes c.loop-item.last in
     view-Pattern string_bytes _
     ∙ ap elements_of c.in_ok-push_last.ensures
-    ∙ pattern_ends done last
+    ∙ last_text_ends_joined_pattern done last
     ∙ sym (c.loop-item.invariant ∙ ap (λ p. before_pattern done (joined_from last p))
-    (left_none view items c.loop-item.item-index c.loop-item-test.false))
+    (no_elements_are_left_at_end view items c.loop-item.item-index c.loop-item-test.false))
     ∙ ap (λ xs. joined_pattern (elements_of (map view xs))) c.deref-item-items.ensures.value
     ∙ sym (ap joined_pattern (view-Pattern g.T.ReadTexts.text c.args.pattern.now))

@@ -6,7 +6,7 @@ use Rattle.std.proofs.lemmas.List.{map-append}
 use Rattle.std.proofs.lemmas.Map.Lookups.{exact_bytes}
 use Rattle.fluent_syntax_tree.specs.Spans.{bytes_at}
 use Rattle.fluent_syntax_parser.specs.Gathered.{names_in_order}
-use Rattle.fluent_syntax_grammar.proofs.NameKeys.{notes_after}
+use Rattle.fluent_syntax_grammar.proofs.NameKeys.{inserted_key_notes_its_name}
 use Rattle.fluent_syntax_parser.proofs.expression.argument_names.SeenNames.note_all.Goals as goal
 
 pub loop-index-preserved : goal.loop-index-preserved
@@ -15,7 +15,8 @@ loop-index-preserved c =
     let old = c.loop-index in
     let names = old.self.names.items in
     let key = c.bytes_of.result in
-    let more = notes_after (λ k. k.now) (λ x y. slice_cmp nat_cmp x.now y.now) (λ x y e. exact_bytes x.now y.now e)
+    let more = inserted_key_notes_its_name (λ k. k.now) (λ x y. slice_cmp nat_cmp x.now y.now)
+    (λ x y e. exact_bytes x.now y.now e)
     old.self.table.keys (names_in_order t (take old.index names)) key old.invariant.noted in
     let item = c.bytes_of.ensures ∙ ap (bytes_at t) c.index.ensures in
     let step : old.index + 1 ≡ suc old.index = omega arith in

@@ -5,7 +5,7 @@ use Rattle.std.proofs.lemmas.List.{length-map, map-append}
 use Rattle.std.proofs.lemmas.Map.Lookups.{exact_bytes}
 use Rattle.fluent_syntax_tree.specs.Spans.{bytes_at}
 use Rattle.fluent_syntax_parser.specs.Gathered.{names_in_order}
-use Rattle.fluent_syntax_parser.proofs.expressions.Noted.{notes_many, is_used-new}
+use Rattle.fluent_syntax_parser.proofs.expressions.Noted.{keys_note_name_among_many, is_used-new}
 use Rattle.fluent_syntax_parser.proofs.expression.argument_names.SeenNames.note_new.Goals as goal
 
 pub returns-then-not-is_new-clause-new : goal.returns-then-not-is_new-clause-new
@@ -35,7 +35,8 @@ returns-clause-noted c = λ is_new.
     let size = length-map old (bytes_at t) in
     let many : 32 ≤ length (names_in_order t old) =
     omega (arith, size, c.if-len-lt-TABLE_THRESHOLD.false, c.len.ensures, c.args.self.now.names.ok.0) in
-    let noted = notes_many (λ k. k.now) (λ x y. slice_cmp nat_cmp x.now y.now) (λ x y e. exact_bytes x.now y.now e)
+    let noted = keys_note_name_among_many (λ k. k.now) (λ x y. slice_cmp nat_cmp x.now y.now)
+    (λ x y e. exact_bytes x.now y.now e)
     c.args.self.now.table.keys _ (names_in_order t old) c.bytes_of.result _ (c.requires.1 many)
     c.in_ok-is_new.ensures.keys c.bytes_of.ensures (omega (arith, many)) in
     (c.in_ok-push.ensures.items, rw (c.in_ok-push.ensures.items, map-append (bytes_at t) old (c.args.name ∷ [])) noted)

@@ -8,7 +8,8 @@ use Rattle.fluent_syntax_tree.specs.Spans.{bytes_at}
 use Rattle.fluent_syntax_tree.specs.Tree.{some_arguments}
 use Rattle.fluent_syntax_tree.proofs.Views.{view-roll-CallArguments}
 use Rattle.fluent_syntax_parser.specs.Gathered.{names_in}
-use Rattle.fluent_syntax_parser.proofs.scanning.Names.{none_are_named, some_are_named, some_names, used_in_order}
+use Rattle.fluent_syntax_parser.proofs.scanning.Names.{none_are_named, some_are_named, some_spans_have_some_names}
+use Rattle.fluent_syntax_parser.proofs.scanning.Names.{name_is_used_in_either_order}
 use Rattle.fluent_syntax_grammar.specs.Arguments.{argument_name}
 use Rattle.fluent_syntax_grammar.specs.Bytes.{colon, left_parenthesis}
 use Rattle.fluent_syntax_grammar.specs.Construct.{goes_on, given, failed, passed, first, second}
@@ -20,16 +21,26 @@ use Rattle.fluent_syntax_grammar.proofs.Nesting.{within_is_functional}
 use Rattle.fluent_syntax_parser.specs.Made.{made}
 use Rattle.fluent_syntax_parser.specs.Outcomes.{no_memory, refused, too_deep}
 use Rattle.fluent_syntax_parser.specs.declared.fault.Fault.TheVariants as fault
-use Rattle.fluent_syntax_parser.proofs.expressions.ArgumentNames.{argument_text}
-use Rattle.fluent_syntax_parser.proofs.expressions.ArgumentLists.{all_arguments, inline_fails, late, list_closed}
-use Rattle.fluent_syntax_parser.proofs.expressions.ArgumentLists.{list_open, named, no_arguments_yet, named_fails}
-use Rattle.fluent_syntax_parser.proofs.expressions.ArgumentLists.{one_named, one_positional, positional, byte_is_token}
+use Rattle.fluent_syntax_parser.proofs.expressions.ArgumentNames.{argument_name_is_name_text_there}
+use Rattle.fluent_syntax_parser.proofs.expressions.ArgumentLists.{arguments_made_to_end_are_all}
+use Rattle.fluent_syntax_parser.proofs.expressions.ArgumentLists.{argument_fails_with_its_inline}
+use Rattle.fluent_syntax_parser.proofs.expressions.ArgumentLists.{positional_after_named_is_refused}
+use Rattle.fluent_syntax_parser.proofs.expressions.ArgumentLists.{argument_list_ends_at_parenthesis}
+use Rattle.fluent_syntax_parser.proofs.expressions.ArgumentLists.{argument_list_at_end_of_text_is_refused, named}
+use Rattle.fluent_syntax_parser.proofs.expressions.ArgumentLists.{no_arguments_are_made_at_start}
+use Rattle.fluent_syntax_parser.proofs.expressions.ArgumentLists.{argument_fails_with_its_named_rest}
+use Rattle.fluent_syntax_parser.proofs.expressions.ArgumentLists.{one_named, positional_argument_is_made_next}
+use Rattle.fluent_syntax_parser.proofs.expressions.ArgumentLists.{positional, byte_is_token}
 use Rattle.fluent_syntax_parser.proofs.readers.ContinuesFrom.{item_fails}
-use Rattle.fluent_syntax_parser.proofs.readers.Fails.{fails_first, fails_list, fails_next, fails_no, fails_yes, list}
-use Rattle.fluent_syntax_parser.proofs.readers.Fails.{no_call, memory_is_err}
+use Rattle.fluent_syntax_parser.proofs.readers.Fails.{fails_first, argument_list_in_nonzero_depth_fails_alike}
+use Rattle.fluent_syntax_parser.proofs.readers.Fails.{bind_fails_second, fails_no, branch_fails_with_first_when_true}
+use Rattle.fluent_syntax_parser.proofs.readers.Fails.{argument_list_is_in_nonzero_depth}
+use Rattle.fluent_syntax_parser.proofs.readers.Fails.{call_at_depth_zero_is_too_deep, memory_is_err}
 use Rattle.fluent_syntax_parser.proofs.expressions.LastPlaced.{placed_in}
-use Rattle.fluent_syntax_parser.proofs.expressions.InlineStarts.{by_value, no_value, value_fails}
-use Rattle.fluent_syntax_parser.proofs.readers.Made.{on_made}
+use Rattle.fluent_syntax_parser.proofs.expressions.InlineStarts.{inline_at_value_start_is_argument_value}
+use Rattle.fluent_syntax_parser.proofs.expressions.InlineStarts.{argument_value_at_other_start_is_refused}
+use Rattle.fluent_syntax_parser.proofs.expressions.InlineStarts.{argument_value_fails_as_its_inline}
+use Rattle.fluent_syntax_parser.proofs.readers.Made.{made_was_read}
 use Rattle.fluent_syntax_parser.proofs.reader.Reader.+readers.Goals as goal
 use Rattle.fluent_syntax_parser.proofs.reader.Reader.+readers.Goals.{
   get_arguments-in_default-via-in-Some+else-is_byte_at,
@@ -48,7 +59,7 @@ get_call_arguments-returns-then-not-bracket-clause-parses g m c =
 pub get_call_arguments-returns-then-nesting-eq0-clause-parses :
     goal.get_call_arguments-returns-then-nesting-eq0-clause-parses
 get_call_arguments-returns-then-nesting-eq0-clause-parses g m c =
-    too_deep (no_call _ _ _ _ _ _ _ c.if-nesting-eq0.true c.skip_blank-start.ensures.blank
+    too_deep (call_at_depth_zero_is_too_deep _ _ _ _ _ _ _ c.if-nesting-eq0.true c.skip_blank-start.ensures.blank
     c.take_byte_if-bracket.ensures.parses c.if-not-bracket.false)
 
 pub get_call_arguments-returns-in_err-arguments-clause-parses :
@@ -57,21 +68,23 @@ get_call_arguments-returns-in_err-arguments-clause-parses g m c =
     let t = c.args.self.now.source.bytes.now in
     let p = err_from_is_err_and c.from_residual.result c.from_residual.ensures.1 in
     rw (p.1, p.2)
-    (fails_next (blank_is_functional t) (passed c.skip_blank-start.ensures.blank)
-    (fails_next (optional_is_functional t left_parenthesis) c.take_byte_if-bracket.ensures.parses
-    (fails_yes c.if-not-bracket.false
+    (bind_fails_second (blank_is_functional t) (passed c.skip_blank-start.ensures.blank)
+    (bind_fails_second (optional_is_functional t left_parenthesis) c.take_byte_if-bracket.ensures.parses
+    (branch_fails_with_first_when_true c.if-not-bracket.false
     (fails_first
-    (fails_next (blank_is_functional t) (passed c.skip_blank-start-2.ensures.blank)
-    (fails_list c.args.self.now.edition t c.if-nesting-eq0.false c.in_err-arguments.ensures.parses))))))
+    (bind_fails_second (blank_is_functional t) (passed c.skip_blank-start-2.ensures.blank)
+    (argument_list_in_nonzero_depth_fails_alike c.args.self.now.edition t c.if-nesting-eq0.false
+    c.in_err-arguments.ensures.parses))))))
 
 pub get_call_arguments-returns-clause-parses : goal.get_call_arguments-returns-clause-parses
 get_call_arguments-returns-clause-parses g m c =
-    on_made c.in_ok-arguments.ensures.parses (λ a read same. made
+    made_was_read c.in_ok-arguments.ensures.parses (λ a read same. made
     (goes_on (passed c.skip_blank-start.ensures.blank)
     (goes_on c.take_byte_if-bracket.ensures.parses
     (first c.if-not-bracket.false
     (goes_on (goes_on (passed c.skip_blank-start-2.ensures.blank)
-    (list c.args.self.now.edition c.args.self.now.source.bytes.now _ _ _ c.if-nesting-eq0.false read))
+    (argument_list_is_in_nonzero_depth c.args.self.now.edition c.args.self.now.source.bytes.now _ _ _
+    c.if-nesting-eq0.false read))
     given))))
     (ap some_arguments same))
 
@@ -81,21 +94,26 @@ add_argument_value-returns-in_err-end-in-Quote-clause-parses g m c =
     let t = c.args.self.now.source.bytes.now in
     let p = err_from_is_err_and c.from_residual.result c.from_residual.ensures.1 in
     rw (p.1, p.2)
-    (value_fails t _ c.args.ptr c.start.result c.in-Quote.is c.start.ensures c.in_err-end-in-Quote.ensures.parses)
+    (argument_value_fails_as_its_inline t _ c.args.ptr c.start.result c.in-Quote.is c.start.ensures
+    c.in_err-end-in-Quote.ensures.parses)
 
 pub add_argument_value-returns-in_ok-end-in-Quote-clause-parses :
     goal.add_argument_value-returns-in_ok-end-in-Quote-clause-parses
 add_argument_value-returns-in_ok-end-in-Quote-clause-parses g m c =
     let t = c.args.self.now.source.bytes.now in
-    let (e, read, added) = c.in_ok-end-in-Quote.ensures.parses in
-    (e, by_value t _ c.args.ptr c.start.result _ c.in-Quote.is c.start.ensures read, added)
+    let (e, read, added) = c.in_ok-end-in-Quote.ensures.parses in (
+      e,
+      inline_at_value_start_is_argument_value t _ c.args.ptr c.start.result _ c.in-Quote.is c.start.ensures read,
+      added,
+    )
 
 pub add_argument_value-returns-in_default : goal.add_argument_value-returns-in_default
 add_argument_value-returns-in_default g m c = record {
   parses = refused (λ k from to (a, b, d).
       let arm = c.in_default in
       rw (a, b, d)
-      (no_value c.args.self.now.source.bytes.now _ c.args.ptr c.start.result arm.not-Quote arm.not-Digit arm.not-Letter
+      (argument_value_at_other_start_is_refused c.args.self.now.source.bytes.now _ c.args.ptr c.start.result
+      arm.not-Quote arm.not-Digit arm.not-Letter
       c.start.ensures));
   within = tt;
 }
@@ -116,7 +134,8 @@ get_arguments-add_positional-requires g m c =
 pub get_arguments-returns-then-place-self-clause-parses : goal.get_arguments-returns-then-place-self-clause-parses
 get_arguments-returns-then-place-self-clause-parses g m c =
     item_fails c.loop-noted.invariant.gathered.beyond (refused (λ k from to (a, b, d). rw (a, b, d)
-    (list_open c.args.self.now.source.bytes.now _ _ _ (omega (arith, c.if-place-self.true)))))
+    (argument_list_at_end_of_text_is_refused c.args.self.now.source.bytes.now _ _ _
+    (omega (arith, c.if-place-self.true)))))
 
 pub get_arguments-returns-in_err-next-clause-parses :
     goal.get_arguments-returns-in_err-next-clause-parses
@@ -125,19 +144,19 @@ get_arguments-returns-in_err-next-clause-parses g m c =
     let p = err_from_is_err_and c.from_residual.result c.from_residual.ensures.1 in
     rw (p.1, p.2)
     (item_fails c.loop-noted.invariant.gathered.beyond
-    (inline_fails t _ _ _ (omega (arith, c.if-place-self.false, c.loop-noted.invariant.within))
+    (argument_fails_with_its_inline t _ _ _ (omega (arith, c.if-place-self.false, c.loop-noted.invariant.within))
     (sym c.loop-noted-test.ensures) c.in_err-next.ensures.parses))
 
 pub get_arguments-returns-then-not-is_new-clause-parses : goal.get_arguments-returns-then-not-is_new-clause-parses
 get_arguments-returns-then-not-is_new-clause-parses g m c =
     let t = c.args.self.now.source.bytes.now in
     let names = c.loop-noted.noted.names.items in
-    let used = used_in_order t (bytes_at t c.in-Some.name) names ∙ c.in_ok-is_new-in-Some.ensures.new
+    let used = name_is_used_in_either_order t (bytes_at t c.in-Some.name) names ∙ c.in_ok-is_new-in-Some.ensures.new
     ∙ ap not c.if-not-is_new.true in
     let (e, read, added) = c.in_ok-next.ensures.parses in
     let there = c.last_inline.ensures _ _ (placed_in g.M.MakeTexts.made _ _ c.deref.ensures.value added) in
     let is = sym (c.in-Some.ensures c.args.nesting _ e read there) in
-    let text = sym (argument_text t _ _ e _ read c.in-Some.name is) in
+    let text = sym (argument_name_is_name_text_there t _ _ e _ read c.in-Some.name is) in
     let next = c.in_ok-next.next in
     item_fails c.loop-noted.invariant.gathered.beyond
     (refused {f = fault.Duplicated} {from = c.loop-noted.place} {place = next} (λ k from to (a, b, d).
@@ -155,7 +174,7 @@ pub get_arguments-returns-in_err-end-in-Some-clause-parses :
 get_arguments-returns-in_err-end-in-Some-clause-parses g m c =
     let t = c.args.self.now.source.bytes.now in
     let names = c.loop-noted.noted.names.items in
-    let new = used_in_order t (bytes_at t c.in-Some.name) names ∙ c.in_ok-is_new-in-Some.ensures.new
+    let new = name_is_used_in_either_order t (bytes_at t c.in-Some.name) names ∙ c.in_ok-is_new-in-Some.ensures.new
     ∙ ap not c.if-not-is_new.false in
     let mark = sym c.if-is_byte_at.ensures in
     let (e, read, added) = c.in_ok-next.ensures.parses in
@@ -164,13 +183,13 @@ get_arguments-returns-in_err-end-in-Some-clause-parses g m c =
     c.from_residual-in_err-end-in-Some.ensures.1 in
     rw (p.1, p.2)
     (item_fails c.loop-noted.invariant.gathered.beyond
-    (named_fails t _ (names_in t names) _
+    (argument_fails_with_its_named_rest t _ (names_in t names) _
     (omega (arith, c.if-place-self.false, c.loop-noted.invariant.within)) (sym c.loop-noted-test.ensures) e _
     read (within_is_functional c.args.self.now.edition t _) c.in-Some.name
     (sym (c.in-Some.ensures c.args.nesting _ e read there)) mark
     (fails_no new
-    (fails_next (token_is_functional t colon) (byte_is_token t colon _ mark)
-    (fails_next (blank_is_functional t) (passed c.skip_blank-start.ensures.blank)
+    (bind_fails_second (token_is_functional t colon) (byte_is_token t colon _ mark)
+    (bind_fails_second (blank_is_functional t) (passed c.skip_blank-start.ensures.blank)
     (fails_first c.in_err-end-in-Some.ensures.parses))))))
 
 pub get_arguments-returns-clause-parses : goal.get_arguments-returns-clause-parses
@@ -179,15 +198,18 @@ get_arguments-returns-clause-parses g m c =
       positional = c.loop-noted.positional;
       named = c.loop-noted.named;
     }) in
-    on_made (all_arguments c.args.self.now.source.bytes.now _ _ _ _ _ _ _ _ _ c.loop-noted.invariant.gathered
-    (list_closed c.args.self.now.source.bytes.now _ _ _ (sym c.loop-noted-test.ensures))) (λ a read same. made read
+    made_was_read
+    (arguments_made_to_end_are_all c.args.self.now.source.bytes.now _ _ _ _ _ _ _ _ _ c.loop-noted.invariant.gathered
+    (argument_list_ends_at_parenthesis c.args.self.now.source.bytes.now _ _ _ (sym c.loop-noted-test.ensures)))
+    (λ a read same. made read
     (whole ∙ same))
 
 pub get_arguments-loop-noted-preserved-then-is_byte_at : goal.get_arguments-loop-noted-preserved-then-is_byte_at
 get_arguments-loop-noted-preserved-then-is_byte_at g m c =
     let t = c.args.self.now.source.bytes.now in
     let old = c.loop-noted in
-    let new = used_in_order t (bytes_at t c.in-Some.name) old.noted.names.items ∙ c.in_ok-is_new-in-Some.ensures.new
+    let new = name_is_used_in_either_order t (bytes_at t c.in-Some.name) old.noted.names.items
+    ∙ c.in_ok-is_new-in-Some.ensures.new
     ∙ ap not c.if-not-is_new.false in
     let noted = c.in_ok-is_new-in-Some.ensures.noted c.if-not-is_new.false in
     let named = c.in_ok-add_named-in-Some.ensures in
@@ -233,8 +255,9 @@ get_arguments-returns-then-not-is_empty-clause-parses g m c =
     (positional t _ (names_in t old.noted.names.items) old.place
     (omega (arith, c.if-place-self.false, old.invariant.within)) (sym c.loop-noted-test.ensures) e _
     read is _
-    (late t (within c.args.self.now.edition t c.args.nesting) (names_in t old.noted.names.items) e _
-    (some_names t old.noted.names.items some)))))
+    (positional_after_named_is_refused t (within c.args.self.now.edition t c.args.nesting)
+    (names_in t old.noted.names.items) e _
+    (some_spans_have_some_names t old.noted.names.items some)))))
 
 pub get_arguments-loop-noted-preserved : goal.get_arguments-loop-noted-preserved
 get_arguments-loop-noted-preserved g m c =
@@ -259,7 +282,8 @@ get_arguments-loop-noted-preserved g m c =
           );
       within = c.skip_separator-place-in_default.ensures.within.1;
       gathered =
-          one_positional t _ _ g.M.MakeTexts.made _ (within_is_functional c.args.self.now.edition t _) _ _ _
+          positional_argument_is_made_next t _ _ g.M.MakeTexts.made _
+          (within_is_functional c.args.self.now.edition t _) _ _ _
           old.noted.names.items
           old.invariant.gathered (omega (arith, c.if-place-self.false, old.invariant.within))
           (sym c.loop-noted-test.ensures) e _ read is none argument.0 (argument.2 _ _ added) _ argument.1 _
@@ -294,6 +318,6 @@ get_arguments-loop-noted-init g m c = record {
   within = c.requires;
   gathered =
       rw (c.new-positional.ensures.items, c.new-named.ensures.items, c.new-noted.ensures.names)
-      (no_arguments_yet c.args.self.now.source.bytes.now _ _ g.M.MakeTexts.made _);
+      (no_arguments_are_made_at_start c.args.self.now.source.bytes.now _ _ g.M.MakeTexts.made _);
   noted = rw c.new-noted.ensures.names c.new-noted.ensures.noted;
 }

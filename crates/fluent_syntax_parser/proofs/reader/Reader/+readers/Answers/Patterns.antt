@@ -2,7 +2,7 @@
 use Rattle.std.proofs.Common.{◌≡◌, ◌∙◌, List, [], ◌++◌, length, map, refl, sym, ap, arith, None, Some}
 use Rattle.std.specs.Prelude.{slice_get, vec_len}
 use Rattle.std.proofs.lemmas.Result.{err_from_is_err_and}
-use Rattle.fluent_syntax_parser.proofs.patterns.LineEndings.{by_eol}
+use Rattle.fluent_syntax_parser.proofs.patterns.LineEndings.{layout_by_its_eol_is_layout}
 use Rattle.fluent_syntax_grammar.specs.Bytes.{left_brace, right_brace}
 use Rattle.fluent_syntax_grammar.specs.Construct.{goes_on, given, passed, at_place}
 use Rattle.fluent_syntax_grammar.specs.Grammar.{within}
@@ -18,20 +18,31 @@ use Rattle.fluent_syntax_parser.specs.Lines.{ending_view, line_view, piece_view}
 use Rattle.fluent_syntax_parser.specs.Made.{made}
 use Rattle.fluent_syntax_parser.specs.Opened.{none}
 use Rattle.fluent_syntax_parser.specs.Outcomes.{no_memory, refused}
-use Rattle.fluent_syntax_parser.proofs.entry_forms.FieldForms.{zero_count_is_empty as no_elements, has_items}
-use Rattle.fluent_syntax_parser.proofs.readers.ContinuesFrom.{all_made, item_fails, item_made, no_items}
+use Rattle.fluent_syntax_parser.proofs.entry_forms.FieldForms.{zero_count_is_empty as no_elements}
+use Rattle.fluent_syntax_parser.proofs.entry_forms.FieldForms.{nonzero_count_is_not_empty}
+use Rattle.fluent_syntax_parser.proofs.readers.ContinuesFrom.{items_made_to_end_are_list, item_fails, item_is_made_next}
+use Rattle.fluent_syntax_parser.proofs.readers.ContinuesFrom.{no_items_are_made_at_start}
 use Rattle.fluent_syntax_grammar.proofs.Functional.{here_is_functional}
-use Rattle.fluent_syntax_parser.proofs.readers.Fails.{fails_first, fails_next, fails_seen}
+use Rattle.fluent_syntax_parser.proofs.readers.Fails.{fails_first, bind_fails_second, fails_seen}
 use Rattle.fluent_syntax_parser.proofs.readers.Fails.{jump_is_functional, memory_is_err}
-use Rattle.fluent_syntax_parser.proofs.readers.Made.{on_made}
-use Rattle.fluent_syntax_parser.proofs.patterns.BlankLines.{none_at_end, none_before_other}
-use Rattle.fluent_syntax_parser.proofs.patterns.Opening.{as_elements, EndsAt-ending_read, run_ends_line, no_opening}
-use Rattle.fluent_syntax_parser.proofs.patterns.Opening.{opening_ending, none_is_no_byte, byte_differs, opening_fails}
-use Rattle.fluent_syntax_parser.proofs.patterns.Opening.{opening_placed, opening_read, opening_settled}
+use Rattle.fluent_syntax_parser.proofs.readers.Made.{made_was_read}
+use Rattle.fluent_syntax_parser.proofs.patterns.BlankLines.{block_at_no_byte_is_empty, block_before_other_line_is_empty}
+use Rattle.fluent_syntax_parser.proofs.patterns.Opening.{elements_of_pieces_are_those_of_items, EndsAt-ending_read}
+use Rattle.fluent_syntax_parser.proofs.patterns.Opening.{run_ends_line, no_opening_is_made_at_start}
+use Rattle.fluent_syntax_parser.proofs.patterns.Opening.{ending_of_opening_comes_after_its_items, none_is_no_byte}
+use Rattle.fluent_syntax_parser.proofs.patterns.Opening.{place_of_byte_has_no_other, opening_fails_with_its_next_piece}
+use Rattle.fluent_syntax_parser.proofs.patterns.Opening.{placeable_is_made_next_in_opening}
+use Rattle.fluent_syntax_parser.proofs.patterns.Opening.{opening_is_read_with_its_last_run}
+use Rattle.fluent_syntax_parser.proofs.patterns.Opening.{settled_pieces_map_to_settled}
 use Rattle.fluent_syntax_parser.proofs.patterns.Rest.{empty_run_at_text_end_has_no_items}
-use Rattle.fluent_syntax_parser.proofs.patterns.Spelled.{layout_spelled, none_spelled, some_spelled}
-use Rattle.fluent_syntax_parser.proofs.patterns.Pieces.{bare_brace, end_pieces, line_read, no_pieces, line_takes_bytes}
-use Rattle.fluent_syntax_parser.proofs.patterns.Pieces.{own_line_fails, further, placed_fails, placed_piece, run_piece}
+use Rattle.fluent_syntax_parser.proofs.patterns.Spelled.{layout_spelled, no_elements_spell_no_pattern}
+use Rattle.fluent_syntax_parser.proofs.patterns.Spelled.{some_elements_spell_pattern}
+use Rattle.fluent_syntax_parser.proofs.patterns.Pieces.{closing_brace_is_refused_as_piece}
+use Rattle.fluent_syntax_parser.proofs.patterns.Pieces.{no_piece_is_read_at_end_of_text, line_is_read_from_its_parts}
+use Rattle.fluent_syntax_parser.proofs.patterns.Pieces.{no_piece_is_read_at_eol, line_takes_bytes}
+use Rattle.fluent_syntax_parser.proofs.patterns.Pieces.{own_line_fails, further, piece_at_brace_fails_as_placeable}
+use Rattle.fluent_syntax_parser.proofs.patterns.Pieces.{placeable_at_brace_is_next_piece}
+use Rattle.fluent_syntax_parser.proofs.patterns.Pieces.{run_at_plain_byte_is_next_piece}
 use Rattle.fluent_syntax_parser.proofs.patterns.Pieces.{run_there}
 use Rattle.fluent_syntax_parser.proofs.reader.Reader.+readers.Goals as goal
 
@@ -50,12 +61,12 @@ add_opening-returns-in-Some-clause-opens g m c =
       settled = none;
       made = rw c.requires.empty refl;
       same = sym (empty_run_at_text_end_has_no_items c.args.ptr);
-      read = λ ls end h. by_eol t _ _ _ _ c.in-Some.ensures.eol
+      read = λ ls end h. layout_by_its_eol_is_layout t _ _ _ _ c.in-Some.ensures.eol
           (goes_on (passed (record { there = refl })) (goes_on (passed blank) (goes_on h given)));
       fails = λ e h.
           fails_seen (layout_at t _) _ c.in-Some.ensures.eol
-          (fails_next jump_is_functional (passed (record { there = refl }))
-          (fails_next (blank_block_is_functional t) (passed blank) (fails_first h)));
+          (bind_fails_second jump_is_functional (passed (record { there = refl }))
+          (bind_fails_second (blank_block_is_functional t) (passed blank) (fails_first h)));
     }
 
 pub add_opening-loop-elements-init : goal.add_opening-loop-elements-init
@@ -65,7 +76,7 @@ add_opening-loop-elements-init g m c = record {
   unended = sym c.eol_end.ensures.eol ∙ c.in_default.is;
   gathered =
       rw c.requires.empty
-      (no_opening c.args.self.now.source.bytes.now _ _ g.M.MakeTexts.made c.args.ptr);
+      (no_opening_is_made_at_start c.args.self.now.source.bytes.now _ _ g.M.MakeTexts.made c.args.ptr);
 }
 
 pub add_opening-loop-elements-preserved : goal.add_opening-loop-elements-preserved
@@ -84,11 +95,11 @@ add_opening-loop-elements-preserved g m c =
       within = read.within.1;
       unended = old.unended;
       gathered =
-          opening_placed t R f g.M.MakeTexts.made _
+          placeable_is_made_next_in_opening t R f g.M.MakeTexts.made _
           (next_piece_is_functional t R (within_is_functional c.args.self.now.edition t _)) _ _ run _
           old.gathered.beyond
           old.gathered.settled _ _ x _ old.gathered.same c.in_ok-add_text_run-in-Some-eq123.ensures pushed e seen _
-          (placed_piece t R _ _ found (rw found refl) refl _ (goes_on there given));
+          (placeable_at_brace_is_next_piece t R _ _ found (rw found refl) refl _ (goes_on there given));
     }
 
 pub add_opening-returns-in-Some-eq125-clause-opens : goal.add_opening-returns-in-Some-eq125-clause-opens
@@ -99,11 +110,11 @@ add_opening-returns-in-Some-eq125-clause-opens g m c =
     let old = c.loop-elements.invariant in
     let found = sym (rw c.in-Some-eq125.field-0-test at c.in-Some-eq125.ensures) in
     fails_seen (layout_at t R) _ (sym old.unended)
-    (fails_next here_is_functional at_place
-    (fails_first (opening_fails t R f g.M.MakeTexts.made _
+    (bind_fails_second here_is_functional at_place
+    (fails_first (opening_fails_with_its_next_piece t R f g.M.MakeTexts.made _
     (next_piece_is_functional t R (within_is_functional c.args.self.now.edition t _)) _ _ c.run_end-to.ensures.run _
     old.gathered.beyond (refused (λ k from to (a, b, d). rw (a, b, d)
-    (bare_brace t R _ _ found (rw found refl) refl))))))
+    (closing_brace_is_refused_as_piece t R _ _ found (rw found refl) refl))))))
 
 pub add_opening-returns-in_err-place-in-Some-eq123-clause-opens :
     goal.add_opening-returns-in_err-place-in-Some-eq123-clause-opens
@@ -117,11 +128,12 @@ add_opening-returns-in_err-place-in-Some-eq123-clause-opens g m c =
     c.from_residual-in_err-place-in-Some-eq123.ensures.1 in
     rw (p.1, p.2)
     (fails_seen (layout_at t R) _ (sym old.unended)
-    (fails_next here_is_functional at_place
-    (fails_first (opening_fails t R f g.M.MakeTexts.made _
+    (bind_fails_second here_is_functional at_place
+    (fails_first (opening_fails_with_its_next_piece t R f g.M.MakeTexts.made _
     (next_piece_is_functional t R (within_is_functional c.args.self.now.edition t _)) _ _ c.run_end-to.ensures.run _
     old.gathered.beyond
-    (placed_fails t R _ _ found (rw found refl) refl (fails_first c.in_err-place-in-Some-eq123.ensures.parses))))))
+    (piece_at_brace_fails_as_placeable t R _ _ found (rw found refl) refl
+    (fails_first c.in_err-place-in-Some-eq123.ensures.parses))))))
 
 pub add_opening-returns-in_err-add_text_run-in-Some-eq123-clause-opens :
     goal.add_opening-returns-in_err-add_text_run-in-Some-eq123-clause-opens
@@ -142,11 +154,13 @@ add_opening-returns-in_default-byte_at-clause-opens g m c =
     elim c.in_default-byte_at.branch [
       | goal.add_opening-in_default-byte_at-via-in-Some+in_default w ↦
           let test = w.in_default-byte_at.field-0-test in
-          let is = sym w.in_default-byte_at.ensures in (byte_differs _ _ is test.0.1, byte_differs _ _ is test.1)
+          let is = sym w.in_default-byte_at.ensures in
+          (place_of_byte_has_no_other _ _ is test.0.1, place_of_byte_has_no_other _ _ is test.1)
       | goal.add_opening-in_default-byte_at-via-in_default w ↦
           let none = sym c.byte_at.ensures ∙ w.in_default-byte_at.is in (none_is_no_byte none, none_is_no_byte none)
     ] in
-    let there = opening_read t R f g.M.MakeTexts.made _ (next_piece_is_functional t R functional) _ _ run _
+    let there =
+    opening_is_read_with_its_last_run t R f g.M.MakeTexts.made _ (next_piece_is_functional t R functional) _ _ run _
     old.gathered.beyond (run_ends_line t R _ _ run apart.0 apart.1) in
     record {
       opening =
@@ -158,16 +172,16 @@ add_opening-returns-in_default-byte_at-clause-opens g m c =
             ending = ending_view c.get_ending-ending.result.0;
           });
       pieces = map (piece_of f) old.gathered.pieces;
-      settled = opening_settled f old.gathered.settled;
-      made = old.gathered.same ∙ as_elements f old.gathered.pieces;
-      same = opening_ending f old.gathered.settled _ _;
-      read = λ ls last h. by_eol t _ _ _ _ (sym old.unended)
+      settled = settled_pieces_map_to_settled f old.gathered.settled;
+      made = old.gathered.same ∙ elements_of_pieces_are_those_of_items f old.gathered.pieces;
+      same = ending_of_opening_comes_after_its_items f old.gathered.settled _ _;
+      read = λ ls last h. layout_by_its_eol_is_layout t _ _ _ _ (sym old.unended)
           (goes_on at_place (goes_on there (goes_on ends (goes_on h given))));
       fails = λ e h.
           fails_seen (layout_at t R) _ (sym old.unended)
-          (fails_next here_is_functional at_place
-          (fails_next (pieces_are_functional t R functional) there
-          (fails_next (ending_is_functional t) ends (fails_first h))));
+          (bind_fails_second here_is_functional at_place
+          (bind_fails_second (pieces_are_functional t R functional) there
+          (bind_fails_second (ending_is_functional t) ends (fails_first h))));
     }
 
 pub add_opening-returns-in_default-byte_at-clause-rest : goal.add_opening-returns-in_default-byte_at-clause-rest
@@ -181,14 +195,15 @@ get_long_pattern-returns-in_err-opening-clause-parses g m c =
     let t = c.args.self.now.source.bytes.now in
     let p = err_from_is_err_and c.from_residual.result c.from_residual.ensures.1 in
     rw (p.1, p.2)
-    (fails_first (fails_next (inline_blank_is_functional t) (passed c.requires.blank) c.in_err-opening.ensures.opens))
+    (fails_first
+    (bind_fails_second (inline_blank_is_functional t) (passed c.requires.blank) c.in_err-opening.ensures.opens))
 
 pub get_long_pattern-returns-in_err-end-clause-parses : goal.get_long_pattern-returns-in_err-end-clause-parses
 get_long_pattern-returns-in_err-end-clause-parses g m c =
     let t = c.args.self.now.source.bytes.now in
     let p = err_from_is_err_and c.from_residual-in_err-end.result c.from_residual-in_err-end.ensures.1 in
     rw (p.1, p.2)
-    (fails_first (fails_next (inline_blank_is_functional t) (passed c.requires.blank)
+    (fails_first (bind_fails_second (inline_blank_is_functional t) (passed c.requires.blank)
     (c.in_ok-opening.ensures.opens.fails _ c.in_err-end.ensures.parses)))
 
 pub get_long_pattern-returns-in_err-end_elements-clause-parses :
@@ -205,12 +220,12 @@ get_long_pattern-returns-then-is_empty-clause-parses g m c =
     let elements = c.end_elements.new.elements in
     let size : length elements.items ≡ vec_len elements = omega (arith, elements.ok.0) in
     let none = no_elements elements.items _ size c.if-is_empty.ensures in
-    on_made c.in_ok-end.ensures.parses (λ ls there same.
+    made_was_read c.in_ok-end.ensures.parses (λ ls there same.
     let made_of = append_to_equal_is_all _ c.in_ok-end_elements.ensures opened.made
     (layout_spelled f t c.args.self.now.edition (record { opening = opened.opening; lines = ls }) opened.settled _
     opened.same _ same) in
     made (goes_on (goes_on (passed c.requires.blank) (opened.read ls _ there)) given)
-    (none_spelled f g.M.MakeTexts.made _ elements.items made_of none))
+    (no_elements_spell_no_pattern f g.M.MakeTexts.made _ elements.items made_of none))
 
 pub get_long_pattern-returns-else-is_empty-clause-parses : goal.get_long_pattern-returns-else-is_empty-clause-parses
 get_long_pattern-returns-else-is_empty-clause-parses g m c =
@@ -219,13 +234,13 @@ get_long_pattern-returns-else-is_empty-clause-parses g m c =
     let opened = c.in_ok-opening.ensures.opens in
     let elements = c.end_elements.new.elements in
     let size : length elements.items ≡ vec_len elements = omega (arith, elements.ok.0) in
-    on_made c.in_ok-end.ensures.parses (λ ls there same.
+    made_was_read c.in_ok-end.ensures.parses (λ ls there same.
     let made_of = append_to_equal_is_all _ c.in_ok-end_elements.ensures opened.made
     (layout_spelled f t c.args.self.now.edition (record { opening = opened.opening; lines = ls }) opened.settled _
     opened.same _ same) in
     made (goes_on (goes_on (passed c.requires.blank) (opened.read ls _ there)) given)
-    (some_spelled f g.M.MakeTexts.made _ (record { elements = elements }) made_of
-    (has_items elements.items _ size c.if-is_empty.ensures)))
+    (some_elements_spell_pattern f g.M.MakeTexts.made _ (record { elements = elements }) made_of
+    (nonzero_count_is_not_empty elements.items _ size c.if-is_empty.ensures)))
 
 pub get_pattern-returns-in_ok-pattern-in-Some-clause-parses :
     goal.get_pattern-returns-in_ok-pattern-in-Some-clause-parses
@@ -243,21 +258,24 @@ get_pattern-returns-in_err-pattern-in-Some-clause-parses g m c =
 
 pub gather_pieces-returns-in-None-clause-parses : goal.gather_pieces-returns-in-None-clause-parses
 gather_pieces-returns-in-None-clause-parses g m c =
-    all_made (piece_view g.M.MakeTexts.made) _ c.loop-elements.invariant.gathered (end_pieces
+    items_made_to_end_are_list (piece_view g.M.MakeTexts.made) _ c.loop-elements.invariant.gathered
+    (no_piece_is_read_at_end_of_text
     c.args.self.now.source.bytes.now
     (within c.args.self.now.edition c.args.self.now.source.bytes.now c.args.nesting) _ (sym c.in-None.ensures))
 
 pub gather_pieces-returns-then-is_eol_at-clause-parses : goal.gather_pieces-returns-then-is_eol_at-clause-parses
 gather_pieces-returns-then-is_eol_at-clause-parses g m c =
-    all_made (piece_view g.M.MakeTexts.made) _ c.loop-elements.invariant.gathered
-    (no_pieces c.args.self.now.source.bytes.now (within c.args.self.now.edition c.args.self.now.source.bytes.now
+    items_made_to_end_are_list (piece_view g.M.MakeTexts.made) _ c.loop-elements.invariant.gathered
+    (no_piece_is_read_at_eol c.args.self.now.source.bytes.now
+    (within c.args.self.now.edition c.args.self.now.source.bytes.now
     c.args.nesting) _ _
     (sym c.in-Some.ensures) (λ e. cc) (sym c.if-is_eol_at.ensures))
 
 pub gather_pieces-returns-then-byte-eq125-clause-parses : goal.gather_pieces-returns-then-byte-eq125-clause-parses
 gather_pieces-returns-then-byte-eq125-clause-parses g m c =
     item_fails c.loop-elements.invariant.gathered.beyond (refused (λ k from to (a, b, d). rw (a, b, d)
-    (bare_brace c.args.self.now.source.bytes.now (within c.args.self.now.edition c.args.self.now.source.bytes.now
+    (closing_brace_is_refused_as_piece c.args.self.now.source.bytes.now
+    (within c.args.self.now.edition c.args.self.now.source.bytes.now
     c.args.nesting) _ _
     (sym c.in-Some.ensures) (sym c.if-is_eol_at.ensures)
     c.if-byte-eq125.true)))
@@ -268,7 +286,8 @@ gather_pieces-returns-in_err-place-in-Some-clause-parses g m c =
     let p = err_from_is_err_and c.from_residual.result c.from_residual.ensures.1 in
     rw (p.1, p.2)
     (item_fails c.loop-elements.invariant.gathered.beyond
-    (placed_fails c.args.self.now.source.bytes.now (within c.args.self.now.edition c.args.self.now.source.bytes.now
+    (piece_at_brace_fails_as_placeable c.args.self.now.source.bytes.now
+    (within c.args.self.now.edition c.args.self.now.source.bytes.now
     c.args.nesting) _ _
     (sym c.in-Some.ensures) (sym c.if-is_eol_at.ensures)
     c.if-byte-eq123.true (fails_first c.in_err-place-in-Some.ensures.parses)))
@@ -284,10 +303,11 @@ gather_pieces-loop-elements-preserved-in-Continue-branch-2 g m c =
       forward = omega (arith, c.loop-elements.invariant.forward, read.within.0);
       within = read.within.1;
       gathered =
-          item_made (piece_view g.M.MakeTexts.made) _ _ _ piece.1 c.loop-elements.invariant.gathered
+          item_is_made_next (piece_view g.M.MakeTexts.made) _ _ _ piece.1 c.loop-elements.invariant.gathered
           (next_piece_is_functional t (within c.args.self.now.edition t c.args.nesting)
           (within_is_functional c.args.self.now.edition t _)) _
-          (placed_piece t (within c.args.self.now.edition t c.args.nesting) _ _ (sym c.in-Some.ensures)
+          (placeable_at_brace_is_next_piece t (within c.args.self.now.edition t c.args.nesting) _ _
+          (sym c.in-Some.ensures)
           (sym c.if-is_eol_at.ensures) c.if-byte-eq123.true _
           (goes_on there given)) (piece.2 _ _ added);
     }
@@ -304,11 +324,12 @@ gather_pieces-loop-elements-preserved g m c =
       forward = omega (arith, c.loop-elements.invariant.forward, run.forward);
       within = c.run_end-to.ensures.within;
       gathered =
-          item_made (piece_view g.M.MakeTexts.made) _ _ _ c.in_ok-add_run-in-Some.ensures
+          item_is_made_next (piece_view g.M.MakeTexts.made) _ _ _ c.in_ok-add_run-in-Some.ensures
           c.loop-elements.invariant.gathered
           (next_piece_is_functional t (within c.args.self.now.edition t c.args.nesting)
           (within_is_functional c.args.self.now.edition t _)) _
-          (run_piece t (within c.args.self.now.edition t c.args.nesting) _ _ (sym c.in-Some.ensures)
+          (run_at_plain_byte_is_next_piece t (within c.args.self.now.edition t c.args.nesting) _ _
+          (sym c.in-Some.ensures)
           (sym c.if-is_eol_at.ensures) c.if-byte-eq125.false
           c.if-byte-eq123.false _ run) refl;
     }
@@ -329,7 +350,7 @@ pub gather_pieces-loop-elements-init : goal.gather_pieces-loop-elements-init
 gather_pieces-loop-elements-init g m c = record {
   forward = omega arith;
   within = c.requires.within;
-  gathered = rw c.requires.empty (no_items (piece_view g.M.MakeTexts.made));
+  gathered = rw c.requires.empty (no_items_are_made_at_start (piece_view g.M.MakeTexts.made));
 }
 
 pub gather_pieces-loop-elements-smaller : goal.gather_pieces-loop-elements-smaller
@@ -346,9 +367,9 @@ gather_line-returns-in_err-end-clause-adds g m c =
     let t = c.args.self.now.source.bytes.now in
     let p = err_from_is_err_and c.from_residual.result c.from_residual.ensures.1 in
     rw (p.1, p.2) (
-      fails_next here_is_functional at_place
-          (fails_next (inline_blank_is_functional t) (passed c.requires.blank)
-          (fails_next here_is_functional at_place
+      bind_fails_second here_is_functional at_place
+          (bind_fails_second (inline_blank_is_functional t) (passed c.requires.blank)
+          (bind_fails_second here_is_functional at_place
           (fails_first c.in_err-end.ensures.parses))),
       refl,
     )
@@ -362,10 +383,11 @@ pub gather_line-returns-clause-adds : goal.gather_line-returns-clause-adds
 gather_line-returns-clause-adds g m c =
     let t = c.args.self.now.source.bytes.now in
     let (added, found, pushed, is, ends) = c.in_ok-next.ensures.adds in
-    on_made c.in_ok-end.ensures.parses (λ ps there same. (
+    made_was_read c.in_ok-end.ensures.parses (λ ps there same. (
       added,
       pushed,
-      made (line_read t (within c.args.self.now.edition t c.args.nesting) _ _ c.requires.blank _ _ _ _ there ends)
+      made (line_is_read_from_its_parts t
+          (within c.args.self.now.edition t c.args.nesting) _ _ c.requires.blank _ _ _ _ there ends)
           (is ∙ rw same refl),
     ))
 
@@ -380,21 +402,22 @@ gather_line-returns-clause-within g m c =
 
 pub gather_lines-returns-in-None-clause-parses : goal.gather_lines-returns-in-None-clause-parses
 gather_lines-returns-in-None-clause-parses g m c =
-    all_made (line_view g.M.MakeTexts.made) _ c.loop-byte.invariant.gathered
+    items_made_to_end_are_list (line_view g.M.MakeTexts.made) _ c.loop-byte.invariant.gathered
     (no_byte c.skip_blank_inline-first.ensures.blank (sym c.in-None.ensures))
 
 pub gather_lines-returns-in-None-clause-beyond : goal.gather_lines-returns-in-None-clause-beyond
 gather_lines-returns-in-None-clause-beyond g m c =
-    none_at_end c.args.self.now.source.bytes.now c.skip_blank_inline-first.ensures.blank (sym c.in-None.ensures)
+    block_at_no_byte_is_empty c.args.self.now.source.bytes.now c.skip_blank_inline-first.ensures.blank
+    (sym c.in-None.ensures)
 
 pub gather_lines-returns-then-not-belongs-clause-beyond : goal.gather_lines-returns-then-not-belongs-clause-beyond
 gather_lines-returns-then-not-belongs-clause-beyond g m c =
-    none_before_other c.args.self.now.source.bytes.now c.skip_blank_inline-first.ensures.blank _
+    block_before_other_line_is_empty c.args.self.now.source.bytes.now c.skip_blank_inline-first.ensures.blank _
     (sym c.if-not-belongs.ensures)
 
 pub gather_lines-returns-then-not-belongs-clause-parses : goal.gather_lines-returns-then-not-belongs-clause-parses
 gather_lines-returns-then-not-belongs-clause-parses g m c =
-    all_made (line_view g.M.MakeTexts.made) _ c.loop-byte.invariant.gathered
+    items_made_to_end_are_list (line_view g.M.MakeTexts.made) _ c.loop-byte.invariant.gathered
     (other_line c.skip_blank_inline-first.ensures.blank (sym c.in-Some.ensures) (sym c.if-not-belongs.ensures))
 
 pub gather_lines-returns-in_err-start-in-Some-clause-parses :
@@ -411,11 +434,11 @@ pub gather_lines-loop-byte-preserved : goal.gather_lines-loop-byte-preserved
 gather_lines-loop-byte-preserved g m c =
     let t = c.args.self.now.source.bytes.now in
     let read = c.in_ok-start-in-Some.ensures in
-    on_made read.adds.2 (λ l there same. record {
+    made_was_read read.adds.2 (λ l there same. record {
       forward = omega (arith, c.loop-byte.invariant.forward, read.within.0);
       within = read.within.1;
       gathered =
-          item_made (line_view g.M.MakeTexts.made) _ _ _ read.adds.1 c.loop-byte.invariant.gathered
+          item_is_made_next (line_view g.M.MakeTexts.made) _ _ _ read.adds.1 c.loop-byte.invariant.gathered
           (next_line_is_functional t (within c.args.self.now.edition t c.args.nesting)
           (within_is_functional c.args.self.now.edition t _)) _
           (own_line c.skip_blank_inline-first.ensures.blank (sym c.in-Some.ensures) (sym c.if-not-belongs.ensures)
@@ -426,5 +449,5 @@ pub gather_lines-loop-byte-init : goal.gather_lines-loop-byte-init
 gather_lines-loop-byte-init g m c = record {
   forward = omega arith;
   within = c.requires.within;
-  gathered = rw c.requires.empty (no_items (line_view g.M.MakeTexts.made));
+  gathered = rw c.requires.empty (no_items_are_made_at_start (line_view g.M.MakeTexts.made));
 }

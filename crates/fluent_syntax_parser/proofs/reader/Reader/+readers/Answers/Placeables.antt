@@ -7,9 +7,10 @@ use Rattle.fluent_syntax_grammar.specs.Expressions.{is_term_attribute}
 use Rattle.fluent_syntax_grammar.proofs.FunctionalWords.{blank_is_functional, token_is_functional}
 use Rattle.fluent_syntax_grammar.proofs.Nesting.{within_is_functional}
 use Rattle.fluent_syntax_parser.specs.Outcomes.{refused, too_deep}
-use Rattle.fluent_syntax_parser.proofs.readers.Fails.{braces, fails_braces, fails_first, fails_next, no_placeable}
+use Rattle.fluent_syntax_parser.proofs.readers.Fails.{braces, expression_in_nonzero_depth_fails_alike, fails_first}
+use Rattle.fluent_syntax_parser.proofs.readers.Fails.{bind_fails_second, placeable_at_depth_zero_is_too_deep}
 use Rattle.fluent_syntax_parser.proofs.expressions.LastPlaced.{placed_in}
-use Rattle.fluent_syntax_parser.proofs.readers.Made.{same_term_attribute}
+use Rattle.fluent_syntax_parser.proofs.readers.Made.{mapping_keeps_is_term_attribute}
 use Rattle.fluent_syntax_parser.proofs.expressions.Selects.{select_is_read_past_blank}
 use Rattle.fluent_syntax_parser.proofs.reader.Reader.+readers.Goals as goal
 
@@ -21,16 +22,17 @@ add_placeable-returns-in_err-start-clause-parses g m c =
 
 pub add_placeable-returns-then-nesting-eq0-clause-parses : goal.add_placeable-returns-then-nesting-eq0-clause-parses
 add_placeable-returns-then-nesting-eq0-clause-parses g m c =
-    too_deep (no_placeable _ _ _ _ _ c.if-nesting-eq0.true c.in_ok-start.ensures.parses)
+    too_deep (placeable_at_depth_zero_is_too_deep _ _ _ _ _ c.if-nesting-eq0.true c.in_ok-start.ensures.parses)
 
 pub add_placeable-returns-in_err-ptr-clause-parses : goal.add_placeable-returns-in_err-ptr-clause-parses
 add_placeable-returns-in_err-ptr-clause-parses g m c =
     let t = c.args.self.now.source.bytes.now in
     let p = err_from_is_err_and c.from_residual-in_err-ptr.result c.from_residual-in_err-ptr.ensures.1 in
     rw (p.1, p.2)
-    (fails_next (token_is_functional t left_brace) c.in_ok-start.ensures.parses
-    (fails_next (blank_is_functional t) (passed c.skip_blank-start.ensures.blank)
-    (fails_first (fails_braces c.args.self.now.edition t c.if-nesting-eq0.false c.in_err-ptr.ensures.parses))))
+    (bind_fails_second (token_is_functional t left_brace) c.in_ok-start.ensures.parses
+    (bind_fails_second (blank_is_functional t) (passed c.skip_blank-start.ensures.blank)
+    (fails_first (expression_in_nonzero_depth_fails_alike c.args.self.now.edition t c.if-nesting-eq0.false
+    c.in_err-ptr.ensures.parses))))
 
 pub add_placeable-returns-in_err-end-clause-parses : goal.add_placeable-returns-in_err-end-clause-parses
 add_placeable-returns-in_err-end-clause-parses g m c =
@@ -80,7 +82,8 @@ add_expression-returns-then-is_term_attribute-clause-parses g m c =
     (goes_on (passed c.skip_blank-ptr.ensures.blank)
     (goes_on (chosen given)
     (second (sym c.if-is_arrow.ensures)
-    (first (sym (same_term_attribute _ e) ∙ ap is_term_attribute (sym there) ∙ sym c.if-is_term_attribute.ensures)
+    (first (sym (mapping_keeps_is_term_attribute _ e) ∙ ap is_term_attribute (sym there)
+    ∙ sym c.if-is_term_attribute.ensures)
     (failed refl)))))))
 
 pub add_expression-returns-clause-parses : goal.add_expression-returns-clause-parses
@@ -94,7 +97,8 @@ add_expression-returns-clause-parses g m c =
           (goes_on (chosen given)
           (second (sym c.if-is_arrow.ensures)
           (second
-          (sym (same_term_attribute _ e) ∙ ap is_term_attribute (sym there) ∙ sym c.if-is_term_attribute.ensures)
+          (sym (mapping_keeps_is_term_attribute _ e) ∙ ap is_term_attribute (sym there)
+          ∙ sym c.if-is_term_attribute.ensures)
           given)))),
       added,
     )

@@ -15,13 +15,17 @@ use Rattle.fluent_syntax_grammar.proofs.FunctionalWords.{token_is_functional}
 use Rattle.fluent_syntax_grammar.proofs.Nesting.{within_is_functional}
 use Rattle.fluent_syntax_parser.specs.Outcomes.{no_memory, refused}
 use Rattle.fluent_syntax_parser.proofs.readers.ContinuesFrom.{item_fails}
-use Rattle.fluent_syntax_parser.proofs.readers.Fails.{fails_first, fails_next, fails_yes, star_is_functional}
+use Rattle.fluent_syntax_parser.proofs.readers.Fails.{fails_first, bind_fails_second, branch_fails_with_first_when_true}
+use Rattle.fluent_syntax_parser.proofs.readers.Fails.{star_is_functional}
 use Rattle.fluent_syntax_parser.proofs.readers.Fails.{memory_is_err}
-use Rattle.fluent_syntax_parser.proofs.expressions.GatheredVariants.{variants_end, no_variant, variant_made}
-use Rattle.fluent_syntax_parser.proofs.expressions.LastPlaced.{placed_as, placed_in}
-use Rattle.fluent_syntax_parser.proofs.readers.Made.{no_value_read, on_made, on_value}
+use Rattle.fluent_syntax_parser.proofs.expressions.GatheredVariants.{variants_made_to_end_are_all}
+use Rattle.fluent_syntax_parser.proofs.expressions.GatheredVariants.{no_variants_are_made_at_start}
+use Rattle.fluent_syntax_parser.proofs.expressions.GatheredVariants.{variant_is_made_next}
+use Rattle.fluent_syntax_parser.proofs.expressions.LastPlaced.{added_placeable_has_equal_tree, placed_in}
+use Rattle.fluent_syntax_parser.proofs.readers.Made.{no_value_read, made_was_read, made_value_was_read}
 use Rattle.fluent_syntax_parser.proofs.expressions.Selects.{select_start_is_functional, same_selector_fault_of_tree}
-use Rattle.fluent_syntax_parser.proofs.expressions.Selects.{select_fails, select_read}
+use Rattle.fluent_syntax_parser.proofs.expressions.Selects.{select_fails_with_its_variants}
+use Rattle.fluent_syntax_parser.proofs.expressions.Selects.{read_variants_are_read_as_select}
 use Rattle.fluent_syntax_parser.proofs.reader.Reader.+readers.Goals as goal
 
 pub end_select-last_inline-requires : goal.end_select-last_inline-requires
@@ -35,7 +39,7 @@ end_select-returns-in_err-start-clause-parses g m c = λ old e added.
     let there = c.last_inline.ensures old _ (placed_in g.M.MakeTexts.made _ _ c.deref.ensures.value added) in
     let p = err_from_is_err_and c.from_residual.result c.from_residual.ensures.1 in
     rw (p.1, p.2)
-    (select_fails c.args.self.now.edition t _ e _ (same_selector_fault_of_tree _ _ e there)
+    (select_fails_with_its_variants c.args.self.now.edition t _ e _ (same_selector_fault_of_tree _ _ e there)
     (refused (λ k from to h. stops (c.in_err-start.ensures.parses k from to h))))
 
 pub end_select-returns-in_err-end-clause-parses : goal.end_select-returns-in_err-end-clause-parses
@@ -44,8 +48,8 @@ end_select-returns-in_err-end-clause-parses g m c = λ old e added.
     let there = c.last_inline.ensures old _ (placed_in g.M.MakeTexts.made _ _ c.deref.ensures.value added) in
     let p = err_from_is_err_and c.from_residual-in_err-end.result c.from_residual-in_err-end.ensures.1 in
     rw (p.1, p.2)
-    (select_fails c.args.self.now.edition t _ e _ (same_selector_fault_of_tree _ _ e there)
-    (fails_next (select_start_is_functional t _) c.in_ok-start.ensures.parses c.in_err-end.ensures.parses))
+    (select_fails_with_its_variants c.args.self.now.edition t _ e _ (same_selector_fault_of_tree _ _ e there)
+    (bind_fails_second (select_start_is_functional t _) c.in_ok-start.ensures.parses c.in_err-end.ensures.parses))
 
 pub end_select-returns-in_err-add_variants-clause-parses : goal.end_select-returns-in_err-add_variants-clause-parses
 end_select-returns-in_err-add_variants-clause-parses g m c = λ old e added.
@@ -57,11 +61,11 @@ end_select-returns-clause-parses g m c = λ old e added.
     let t = c.args.self.now.source.bytes.now in
     let v = g.M.MakeTexts.made in
     let there = c.last_inline.ensures old _ (placed_in v _ _ c.deref.ensures.value added) in
-    on_made c.in_ok-end.ensures.parses (λ vs read same. (
+    made_was_read c.in_ok-end.ensures.parses (λ vs read same. (
       _,
-      select_read c.args.self.now.edition t _ e _ (same_selector_fault_of_tree _ _ e there)
+      read_variants_are_read_as_select c.args.self.now.edition t _ e _ (same_selector_fault_of_tree _ _ e there)
           (goes_on c.in_ok-start.ensures.parses read),
-      placed_as v _ _ _ (c.in_ok-add_variants.ensures old _ added)
+      added_placeable_has_equal_tree v _ _ _ (c.in_ok-add_variants.ensures old _ added)
           (ap (select (inline_map (g.M.MakeTexts.source c.args.self.now.texts.now) e)) same),
     ))
 
@@ -75,7 +79,7 @@ gather_variants-returns-then-star-clause-parses g m c =
 
 pub gather_variants-returns-then-has_default-clause-parses : goal.gather_variants-returns-then-has_default-clause-parses
 gather_variants-returns-then-has_default-clause-parses g m c =
-    variants_end g.M.MakeTexts.made _ c.loop-starred.invariant.gathered
+    variants_made_to_end_are_all g.M.MakeTexts.made _ c.loop-starred.invariant.gathered
     (goes_on c.take_byte_if-star.ensures.parses
     (goes_on (second (and_with_a_false_is_false _ _ c.else-starred.either) given)
     (goes_on c.take_byte_if-bracket.ensures.parses
@@ -124,15 +128,15 @@ gather_variants-returns-in_err-value-clause-parses g m c =
     let p = err_from_is_err_and c.from_residual-in_err-value.result c.from_residual-in_err-value.ensures.1 in
     rw (p.1, p.2)
     (item_fails c.loop-starred.invariant.gathered.beyond
-    (fails_next (optional_is_functional t asterisk) c.take_byte_if-star.ensures.parses
-    (fails_next (star_is_functional c.loop-starred.starred c.take_byte_if-star.result.0)
+    (bind_fails_second (optional_is_functional t asterisk) c.take_byte_if-star.ensures.parses
+    (bind_fails_second (star_is_functional c.loop-starred.starred c.take_byte_if-star.result.0)
     (second (and_with_a_false_is_false _ _ c.else-starred.either) given)
-    (fails_next (optional_is_functional t left_bracket) c.take_byte_if-bracket.ensures.parses
-    (fails_yes c.if-not-bracket.false
-    (fails_next (blank_is_functional t) (passed c.skip_blank-start.ensures.blank)
-    (fails_next (key_is_functional t) c.in_ok-key.ensures.parses
-    (fails_next (blank_is_functional t) (passed c.skip_blank-next.ensures.blank)
-    (fails_next (token_is_functional t right_bracket) c.in_ok-next.ensures.parses
+    (bind_fails_second (optional_is_functional t left_bracket) c.take_byte_if-bracket.ensures.parses
+    (branch_fails_with_first_when_true c.if-not-bracket.false
+    (bind_fails_second (blank_is_functional t) (passed c.skip_blank-start.ensures.blank)
+    (bind_fails_second (key_is_functional t) c.in_ok-key.ensures.parses
+    (bind_fails_second (blank_is_functional t) (passed c.skip_blank-next.ensures.blank)
+    (bind_fails_second (token_is_functional t right_bracket) c.in_ok-next.ensures.parses
     (fails_first c.in_err-value.ensures.parses))))))))))
 
 pub gather_variants-returns-in_default-clause-parses : goal.gather_variants-returns-in_default-clause-parses
@@ -140,7 +144,7 @@ gather_variants-returns-in_default-clause-parses g m c =
     let t = c.args.self.now.source.bytes.now in
     let found = rw c.in_default.is at c.in_ok-value.ensures.parses in
     let value_read = pattern c.args.self.now.edition t (within c.args.self.now.edition t c.args.nesting) in
-    on_made found (λ o read same.
+    made_was_read found (λ o read same.
     let none = no_value_read (pattern_map (g.M.MakeTexts.source c.args.self.now.texts.now)) value_read o read same in
     item_fails c.loop-starred.invariant.gathered.beyond (refused (λ k from to (a, b, d). rw (a, b, d)
     (goes_on c.take_byte_if-star.ensures.parses
@@ -161,8 +165,8 @@ gather_variants-loop-starred-preserved g m c =
     let old = c.loop-starred in
     let added = c.in_ok-add_variant.ensures in
     let value_read = pattern c.args.self.now.edition t (within c.args.self.now.edition t c.args.nesting) in
-    on_made found (λ o read same.
-    on_value (pattern_map (g.M.MakeTexts.source c.args.self.now.texts.now)) value_read o read same
+    made_was_read found (λ o read same.
+    made_value_was_read (pattern_map (g.M.MakeTexts.source c.args.self.now.texts.now)) value_read o read same
     (λ value there same_value. record {
       forward =
           omega (
@@ -179,7 +183,7 @@ gather_variants-loop-starred-preserved g m c =
           );
       within = c.skip_blank-place.ensures.within;
       gathered =
-          variant_made g.M.MakeTexts.made _ _ added.0 added.1 old.invariant.gathered
+          variant_is_made_next g.M.MakeTexts.made _ _ added.0 added.1 old.invariant.gathered
           (next_variant_is_functional c.args.self.now.edition t _ (within_is_functional c.args.self.now.edition t _)
           old.starred)
           (variant (key_view (λ s. s) c.in_ok-key.key) value c.take_byte_if-star.result.0) _
@@ -206,5 +210,5 @@ pub gather_variants-loop-starred-init : goal.gather_variants-loop-starred-init
 gather_variants-loop-starred-init g m c = record {
   forward = omega arith;
   within = c.requires.within;
-  gathered = rw c.requires.empty (no_variant g.M.MakeTexts.made);
+  gathered = rw c.requires.empty (no_variants_are_made_at_start g.M.MakeTexts.made);
 }
