@@ -304,9 +304,9 @@ static void odd_calls(void)
             !is_untouched(array_end - 4 * size_of(call), array_end))
             fault(call, "bytes that are no text", sizeof bad, count);
         count = 99;
-        /* the JSON of no entries; `key` is defined twice in the other text, whose three entries the text lacks */
+        /* the JSON of no entries; `key` is defined twice in the other text, whose three names the text lacks */
         size_t given = call == FTL_JSON ? strlen("{\"body\":[]}\n") : call == INSERT ? sizeof new_entry - 1 :
-                       call < FINDINGS || call >= SET_VALUE ? 0 : call < COMPARISON ? 2 : 4;
+                       call < FINDINGS || call >= SET_VALUE ? 0 : call < COMPARISON ? 2 : 3;
         uint32_t status = tried(call, NULL, 0, 0, &count);
         uint32_t wants = given != 0 ? FTL_TOO_SMALL : call == FROM_JSON ? FTL_NO_TREE :
                          call >= SET_VALUE ? FTL_NOT_FOUND : FTL_CLEAN;
@@ -407,10 +407,10 @@ static void kind_names(void)
         kind_name(ftl_kind_name, kind);
     for (uint32_t kind = FTL_FINDING_DEFINED_TWICE; kind <= FTL_FINDING_VARIANT_TWICE; kind++)
         kind_name(ftl_finding_kind_name, kind);
-    for (uint32_t kind = FTL_FINDING_MISSING; kind <= FTL_FINDING_OBSOLETE_REFERENCE; kind++)
+    for (uint32_t kind = FTL_FINDING_MISSING; kind <= FTL_FINDING_UNKNOWN_FUNCTION; kind++)
         kind_name(ftl_finding_kind_name, kind);
     static const uint32_t wrong[] = {0, FTL_EXPECTED_LITERAL + 1, FTL_FINDING_MISSING - 1,
-                                     FTL_FINDING_OBSOLETE_REFERENCE + 1, 0xFFFFFFFF};
+                                     FTL_FINDING_UNKNOWN_FUNCTION + 1, 0xFFFFFFFF};
     for (size_t i = 0; i < sizeof wrong / sizeof wrong[0]; i++) {
         count = 99;
         if (ftl_kind_name(wrong[i], want, ROOM, &count) != FTL_WRONG_ARGUMENT || count != 0)

@@ -15,6 +15,7 @@ SEVERITIES = {
     "missing": "error", "missing-value": "error",
     "missing-attribute": "error", "missing-reference": "warning", "obsolete": "warning", "obsolete-value": "warning",
     "obsolete-attribute": "warning", "unknown-variable": "error", "obsolete-reference": "warning",
+    "unknown-function": "warning",
 }
 LINKS = """hello = { place } { -brand } { hello.u } { only }
 hello = Grüße
@@ -150,6 +151,8 @@ class Findings(unittest.TestCase):
         (more,) = dovelectern.compare("a = A\n", "a = A { b.c }\n")
         self.assertEqual((more.kind, more.message), ("obsolete-reference", "the reference's entry does not refer to `b`"))
         self.assertEqual(told([more], "a = A\n", "a = A { b.c }\n"), [("obsolete-reference", (1, 1, 9, "b"), None)])
+        (call,) = dovelectern.compare("a = A\n", "a = { F() }\n")
+        self.assertEqual((call.kind, call.message), ("unknown-function", "the reference does not call `F`"))
         self.assertEqual(dovelectern.compare(REFERENCE, REFERENCE), [])
 
     def test_columns(self) -> None:
@@ -200,9 +203,9 @@ class Findings(unittest.TestCase):
                 call()
 
     def test_kinds(self) -> None:
-        names = [_library.finding_kind_name(number) for number in [*range(1, 9), *range(101, 110)]]
+        names = [_library.finding_kind_name(number) for number in [*range(1, 9), *range(101, 111)]]
         self.assertEqual(names, list(SEVERITIES))
-        for number in (0, 9, 100, 110, 2**32 - 1):
+        for number in (0, 9, 100, 111, 2**32 - 1):
             with self.assertRaises(ValueError):
                 _library.finding_kind_name(number)
 

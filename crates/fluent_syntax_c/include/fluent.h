@@ -160,7 +160,8 @@ enum ftl_finding_kind {
     FTL_FINDING_OBSOLETE_VALUE = 106,
     FTL_FINDING_OBSOLETE_ATTRIBUTE = 107,
     FTL_FINDING_UNKNOWN_VARIABLE = 108,
-    FTL_FINDING_OBSOLETE_REFERENCE = 109 /* since 2.4 */
+    FTL_FINDING_OBSOLETE_REFERENCE = 109, /* since 2.4 */
+    FTL_FINDING_UNKNOWN_FUNCTION = 110    /* since 2.4 */
 };
 
 /* How grave a finding is: each kind has one severity. */
@@ -169,8 +170,8 @@ enum ftl_severity {
     FTL_SEVERITY_WARNING = 2 /* it may be meant so */
 };
 
-/* What is found at a name, of a message, a term, an attribute or a variable, where it is defined or referred to, or at
-   the key of a variant. */
+/* What is found at a name, of a message, a term, an attribute, a variable or a function, where it is defined or
+   referred to, or at the key of a variant. */
 struct ftl_finding {
     size_t text;              /* the number of the text that has the name, from 0; of ftl_comparison the reference's is
                                  0, and the other text's is 1 */

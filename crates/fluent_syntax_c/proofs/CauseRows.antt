@@ -17,24 +17,25 @@ module _ (edition : Edition) (t : List ℕ) (tiles : List Tile) (errors : List P
     (errors_are : map fault_of errors ≡ map Some (faults tiles)) (causes : List (Option Cause))
     (as_many : length causes ≡ length errors) where
   -- causes that are as many as the errors are as many as the faults of the tiles
-  causes_of_faults : length causes ≡ length (faults tiles)
-  causes_of_faults =
+  causes_are_as_many_as_faults : length causes ≡ length (faults tiles)
+  causes_are_as_many_as_faults =
       as_many ∙ sym (length-map errors fault_of) ∙ ap length errors_are ∙ length-map (faults tiles) Some
 
   -- rows of causes that are as many as the errors
-  pub rows_of_causes : {E : Type 0} (s : List ℕ) → s ≡ t → (answer : Result (Vec FtlCause Global) E) →
+  pub rows_of_all_causes_are_causes : {E : Type 0} (s : List ℕ) → s ≡ t → (answer : Result (Vec FtlCause Global) E) →
       IfOk answer (λ rows. rows.items ≡ map (cause_row s) causes) →
       IfOk answer (λ rows. AreCauses edition t tiles rows.items)
-  rows_of_causes s same (Ok rows) is = record {
+  rows_of_all_causes_are_causes s same (Ok rows) is = record {
     causes = causes;
-    as_many = causes_of_faults;
+    as_many = causes_are_as_many_as_faults;
     rows_are = is ∙ ap (λ u. map (cause_row u) causes) same;
   }
-  rows_of_causes s same (Err e) is = is
+  rows_of_all_causes_are_causes s same (Err e) is = is
 
   -- so are their lines
-  pub lines_of_causes : {E : Type 0} (answer : Result (Vec ℕ Global) E) →
+  pub lines_of_all_causes_are_cause_messages : {E : Type 0} (answer : Result (Vec ℕ Global) E) →
       IfOk answer (λ lines. lines.items ≡ flat_map cause_line causes) →
       IfOk answer (λ lines. AreCauseMessages edition t tiles lines.items)
-  lines_of_causes (Ok lines) is = record { causes = causes; as_many = causes_of_faults; lines_are = is }
-  lines_of_causes (Err e) is = is
+  lines_of_all_causes_are_cause_messages (Ok lines) is =
+      record { causes = causes; as_many = causes_are_as_many_as_faults; lines_are = is }
+  lines_of_all_causes_are_cause_messages (Err e) is = is

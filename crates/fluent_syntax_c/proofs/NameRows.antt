@@ -17,7 +17,7 @@ use Rattle.fluent_syntax_tree.proofs.Every.{every_item}
 use Rattle.fluent_syntax_grammar.specs.Body.{alone}
 use Rattle.fluent_syntax_grammar.specs.Places.{BlankBlock}
 use Rattle.fluent_syntax_grammar.specs.Tiling.{Tile, Tiled, TileAt, Tiling, done, next, reads, refuses}
-use Rattle.fluent_syntax_grammar.proofs.Boundaries.{boundary_cuts}
+use Rattle.fluent_syntax_grammar.proofs.Boundaries.{char_boundaries_are_boundaries}
 use Rattle.fluent_syntax_grammar.proofs.Cuts.{block_place}
 use Rattle.fluent_syntax_grammar.proofs.OneTiling.{same_tilings}
 use Rattle.fluent_syntax_grammar.proofs.SoundTiling.{EndedTile, IsTileWellFormed, tile_good}
@@ -54,14 +54,14 @@ tiles_rows-append t n (x ∷ xs) tile =
 
 module _ (edition : Edition) (t : List ℕ) where
   -- The rows are those of tiles that lead up to the place i.
-  pub record NamesTo (i : ℕ) (rows : List FtlName) : Type 0 where
+  pub record HasNameRowsBefore (i : ℕ) (rows : List FtlName) : Type 0 where
     pub boundary : IsCharBoundary t i
     pub tiles : List Tile
     pub rows_are : rows ≡ tiles_rows t 0 tiles
     pub whole : (more : List Tile) → Tiled t (TileAt edition t) i more → Tiled t (TileAt edition t) 0 (tiles ++ more)
 
-  pub names_of_nothing : IsUtf8 t → NamesTo 0 []
-  names_of_nothing utf8 = record {
+  pub no_name_rows_are_before_start : IsUtf8 t → HasNameRowsBefore 0 []
+  no_name_rows_are_before_start utf8 = record {
     boundary = IsCharBoundary-start t utf8;
     tiles = [];
     rows_are = refl;
@@ -74,35 +74,37 @@ module _ (edition : Edition) (t : List ℕ) where
   rows_given s tile e n (reads {e = v} r) given = let same : v ≡ tree_of e = cc in ap (entry_rows t n s) same
   rows_given s tile e n (refuses r end) given = let same : junk s ≡ tree_of e = cc in ap (entry_rows t n s) same
 
-  module _ (utf8 : IsUtf8 t) (i j : ℕ) (found : SpannedTile) (rows : List FtlName) (names : NamesTo i rows)
+  module _ (utf8 : IsUtf8 t) (i j : ℕ) (found : SpannedTile) (rows : List FtlName) (names : HasNameRowsBefore i rows)
       (to : TileTo edition t i j found) where
-    ends_there : EndedTile edition t (IsCharBoundary t) (boundary_cuts t utf8) found.span.start found.span.end to.tile
-    ends_there =
-        let cuts = boundary_cuts t utf8 in
+    found_tile_ends_at_boundary : EndedTile edition t (IsCharBoundary t)
+        (char_boundaries_are_boundaries t utf8) found.span.start found.span.end to.tile
+    found_tile_ends_at_boundary =
+        let cuts = char_boundaries_are_boundaries t utf8 in
         tile_good edition t (IsCharBoundary t) cuts found.span.start found.span.end to.tile
         (block_place t (IsCharBoundary t) cuts i found.span.start names.boundary to.blank) to.inside to.in_place
 
-    parts_given : (tile : Tile) → TileAt edition t found.span.start found.span.end tile →
+    tile_of_entry_has_parts_in_text : (tile : Tile) → TileAt edition t found.span.start found.span.end tile →
         alone tile ≡ tree_of found.entry ∷ [] →
-        IsTileWellFormed edition t (IsCharBoundary t) (boundary_cuts t utf8) tile →
+        IsTileWellFormed edition t (IsCharBoundary t) (char_boundaries_are_boundaries t utf8) tile →
         entry_every (IsTextRange t) (tree_of found.entry)
-    parts_given tile (reads {e = v} r) given good =
+    tile_of_entry_has_parts_in_text tile (reads {e = v} r) given good =
         let same : v ≡ tree_of found.entry = cc in subst (entry_every (IsTextRange t)) same good.2
-    parts_given tile (refuses r end) given good =
+    tile_of_entry_has_parts_in_text tile (refuses r end) given good =
         let same : junk found.span ≡ tree_of found.entry = cc in subst (entry_every (IsTextRange t)) same good.1
 
     -- the texts of what was found are parts of the source
-    pub parts_found : entry_every (IsTextRange t) (tree_of found.entry)
-    parts_found = parts_given to.tile to.in_place to.yields.entry ends_there.good
+    pub found_entry_has_parts_in_text : entry_every (IsTextRange t) (tree_of found.entry)
+    found_entry_has_parts_in_text =
+        tile_of_entry_has_parts_in_text to.tile to.in_place to.yields.entry found_tile_ends_at_boundary.good
 
     -- its rows after those before it
-    pub names_on : (new : List FtlName) → new ≡ rows ++ entry_rows t (length rows) found.span (tree_of found.entry) →
-        NamesTo j new
-    names_on new added =
+    pub name_rows_grow_by_entry_rows : (new : List FtlName) →
+        new ≡ rows ++ entry_rows t (length rows) found.span (tree_of found.entry) → HasNameRowsBefore j new
+    name_rows_grow_by_entry_rows new added =
         let own = rows_given found.span to.tile found.entry (length rows) to.in_place to.yields.entry in
         let counted : length rows ≡ 0 + length rows = omega arith in
         record {
-          boundary = subst (IsCharBoundary t) (sym to.ends) ends_there.place;
+          boundary = subst (IsCharBoundary t) (sym to.ends) found_tile_ends_at_boundary.place;
           tiles = names.tiles ++ (to.tile ∷ []);
           rows_are =
               added ∙ ap (λ given. rows ++ given) (sym own)
@@ -116,9 +118,9 @@ module _ (edition : Edition) (t : List ℕ) where
         }
 
   -- the rows of the whole text, where nothing but a blank block is left
-  pub names_of_all : (i : ℕ) (rows : List FtlName) → NamesTo i rows → BlankBlock t i (length t) →
-      NamesTiles edition t rows
-  names_of_all i rows names blank = record {
+  pub name_rows_at_end_are_names_of_tiles : (i : ℕ) (rows : List FtlName) → HasNameRowsBefore i rows →
+      BlankBlock t i (length t) → NamesTiles edition t rows
+  name_rows_at_end_are_names_of_tiles i rows names blank = record {
     tiles = names.tiles;
     has_tiles = subst (Tiled t (TileAt edition t) 0) (append-nil names.tiles) (names.whole [] (done blank));
     rows_are = names.rows_are;

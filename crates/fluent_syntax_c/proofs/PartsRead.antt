@@ -31,7 +31,7 @@ use Rattle.fluent_syntax_c.specs.Status.{EndsAs, edit_refusal_number, refusal_nu
 use Rattle.fluent_syntax_c.specs.declared.status.EditRefusal.{EditRefusal}
 use Rattle.fluent_syntax_c.specs.declared.status.Refusal.{Refusal}
 use Rattle.fluent_syntax_c.specs.declared.status.Refusal.TheVariants.{Argument, Input, Depth, Tree}
-use Rattle.fluent_syntax_c.proofs.Statuses.{either_absurd, new_text_is_given, unmade_edit_has_reason}
+use Rattle.fluent_syntax_c.proofs.Statuses.{either_of_two_absurd_is_absurd, new_text_is_given, unmade_edit_has_reason}
 use Rattle.fluent_syntax_c.specs.declared.edited.Action.{Action}
 use Rattle.fluent_syntax_c.specs.declared.edited.Action.TheVariants.{SetValue, Replace, Insert}
 use Rattle.fluent_syntax_c.specs.declared.text_trees.TextTree.{TextTree}
@@ -50,9 +50,9 @@ clean_text_has_no_faults (f ∷ fs) e = cc
 
 module _ (edition : Edition) (t : List ℕ) (read : TextTree) (is : IsTextTree edition t read) where
   -- a text without errors reads as its tree
-  pub reads_clean : (tree : BodyTree Text) → read.outcome ≡ Clean →
+  pub clean_reading_reads_as_its_tree : (tree : BodyTree Text) → read.outcome ≡ Clean →
       resource_view (λ text. text.now) read.tree ≡ tree → ReadsAs edition t tree
-  reads_clean tree clean same = record {
+  clean_reading_reads_as_its_tree tree clean same = record {
     tiles = is.tiles;
     tiling = is.has_tiles;
     no_faults = clean_text_has_no_faults (faults is.tiles) (sym is.outcome_is ∙ clean);
@@ -60,37 +60,37 @@ module _ (edition : Edition) (t : List ℕ) (read : TextTree) (is : IsTextTree e
   }
 
   -- what a text reads as without errors is its tree
-  pub tree_read : (tree : BodyTree Text) → ReadsAs edition t tree →
+  pub readable_text_is_read_to_its_tree : (tree : BodyTree Text) → ReadsAs edition t tree →
       resource_view (λ text. text.now) read.tree ≡ tree
-  tree_read tree reads =
+  readable_text_is_read_to_its_tree tree reads =
       let same = same_tilings edition t is.tiles reads.tiles is.has_tiles reads.tiling in
       is.tree_is ∙ ap (tree_of t) same ∙ reads.same
 
-  pub clean_read : (tree : BodyTree Text) → ReadsAs edition t tree → read.outcome ≡ Clean
-  clean_read tree reads =
+  pub readable_text_is_read_clean : (tree : BodyTree Text) → ReadsAs edition t tree → read.outcome ≡ Clean
+  readable_text_is_read_clean tree reads =
       let same = same_tilings edition t is.tiles reads.tiles is.has_tiles reads.tiling in
       is.outcome_is ∙ ap outcome_of same ∙ ap outcome_with reads.no_faults
 
   -- the only entry of a text without errors is what it reads as
-  pub entry_reads : (answer : Option (Bor (Entry (Bor (List ℕ))))) (entries : List (Entry (Bor (List ℕ)))) →
-      entries ≡ read.tree.body.items → read.outcome ≡ Clean →
+  pub clean_text_of_one_entry_reads_as_it : (answer : Option (Bor (Entry (Bor (List ℕ)))))
+      (entries : List (Entry (Bor (List ℕ)))) → entries ≡ read.tree.body.items → read.outcome ≡ Clean →
       IfSome answer (λ entry. map (entry_view (λ text. text.now)) entries
       ≡ entry_view (λ text. text.now) entry.now ∷ []) →
       IfSome answer (λ entry. ReadsAs edition t (entry_view (λ text. text.now) entry.now ∷ []))
-  entry_reads (Some entry) entries same clean found =
-      reads_clean _ clean (ap (map (entry_view (λ text. text.now))) (sym same) ∙ found)
-  entry_reads None entries same clean found = found
+  clean_text_of_one_entry_reads_as_it (Some entry) entries same clean found =
+      clean_reading_reads_as_its_tree _ clean (ap (map (entry_view (λ text. text.now))) (sym same) ∙ found)
+  clean_text_of_one_entry_reads_as_it None entries same clean found = found
 
   pub no_entry_reads : (answer : Option (Bor (Entry (Bor (List ℕ))))) (entries : List (Entry (Bor (List ℕ)))) →
       entries ≡ read.tree.body.items →
       IfNone answer ((e : EntryTree Text) → map (entry_view (λ text. text.now)) entries ≡ e ∷ [] → ⊥) →
       IfNone answer ((e : EntryTree Text) → ReadsAs edition t (e ∷ []) → ⊥)
   no_entry_reads None entries same none = λ e reads.
-      none e (ap (map (entry_view (λ text. text.now))) same ∙ tree_read (e ∷ []) reads)
+      none e (ap (map (entry_view (λ text. text.now))) same ∙ readable_text_is_read_to_its_tree (e ∷ []) reads)
   no_entry_reads (Some entry) entries same none = none
 
   pub errors_read_none : read.outcome ≡ SyntaxErrors → (e : EntryTree Text) → ReadsAs edition t (e ∷ []) → ⊥
-  errors_read_none errors e reads = let clean = clean_read (e ∷ []) reads in cc
+  errors_read_none errors e reads = let clean = readable_text_is_read_clean (e ∷ []) reads in cc
 
 -- a text reads as one tree
 pub text_reads_as_one_entry : (edition : Edition) (t : List ℕ) (e other : EntryTree Text) → ReadsAs edition t (e ∷ []) →
@@ -110,63 +110,70 @@ IfNone-weaker (Some x) to p = p
 module _ (action : Action) (edition : Edition) (p : Text) (part : TextTree)
     (is : IsTextTree edition (part_source action p) part) where
   -- what has no value spells no change of one, and what has no entry no change of one
-  pub value_unspelled : action ≡ SetValue → ((edition : Edition) (t : List ℕ) → IsTextTree edition t part →
+  pub part_that_is_no_value_spells_no_change : action ≡ SetValue →
+      ((edition : Edition) (t : List ℕ) → IsTextTree edition t part →
       (v : PatternTree Text) → ReadsAs edition t (value_message v ∷ []) → ⊥) → (change : Change) →
       Spells edition action p change → ⊥
-  value_unspelled e none change spells =
+  part_that_is_no_value_spells_no_change e none change spells =
       let own = subst (λ a. Spells edition a p change) e spells in
       none edition (part_source SetValue p) (subst (λ a. IsTextTree edition (part_source a p) part) e is) own.0 own.1
 
-  pub replace_unspelled : action ≡ Replace → ((edition : Edition) (t : List ℕ) → IsTextTree edition t part →
+  pub part_that_is_no_entry_spells_no_replacement : action ≡ Replace →
+      ((edition : Edition) (t : List ℕ) → IsTextTree edition t part →
       (e : EntryTree Text) → ReadsAs edition t (e ∷ []) → ⊥) → (change : Change) → Spells edition action p change → ⊥
-  replace_unspelled e none change spells =
+  part_that_is_no_entry_spells_no_replacement e none change spells =
       let own = subst (λ a. Spells edition a p change) e spells in
       none edition p (subst (λ a. IsTextTree edition (part_source a p) part) e is) own.0 own.1
 
-  pub insert_unspelled : action ≡ Insert → ((edition : Edition) (t : List ℕ) → IsTextTree edition t part →
+  pub part_that_is_no_entry_spells_no_insertion : action ≡ Insert →
+      ((edition : Edition) (t : List ℕ) → IsTextTree edition t part →
       (e : EntryTree Text) → ReadsAs edition t (e ∷ []) → ⊥) → (change : Change) → Spells edition action p change → ⊥
-  insert_unspelled e none change spells =
+  part_that_is_no_entry_spells_no_insertion e none change spells =
       let own = subst (λ a. Spells edition a p change) e spells in
       none edition p (subst (λ a. IsTextTree edition (part_source a p) part) e is) own.0 own.1
 
   module _ (t : List ℕ) (source : TextTree) (read : IsTextTree edition t source) (n : ℕ)
       (answer : Result (String Global) EditFault) where
-    answered : (change : Change) → IsEditResult source.edition source.text.now n change answer →
-        IsEditResult edition t n change answer
-    answered change answers =
+    edit_result_of_source_is_edit_result : (change : Change) →
+        IsEditResult source.edition source.text.now n change answer → IsEditResult edition t n change answer
+    edit_result_of_source_is_edit_result change answers =
         subst (λ u. IsEditResult edition u n change answer) read.text_is
         (subst (λ by. IsEditResult by source.text.now n change answer) read.edition_is answers)
 
     -- the change that a part spells, and what is answered for it
-    pub value_spelled : action ≡ SetValue → (v : PatternTree Text) → ((edition : Edition) (t : List ℕ) →
+    pub part_that_is_value_spells_its_setting : action ≡ SetValue → (v : PatternTree Text) →
+        ((edition : Edition) (t : List ℕ) →
         IsTextTree edition t part → ReadsAs edition t (value_message v ∷ [])) → (change : Change) →
         IsEditResult source.edition source.text.now n change answer → SetsValue change v →
         (change : Change) × Spells edition action p change × IsEditResult edition t n change answer
-    value_spelled e v reads change answers sets =
+    part_that_is_value_spells_its_setting e v reads change answers sets =
         let spelled = subst (λ a. IsTextTree edition (part_source a p) part) e is in
-        let own = reads edition (part_source SetValue p) spelled in
-        (change, subst (λ a. Spells edition a p change) (sym e) (v, own, sets), answered change answers)
+        let own = reads edition (part_source SetValue p) spelled in (
+          change,
+          subst (λ a. Spells edition a p change) (sym e) (v, own, sets),
+          edit_result_of_source_is_edit_result change answers,
+        )
 
-    pub replace_spelled : action ≡ Replace → (entry : EntryTree Text) → ((edition : Edition) (t : List ℕ) →
-        IsTextTree edition t part → ReadsAs edition t (entry ∷ [])) →
+    pub part_that_is_entry_spells_its_replacement : action ≡ Replace → (entry : EntryTree Text) →
+        ((edition : Edition) (t : List ℕ) → IsTextTree edition t part → ReadsAs edition t (entry ∷ [])) →
         IsEditResult source.edition source.text.now n (replaces entry) answer →
         (change : Change) × Spells edition action p change × IsEditResult edition t n change answer
-    replace_spelled e entry reads answers =
+    part_that_is_entry_spells_its_replacement e entry reads answers =
         let own = reads edition p (subst (λ a. IsTextTree edition (part_source a p) part) e is) in (
           replaces entry,
           subst (λ a. Spells edition a p (replaces entry)) (sym e) (entry, own, refl),
-          answered (replaces entry) answers,
+          edit_result_of_source_is_edit_result (replaces entry) answers,
         )
 
-    pub insert_spelled : action ≡ Insert → (entry : EntryTree Text) → ((edition : Edition) (t : List ℕ) →
-        IsTextTree edition t part → ReadsAs edition t (entry ∷ [])) →
+    pub part_that_is_entry_spells_its_insertion : action ≡ Insert → (entry : EntryTree Text) →
+        ((edition : Edition) (t : List ℕ) → IsTextTree edition t part → ReadsAs edition t (entry ∷ [])) →
         IsEditResult source.edition source.text.now n (inserts entry) answer →
         (change : Change) × Spells edition action p change × IsEditResult edition t n change answer
-    insert_spelled e entry reads answers =
+    part_that_is_entry_spells_its_insertion e entry reads answers =
         let own = reads edition p (subst (λ a. IsTextTree edition (part_source a p) part) e is) in (
           inserts entry,
           subst (λ a. Spells edition a p (inserts entry)) (sym e) (entry, own, refl),
-          answered (inserts entry) answers,
+          edit_result_of_source_is_edit_result (inserts entry) answers,
         )
 
 -- where the edit is made, by the tree that was read
@@ -217,7 +224,8 @@ edit_is_given number nesting t name action part answer before after count status
       gives =
           new_text_is_given number (IsEdited number t name action part) _ _ _ answer before after count status edited
           argument input deep deeper shallow
-          (λ none nests. either_absurd (λ d. none d.0 d.1) (λ d. none d.0 d.1) nests) tree leaves refused;
+          (λ none nests. either_of_two_absurd_is_absurd (λ d. none d.0 d.1) (λ d. none d.0 d.1) nests) tree leaves
+          refused;
       not_edited = λ why is.
           unmade_edit_has_reason (IsNotEdited number t name action part) answer why (stated why is) not_edited;
     }

@@ -17,14 +17,14 @@ use Rattle.fluent_syntax_c.specs.Output.{LeavesOutput}
 use Rattle.fluent_syntax_c.specs.Rows.{IsCallResult, Gives}
 
 -- the status of a number
-abbrev status_at : ℕ → Status
-status_at n =
+abbrev status_of_number : ℕ → Status
+status_of_number n =
     cond (n == 0) Clean (cond (n == 1) SyntaxErrors (cond (n == 2) (Refused Argument)
     (cond (n == 3) (Refused Input) (cond (n == 4) (Refused Memory) (cond (n == 5) TooSmall
     (cond (n == 6) (Refused Depth) (cond (n == 7) (Refused Tree) (cond (n == 8) (NotEdited NotFound)
     (cond (n == 9) (NotEdited NotOneEntry) (NotEdited ReadsOtherwise))))))))))
 
-number_reads_back : (status : Status) → status_at (status_number status) ≡ status
+number_reads_back : (status : Status) → status_of_number (status_number status) ≡ status
 number_reads_back Clean = refl
 number_reads_back SyntaxErrors = refl
 number_reads_back TooSmall = refl
@@ -39,13 +39,13 @@ number_reads_back (NotEdited ReadsOtherwise) = refl
 
 -- no two statuses have one number
 status_number_is_injective : (a b : Status) → status_number a ≡ status_number b → a ≡ b
-status_number_is_injective a b e = sym (number_reads_back a) ∙ ap status_at e ∙ number_reads_back b
+status_number_is_injective a b e = sym (number_reads_back a) ∙ ap status_of_number e ∙ number_reads_back b
 
 -- The number of a refusal is given exactly where the answer is that refusal.
-pub refusal_exactly : {X : Type 0} (answer : Result X Refusal) (number : ℕ) (status : Status) →
+pub refused_status_is_refused_answer_exactly : {X : Type 0} (answer : Result X Refusal) (number : ℕ) (status : Status) →
     number ≡ status_number status → ((why : Refusal) → (status ≡ Refused why) ↔ (answer ≡ Err why)) → (why : Refusal) →
     (number ≡ refusal_number why) ↔ (answer ≡ Err why)
-refusal_exactly answer number status is refused why = (
+refused_status_is_refused_answer_exactly answer number status is refused why = (
   (λ e. (refused why).0 (status_number_is_injective status (Refused why) (sym is ∙ e))),
   (λ e. is ∙ ap status_number ((refused why).1 e)),
 )
@@ -69,13 +69,13 @@ refused_deeper (Err Depth) number Deeper refused shallow known tree deeper = inr
 refused_deeper (Err Tree) number Deeper refused shallow known tree deeper = absurd (tree refl deeper)
 
 -- what was given is what was asked for, where the answer is
-expected_is : {A X E : Type 0} (expected : List A → Outcome → Type 0) (items_of : X → List A) (found_of : X → Outcome)
-    (answer : Result X E) → IfOk answer (λ given. expected (items_of given) (found_of given)) →
+expected_holds_of_answered_items : {A X E : Type 0} (expected : List A → Outcome → Type 0) (items_of : X → List A)
+    (found_of : X → Outcome) (answer : Result X E) → IfOk answer (λ given. expected (items_of given) (found_of given)) →
     (items : List A) (found : Outcome) →
     IsOkAnd answer (λ given. (items_of given ≡ items) × (found_of given ≡ found)) → expected items found
-expected_is expected items_of found_of (Ok given) is items found same =
+expected_holds_of_answered_items expected items_of found_of (Ok given) is items found same =
     subst (λ xs. expected xs found) same.0 (subst (λ o. expected (items_of given) o) same.1 is)
-expected_is expected items_of found_of (Err e) is items found same = absurd same
+expected_holds_of_answered_items expected items_of found_of (Err e) is items found same = absurd same
 
 -- a call leaves what another one asked for, if that is all that was asked for
 LeavesOutput-as : {A : Type 0} (P Q : List A → Outcome → Type 0) (before after : List A) (count : ℕ) (status : Status) →
@@ -94,8 +94,12 @@ pub answered_is_left : {A X E : Type 0} (expected : List A → Outcome → Type 
     EndsAs number
     (LeavesOutput (λ items found. IsOkAnd answer (λ given. (items_of given ≡ items) × (found_of given ≡ found)))
     before after count) → EndsAs number (LeavesOutput expected before after count)
-answered_is_left expected items_of found_of answer before after count number is h =
-    (h.0, h.1, LeavesOutput-as _ expected before after count h.0 (expected_is expected items_of found_of answer is) h.2)
+answered_is_left expected items_of found_of answer before after count number is h = (
+  h.0,
+  h.1,
+  LeavesOutput-as _ expected before after count h.0
+      (expected_holds_of_answered_items expected items_of found_of answer is) h.2,
+)
 
 -- Rows that were answered are given.
 pub answer_is_given : {A : Type 0} (number : ℕ) (expected : List A → Outcome → Type 0) (AreTexts Long Deeper : Type 0)
@@ -119,10 +123,11 @@ answer_is_given number expected AreTexts Long Deeper answer before after count s
 
 -- These are the rows, where they are those that are asked for, the edition is known, all texts are UTF-8, and none
 -- nests deeper than it may.
-pub answers_expected : {A : Type 0} (number : ℕ) (expected : List A → Outcome → Type 0) (AreTexts Long Deeper : Type 0)
+pub expected_rows_are_call_result : {A : Type 0} (number : ℕ) (expected : List A → Outcome → Type 0)
+    (AreTexts Long Deeper : Type 0)
     (rows : Vec A Global) (outcome : Outcome) → expected rows.items outcome → ¬ (IsNoEdition number) → AreTexts →
     (Deeper → ⊥) → IsCallResult number expected AreTexts Long Deeper (Ok (rows, outcome))
-answers_expected number expected AreTexts Long Deeper rows outcome is known texts shallow = record {
+expected_rows_are_call_result number expected AreTexts Long Deeper rows outcome is known texts shallow = record {
   rows = is;
   argument = ((λ e. cc), (λ none. absurd (known none)));
   input = λ known. ((λ e. cc), (λ no. absurd (no texts)));
@@ -134,9 +139,9 @@ answers_expected number expected AreTexts Long Deeper rows outcome is known text
 }
 
 -- what neither of two gives, one of them does not
-pub either_absurd : {P Q : Type 0} → (P → ⊥) → (Q → ⊥) → P ⊎ Q → ⊥
-either_absurd first second (inl p) = first p
-either_absurd first second (inr q) = second q
+pub either_of_two_absurd_is_absurd : {P Q : Type 0} → (P → ⊥) → (Q → ⊥) → P ⊎ Q → ⊥
+either_of_two_absurd_is_absurd first second (inl p) = first p
+either_of_two_absurd_is_absurd first second (inr q) = second q
 
 -- what an edit made is what was asked for
 edited_text_is_expected : (expected : List ℕ → Outcome → Type 0)
@@ -145,7 +150,7 @@ edited_text_is_expected : (expected : List ℕ → Outcome → Type 0)
     IsOkAnd answer (λ made. IsOkAnd made (λ given. (given.0.items ≡ items) × (given.1 ≡ found))) →
     expected items found
 edited_text_is_expected expected (Ok made) is items found same =
-    expected_is expected (λ given. given.0.items) (λ given. given.1) made is items found same
+    expected_holds_of_answered_items expected (λ given. given.0.items) (λ given. given.1) made is items found same
 edited_text_is_expected expected (Err e) is items found same = absurd same
 
 -- The new text that was answered is given.

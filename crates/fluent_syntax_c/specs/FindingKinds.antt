@@ -33,6 +33,7 @@ between_number differs.ObsoleteValue = 106
 between_number differs.ObsoleteAttribute = 107
 between_number differs.UnknownVariable = 108
 between_number differs.ObsoleteReference = 109
+between_number differs.UnknownFunction = 110
 
 abbrev pub finding_kind_number : FindingKind → ℕ
 finding_kind_number (Within k) = within_number k

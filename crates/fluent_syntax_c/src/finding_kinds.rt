@@ -60,6 +60,7 @@ fn between_number(difference: Difference) -> u32
         Difference::ObsoleteAttribute => 107,
         Difference::UnknownVariable => 108,
         Difference::ObsoleteReference => 109,
+        Difference::UnknownFunction => 110,
     }
 }
 
@@ -111,6 +112,7 @@ pub(crate) fn finding_kind_at(number: u32) -> Option<FindingKind>
         107 => Some(FindingKind::Between(Difference::ObsoleteAttribute)),
         108 => Some(FindingKind::Between(Difference::UnknownVariable)),
         109 => Some(FindingKind::Between(Difference::ObsoleteReference)),
+        110 => Some(FindingKind::Between(Difference::UnknownFunction)),
         _ => None,
     }
 }

@@ -14,27 +14,27 @@ first_of_no_place_is_place : (place : Option Span) → first_of place None ≡ p
 first_of_no_place_is_place None = refl
 first_of_no_place_is_place (Some x) = refl
 
-first_of_assoc : (a b c : Option Span) → first_of (first_of a b) c ≡ first_of a (first_of b c)
-first_of_assoc None b c = refl
-first_of_assoc (Some x) b c = refl
+first_of_is_associative : (a b c : Option Span) → first_of (first_of a b) c ≡ first_of a (first_of b c)
+first_of_is_associative None b c = refl
+first_of_is_associative (Some x) b c = refl
 
 module _ (named : Mention Span → Text → Option Span) (ms : Mentions Span) (all now : Lookup) where
   -- the places of the mentions from this one on are still to be noted
   abbrev pub LeavesPlaces : ℕ → Type 0
   LeavesPlaces i = (entry : Text) → first_of (now entry) (first_place_in named (drop i ms) entry) ≡ all entry
 
-  pub places_next : (next : Lookup) (i : ℕ) (m d : Mention Span) → i < length ms → m ≡ get_or ms i d → LeavesPlaces i
-      → NotesPlaces now next (named m)
+  pub places_are_left_after_next_mention : (next : Lookup) (i : ℕ) (m d : Mention Span) → i < length ms
+      → m ≡ get_or ms i d → LeavesPlaces i → NotesPlaces now next (named m)
       → (entry : Text) → first_of (next entry) (first_place_in named (drop (i + 1) ms) entry) ≡ all entry
-  places_next next i m d within is left noted = λ entry.
+  places_are_left_after_next_mention next i m d within is left noted = λ entry.
       let beyond = first_place_in named (drop (i + 1) ms) entry in
       ap (λ o. first_of o beyond) (noted entry)
-      ∙ first_of_assoc (now entry) (named m entry) beyond
+      ∙ first_of_is_associative (now entry) (named m entry) beyond
       ∙ ap (λ l. first_of (now entry) (first_place_in named l entry)) (sym (drop_one_node ms i m d within is))
       ∙ left entry
 
-  pub places_none : (i : ℕ) → length ms ≤ i → LeavesPlaces i → (entry : Text) → now entry ≡ all entry
-  places_none i end left = λ entry.
+  pub places_at_last_mention_are_all : (i : ℕ) → length ms ≤ i → LeavesPlaces i → (entry : Text) → now entry ≡ all entry
+  places_at_last_mention_are_all i end left = λ entry.
       sym (first_of_no_place_is_place (now entry))
       ∙ ap (λ l. first_of (now entry) (first_place_in named l entry)) (sym (drop_all i ms end))
       ∙ left entry

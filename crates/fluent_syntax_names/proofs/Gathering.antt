@@ -47,51 +47,53 @@ NotesNames-more (Err x) a b c f g first second = second
 
 module _ (old now next : Lookup) (all : List Text → List Text)
     (adds : EntryName → Mention Span → List Text → List Text) (owner : EntryName) (ms : Mentions Span) (i : ℕ) where
-  pub names_next : (m d : Mention Span) → i < length ms → m ≡ get_or ms i d
+  pub names_are_left_after_next_mention : (m d : Mention Span) → i < length ms → m ≡ get_or ms i d
       → LeavesNames old now (gathered adds owner (drop i ms)) all → NotesNames now next (adds owner m)
       → LeavesNames old next (gathered adds (owner_after owner m) (drop (i + 1) ms)) all
-  names_next m d within is left notes = λ rest name.
+  names_are_left_after_next_mention m d within is left notes = λ rest name.
       let cut = drop_one_node ms i m d within is in
       notes (gathered adds (owner_after owner m) (drop (i + 1) ms) rest) name
       ∙ ap (λ l. has_name now name || list_any (bytes_eq name) (gathered adds owner l rest)) (sym cut)
       ∙ left rest name
 
-  pub names_none : length ms ≤ i → LeavesNames old now (gathered adds owner (drop i ms)) all
+  pub names_at_last_mention_are_all : length ms ≤ i → LeavesNames old now (gathered adds owner (drop i ms)) all
       → NotesNames old now all
-  names_none end left = λ rest name.
+  names_at_last_mention_are_all end left = λ rest name.
       ap (λ l. has_name now name || list_any (bytes_eq name) (gathered adds owner l rest)) (sym (drop_all i ms end))
       ∙ left rest name
 
 -- ---- The files
 
-pub or_false : (b : Bool) → b ≡ (b || false)
-or_false true = refl
-or_false false = refl
+pub bool_equals_itself_or_false : (b : Bool) → b ≡ (b || false)
+bool_equals_itself_or_false true = refl
+bool_equals_itself_or_false false = refl
 
 -- what is noted, where nothing was before
 pub noted_names_are_all : (old new : Lookup) → ((name : Text) → old name ≡ None) → (all : List Text → List Text)
     → NotesNames old new all → (name : Text) → has_name new name ≡ list_any (bytes_eq name) (all [])
 noted_names_are_all old new none all notes = λ name.
-    or_false (has_name new name) ∙ notes [] name ∙ ap (λ o. is_some o || list_any (bytes_eq name) (all [])) (none name)
+    bool_equals_itself_or_false (has_name new name) ∙ notes [] name
+    ∙ ap (λ o. is_some o || list_any (bytes_eq name) (all [])) (none name)
 
 module _ (files : List NameIndex) (now next : Lookup) (i : ℕ) where
   abbrev pub left_of_files : Lookup → ℕ → Type 0
   left_of_files known n = (name : Text) →
       (has_name known name || list_any (bytes_eq name) (defined_by (drop n files))) ≡ is_defined files name
 
-  pub files_begin : ((name : Text) → now name ≡ None) → left_of_files now 0
-  files_begin none = λ name. ap (λ o. is_some o || is_defined files name) (none name)
+  pub no_file_is_gathered_at_start : ((name : Text) → now name ≡ None) → left_of_files now 0
+  no_file_is_gathered_at_start none = λ name. ap (λ o. is_some o || is_defined files name) (none name)
 
-  pub files_next : (file : NameIndex) → i < length files → file ≡ get_or files i file → left_of_files now i
+  pub next_file_is_gathered : (file : NameIndex) → i < length files → file ≡ get_or files i file → left_of_files now i
       → NotesNames now next (defined_in file.text.now nameless file.mentions.items) → left_of_files next (i + 1)
-  files_next file within is left notes = λ name.
+  next_file_is_gathered file within is left notes = λ name.
       let cut = drop_one_node files i file file within is in
       notes (defined_by (drop (i + 1) files)) name
       ∙ ap (λ l. has_name now name || list_any (bytes_eq name) (defined_by l)) (sym cut)
       ∙ left name
 
-  pub files_none : length files ≤ i → left_of_files now i → (name : Text) → has_name now name ≡ is_defined files name
-  files_none end left = λ name.
-      or_false (has_name now name)
+  pub gathered_files_define_their_names : length files ≤ i → left_of_files now i → (name : Text)
+      → has_name now name ≡ is_defined files name
+  gathered_files_define_their_names end left = λ name.
+      bool_equals_itself_or_false (has_name now name)
       ∙ ap (λ l. has_name now name || list_any (bytes_eq name) (defined_by l)) (sym (drop_all i files end))
       ∙ left name

@@ -26,117 +26,129 @@ module _ {X Y : Type 0} (f : X → Y) (more : Mentions Y) where
   abbrev moved : Mentions X → Mentions Y
   moved ms = map (mention_map f) ms ++ more
 
-  key_mapped : (k : KeyTree X) → key_text (key_map f k) ≡ f (key_text k)
-  key_mapped (name_key x) = refl
-  key_mapped (number_key x) = refl
+  text_of_mapped_key_is_mapped : (k : KeyTree X) → key_text (key_map f k) ≡ f (key_text k)
+  text_of_mapped_key_is_mapped (name_key x) = refl
+  text_of_mapped_key_is_mapped (number_key x) = refl
 
-  variant_key_mapped : (v : VariantTree X) → variant_key (variant_map f v) ≡ f (variant_key v)
-  variant_key_mapped (variant k p d) = key_mapped k
+  key_of_mapped_variant_is_mapped : (v : VariantTree X) → variant_key (variant_map f v) ≡ f (variant_key v)
+  key_of_mapped_variant_is_mapped (variant k p d) = text_of_mapped_key_is_mapped k
 
   mutual
-    expression_mapped : (e : ExpressionTree X) (tail : Mentions X) →
+    mentions_of_mapped_expression_are_mapped : (e : ExpressionTree X) (tail : Mentions X) →
         expression_mentions (expression_map f e) (moved tail) ≡ moved (expression_mentions e tail)
-    expression_mapped (select e vs) tail =
-        ap (inline_mentions (inline_map f e)) (select_mapped vs tail) ∙ inline_mapped e (select_mentions vs tail)
-    expression_mapped (inline e) tail = inline_mapped e tail
+    mentions_of_mapped_expression_are_mapped (select e vs) tail =
+        ap (inline_mentions (inline_map f e)) (mentions_of_mapped_select_are_mapped vs tail)
+        ∙ mentions_of_mapped_inline_are_mapped e (select_mentions vs tail)
+    mentions_of_mapped_expression_are_mapped (inline e) tail = mentions_of_mapped_inline_are_mapped e tail
 
-    inline_mapped : (e : InlineTree X) (tail : Mentions X) →
+    mentions_of_mapped_inline_are_mapped : (e : InlineTree X) (tail : Mentions X) →
         inline_mentions (inline_map f e) (moved tail) ≡ moved (inline_mentions e tail)
-    inline_mapped (string_literal x) tail = refl
-    inline_mapped (number_literal x) tail = refl
-    inline_mapped (function_reference x a) tail = ap (λ l. says.Function (f x) ∷ l) (arguments_mapped a tail)
-    inline_mapped (message_reference x a) tail = refl
-    inline_mapped (term_reference x a c) tail =
-        ap (λ l. says.TermReference (f x) (option_texts f a) ∷ l) (maybe_mapped c tail)
-    inline_mapped (variable_reference x) tail = refl
-    inline_mapped (inline_placeable e) tail = expression_mapped e tail
+    mentions_of_mapped_inline_are_mapped (string_literal x) tail = refl
+    mentions_of_mapped_inline_are_mapped (number_literal x) tail = refl
+    mentions_of_mapped_inline_are_mapped (function_reference x a) tail =
+        ap (λ l. says.Function (f x) ∷ l) (mentions_of_mapped_arguments_are_mapped a tail)
+    mentions_of_mapped_inline_are_mapped (message_reference x a) tail = refl
+    mentions_of_mapped_inline_are_mapped (term_reference x a c) tail =
+        ap (λ l. says.TermReference (f x) (option_texts f a) ∷ l) (mentions_of_mapped_call_are_mapped c tail)
+    mentions_of_mapped_inline_are_mapped (variable_reference x) tail = refl
+    mentions_of_mapped_inline_are_mapped (inline_placeable e) tail = mentions_of_mapped_expression_are_mapped e tail
 
-    arguments_mapped : (a : ArgumentsTree X) (tail : Mentions X) →
+    mentions_of_mapped_arguments_are_mapped : (a : ArgumentsTree X) (tail : Mentions X) →
         arguments_mentions (arguments_map f a) (moved tail) ≡ moved (arguments_mentions a tail)
-    arguments_mapped (arguments ps ns) tail =
-        ap (inlines_mentions (inlines_map f ps)) (nameds_mapped ns tail) ∙ inlines_mapped ps (nameds_mentions ns tail)
+    mentions_of_mapped_arguments_are_mapped (arguments ps ns) tail =
+        ap (inlines_mentions (inlines_map f ps)) (mentions_of_mapped_nameds_are_mapped ns tail)
+        ∙ mentions_of_mapped_inlines_are_mapped ps (nameds_mentions ns tail)
 
-    maybe_mapped : (c : MaybeArguments X) (tail : Mentions X) →
+    mentions_of_mapped_call_are_mapped : (c : MaybeArguments X) (tail : Mentions X) →
         maybe_mentions (maybe_map f c) (moved tail) ≡ moved (maybe_mentions c tail)
-    maybe_mapped no_arguments tail = refl
-    maybe_mapped (some_arguments a) tail = arguments_mapped a tail
+    mentions_of_mapped_call_are_mapped no_arguments tail = refl
+    mentions_of_mapped_call_are_mapped (some_arguments a) tail = mentions_of_mapped_arguments_are_mapped a tail
 
-    inlines_mapped : (es : InlineTrees X) (tail : Mentions X) →
+    mentions_of_mapped_inlines_are_mapped : (es : InlineTrees X) (tail : Mentions X) →
         inlines_mentions (inlines_map f es) (moved tail) ≡ moved (inlines_mentions es tail)
-    inlines_mapped no_inlines tail = refl
-    inlines_mapped (inlines e es) tail =
-        ap (inline_mentions (inline_map f e)) (inlines_mapped es tail) ∙ inline_mapped e (inlines_mentions es tail)
+    mentions_of_mapped_inlines_are_mapped no_inlines tail = refl
+    mentions_of_mapped_inlines_are_mapped (inlines e es) tail =
+        ap (inline_mentions (inline_map f e)) (mentions_of_mapped_inlines_are_mapped es tail)
+        ∙ mentions_of_mapped_inline_are_mapped e (inlines_mentions es tail)
 
-    named_mapped : (n : NamedTree X) (tail : Mentions X) →
+    mentions_of_mapped_named_are_mapped : (n : NamedTree X) (tail : Mentions X) →
         named_mentions (named_map f n) (moved tail) ≡ moved (named_mentions n tail)
-    named_mapped (named_argument x e) tail = inline_mapped e tail
+    mentions_of_mapped_named_are_mapped (named_argument x e) tail = mentions_of_mapped_inline_are_mapped e tail
 
-    nameds_mapped : (ns : NamedTrees X) (tail : Mentions X) →
+    mentions_of_mapped_nameds_are_mapped : (ns : NamedTrees X) (tail : Mentions X) →
         nameds_mentions (nameds_map f ns) (moved tail) ≡ moved (nameds_mentions ns tail)
-    nameds_mapped no_named tail = refl
-    nameds_mapped (nameds n ns) tail =
-        ap (named_mentions (named_map f n)) (nameds_mapped ns tail) ∙ named_mapped n (nameds_mentions ns tail)
+    mentions_of_mapped_nameds_are_mapped no_named tail = refl
+    mentions_of_mapped_nameds_are_mapped (nameds n ns) tail =
+        ap (named_mentions (named_map f n)) (mentions_of_mapped_nameds_are_mapped ns tail)
+        ∙ mentions_of_mapped_named_are_mapped n (nameds_mentions ns tail)
 
-    element_mapped : (e : ElementTree X) (tail : Mentions X) →
+    mentions_of_mapped_element_are_mapped : (e : ElementTree X) (tail : Mentions X) →
         element_mentions (element_map f e) (moved tail) ≡ moved (element_mentions e tail)
-    element_mapped (text_element x) tail = refl
-    element_mapped (placeable e) tail = expression_mapped e tail
+    mentions_of_mapped_element_are_mapped (text_element x) tail = refl
+    mentions_of_mapped_element_are_mapped (placeable e) tail = mentions_of_mapped_expression_are_mapped e tail
 
-    pattern_mapped : (p : PatternTree X) (tail : Mentions X) →
+    mentions_of_mapped_pattern_are_mapped : (p : PatternTree X) (tail : Mentions X) →
         pattern_mentions (pattern_map f p) (moved tail) ≡ moved (pattern_mentions p tail)
-    pattern_mapped no_elements tail = refl
-    pattern_mapped (elements e es) tail =
-        ap (element_mentions (element_map f e)) (pattern_mapped es tail) ∙ element_mapped e (pattern_mentions es tail)
+    mentions_of_mapped_pattern_are_mapped no_elements tail = refl
+    mentions_of_mapped_pattern_are_mapped (elements e es) tail =
+        ap (element_mentions (element_map f e)) (mentions_of_mapped_pattern_are_mapped es tail)
+        ∙ mentions_of_mapped_element_are_mapped e (pattern_mentions es tail)
 
-    variant_mapped : (first : X) (v : VariantTree X) (tail : Mentions X) →
+    mentions_of_mapped_variant_are_mapped : (first : X) (v : VariantTree X) (tail : Mentions X) →
         variant_mentions (f first) (variant_map f v) (moved tail) ≡ moved (variant_mentions first v tail)
-    variant_mapped first (variant k p d) tail =
-        ap (λ x. says.VariantKey x (f first) ∷ pattern_mentions (pattern_map f p) (moved tail)) (key_mapped k)
-        ∙ ap (λ l. says.VariantKey (f (key_text k)) (f first) ∷ l) (pattern_mapped p tail)
+    mentions_of_mapped_variant_are_mapped first (variant k p d) tail =
+        ap (λ x. says.VariantKey x (f first) ∷ pattern_mentions (pattern_map f p) (moved tail))
+        (text_of_mapped_key_is_mapped k)
+        ∙ ap (λ l. says.VariantKey (f (key_text k)) (f first) ∷ l) (mentions_of_mapped_pattern_are_mapped p tail)
 
-    variants_mapped : (first : X) (vs : VariantTrees X) (tail : Mentions X) →
+    mentions_of_mapped_variants_are_mapped : (first : X) (vs : VariantTrees X) (tail : Mentions X) →
         variants_mentions (f first) (variants_map f vs) (moved tail) ≡ moved (variants_mentions first vs tail)
-    variants_mapped first no_variants tail = refl
-    variants_mapped first (variants v vs) tail =
-        ap (variant_mentions (f first) (variant_map f v)) (variants_mapped first vs tail)
-        ∙ variant_mapped first v (variants_mentions first vs tail)
+    mentions_of_mapped_variants_are_mapped first no_variants tail = refl
+    mentions_of_mapped_variants_are_mapped first (variants v vs) tail =
+        ap (variant_mentions (f first) (variant_map f v)) (mentions_of_mapped_variants_are_mapped first vs tail)
+        ∙ mentions_of_mapped_variant_are_mapped first v (variants_mentions first vs tail)
 
-    select_mapped : (vs : VariantTrees X) (tail : Mentions X) →
+    mentions_of_mapped_select_are_mapped : (vs : VariantTrees X) (tail : Mentions X) →
         select_mentions (variants_map f vs) (moved tail) ≡ moved (select_mentions vs tail)
-    select_mapped no_variants tail = refl
-    select_mapped (variants v vs) tail =
+    mentions_of_mapped_select_are_mapped no_variants tail = refl
+    mentions_of_mapped_select_are_mapped (variants v vs) tail =
         let first = variant_key v in
         ap (λ x. variant_mentions x (variant_map f v) (variants_mentions x (variants_map f vs) (moved tail)))
-        (variant_key_mapped v)
-        ∙ ap (variant_mentions (f first) (variant_map f v)) (variants_mapped first vs tail)
-        ∙ variant_mapped first v (variants_mentions first vs tail)
+        (key_of_mapped_variant_is_mapped v)
+        ∙ ap (variant_mentions (f first) (variant_map f v)) (mentions_of_mapped_variants_are_mapped first vs tail)
+        ∙ mentions_of_mapped_variant_are_mapped first v (variants_mentions first vs tail)
 
-  attributes_mapped : (as' : List (AttributeTree X)) (tail : Mentions X) →
+  mentions_of_mapped_attributes_are_mapped : (as' : List (AttributeTree X)) (tail : Mentions X) →
       attributes_mentions (map (attribute_map f) as') (moved tail) ≡ moved (attributes_mentions as' tail)
-  attributes_mapped [] tail = refl
-  attributes_mapped (a ∷ as') tail =
-      ap (λ l. attribute_mentions (attribute_map f a) l) (attributes_mapped as' tail)
-      ∙ ap (λ l. says.Attribute (f a.id) ∷ l) (pattern_mapped a.value (attributes_mentions as' tail))
+  mentions_of_mapped_attributes_are_mapped [] tail = refl
+  mentions_of_mapped_attributes_are_mapped (a ∷ as') tail =
+      ap (λ l. attribute_mentions (attribute_map f a) l) (mentions_of_mapped_attributes_are_mapped as' tail)
+      ∙ ap (λ l. says.Attribute (f a.id) ∷ l)
+      (mentions_of_mapped_pattern_are_mapped a.value (attributes_mentions as' tail))
 
-  value_mapped : (o : Option (PatternTree X)) (tail : Mentions X) →
+  mentions_of_mapped_value_are_mapped : (o : Option (PatternTree X)) (tail : Mentions X) →
       value_mentions (option_map (pattern_map f) o) (moved tail) ≡ moved (value_mentions o tail)
-  value_mapped None tail = refl
-  value_mapped (Some p) tail = pattern_mapped p tail
+  mentions_of_mapped_value_are_mapped None tail = refl
+  mentions_of_mapped_value_are_mapped (Some p) tail = mentions_of_mapped_pattern_are_mapped p tail
 
-  has_value : (o : Option (PatternTree X)) → is_some (option_map (pattern_map f) o) ≡ is_some o
-  has_value None = refl
-  has_value (Some p) = refl
+  mapping_keeps_has_value : (o : Option (PatternTree X)) → is_some (option_map (pattern_map f) o) ≡ is_some o
+  mapping_keeps_has_value None = refl
+  mapping_keeps_has_value (Some p) = refl
 
-  pub entry_mapped : (e : EntryTree X) (tail : Mentions X) →
+  pub mentions_of_mapped_entry_are_mapped : (e : EntryTree X) (tail : Mentions X) →
       entry_mentions (entry_map f e) (moved tail) ≡ moved (entry_mentions e tail)
-  entry_mapped (message m) tail =
+  mentions_of_mapped_entry_are_mapped (message m) tail =
       let said = attributes_mentions (map (attribute_map f) m.attributes) (moved tail) in
       let first = says.Message (f m.id) (is_some m.value) in
-      ap (λ b. says.Message (f m.id) b ∷ value_mentions (option_map (pattern_map f) m.value) said) (has_value m.value)
-      ∙ ap (λ l. first ∷ value_mentions (option_map (pattern_map f) m.value) l) (attributes_mapped m.attributes tail)
-      ∙ ap (λ l. first ∷ l) (value_mapped m.value (attributes_mentions m.attributes tail))
-  entry_mapped (term t) tail =
-      ap (λ l. says.Term (f t.id) ∷ pattern_mentions (pattern_map f t.value) l) (attributes_mapped t.attributes tail)
-      ∙ ap (λ l. says.Term (f t.id) ∷ l) (pattern_mapped t.value (attributes_mentions t.attributes tail))
-  entry_mapped (comment level lines) tail = refl
-  entry_mapped (junk x) tail = refl
+      ap (λ b. says.Message (f m.id) b ∷ value_mentions (option_map (pattern_map f) m.value) said)
+      (mapping_keeps_has_value m.value)
+      ∙ ap (λ l. first ∷ value_mentions (option_map (pattern_map f) m.value) l)
+      (mentions_of_mapped_attributes_are_mapped m.attributes tail)
+      ∙ ap (λ l. first ∷ l) (mentions_of_mapped_value_are_mapped m.value (attributes_mentions m.attributes tail))
+  mentions_of_mapped_entry_are_mapped (term t) tail =
+      ap (λ l. says.Term (f t.id) ∷ pattern_mentions (pattern_map f t.value) l)
+      (mentions_of_mapped_attributes_are_mapped t.attributes tail)
+      ∙ ap (λ l. says.Term (f t.id) ∷ l)
+      (mentions_of_mapped_pattern_are_mapped t.value (attributes_mentions t.attributes tail))
+  mentions_of_mapped_entry_are_mapped (comment level lines) tail = refl
+  mentions_of_mapped_entry_are_mapped (junk x) tail = refl

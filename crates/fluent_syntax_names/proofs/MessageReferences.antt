@@ -28,14 +28,15 @@ use Rattle.fluent_syntax_names.specs.declared.mention.Mention.{Mention}
 use Rattle.fluent_syntax_names.specs.declared.named_lists.NamedLists.{NamedLists}
 use Rattle.fluent_syntax_names.specs.declared.first_places.FirstPlaces.{FirstPlaces}
 use Rattle.fluent_syntax_names.specs.declared.qualified_names.EntryName.{EntryName}
-use Rattle.fluent_syntax_names.proofs.Listed.{length-items, list_read}
-use Rattle.fluent_syntax_names.proofs.Numbered.{apart_more, none_apart, none_within, within_more}
+use Rattle.fluent_syntax_names.proofs.Listed.{length-items, list_at_index_has_its_items}
+use Rattle.fluent_syntax_names.proofs.Numbered.{numbering_with_new_is_injective, empty_numbering_is_injective}
+use Rattle.fluent_syntax_names.proofs.Numbered.{empty_numbering_is_within_zero, numbering_with_new_is_within_one_more}
 
 -- before any name
 pub HasReferences-none : (number : Numbering) → ((x : Text) → number x ≡ None) → HasReferences [] number []
 HasReferences-none number none = record {
-  within = none_within number none;
-  apart = none_apart number none;
+  within = empty_numbering_is_within_zero number none;
+  apart = empty_numbering_is_injective number none;
   has_messages = λ x. ap (row_at []) (none x);
 }
 
@@ -52,27 +53,27 @@ module _ (all : List Link) (old new : Lists) (name : Text) (last : ℕ) (is : Is
   abbrev more : Rows
   more = rows ++ [] ∷ []
 
-  is_last : last ≡ length rows
-  is_last = is.last ∙ sym (length-map (lists_of old) texts_of)
+  last_is_number_of_rows : last ≡ length rows
+  last_is_number_of_rows = is.last ∙ sym (length-map (lists_of old) texts_of)
 
   -- the row of the new name is empty
-  new_row : (b : Bool) → row_at more (if b then Some last else None) ≡ []
-  new_row true = get_or_push rows [] [] last (sym is_last)
-  new_row false = refl
+  row_of_new_name_is_empty : (b : Bool) → row_at more (if b then Some last else None) ≡ []
+  row_of_new_name_is_empty true = get_or_push rows [] [] last (sym last_is_number_of_rows)
+  row_of_new_name_is_empty false = refl
 
-  same_row : (x : Text) (o : Option ℕ) → numbers_of old x ≡ o
+  row_of_old_name_stays : (x : Text) (o : Option ℕ) → numbers_of old x ≡ o
       → row_at more (first_of o (place_where x name last)) ≡ row_at rows o
-  same_row x None was = new_row (bytes_eq x name)
-  same_row x (Some u) was = get_or_append_left rows ([] ∷ []) [] u (adds_references.within x u was)
+  row_of_old_name_stays x None was = row_of_new_name_is_empty (bytes_eq x name)
+  row_of_old_name_stays x (Some u) was = get_or_append_left rows ([] ∷ []) [] u (adds_references.within x u was)
 
-  new_name : HasReferences all (numbers_of new) more
-  new_name = record {
+  rows_with_new_name_have_references : HasReferences all (numbers_of new) more
+  rows_with_new_name_have_references = record {
     within = subst (Within (numbers_of new)) (sym (length_push rows []))
-        (within_more (numbers_of old) (numbers_of new) name last is.absent is.notes
-        (length rows) is_last adds_references.within);
-    apart = apart_more (numbers_of old) (numbers_of new) name last is.absent is.notes (length rows) is_last
-        adds_references.within adds_references.apart;
-    has_messages = λ x. ap (row_at more) (is.notes x) ∙ same_row x (numbers_of old x) refl
+        (numbering_with_new_is_within_one_more (numbers_of old) (numbers_of new) name last is.absent is.notes
+        (length rows) last_is_number_of_rows adds_references.within);
+    apart = numbering_with_new_is_injective (numbers_of old) (numbers_of new) name last is.absent is.notes
+        (length rows) last_is_number_of_rows adds_references.within adds_references.apart;
+    has_messages = λ x. ap (row_at more) (is.notes x) ∙ row_of_old_name_stays x (numbers_of old x) refl
         ∙ adds_references.has_messages x;
   }
 
@@ -83,7 +84,7 @@ HasReferences-name all old new name number adds adds_references = elim adds.adds
   | inr is ↦
       subst (λ (r : Rows). HasReferences all (numbers_of new) r)
       (sym (ap (map texts_of) is.longer ∙ map_push texts_of (lists_of old) []))
-      (new_name all old new name number is adds_references)
+      (rows_with_new_name_have_references all old new name number is adds_references)
 ]
 
 -- ---- A new reference
@@ -104,31 +105,34 @@ module _ (before : List Link) (number : Numbering) (rows : Rows) (adds_reference
   abbrev added : Bool → List Text
   added b = cond b (link.to ∷ []) []
 
-  of_one : (b : Bool) → map (λ (l : Link). l.to) (cond b (link ∷ []) []) ≡ added b
-  of_one true = refl
-  of_one false = refl
+  targets_of_one_link_are_added : (b : Bool) → map (λ (l : Link). l.to) (cond b (link ∷ []) []) ≡ added b
+  targets_of_one_link_are_added true = refl
+  targets_of_one_link_are_added false = refl
 
-  referred_more : (x : Text) → messages_of with_link x ≡ messages_of before x ++ added (bytes_eq x link.from)
-  referred_more x =
+  messages_with_link_add_its_target : (x : Text)
+      → messages_of with_link x ≡ messages_of before x ++ added (bytes_eq x link.from)
+  messages_with_link_add_its_target x =
       let test = λ (l : Link). bytes_eq x l.from in
       ap (map (λ (l : Link). l.to)) (filter-append test before (link ∷ []))
       ∙ map-append (λ (l : Link). l.to) (filter test before) (filter test (link ∷ []))
-      ∙ ap (λ l. messages_of before x ++ l) (of_one (bytes_eq x link.from))
+      ∙ ap (λ l. messages_of before x ++ l) (targets_of_one_link_are_added (bytes_eq x link.from))
 
   -- another name has what it had
-  row_other : (x : Text) → bytes_eq x link.from ≡ false → row_at rows (number x) ≡ messages_of with_link x
-  row_other x apart =
+  row_of_other_name_has_its_messages : (x : Text) → bytes_eq x link.from ≡ false
+      → row_at rows (number x) ≡ messages_of with_link x
+  row_of_other_name_has_its_messages x apart =
       adds_references.has_messages x
       ∙ sym (append-nil (messages_of before x))
       ∙ ap (λ b. messages_of before x ++ added b) (sym apart)
-      ∙ sym (referred_more x)
+      ∙ sym (messages_with_link_add_its_target x)
 
-  by_number : (x : Text) (o : Option ℕ) → number x ≡ o → (b : Bool) → bytes_eq x link.from ≡ b
+  row_by_number_is_its_messages : (x : Text) (o : Option ℕ) → number x ≡ o → (b : Bool) → bytes_eq x link.from ≡ b
       → row_at reference_rows o ≡ messages_of with_link x
-  by_number x None is true same =
+  row_by_number_is_its_messages x None is true same =
       let never : None ≡ Some u = sym is ∙ ap number ((bytes_eq-Decides x link.from).0 same) ∙ from in absurd (cc)
-  by_number x None is false apart = ap (row_at rows) (sym is) ∙ row_other x apart
-  by_number x (Some v) is true same =
+  row_by_number_is_its_messages x None is false apart =
+      ap (row_at rows) (sym is) ∙ row_of_other_name_has_its_messages x apart
+  row_by_number_is_its_messages x (Some v) is true same =
       let e : x ≡ link.from = (bytes_eq-Decides x link.from).0 same in
       let at : Some v ≡ Some u = sym is ∙ ap number e ∙ from in
       let v_is : v ≡ u = cc in
@@ -137,20 +141,20 @@ module _ (before : List Link) (number : Numbering) (rows : Rows) (adds_reference
       ∙ ap (λ l. l ++ link.to ∷ []) (ap (row_at rows) (sym from) ∙ adds_references.has_messages link.from)
       ∙ ap (λ n. messages_of before n ++ link.to ∷ []) (sym e)
       ∙ ap (λ b. messages_of before x ++ added b) (sym same)
-      ∙ sym (referred_more x)
-  by_number x (Some v) is false apart = elim (cases_eq v u) [
+      ∙ sym (messages_with_link_add_its_target x)
+  row_by_number_is_its_messages x (Some v) is false apart = elim (cases_eq v u) [
     | inl e ↦
         let there : x ≡ link.from = adds_references.apart x link.from u (is ∙ ap Some e) from in
         let never : true ≡ false = sym ((bytes_eq-Decides x link.from).1 there) ∙ apart in absurd (cc)
     | inr n ↦
-        get_or-set_other rows u v longer [] n ∙ ap (row_at rows) (sym is) ∙ row_other x apart
+        get_or-set_other rows u v longer [] n ∙ ap (row_at rows) (sym is) ∙ row_of_other_name_has_its_messages x apart
   ]
 
-  new_reference : HasReferences with_link number reference_rows
-  new_reference = record {
+  rows_with_link_have_references : HasReferences with_link number reference_rows
+  rows_with_link_have_references = record {
     within = λ x w e. omega (arith, adds_references.within x w e, length-set rows u longer);
     apart = adds_references.apart;
-    has_messages = λ x. by_number x (number x) refl (bytes_eq x link.from) refl;
+    has_messages = λ x. row_by_number_is_its_messages x (number x) refl (bytes_eq x link.from) refl;
   }
 
 pub number_is_within_rows : (all : List Link) (names : Lists) → HasReferences all (numbers_of names) (rows_of names)
@@ -175,7 +179,7 @@ HasReferences-link before old new adds_references link u from to is adds =
     ∙ ap (λ (l : List Text). l ++ link.to ∷ []) row) in
     subst (λ (n : FirstPlaces ℕ). HasReferences (before ++ link ∷ []) (place_of n.table) (rows_of new)) (sym adds.same)
     (subst (λ (r : Rows). HasReferences (before ++ link ∷ []) (numbers_of old) r) (sym longer)
-    (new_reference before (numbers_of old) rows adds_references link u from))
+    (rows_with_link_have_references before (numbers_of old) rows adds_references link u from))
 
 -- a row, as it is read
 pub row_is_its_texts : (names : Lists) (u : ℕ) (row : Vec (Vec ℕ Global) Global) → u < length names.lists.items
@@ -183,7 +187,7 @@ pub row_is_its_texts : (names : Lists) (u : ℕ) (row : Vec (Vec ℕ Global) Glo
 row_is_its_texts names u row within is =
     let lists = names.lists.items in
     get_or-map texts_of (lists_of names) u [] [] (omega (arith, within, length-items lists))
-    ∙ ap texts_of (list_read lists u row within is)
+    ∙ ap texts_of (list_at_index_has_its_items lists u row within is)
 
 -- ---- Messages that are followed
 
@@ -219,11 +223,11 @@ module _ (text : Text) (now : MessageReferences) (ms : Mentions Span) (i : ℕ) 
   LeavesReferences message_references owner n = (list : List Link) × IsMessageReferences list message_references
       × (list ++ references_in text owner (drop n ms) [] ≡ references_in text nameless ms [])
 
-  pub references_next : (next : MessageReferences) (owner : EntryName) (m d : Mention Span) → i < length ms
-      → m ≡ get_or ms i d
+  pub references_are_left_after_next_mention : (next : MessageReferences) (owner : EntryName) (m d : Mention Span)
+      → i < length ms → m ≡ get_or ms i d
       → LeavesReferences now owner i → AddsReferences now next (refers text owner m)
       → LeavesReferences next (owner_after owner m) (i + 1)
-  references_next next owner m d within is left adds_references =
+  references_are_left_after_next_mention next owner m d within is left adds_references =
       let cut = drop_one_node ms i m d within is in
       let second = adds_references left.0 left.1 in (
         second.0,
@@ -233,9 +237,9 @@ module _ (text : Text) (now : MessageReferences) (ms : Mentions Span) (i : ℕ) 
             ∙ left.2,
       )
 
-  pub references_none : (owner : EntryName) → length ms ≤ i → LeavesReferences now owner i
+  pub references_at_last_mention_are_all : (owner : EntryName) → length ms ≤ i → LeavesReferences now owner i
       → IsMessageReferences (references_in text nameless ms []) now
-  references_none owner end left =
+  references_at_last_mention_are_all owner end left =
       let same : left.0 ≡ references_in text nameless ms [] =
       sym (append-nil left.0)
       ∙ ap (λ (l : Mentions Span). left.0 ++ references_in text owner l []) (sym (drop_all i ms end))

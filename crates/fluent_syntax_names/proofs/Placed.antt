@@ -35,41 +35,44 @@ module _ {X : Type 0} (key : Key) (place : X) (name : List ℕ) where
       find name (insert_entry order rows key place) ≡ first_of (find name rows) (place_where name key.items place)
 
   -- in front of rows that do not have it
-  in_front : (rows : List (Row X)) → find key.items rows ≡ None → (b : Bool) → bytes_eq name key.items ≡ b
+  place_in_front_is_found_first : (rows : List (Row X)) → find key.items rows ≡ None → (b : Bool)
+      → bytes_eq name key.items ≡ b
       → cond b (Some place) (find name rows) ≡ first_of (find name rows) (if b then Some place else None)
-  in_front rows absent true e =
+  place_in_front_is_found_first rows absent true e =
       let same : name ≡ key.items = (bytes_decides name key.items).0 e in
       let nowhere : find name rows ≡ None = ap (λ n. find n rows) same ∙ absent in
       sym (ap (λ o. first_of o (Some place)) nowhere)
-  in_front rows absent false e = sym (first_of-None (find name rows))
+  place_in_front_is_found_first rows absent false e = sym (first_of-None (find name rows))
 
-  begun : (rows : List (Row X)) → find key.items rows ≡ None
+  row_put_in_front_is_found_first : (rows : List (Row X)) → find key.items rows ≡ None
       → find name ((key, place) ∷ rows) ≡ first_of (find name rows) (place_where name key.items place)
-  begun rows absent =
+  row_put_in_front_is_found_first rows absent =
       ap (λ b. cond b (Some place) (find name rows)) (is_eq-slice_cmp name key.items)
-      ∙ in_front rows absent (bytes_eq name key.items) refl
+      ∙ place_in_front_is_found_first rows absent (bytes_eq name key.items) refl
 
   -- after a row of another name
-  beyond : (row : Row X) (rows : List (Row X)) (b : Bool) → wanted rows
+  row_put_beyond_is_found_after_first : (row : Row X) (rows : List (Row X)) (b : Bool) → wanted rows
       → cond b (Some row.1) (find name (insert_entry order rows key place))
       ≡ first_of (cond b (Some row.1) (find name rows)) (place_where name key.items place)
-  beyond row rows true held = refl
-  beyond row rows false held = held
+  row_put_beyond_is_found_after_first row rows true held = refl
+  row_put_beyond_is_found_after_first row rows false held = held
 
-  by_order : (row : Row X) (rows : List (Row X)) (o : Ordering) → order key row.0 ≡ o
+  row_put_in_order_is_found : (row : Row X) (rows : List (Row X)) (o : Ordering) → order key row.0 ≡ o
       → find key.items (row ∷ rows) ≡ None
       → (find key.items rows ≡ None → wanted rows) → wanted (row ∷ rows)
-  by_order row rows Less e absent held = rw e (begun (row ∷ rows) absent)
-  by_order row rows Equal e absent held =
+  row_put_in_order_is_found row rows Less e absent held = rw e (row_put_in_front_is_found_first (row ∷ rows) absent)
+  row_put_in_order_is_found row rows Equal e absent held =
       let there : find key.items (row ∷ rows) ≡ Some row.1 =
       ap (λ o. cond (is_eq o) (Some row.1) (find key.items rows)) e in
       let never : None ≡ Some row.1 = sym absent ∙ there in cc
-  by_order row rows Greater e absent held =
+  row_put_in_order_is_found row rows Greater e absent held =
       let rest : find key.items rows ≡ None =
       sym (ap (λ o. cond (is_eq o) (Some row.1) (find key.items rows)) e) ∙ absent in
-      rw e (beyond row rows (is_at (λ k. slice_cmp nat_cmp name k.items) row.0) (held rest))
+      rw e (row_put_beyond_is_found_after_first row rows (is_at (λ k. slice_cmp nat_cmp name k.items) row.0)
+      (held rest))
 
   -- a new name is put in
-  pub put_in : (rows : List (Row X)) → find key.items rows ≡ None → wanted rows
-  put_in [] absent = begun [] absent
-  put_in (row ∷ rows) absent = by_order row rows (order key row.0) refl absent (put_in rows)
+  pub inserted_key_is_found_after_others : (rows : List (Row X)) → find key.items rows ≡ None → wanted rows
+  inserted_key_is_found_after_others [] absent = row_put_in_front_is_found_first [] absent
+  inserted_key_is_found_after_others (row ∷ rows) absent =
+      row_put_in_order_is_found row rows (order key row.0) refl absent (inserted_key_is_found_after_others rows)

@@ -20,14 +20,14 @@ module _ (targets : Text → List Text) where
   reachable_within-nil (suc room) = refl
 
   -- there is no list of more names than there is room for
-  pub followed_too_many : (room : ℕ) (names : List Text) → room < length names
+  pub too_many_names_reach_nothing : (room : ℕ) (names : List Text) → room < length names
       → reachable_within targets room names ≡ None
-  followed_too_many zero [] more = absurd (omega arith)
-  followed_too_many zero (x ∷ xs) more = refl
-  followed_too_many (suc room) [] more = absurd (omega arith)
-  followed_too_many (suc room) (x ∷ xs) more =
+  too_many_names_reach_nothing zero [] more = absurd (omega arith)
+  too_many_names_reach_nothing zero (x ∷ xs) more = refl
+  too_many_names_reach_nothing (suc room) [] more = absurd (omega arith)
+  too_many_names_reach_nothing (suc room) (x ∷ xs) more =
       ap (option_map (λ ys. x ∷ ys))
-      (followed_too_many room (xs ++ targets x) (omega (arith, length-append xs (targets x))))
+      (too_many_names_reach_nothing room (xs ++ targets x) (omega (arith, length-append xs (targets x))))
 
   -- the names of a list up to an index are followed: what is left follows the others
   abbrev pub FollowedTo : (room : ℕ) → (whole : Option (List Text)) → (names : List Text) → ℕ → Type 0
@@ -37,10 +37,10 @@ module _ (targets : Text → List Text) where
   module _ (room : ℕ) (whole : Option (List Text)) (names : List Text) (i : ℕ) (few : length names ≤ room)
       (before : FollowedTo room whole names i) where
     -- the next name is followed
-    onward : (x : Text) → i < length names → x ≡ get_or names i []
+    next_name_is_followed_in_its_place : (x : Text) → i < length names → x ≡ get_or names i []
         → whole ≡ option_map (λ ys. (take i names ++ x ∷ []) ++ ys)
         (reachable_within targets (room - (i + 1)) (drop (i + 1) names ++ targets x))
-    onward x within is =
+    next_name_is_followed_in_its_place x within is =
         let cut = drop_one_node names i x [] within is in
         let left : room - i ≡ suc (room - (i + 1)) = omega arith in
         let rest = reachable_within targets (room - (i + 1)) (drop (i + 1) names ++ targets x) in
@@ -49,32 +49,33 @@ module _ (targets : Text → List Text) where
         ∙ ap (λ r. option_map (λ ys. take i names ++ ys) (reachable_within targets r (x ∷ drop (i + 1) names))) left
         ∙ front_then_one_is_longer_front (take i names) x rest
 
-    pub followed_next : (x : Text) → i < length names → x ≡ get_or names i []
+    pub following_goes_on_with_targets : (x : Text) → i < length names → x ≡ get_or names i []
         → FollowedTo room whole (names ++ targets x) (i + 1)
-    followed_next x within is =
+    following_goes_on_with_targets x within is =
         let front : take i names ++ x ∷ [] ≡ take (i + 1) (names ++ targets x) =
         ap (λ y. take i names ++ y ∷ []) is
         ∙ sym (take_more names i [] within)
         ∙ sym (take-append-le (i + 1) names (targets x) (omega arith)) in
         let back : drop (i + 1) names ++ targets x ≡ drop (i + 1) (names ++ targets x) =
         sym (drop-append-le (i + 1) names (targets x) (omega arith)) in
-        onward x within is
+        next_name_is_followed_in_its_place x within is
         ∙ ap (λ l. option_map (λ ys. l ++ ys)
         (reachable_within targets (room - (i + 1)) (drop (i + 1) names ++ targets x))) front
         ∙ ap (λ l. option_map (λ ys. take (i + 1) (names ++ targets x) ++ ys)
         (reachable_within targets (room - (i + 1)) l)) back
 
-    pub followed_none : (x : Text) → i < length names → x ≡ get_or names i []
+    pub too_many_targets_reach_nothing : (x : Text) → i < length names → x ≡ get_or names i []
         → room < length names + length (targets x) → whole ≡ None
-    followed_none x within is more =
+    too_many_targets_reach_nothing x within is more =
         let rest = drop (i + 1) names ++ targets x in
         let long : room - (i + 1) < length rest =
         omega (arith, length-append (drop (i + 1) names) (targets x), length-drop (i + 1) names) in
-        onward x within is
-        ∙ ap (option_map (λ ys. (take i names ++ x ∷ []) ++ ys)) (followed_too_many (room - (i + 1)) rest long)
+        next_name_is_followed_in_its_place x within is
+        ∙ ap (option_map (λ ys. (take i names ++ x ∷ []) ++ ys))
+        (too_many_names_reach_nothing (room - (i + 1)) rest long)
 
-    pub followed_all : length names ≤ i → whole ≡ Some names
-    followed_all end =
+    pub followed_names_are_all_reachable : length names ≤ i → whole ≡ Some names
+    followed_names_are_all_reachable end =
         before
         ∙ ap (λ l. option_map (λ ys. take i names ++ ys) (reachable_within targets (room - i) l)) (drop_all i names end)
         ∙ ap (option_map (λ ys. take i names ++ ys)) (reachable_within-nil (room - i))

@@ -13,11 +13,11 @@ module _ {S X : Type 0} (f : S → X) where
   all_variants first vs tail = variants_mentions first (variants_of (map (variant_view f) vs)) tail
 
   -- the first key of a select is that of its first variant
-  pub select_first : (vs : List (Variant S)) (v : Variant S) → slice_get vs 0 ≡ Some v → (tail : Mentions X)
-      → all_variants (key_text (key_view f v.key)) vs tail
+  pub mentions_of_select_begin_with_first_key : (vs : List (Variant S)) (v : Variant S) → slice_get vs 0 ≡ Some v
+      → (tail : Mentions X) → all_variants (key_text (key_view f v.key)) vs tail
       ≡ select_mentions (variants_of (map (variant_view f) vs)) tail
-  select_first [] v e tail = cc
-  select_first (x ∷ xs) v e tail =
+  mentions_of_select_begin_with_first_key [] v e tail = cc
+  mentions_of_select_begin_with_first_key (x ∷ xs) v e tail =
       let same : x ≡ v = cc in
       ap (λ y. all_variants (key_text (key_view f y.key)) (x ∷ xs) tail) (sym same)
       ∙ ap (λ y. all_variants (variant_key y) (x ∷ xs) tail) (sym (view-Variant f x))

@@ -11,4 +11,5 @@ other_by tables = record {
   uses = has_name (place_of tables.used.now.table);
   reachable = reachable_of tables.message_references.now;
   place = place_of tables.places.now.table;
+  own_place = place_of tables.own_places.now.table;
 }

@@ -9,18 +9,20 @@ use Rattle.fluent_syntax_names.specs.declared.differences.Difference.TheVariants
 use Rattle.fluent_syntax_names.specs.declared.differences.Side.{Side}
 use Rattle.fluent_syntax_names.specs.declared.differences.Side.TheVariants.{Reference, Other}
 
--- of a part that this file has and the other one lacks: a translation may leave a variable out
+-- of a part that this file has and the other one lacks: a translation may leave a variable or a function out
 abbrev pub side_difference : Side → Part → Option Difference
 side_difference Reference part.Entry = Some differs.Missing
 side_difference Reference part.Value = Some differs.MissingValue
 side_difference Reference part.Attribute = Some differs.MissingAttribute
 side_difference Reference part.Reference = Some differs.MissingReference
 side_difference Reference part.Variable = None
+side_difference Reference part.Function = None
 side_difference Other part.Entry = Some differs.Obsolete
 side_difference Other part.Value = Some differs.ObsoleteValue
 side_difference Other part.Attribute = Some differs.ObsoleteAttribute
 side_difference Other part.Reference = Some differs.ObsoleteReference
 side_difference Other part.Variable = Some differs.UnknownVariable
+side_difference Other part.Function = Some differs.UnknownFunction
 
 -- as a command line has it
 abbrev pub difference_name : Difference → List ℕ
@@ -33,6 +35,7 @@ difference_name differs.ObsoleteValue = codes "obsolete-value"
 difference_name differs.ObsoleteAttribute = codes "obsolete-attribute"
 difference_name differs.ObsoleteReference = codes "obsolete-reference"
 difference_name differs.UnknownVariable = codes "unknown-variable"
+difference_name differs.UnknownFunction = codes "unknown-function"
 
 abbrev pub difference_severity : Difference → Severity
 difference_severity differs.Missing = Error
@@ -44,3 +47,4 @@ difference_severity differs.ObsoleteValue = Warning
 difference_severity differs.ObsoleteAttribute = Warning
 difference_severity differs.ObsoleteReference = Warning
 difference_severity differs.UnknownVariable = Error
+difference_severity differs.UnknownFunction = Warning

@@ -1,5 +1,5 @@
 -- Where a file has its messages and terms.
-use Rattle.std.specs.Prelude.{ℕ, Bool, ◌||◌, ◌==◌, [], ◌∷◌, Option, None, take_while}
+use Rattle.std.specs.Prelude.{ℕ, Bool, false, ◌||◌, ◌==◌, [], ◌∷◌, Option, Some, None, count_by, take_while}
 use Rattle.std.specs.Char.{is_ascii_alphanumeric}
 use Rattle.fluent_syntax_tree.specs.Bytes.{hyphen, underscore}
 use Rattle.fluent_syntax_tree.specs.declared.spans.Span.{Span}
@@ -7,6 +7,7 @@ use Rattle.fluent_syntax_names.specs.Mentions.{Mentions}
 use Rattle.fluent_syntax_names.specs.FirstPlaces.{first_of, place_where}
 use Rattle.fluent_syntax_names.specs.QualifiedNames.{Text, name_at, qualified_name, message_name, term_name}
 use Rattle.fluent_syntax_names.specs.declared.mention.Mention.{Mention}
+use Rattle.fluent_syntax_names.specs.declared.name_index.NameIndex.{NameIndex}
 use Rattle.fluent_syntax_names.specs.declared.mention.Mention.TheVariants as says
 
 -- the name in the mention, where it is that of a message or a term of this name, a term's with its `-`
@@ -38,3 +39,19 @@ first_place_in named (m ∷ ms) entry = first_of (named m entry) (first_place_in
 abbrev pub entry_place : Text → Mentions Span → (entry : Text) → Option Span
 entry_place text ms entry =
     first_of (first_place_in (definition_named text) ms entry) (first_place_in (junk_named text) ms entry)
+
+-- whether the place begins where the first one does
+abbrev pub is_first : (first : Option Span) → (place : Span) → Bool
+is_first None place = false
+is_first (Some first) place = first.start == place.start
+
+-- whether the mention is the first definition of its name, by these places
+abbrev pub is_first_definition : (Text → Option Span) → Text → Mention Span → Bool
+is_first_definition places text (says.Message x v) = is_first (places (qualified_name text (message_name x))) x
+is_first_definition places text (says.Term x) = is_first (places (qualified_name text (term_name x))) x
+is_first_definition places text _ = false
+
+-- how many messages and terms the file defines, each name once
+abbrev pub entry_count : NameIndex → ℕ
+entry_count file =
+    count_by (is_first_definition (entry_place file.text.now file.mentions.items) file.text.now) file.mentions.items

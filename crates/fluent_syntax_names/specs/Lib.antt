@@ -14,6 +14,8 @@ pub mod FirstPlaces
 pub mod ShownNames
 pub mod Rows
 pub mod Sentences
+pub mod PluralCategories
+pub mod UnchosenKeys
 pub mod Severities
 pub mod QualifiedNames
 pub mod Tables

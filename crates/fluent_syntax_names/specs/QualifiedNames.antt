@@ -3,6 +3,7 @@ use Rattle.std.specs.Prelude.{ℕ, ◌&&◌, nat_le, List, [], ◌∷◌, ◌++�
 use Rattle.std.specs.Prelude.{Option, Some, None}
 use Rattle.std.specs.Fmt.{decimal}
 use Rattle.fluent_syntax_tree.specs.Bytes.{hyphen, full_stop, equals_sign, dollar_sign, greater_than, left_bracket}
+use Rattle.fluent_syntax_tree.specs.Bytes.{left_parenthesis}
 use Rattle.fluent_syntax_tree.specs.declared.spans.Span.{Span}
 use Rattle.fluent_syntax_names.specs.declared.qualified_names.EntryName.{EntryName}
 use Rattle.fluent_syntax_names.specs.declared.qualified_names.PatternName.{PatternName}
@@ -47,6 +48,10 @@ qualified_variable text entry variable = variable_of (qualified_name text entry)
 -- `name>other`, that an entry refers to another, or to an attribute of it
 abbrev pub qualified_reference : List ℕ → EntryName → EntryName → List ℕ
 qualified_reference text entry other = (qualified_name text entry ++ greater_than ∷ []) ++ qualified_name text other
+
+-- `(FUNCTION`, whatever the entry that calls it. No name begins so.
+abbrev pub qualified_function : List ℕ → Span → List ℕ
+qualified_function text function = left_parenthesis ∷ name_at text function
 
 -- `12[key`, the key of a variant in the select whose first key is at 12. A name begins with a letter and a number
 -- does not, so keys that are spelled alike are of one kind. No attribute is spelled so.

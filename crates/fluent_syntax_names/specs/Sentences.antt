@@ -42,6 +42,7 @@ difference_sentence differs.ObsoleteAttribute entry name =
 difference_sentence differs.ObsoleteReference entry name =
     codes "the reference's `" ++ entry ++ codes "` does not refer to `" ++ name ++ codes "`"
 difference_sentence differs.UnknownVariable entry name = codes "the reference does not use `$" ++ name ++ codes "`"
+difference_sentence differs.UnknownFunction entry name = codes "the reference does not call `" ++ name ++ codes "`"
 
 -- of the name of an entry that this file defines and the other one has as junk, and its place in the reference's file
 abbrev pub junk_sentence : Side → (entry place : List ℕ) → List ℕ

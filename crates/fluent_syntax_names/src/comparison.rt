@@ -24,10 +24,11 @@ use std::alloc::{AllocError, Global};
 
 /// What the one file says and the other lacks, in the order of the one's text:
 ///
-/// - messages and terms;
+/// - messages and terms, each name once;
 /// - of messages that both define the value, attributes, and each use of a variable that neither the other's message
 ///   uses nor any that it leads to;
-/// - of messages and terms that both define each reference to a message or a term.
+/// - of messages and terms that both define each reference to a message or a term, and each call of a function that no
+///   entry of the other calls and that is neither `NUMBER` nor `DATETIME`.
 ///
 /// A message leads to those that it refers to, and to those that these do, and so on. Where one of them is not defined
 /// in the other file, where there are more than 100, and where references come back, no variable is reported.
@@ -35,7 +36,7 @@ use std::alloc::{AllocError, Global};
 /// Attributes and variables of terms are for their own language alone. Of a reference and a translation it reports what
 /// the translation lacks; the other way round what is obsolete or unknown there.
 ///
-/// Takes the memory of four tables of names, and of the list; `AllocError` where there is none. The time is that of
+/// Takes the memory of five tables of names, and of the list; `AllocError` where there is none. The time is that of
 /// looking each name up in a sorted table, and each variable for up to 100 messages.
 pub fn missing_parts(
     alloc: Global,
@@ -53,12 +54,14 @@ pub fn missing_parts(
     note_uses(alloc, &mut used, other.text, &other.mentions)?;
     let message_references = message_references_of(alloc, other.text, &other.mentions)?;
     let places = entry_places(alloc, other.text, &other.mentions)?;
+    let own_places = entry_places(alloc, one.text, &one.mentions)?;
     let tables = ComparisonTables {
         alloc,
         defined: &defined,
         used: &used,
         message_references: &message_references,
         places: &places,
+        own_places: &own_places,
         text: one.text,
     };
     missing_parts_by(&tables, &one.mentions)

@@ -5,24 +5,26 @@ ghost use Rattle.fluent_syntax_names.specs.MissingParts.{missing_part_at, missin
 ghost use Rattle.fluent_syntax_names.specs.MissingParts.{missing_attribute, missing_part};
 ghost use Rattle.fluent_syntax_names.specs.MissingParts.{missing_reference, missing_variable};
 ghost use Rattle.fluent_syntax_names.specs.MissingParts.{may_use, some_may_use, one_may_use};
+ghost use Rattle.fluent_syntax_names.specs.MissingParts.{is_built_in, may_call, missing_function};
 ghost use Rattle.fluent_syntax_names.specs.FirstPlaces.{place_of};
 ghost use Rattle.fluent_syntax_names.specs.Rows.{texts_at};
 ghost use Rattle.fluent_syntax_names.specs.QualifiedNames.{qualified_attribute, qualified_reference};
-ghost use Rattle.fluent_syntax_names.specs.QualifiedNames.{qualified_variable};
+ghost use Rattle.fluent_syntax_names.specs.QualifiedNames.{qualified_function, qualified_variable};
 
 use crate::definitions::{message_name, term_name};
+use crate::entry_places::is_first;
 use crate::first_places::FirstPlaces;
 use crate::mention::Mention;
 use crate::message_references::MessageReferences;
 use crate::missing_part::{MissingPart, Part};
 use crate::qualified_names::{
-    EntryName, name_at, qualified_attribute, qualified_name, qualified_reference, qualified_value,
-    qualified_variable, variable_of,
+    EntryName, name_at, qualified_attribute, qualified_function, qualified_name,
+    qualified_reference, qualified_value, qualified_variable, variable_of,
 };
 use fluent_syntax_tree::spans::Span;
 use std::alloc::{AllocError, Global};
 
-/// A text next to another file: what that defines and uses, where its messages lead, and where it has its entries.
+/// A text next to another file: what that defines and uses, where its messages lead, and where both have their entries.
 #[derive(Clone, Copy)]
 pub(crate) struct ComparisonTables<'a> {
     pub(crate) alloc: Global,
@@ -30,6 +32,7 @@ pub(crate) struct ComparisonTables<'a> {
     pub(crate) used: &'a FirstPlaces<Span>,
     pub(crate) message_references: &'a MessageReferences,
     pub(crate) places: &'a FirstPlaces<Span>,
+    pub(crate) own_places: &'a FirstPlaces<Span>,
     pub(crate) text: &'a str,
 }
 
@@ -54,6 +57,7 @@ impl ComparisonTables<'_> {
             }
             Mention::TermReference { name, .. } => self.missing_reference(owner, term_name(*name)),
             Mention::Variable { name } => self.missing_variable(owner, *name),
+            Mention::Function { name } => self.missing_function(owner, *name),
             _ => Ok(None),
         }
     }
@@ -69,6 +73,9 @@ impl ComparisonTables<'_> {
         let name = qualified_name(self.alloc, self.text, entry)?;
         if self.defined.place_of(&name).is_some() {
             return self.missing_value(entry, has_value);
+        }
+        if !is_first(self.own_places.place_of(&name), entry.name) {
+            return Ok(None);
         }
         Ok(Some(MissingPart {
             part: Part::Entry,
@@ -179,6 +186,29 @@ impl ComparisonTables<'_> {
         Ok(self.used.place_of(&name).is_some())
     }
 
+    fn missing_function(
+        &self,
+        owner: EntryName,
+        function: Span,
+    ) -> Result<Option<MissingPart>, AllocError>
+        ensures { IfOk result (λ missing. missing ≡ missing_function
+            (other_by self.now) self.now.text.now owner function) }
+    {
+        let may_call = self.may_call(function)?;
+        self.missing_part(owner, may_call, Part::Function, function)
+    }
+
+    /// Whether the function is one of Fluent itself, or some entry of the other file calls it.
+    fn may_call(&self, function: Span) -> Result<bool, AllocError>
+        ensures { IfOk result (λ may. may ≡ may_call (other_by self.now) self.now.text.now function) }
+    {
+        if is_built_in(name_at(self.text, function)) {
+            return Ok(true);
+        }
+        let name = qualified_function(self.alloc, self.text, function)?;
+        Ok(self.used.place_of(&name).is_some())
+    }
+
     /// A part of an entry, if the other file defines the entry and has no such part.
     fn missing_part(
         &self,
@@ -202,4 +232,10 @@ impl ComparisonTables<'_> {
             in_other: self.places.place_of(&entry),
         }))
     }
+}
+
+fn is_built_in(function: &[u8]) -> bool
+    ensures { result ≡ is_built_in function.now }
+{
+    function == b"NUMBER".as_slice() || function == b"DATETIME".as_slice()
 }

@@ -26,10 +26,12 @@ pub enum Difference {
     ObsoleteAttribute,
     ObsoleteReference,
     UnknownVariable,
+    UnknownFunction,
 }
 
 impl Side {
-    /// What is reported of a part that this file has and the other one lacks. A translation may leave a variable out.
+    /// What is reported of a part that this file has and the other one lacks. A translation may leave out a
+    /// variable or a function.
     pub fn difference(self, part: Part) -> Option<Difference>
         ensures { result ≡ side_difference self part }
     {
@@ -38,12 +40,13 @@ impl Side {
             (Side::Reference, Part::Value) => Some(Difference::MissingValue),
             (Side::Reference, Part::Attribute) => Some(Difference::MissingAttribute),
             (Side::Reference, Part::Reference) => Some(Difference::MissingReference),
-            (Side::Reference, Part::Variable) => None,
+            (Side::Reference, Part::Variable | Part::Function) => None,
             (Side::Other, Part::Entry) => Some(Difference::Obsolete),
             (Side::Other, Part::Value) => Some(Difference::ObsoleteValue),
             (Side::Other, Part::Attribute) => Some(Difference::ObsoleteAttribute),
             (Side::Other, Part::Reference) => Some(Difference::ObsoleteReference),
             (Side::Other, Part::Variable) => Some(Difference::UnknownVariable),
+            (Side::Other, Part::Function) => Some(Difference::UnknownFunction),
         }
     }
 }
@@ -63,6 +66,7 @@ impl Difference {
             Difference::ObsoleteAttribute => "obsolete-attribute",
             Difference::ObsoleteReference => "obsolete-reference",
             Difference::UnknownVariable => "unknown-variable",
+            Difference::UnknownFunction => "unknown-function",
         }
     }
 
@@ -75,7 +79,7 @@ impl Difference {
             Difference::MissingAttribute | Difference::UnknownVariable => Severity::Error,
             Difference::MissingReference | Difference::Obsolete => Severity::Warning,
             Difference::ObsoleteValue | Difference::ObsoleteAttribute => Severity::Warning,
-            Difference::ObsoleteReference => Severity::Warning,
+            Difference::ObsoleteReference | Difference::UnknownFunction => Severity::Warning,
         }
     }
 }

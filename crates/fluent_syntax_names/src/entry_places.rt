@@ -1,13 +1,14 @@
 //! Where a file has its messages and terms.
 ghost use Rattle.std.specs.Prelude.{◌≡◌, List, ℕ, IfOk, OnOk};
 ghost use Rattle.fluent_syntax_names.specs.EntryPlaces.{definition_named, entry_place, is_name_byte, junk_named};
-ghost use Rattle.fluent_syntax_names.specs.EntryPlaces.{name_prefix};
+ghost use Rattle.fluent_syntax_names.specs.EntryPlaces.{entry_count, is_first, is_first_definition, name_prefix};
 ghost use Rattle.fluent_syntax_names.specs.FirstPlaces.{NotesPlaces, place_of};
 
 use crate::definitions::{message_name, note_entry, term_name};
 use crate::first_places::FirstPlaces;
 use crate::mention::Mention;
-use crate::qualified_names::name_at;
+use crate::name_index::NameIndex;
+use crate::qualified_names::{name_at, qualified_name};
 use fluent_syntax_tree::spans::Span;
 use std::alloc::{AllocError, Global};
 
@@ -84,4 +85,50 @@ fn is_name_byte(byte: u8) -> bool
     ensures { result ≡ is_name_byte byte }
 {
     byte.is_ascii_alphanumeric() || byte == b'-' || byte == b'_'
+}
+
+/// How many messages and terms the file defines, each name once.
+///
+/// Takes the memory of a table of their names; `AllocError` where there is none.
+pub fn entry_count(alloc: Global, file: &NameIndex<'_>) -> Result<usize, AllocError>
+    ensures { IfOk result (λ count. count ≡ entry_count file.now) }
+{
+    let places = entry_places(alloc, file.text, &file.mentions)?;
+    let mentions = file.mentions.as_slice();
+    let mut count: usize = 0;
+    for mention in mentions {
+        if is_first_definition(alloc, &places, file.text, mention)? {
+            count += 1;
+        }
+    }
+    Ok(count)
+}
+
+/// Whether the mention is the first definition of its name.
+fn is_first_definition(
+    alloc: Global,
+    places: &FirstPlaces<Span>,
+    text: &str,
+    mention: &Mention<Span>,
+) -> Result<bool, AllocError>
+    ensures { IfOk result (λ is_first. is_first
+        ≡ is_first_definition (place_of places.now.table) text.now mention.now) }
+{
+    let entry = match mention {
+        Mention::Message { name, .. } => message_name(*name),
+        Mention::Term { name } => term_name(*name),
+        _ => return Ok(false),
+    };
+    let name = qualified_name(alloc, text, entry)?;
+    Ok(is_first(places.place_of(&name), entry.name))
+}
+
+/// Whether the place begins where the first one does.
+pub(crate) fn is_first(first: Option<Span>, place: Span) -> bool
+    ensures { result ≡ is_first first place }
+{
+    match first {
+        Some(first) => first.start == place.start,
+        None => false,
+    }
 }

@@ -77,6 +77,9 @@ impl Difference {
             Difference::UnknownVariable => format!(in alloc;
                 "the reference does not use `${name}`"
             ),
+            Difference::UnknownFunction => format!(in alloc;
+                "the reference does not call `{name}`"
+            ),
         }
     }
 }

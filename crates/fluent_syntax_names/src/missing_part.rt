@@ -8,8 +8,8 @@ use fluent_syntax_tree::spans::Span;
 #[derive(Clone, Copy, Debug, PartialEq, Eq)]
 pub struct MissingPart {
     pub part: Part,
-    /// The name in the file that has it: of the message or term, of the attribute, of what is referred to, or of the
-    /// variable.
+    /// The name in the file that has it: of the message or term, of the attribute, of what is referred to, of the
+    /// variable, or of the function.
     pub name: Span,
     /// The name, in the file that has it, of the message or term that the part is in, or is.
     pub entry: Span,
@@ -42,4 +42,7 @@ pub enum Part {
     /// A variable of a message that both define: the other's message doesn't use it, and neither does any message that
     /// this leads to, which are at most 100 and all defined in the other file.
     Variable,
+    /// A function that an entry calls that both define: no entry of the other file calls it, and it is neither `NUMBER`
+    /// nor `DATETIME`.
+    Function,
 }

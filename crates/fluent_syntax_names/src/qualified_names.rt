@@ -3,6 +3,7 @@ ghost use Rattle.std.specs.Prelude.{◌≡◌, IfOk};
 ghost use Rattle.fluent_syntax_names.specs.QualifiedNames.{name_at, qualified_name, qualified_attribute};
 ghost use Rattle.fluent_syntax_names.specs.QualifiedNames.{qualified_value};
 ghost use Rattle.fluent_syntax_names.specs.QualifiedNames.{qualified_variable, qualified_reference, variable_of};
+ghost use Rattle.fluent_syntax_names.specs.QualifiedNames.{qualified_function};
 ghost use Rattle.fluent_syntax_names.specs.QualifiedNames.{qualified_pattern, qualified_key};
 
 use fluent_syntax_tree::spans::Span;
@@ -123,6 +124,20 @@ pub(crate) fn qualified_reference(
     bytes.push(b'>')?;
     let other = qualified_name(alloc, text, other)?;
     bytes.extend_from_slice(&other)?;
+    Ok(bytes)
+}
+
+/// The name of a function after a `(`.
+pub(crate) fn qualified_function(
+    alloc: Global,
+    text: &str,
+    function: Span,
+) -> Result<Vec<u8>, AllocError>
+    ensures { IfOk result (λ bytes. bytes.items ≡ qualified_function text.now function) }
+{
+    let mut bytes = Vec::new(alloc);
+    bytes.push(b'(')?;
+    bytes.extend_from_slice(name_at(text, function))?;
     Ok(bytes)
 }
 

@@ -4,13 +4,16 @@ ghost use Rattle.fluent_syntax_names.specs.Findings.{put};
 ghost use Rattle.fluent_syntax_names.specs.QualifiedNames.{nameless, message_name};
 ghost use Rattle.fluent_syntax_names.specs.MissingParts.{uses, used_in};
 ghost use Rattle.fluent_syntax_names.specs.FirstPlaces.{place_of};
-ghost use Rattle.fluent_syntax_names.specs.QualifiedNames.{qualified_reference, qualified_variable};
+ghost use Rattle.fluent_syntax_names.specs.QualifiedNames.{qualified_function, qualified_reference};
+ghost use Rattle.fluent_syntax_names.specs.QualifiedNames.{qualified_variable};
 ghost use Rattle.fluent_syntax_names.specs.Tables.{NotesNames};
 
 use crate::definitions::{NAMELESS, message_name, owner_after, term_name};
 use crate::first_places::FirstPlaces;
 use crate::mention::Mention;
-use crate::qualified_names::{EntryName, qualified_reference, qualified_variable};
+use crate::qualified_names::{
+    EntryName, qualified_function, qualified_reference, qualified_variable,
+};
 use fluent_syntax_tree::spans::Span;
 use std::alloc::{AllocError, Global};
 
@@ -51,6 +54,7 @@ fn note_use(
             note_reference(alloc, table, text, owner, term_name(*name))
         }
         Mention::Variable { name } => note_variable(alloc, table, text, owner, *name),
+        Mention::Function { name } => note_function(alloc, table, text, *name),
         _ => Ok(()),
     }
 }
@@ -82,5 +86,19 @@ fn note_variable(
 {
     let name = qualified_variable(alloc, text, owner, variable)?;
     table.note(name, variable)?;
+    Ok(())
+}
+
+fn note_function(
+    alloc: Global,
+    table: &mut FirstPlaces<Span>,
+    text: &str,
+    function: Span,
+) -> Result<(), AllocError>
+    ensures { OnOk result (NotesNames (place_of table.old.table) (place_of table.new.table)
+        (put (Some (qualified_function text.now function)))) }
+{
+    let name = qualified_function(alloc, text, function)?;
+    table.note(name, function)?;
     Ok(())
 }

@@ -5,3 +5,4 @@ mod findings;
 mod local;
 mod missing_parts;
 mod places;
+mod plural_categories;

@@ -28,6 +28,7 @@ _MESSAGES = {
     "obsolete-attribute": "the reference does not define the attribute `{name}`",
     "obsolete-reference": "the reference's entry does not refer to `{name}`",
     "unknown-variable": "the reference does not use `${name}`",
+    "unknown-function": "the reference does not call `{name}`",
 }
 
 _kind_name = lru_cache(maxsize=None)(_library.finding_kind_name)

@@ -13,6 +13,7 @@ fn mark(part: Part) -> &'static str {
         Part::Attribute => ".",
         Part::Reference => ">",
         Part::Variable => "$",
+        Part::Function => "(",
     }
 }
 
@@ -45,7 +46,9 @@ fn two_files(rt: HostRuntime) -> Result<(), Fail> {
     let out = missing_parts_shown(alloc, other, one)?;
     assert_same_text(alloc, "other", out.as_str(), "=6 of 6 at 29\n")?;
     let out = missing_parts_shown(alloc, "a = A\n    .t = T\n", "a {\na = A\na = B\n")?;
-    assert_same_text(alloc, "defined and junk", out.as_str(), ".11 of 0 at 4\n")
+    assert_same_text(alloc, "defined and junk", out.as_str(), ".11 of 0 at 4\n")?;
+    let out = missing_parts_shown(alloc, "a = { F() } { NUMBER(1) }\n", "a = A\n")?;
+    assert_same_text(alloc, "functions", out.as_str(), "(6 of 0 at 0\n")
 }
 
 /// A part that one side says and the other lacks, and the difference that is reported of it.
@@ -55,11 +58,13 @@ const DIFFERENCES: &[(Side, Part, Option<Difference>)] = table! {
     Side::Reference, Part::Attribute, Some(Difference::MissingAttribute);
     Side::Reference, Part::Reference, Some(Difference::MissingReference);
     Side::Reference, Part::Variable, None;
+    Side::Reference, Part::Function, None;
     Side::Other, Part::Entry, Some(Difference::Obsolete);
     Side::Other, Part::Value, Some(Difference::ObsoleteValue);
     Side::Other, Part::Attribute, Some(Difference::ObsoleteAttribute);
     Side::Other, Part::Reference, Some(Difference::ObsoleteReference);
     Side::Other, Part::Variable, Some(Difference::UnknownVariable);
+    Side::Other, Part::Function, Some(Difference::UnknownFunction);
 };
 
 /// A difference, how grave it is, its name, and what is said of it, in the entry `e` with the name `a`.
@@ -75,6 +80,7 @@ const SAID: &[(Difference, Severity, &str, &str)] = table! {
     Difference::ObsoleteReference, Severity::Warning, "obsolete-reference",
         "the reference's `e` does not refer to `a`";
     Difference::UnknownVariable, Severity::Error, "unknown-variable", "the reference does not use `$a`";
+    Difference::UnknownFunction, Severity::Warning, "unknown-function", "the reference does not call `a`";
 };
 
 #[test]

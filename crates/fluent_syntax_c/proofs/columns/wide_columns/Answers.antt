@@ -1,11 +1,11 @@
 use Rattle.std.proofs.Common.{arith, refl}
 use Rattle.fluent_syntax_c.specs.Columns.{characters, utf16_units}
-use Rattle.fluent_syntax_c.proofs.LineStarts.{column_inside, line_sum}
+use Rattle.fluent_syntax_c.proofs.LineStarts.{column_is_at_most_place_plus_one, line_sum}
 use Rattle.fluent_syntax_c.proofs.columns.wide_columns.Goals as goal
 
 pub overflow_sub-start-2 : goal.overflow_sub-start-2
 overflow_sub-start-2 c =
-    let inside = column_inside c.args.text.now c.args.byte c.requires.in_text in
+    let inside = column_is_at_most_place_plus_one c.args.text.now c.args.byte c.requires.in_text in
     omega (arith, inside, c.requires.column)
 
 pub returns-clause-utf16 : goal.returns-clause-utf16

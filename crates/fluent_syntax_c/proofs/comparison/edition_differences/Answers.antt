@@ -1,5 +1,5 @@
 use Rattle.fluent_syntax_c.specs.Comparison.{AreDifferences}
-use Rattle.fluent_syntax_c.proofs.Statuses.{answers_expected, either_absurd}
+use Rattle.fluent_syntax_c.proofs.Statuses.{expected_rows_are_call_result, either_of_two_absurd_is_absurd}
 use Rattle.fluent_syntax_c.proofs.comparison.edition_differences.Goals as goal
 
 pub returns-in-Ok : goal.returns-in-Ok
@@ -16,8 +16,8 @@ returns-in-Ok c =
       outcome_is = c.either_outcome.ensures;
     } in
     let by = c.in_ok-reference.ensures.name_index in record {
-      answers = answers_expected c.args.edition _ _ _ _ c.in-Ok.rows c.either_outcome.result found
+      answers = expected_rows_are_call_result c.args.edition _ _ _ _ c.in-Ok.rows c.either_outcome.result found
           (λ none. none by.0 by.1) (by.2.is_utf8, c.in_ok-other.ensures.name_index.2.is_utf8)
           (λ deeper.
-          either_absurd c.in_ok-reference.ensures.shallow c.in_ok-other.ensures.shallow deeper);
+          either_of_two_absurd_is_absurd c.in_ok-reference.ensures.shallow c.in_ok-other.ensures.shallow deeper);
     }

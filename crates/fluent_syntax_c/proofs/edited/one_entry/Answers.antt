@@ -1,9 +1,10 @@
-use Rattle.fluent_syntax_c.proofs.PartsRead.{entry_reads, errors_read_none, no_entry_reads}
+use Rattle.fluent_syntax_c.proofs.PartsRead.{clean_text_of_one_entry_reads_as_it, errors_read_none, no_entry_reads}
 use Rattle.fluent_syntax_c.proofs.edited.one_entry.Goals as goal
 
 pub returns-in-Clean-clause-some : goal.returns-in-Clean-clause-some
 returns-in-Clean-clause-some c = λ edition t is.
-    entry_reads edition t c.args.part.now is c.only_entry.result c.as_slice.result.now c.as_slice.ensures.value
+    clean_text_of_one_entry_reads_as_it edition t c.args.part.now is c.only_entry.result c.as_slice.result.now
+    c.as_slice.ensures.value
     c.in-Clean.is c.only_entry.ensures.some
 
 pub returns-in-Clean-clause-none : goal.returns-in-Clean-clause-none

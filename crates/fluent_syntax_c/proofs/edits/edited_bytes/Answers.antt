@@ -4,7 +4,7 @@ use Rattle.std.specs.Prelude.{IfOk}
 use Rattle.fluent_syntax_c.specs.Depth.{EditionReadsDeeper}
 use Rattle.fluent_syntax_c.specs.Edits.{IsEdited, part_source}
 use Rattle.fluent_syntax_c.proofs.PartsRead.{IfOk-anyway, both_have_one_edition}
-use Rattle.fluent_syntax_c.proofs.Statuses.{either_absurd}
+use Rattle.fluent_syntax_c.proofs.Statuses.{either_of_two_absurd_is_absurd}
 use Rattle.fluent_syntax_c.proofs.edits.edited_bytes.Goals as goal
 
 pub text_tree-requires-2-clause-utf8 : goal.text_tree-requires-2-clause-utf8
@@ -36,6 +36,6 @@ returns-clause-shallow c =
     let part = c.in-Ok-Ok.ensures'.cases.0 in
     let same = c.as_bytes.ensures.value ∙ c.in-Ok.ensures ∙ ap (part_source c.args.action) part in
     IfOk-anyway _ c.edited_text.result (returns-clause-edited c)
-    (λ deeper. either_absurd c.in_ok-source.ensures.shallow
+    (λ deeper. either_of_two_absurd_is_absurd c.in_ok-source.ensures.shallow
     (λ nests. c.in_ok-part.ensures.shallow
     (subst (λ u. EditionReadsDeeper c.args.edition u c.args.nesting) (sym same) nests)) deeper)

@@ -1,5 +1,5 @@
 use Rattle.std.proofs.Common.{◌≡◌, ◌-◌, length}
-use Rattle.fluent_syntax_c.proofs.NameRows.{NamesTo}
+use Rattle.fluent_syntax_c.proofs.NameRows.{HasNameRowsBefore}
 use Rattle.fluent_syntax_c.proofs.names.name_rows.Given as goal
 
 abbrev pub invariant-loop-found : goal.invariant-loop-found
@@ -7,7 +7,7 @@ invariant-loop-found l = record {
   text : l.tiles.source.bytes.now ≡ l.text;
   edition : l.tiles.edition ≡ l.fn.edition;
   positions : l.positions ≡ l.text;
-  names : NamesTo l.fn.edition l.text l.tiles.ptr l.rows.items;
+  names : HasNameRowsBefore l.fn.edition l.text l.tiles.ptr l.rows.items;
 }
 
 abbrev pub decreases-loop-found : goal.decreases-loop-found

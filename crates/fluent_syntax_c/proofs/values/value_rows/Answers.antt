@@ -1,5 +1,6 @@
 use Rattle.std.proofs.Common.{ap, arith, ◌∙◌}
-use Rattle.fluent_syntax_c.proofs.ValueRows.{values_of_all, values_of_nothing, values_on}
+use Rattle.fluent_syntax_c.proofs.ValueRows.{value_rows_at_end_are_values_of_tiling, no_value_rows_are_before_start}
+use Rattle.fluent_syntax_c.proofs.ValueRows.{value_rows_grow_by_tile_values}
 use Rattle.fluent_syntax_c.proofs.values.value_rows.Goals as goal
 
 pub loop-found-init : goal.loop-found-init
@@ -7,7 +8,7 @@ loop-found-init c = record {
   text = c.new-tiles.ensures.text;
   edition = c.new-tiles.ensures.edition;
   values = rw (c.new-tiles.ensures.start, c.new-rows.ensures.items)
-      (values_of_nothing c.args.edition c.args.text.now);
+      (no_value_rows_are_before_start c.args.edition c.args.text.now);
 }
 
 pub add_tile-requires : goal.add_tile-requires
@@ -26,7 +27,8 @@ loop-found-preserved c =
       text = ap (λ source. source.bytes.now) here.text ∙ inv.text;
       edition = here.edition ∙ inv.edition;
       values =
-          values_on c.args.edition t c.loop-found.tiles.ptr c.next_tile.new.self.ptr c.in-Ok-Some.found
+          value_rows_grow_by_tile_values c.args.edition t c.loop-found.tiles.ptr c.next_tile.new.self.ptr
+          c.in-Ok-Some.found
           c.loop-found.rows.items c.add_tile.new.rows.items inv.values next
           c.in_ok-add_tile-in-Ok-Some.ensures;
     }
@@ -35,4 +37,5 @@ pub returns-in-Ok-None : goal.returns-in-Ok-None
 returns-in-Ok-None c =
     let inv = c.loop-found.invariant in
     let block = rw (inv.text, inv.edition, c.in-Ok-None.field-0-is) at c.in-Ok-None.ensures.next in
-    values_of_all c.args.edition c.args.text.now c.loop-found.tiles.ptr c.loop-found.rows.items inv.values block
+    value_rows_at_end_are_values_of_tiling c.args.edition c.args.text.now c.loop-found.tiles.ptr c.loop-found.rows.items
+    inv.values block

@@ -8,8 +8,8 @@ use Rattle.fluent_syntax_names.specs.Rows.{reachable_of, row_of}
 use Rattle.fluent_syntax_names.specs.Tables.{has_name}
 use Rattle.fluent_syntax_names.proofs.ReachableWithin.{reachable_by_equal_lists}
 use Rattle.fluent_syntax_names.proofs.Gathering.{noted_names_are_all}
-use Rattle.fluent_syntax_names.proofs.MissingParts.{missing_parts_same}
-use Rattle.fluent_syntax_names.proofs.ReachableMessages.{reachable_decides}
+use Rattle.fluent_syntax_names.proofs.MissingParts.{missing_parts_are_same_for_equal_tables}
+use Rattle.fluent_syntax_names.proofs.ReachableMessages.{reachable_messages_decide_reach}
 use Rattle.fluent_syntax_names.proofs.comparison.missing_parts.Goals as goal
 
 pub returns-clause-missing_parts : goal.returns-clause-missing_parts
@@ -32,29 +32,35 @@ returns-clause-missing_parts c =
     λ (name : Text). reachable_by_equal_lists (row_of message_references)
     (messages_of (references_of other)) adds_references.has_messages name in
     let places = rw c.deref-4.ensures.value at c.in_ok-places.ensures in
+    let own_places = rw c.deref-5.ensures.value at c.in_ok-own_places.ensures in
     let tables : Other = record {
       defines = has_name defined;
       uses = has_name used;
       reachable = reachable_of message_references;
       place = place_of c.in_ok-places.places.table;
+      own_place = place_of c.in_ok-own_places.own_places.table;
     } in
     let same =
-    missing_parts_same one.text.now tables (other_of other) defines uses reachable places nameless one.mentions.items []
-    in
-    let finding_of = rw c.deref-5.ensures.value at c.missing_parts_by.ensures in
+    missing_parts_are_same_for_equal_tables one.text.now tables
+    (other_of one other) defines uses reachable places own_places nameless
+    one.mentions.items [] in
+    let finding_of = rw c.deref-6.ensures.value at c.missing_parts_by.ensures in
     rw (← same) finding_of
 
 pub returns-clause-reachable : goal.returns-clause-reachable
-returns-clause-reachable c = reachable_decides (references_of c.args.other.now)
+returns-clause-reachable c = reachable_messages_decide_reach (references_of c.args.other.now)
 
 pub returns-in_err-note_definitions-clause-reachable : goal.returns-in_err-note_definitions-clause-reachable
-returns-in_err-note_definitions-clause-reachable c = reachable_decides (references_of c.args.other.now)
+returns-in_err-note_definitions-clause-reachable c = reachable_messages_decide_reach (references_of c.args.other.now)
 
 pub returns-in_err-note_uses-clause-reachable : goal.returns-in_err-note_uses-clause-reachable
-returns-in_err-note_uses-clause-reachable c = reachable_decides (references_of c.args.other.now)
+returns-in_err-note_uses-clause-reachable c = reachable_messages_decide_reach (references_of c.args.other.now)
 
 pub returns-in_err-message_references-clause-reachable : goal.returns-in_err-message_references-clause-reachable
-returns-in_err-message_references-clause-reachable c = reachable_decides (references_of c.args.other.now)
+returns-in_err-message_references-clause-reachable c = reachable_messages_decide_reach (references_of c.args.other.now)
 
 pub returns-in_err-places-clause-reachable : goal.returns-in_err-places-clause-reachable
-returns-in_err-places-clause-reachable c = reachable_decides (references_of c.args.other.now)
+returns-in_err-places-clause-reachable c = reachable_messages_decide_reach (references_of c.args.other.now)
+
+pub returns-in_err-own_places-clause-reachable : goal.returns-in_err-own_places-clause-reachable
+returns-in_err-own_places-clause-reachable c = reachable_messages_decide_reach (references_of c.args.other.now)

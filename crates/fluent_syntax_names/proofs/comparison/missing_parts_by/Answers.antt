@@ -5,7 +5,8 @@ use Rattle.fluent_syntax_names.specs.declared.mention.Mention.TheVariants as say
 use Rattle.fluent_syntax_names.specs.QualifiedNames.{nameless}
 use Rattle.fluent_syntax_names.specs.MissingParts.{missing_parts_in}
 use Rattle.fluent_syntax_names.specs.ComparisonTables.{other_by}
-use Rattle.fluent_syntax_names.proofs.MissingParts.{missing_part_next, missing_part_none}
+use Rattle.fluent_syntax_names.proofs.MissingParts.{missing_parts_are_left_after_next_mention}
+use Rattle.fluent_syntax_names.proofs.MissingParts.{missing_parts_at_last_mention_are_all}
 use Rattle.fluent_syntax_names.proofs.comparison.missing_parts_by.Goals as goal
 
 pub loop-mention-init : goal.loop-mention-init
@@ -19,7 +20,7 @@ loop-mention-preserved c =
     let none : Mention Span = says.Message (record { start = 0; end = 0 }) false in
     let mention = get_or c.args.mentions.now c.loop-mention.mention-index none in
     let left =
-    missing_part_next D text [] c.loop-mention.list.items
+    missing_parts_are_left_after_next_mention D text [] c.loop-mention.list.items
     (missing_parts_in D text nameless c.args.mentions.now) c.loop-mention.owner
     c.args.mentions.now c.loop-mention.mention-index c.add_missing_part.new.list.items mention none
     c.in_ok-missing.missing
@@ -31,7 +32,7 @@ pub returns : goal.returns
 returns c =
     let tables = c.args.tables.now in
     let D = other_by tables in
-    missing_part_none D tables.text.now [] c.loop-mention.list.items
+    missing_parts_at_last_mention_are_all D tables.text.now [] c.loop-mention.list.items
     (missing_parts_in D tables.text.now nameless c.args.mentions.now)
     c.loop-mention.owner c.args.mentions.now c.loop-mention.mention-index c.loop-mention-test.false
     c.loop-mention.invariant.left

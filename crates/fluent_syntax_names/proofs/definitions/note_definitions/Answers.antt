@@ -5,7 +5,7 @@ use Rattle.fluent_syntax_names.specs.declared.mention.Mention.TheVariants as say
 use Rattle.fluent_syntax_names.specs.Findings.{defines, defined_in}
 use Rattle.fluent_syntax_names.specs.QualifiedNames.{nameless}
 use Rattle.fluent_syntax_names.specs.FirstPlaces.{place_of}
-use Rattle.fluent_syntax_names.proofs.Gathering.{names_next, names_none}
+use Rattle.fluent_syntax_names.proofs.Gathering.{names_are_left_after_next_mention, names_at_last_mention_are_all}
 use Rattle.fluent_syntax_names.proofs.definitions.note_definitions.Goals as goal
 
 pub loop-mention-preserved : goal.loop-mention-preserved
@@ -13,7 +13,7 @@ loop-mention-preserved c =
     let none : Mention Span = says.Message (record { start = 0; end = 0 }) false in
     let mention = get_or c.args.mentions.now c.loop-mention.mention-index none in
     let left =
-    names_next (place_of c.args.table.now.table) (place_of c.loop-mention.table.table)
+    names_are_left_after_next_mention (place_of c.args.table.now.table) (place_of c.loop-mention.table.table)
     (place_of c.note_definition.new.table.table) (defined_in c.args.text.now nameless c.args.mentions.now)
     (defines c.args.text.now) c.loop-mention.owner c.args.mentions.now c.loop-mention.mention-index mention none
     c.loop-mention-test.true refl c.loop-mention.invariant.left c.in_ok-note_definition.ensures in
@@ -21,7 +21,7 @@ loop-mention-preserved c =
 
 pub returns : goal.returns
 returns c =
-    names_none (place_of c.args.table.now.table) (place_of c.loop-mention.table.table)
+    names_at_last_mention_are_all (place_of c.args.table.now.table) (place_of c.loop-mention.table.table)
     (place_of c.loop-mention.table.table) (defined_in c.args.text.now nameless c.args.mentions.now)
     (defines c.args.text.now) c.loop-mention.owner c.args.mentions.now c.loop-mention.mention-index
     c.loop-mention-test.false

@@ -6,7 +6,7 @@ use Rattle.fluent_syntax_names.specs.Knowing.{others_define}
 use Rattle.fluent_syntax_names.specs.FirstPlaces.{place_of}
 use Rattle.fluent_syntax_names.specs.QualifiedNames.{Text}
 use Rattle.fluent_syntax_names.specs.Tables.{has_name}
-use Rattle.fluent_syntax_names.proofs.Growing.{findings_from_same, same_on}
+use Rattle.fluent_syntax_names.proofs.Growing.{findings_from_files_depend_on_cycles, equal_cycles_are_same_on_links}
 use Rattle.fluent_syntax_names.proofs.files.findings_with_externals.Goals as goal
 
 pub returns : goal.returns
@@ -17,5 +17,6 @@ returns c =
     let A = set_by (λ name. own name || others name) c.in_ok-cycles.cycles in
     let B = set_with_externals files others in
     let defines = λ (name : Text). ap (λ b. b || others name) (c.in_ok-note_files.ensures name) in
-    let same = findings_from_same A B defines 0 files (same_on A B (links files) c.in_ok-cycles.ensures) [] in
+    let same = findings_from_files_depend_on_cycles A B defines 0 files
+    (equal_cycles_are_same_on_links A B (links files) c.in_ok-cycles.ensures) [] in
     rw (← same) c.findings_in_files.ensures

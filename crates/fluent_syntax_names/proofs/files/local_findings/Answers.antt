@@ -7,8 +7,8 @@ use Rattle.fluent_syntax_names.specs.Findings.{findings_from, set_of}
 use Rattle.fluent_syntax_names.specs.Knowing.{others_define}
 use Rattle.fluent_syntax_names.specs.FirstPlaces.{place_of}
 use Rattle.fluent_syntax_names.specs.Tables.{has_name}
-use Rattle.fluent_syntax_names.proofs.LocalFindings.{own, findings_local}
-use Rattle.fluent_syntax_names.proofs.Growing.{same_on}
+use Rattle.fluent_syntax_names.proofs.LocalFindings.{own, own_findings_depend_on_own_links}
+use Rattle.fluent_syntax_names.proofs.Growing.{equal_cycles_are_same_on_links}
 use Rattle.fluent_syntax_names.proofs.files.local_findings.Goals as goal
 
 pub returns : goal.returns
@@ -22,5 +22,6 @@ returns c =
     let known = subst (λ (files : List NameIndex). KnowsCycles (links files) cycles) alone c.in_ok-cycles.ensures in
     let all = c.in_ok-all.ensures ∙ ap (λ (files : List NameIndex). findings_from A 0 files []) alone in
     let has_messages : IfOk c.collect.result (λ list. list.items ≡ own c.in_ok-all.all.items) = search rules in
-    let same = ap own all ∙ findings_local A B file (same_on A B (links (file ∷ [])) known) in
+    let same = ap own all
+    ∙ own_findings_depend_on_own_links A B file (equal_cycles_are_same_on_links A B (links (file ∷ [])) known) in
     rw same at has_messages

@@ -5,7 +5,8 @@ use Rattle.fluent_syntax_names.specs.NamedLists.{numbers_of}
 use Rattle.fluent_syntax_names.specs.Rows.{HasReferences, rows_of, texts_of}
 use Rattle.fluent_syntax_names.specs.declared.mention.Mention.{Mention}
 use Rattle.fluent_syntax_names.specs.declared.mention.Mention.TheVariants as says
-use Rattle.fluent_syntax_names.proofs.MessageReferences.{HasReferences-none, references_next, references_none}
+use Rattle.fluent_syntax_names.proofs.MessageReferences.{HasReferences-none, references_are_left_after_next_mention}
+use Rattle.fluent_syntax_names.proofs.MessageReferences.{references_at_last_mention_are_all}
 use Rattle.fluent_syntax_names.proofs.message_references.message_references_of.Goals as goal
 
 pub loop-mention-init : goal.loop-mention-init
@@ -24,12 +25,14 @@ loop-mention-preserved c =
     let none : Mention Span = says.Message (record { start = 0; end = 0 }) false in
     let mention = get_or c.args.mentions.now c.loop-mention.mention-index none in
     let left =
-    references_next c.args.text.now c.loop-mention.message_references c.args.mentions.now c.loop-mention.mention-index
+    references_are_left_after_next_mention c.args.text.now c.loop-mention.message_references c.args.mentions.now
+    c.loop-mention.mention-index
     c.add_mention.new.self c.loop-mention.owner mention none c.loop-mention-test.true refl
     c.loop-mention.invariant.left c.in_ok-add_mention.ensures in
     record { left = rw c.owner_after-owner.ensures left }
 
 pub returns : goal.returns
 returns c =
-    references_none c.args.text.now c.loop-mention.message_references c.args.mentions.now c.loop-mention.mention-index
+    references_at_last_mention_are_all c.args.text.now c.loop-mention.message_references c.args.mentions.now
+    c.loop-mention.mention-index
     c.loop-mention.owner c.loop-mention-test.false c.loop-mention.invariant.left

@@ -3,7 +3,7 @@ use Rattle.fluent_syntax_tree.specs.declared.spans.Span.{Span}
 use Rattle.fluent_syntax_names.specs.declared.mention.Mention.{Mention}
 use Rattle.fluent_syntax_names.specs.declared.mention.Mention.TheVariants as says
 use Rattle.fluent_syntax_names.specs.Mentions.{Mentions, mention_map, shifted_span}
-use Rattle.fluent_syntax_names.proofs.Adding.{adds_one, leaves_on, leaves_none}
+use Rattle.fluent_syntax_names.proofs.Adding.{pushed_item_is_added, items_are_left_after_next, leaves_none}
 use Rattle.fluent_syntax_names.proofs.name_index.add_shifted.Goals as goal
 
 pub loop-mention-preserved : goal.loop-mention-preserved
@@ -13,10 +13,11 @@ loop-mention-preserved c =
     let none : Mention Span = says.Message (record { start = 0; end = 0 }) false in
     let mention = get_or c.args.said.now c.loop-mention.mention-index none in
     record {
-      left = leaves_on all one c.args.list.now.items c.loop-mention.list.items c.args.said.now
+      left = items_are_left_after_next all one c.args.list.now.items c.loop-mention.list.items c.args.said.now
           c.loop-mention.mention-index (λ x xs tail. refl) c.push.new.self.items mention none
           c.loop-mention-test.true refl c.loop-mention.invariant.left
-          (adds_one c.loop-mention.list.items c.push.new.self.items (mention_map (shifted_span c.args.base) mention)
+          (pushed_item_is_added c.loop-mention.list.items c.push.new.self.items
+          (mention_map (shifted_span c.args.base) mention)
           (c.in_ok-push.ensures.items
           ∙ ap (λ m. c.loop-mention.list.items ++ (m ∷ [])) c.in_ok-shifted_mention.ensures));
     }

@@ -15,8 +15,9 @@ use Rattle.fluent_syntax_names.specs.Mentions.{pattern_mentions, inlines_mention
 use Rattle.fluent_syntax_names.specs.Mentions.{nameds_mentions, element_mentions, inline_mentions}
 use Rattle.fluent_syntax_names.specs.Mentions.{variant_mentions, named_mentions}
 use Rattle.fluent_syntax_names.specs.declared.mention.Mention.TheVariants as says
-use Rattle.fluent_syntax_names.proofs.Adding.{adds_one, adds_both, adds_last, leaves_next, leaves_none}
-use Rattle.fluent_syntax_names.proofs.Variants.{all_variants, select_first}
+use Rattle.fluent_syntax_names.proofs.Adding.{pushed_item_is_added, adding_twice_adds_both, adding_on_ok_adds_both}
+use Rattle.fluent_syntax_names.proofs.Adding.{leaves_next, leaves_none}
+use Rattle.fluent_syntax_names.proofs.Variants.{all_variants, mentions_of_select_begin_with_first_key}
 use Rattle.fluent_syntax_names.proofs.patterns.+mentions.Goals as goal
 
 pub add_pattern-returns : goal.add_pattern-returns
@@ -52,7 +53,8 @@ pub add_expression-returns-in_ok-add_inline-in-Select : goal.add_expression-retu
 add_expression-returns-in_ok-add_inline-in-Select g t c =
     let variants = rw c.deref.ensures.value at c.add_variants.ensures in
     rw (c.in-Select.is, view-Select)
-    (adds_last c.add_variants.result c.args.list.now.items c.add_inline.new.list.items c.add_variants.new.list.items _ _
+    (adding_on_ok_adds_both c.add_variants.result c.args.list.now.items c.add_inline.new.list.items
+    c.add_variants.new.list.items _ _
     c.in_ok-add_inline-in-Select.ensures variants)
 
 pub add_expression-returns-in-Inline : goal.add_expression-returns-in-Inline
@@ -70,10 +72,10 @@ add_variants-loop-variant-preserved g t c =
           c.loop-variant.variant-index (λ x xs tail. refl) c.add_pattern.new.list.items variant c.loop-variant-test.true
           c.variant-item.is c.loop-variant.invariant.left
           (rw (view-Variant (λ x. x) variant, ← c.key_text-key.ensures)
-          (adds_both c.loop-variant.list.items c.push.new.self.items c.add_pattern.new.list.items
+          (adding_twice_adds_both c.loop-variant.list.items c.push.new.self.items c.add_pattern.new.list.items
           (λ tail. says.VariantKey c.key_text-key.result first ∷ tail)
           (pattern_mentions (pattern_view (λ x. x) variant.value))
-          (adds_one _ _ _ c.in_ok-push.ensures.items) c.in_ok-add_pattern.ensures));
+          (pushed_item_is_added _ _ _ c.in_ok-push.ensures.items) c.in_ok-add_pattern.ensures));
     }
 
 pub add_variants-returns : goal.add_variants-returns
@@ -88,7 +90,7 @@ add_variants-returns g t c =
     (λ tail. refl) c.loop-variant-test.false c.loop-variant.invariant.left in
     λ rest. adds rest ∙ ap (λ l. c.args.list.now.items ++ l)
     (ap (λ key. all_variants (λ x. x) key c.args.variants.now rest) c.key_text-first.ensures
-    ∙ select_first (λ x. x) c.args.variants.now variant there rest)
+    ∙ mentions_of_select_begin_with_first_key (λ x. x) c.args.variants.now variant there rest)
 
 pub add_inlines-loop-inline-preserved : goal.add_inlines-loop-inline-preserved
 add_inlines-loop-inline-preserved g t c =
@@ -134,7 +136,7 @@ add_arguments-returns g t c =
     let positional = rw c.deref.ensures.value at c.in_ok-add_inlines.ensures in
     let named = rw c.deref-2.ensures.value at c.add_named_arguments.ensures in
     rw (view-CallArguments (λ x. x) c.args.arguments.now)
-    (adds_last c.add_named_arguments.result c.args.list.now.items c.add_inlines.new.list.items
+    (adding_on_ok_adds_both c.add_named_arguments.result c.args.list.now.items c.add_inlines.new.list.items
     c.add_named_arguments.new.list.items _ _
     positional named)
 
@@ -147,32 +149,33 @@ add_inline-returns-in-NumberLiteral g t c = rw (c.in-NumberLiteral.is, view-Numb
 pub add_inline-returns-in_ok-push-in-FunctionReference : goal.add_inline-returns-in_ok-push-in-FunctionReference
 add_inline-returns-in_ok-push-in-FunctionReference g t c =
     rw (c.in-FunctionReference.is, view-FunctionReference)
-    (adds_last c.add_arguments.result c.args.list.now.items c.push.new.self.items c.add_arguments.new.list.items
+    (adding_on_ok_adds_both c.add_arguments.result c.args.list.now.items c.push.new.self.items
+    c.add_arguments.new.list.items
     (λ tail. says.Function c.in-FunctionReference.id.name ∷ tail) _
-    (adds_one _ _ _ c.in_ok-push-in-FunctionReference.ensures.items) c.add_arguments.ensures)
+    (pushed_item_is_added _ _ _ c.in_ok-push-in-FunctionReference.ensures.items) c.add_arguments.ensures)
 
 pub add_inline-returns-in_ok-push-in-MessageReference : goal.add_inline-returns-in_ok-push-in-MessageReference
 add_inline-returns-in_ok-push-in-MessageReference g t c =
     rw (c.in-MessageReference.is, view-MessageReference, ← c.name_of-attribute.ensures)
-    (adds_one _ _ _ c.in_ok-push-in-MessageReference.ensures.items)
+    (pushed_item_is_added _ _ _ c.in_ok-push-in-MessageReference.ensures.items)
 
 pub add_inline-returns-in-Some : goal.add_inline-returns-in-Some
 add_inline-returns-in-Some g t c =
     let attribute = c.name_of-attribute-in-TermReference.result in
     rw (c.in-TermReference.is, view-TermReference, ← c.name_of-attribute-in-TermReference.ensures, c.in-Some.is)
-    (adds_last c.add_arguments-in-Some.result c.args.list.now.items c.push-in-TermReference.new.self.items
+    (adding_on_ok_adds_both c.add_arguments-in-Some.result c.args.list.now.items c.push-in-TermReference.new.self.items
     c.add_arguments-in-Some.new.list.items (λ tail. says.TermReference c.in-TermReference.id.name attribute ∷ tail) _
-    (adds_one _ _ _ c.in_ok-push-in-TermReference.ensures.items) c.add_arguments-in-Some.ensures)
+    (pushed_item_is_added _ _ _ c.in_ok-push-in-TermReference.ensures.items) c.add_arguments-in-Some.ensures)
 
 pub add_inline-returns-in-None : goal.add_inline-returns-in-None
 add_inline-returns-in-None g t c =
     rw (c.in-TermReference.is, view-TermReference, ← c.name_of-attribute-in-TermReference.ensures, c.in-None.is)
-    (adds_one _ _ _ c.in_ok-push-in-TermReference.ensures.items)
+    (pushed_item_is_added _ _ _ c.in_ok-push-in-TermReference.ensures.items)
 
 pub add_inline-returns-in_ok-push-in-VariableReference : goal.add_inline-returns-in_ok-push-in-VariableReference
 add_inline-returns-in_ok-push-in-VariableReference g t c =
     rw (c.in-VariableReference.is, view-VariableReference)
-    (adds_one _ _ _ c.in_ok-push-in-VariableReference.ensures.items)
+    (pushed_item_is_added _ _ _ c.in_ok-push-in-VariableReference.ensures.items)
 
 pub add_inline-returns-in-Placeable : goal.add_inline-returns-in-Placeable
 add_inline-returns-in-Placeable g t c =

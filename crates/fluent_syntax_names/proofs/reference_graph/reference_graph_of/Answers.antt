@@ -2,7 +2,8 @@ use Rattle.std.proofs.Common.{[], refl, sym, subst}
 use Rattle.fluent_syntax_names.specs.Graph.{Graph}
 use Rattle.fluent_syntax_names.specs.ReferenceGraphs.{HasEdges}
 use Rattle.fluent_syntax_names.specs.NamedLists.{lists_of, numbers_of}
-use Rattle.fluent_syntax_names.proofs.Linking.{link_files_next, link_files_none, HasEdges-none}
+use Rattle.fluent_syntax_names.proofs.Linking.{links_are_left_after_next_file, links_after_last_file_are_all}
+use Rattle.fluent_syntax_names.proofs.Linking.{HasEdges-none}
 use Rattle.fluent_syntax_names.proofs.reference_graph.reference_graph_of.Goals as goal
 
 pub loop-file-init : goal.loop-file-init
@@ -17,12 +18,13 @@ add_file-requires c = (c.loop-file.invariant.left.0, c.loop-file.invariant.left.
 
 pub loop-file-preserved : goal.loop-file-preserved
 loop-file-preserved c = record {
-  left = link_files_next c.args.files.now c.loop-file.reference_graph c.loop-file.file-index c.add_file.new.self
-      c.file-item.result c.loop-file-test.true c.file-item.is c.loop-file.invariant.left
+  left = links_are_left_after_next_file c.args.files.now c.loop-file.reference_graph c.loop-file.file-index
+      c.add_file.new.self c.file-item.result c.loop-file-test.true c.file-item.is c.loop-file.invariant.left
       (rw c.deref.ensures.value at c.in_ok-add_file.ensures);
 }
 
 pub returns : goal.returns
 returns c =
-    link_files_none c.args.files.now c.loop-file.reference_graph c.loop-file.file-index c.loop-file-test.false
+    links_after_last_file_are_all c.args.files.now c.loop-file.reference_graph c.loop-file.file-index
+    c.loop-file-test.false
     c.loop-file.invariant.left

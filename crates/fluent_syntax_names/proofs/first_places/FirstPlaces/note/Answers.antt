@@ -1,7 +1,7 @@
 use Rattle.std.proofs.Common.{◌≡◌, None, ap, ◌∙◌, rules}
 use Rattle.std.specs.BTreeMap.Entry.{map_with_value}
 use Rattle.fluent_syntax_names.specs.FirstPlaces.{place_of}
-use Rattle.fluent_syntax_names.proofs.Placed.{find, put_in}
+use Rattle.fluent_syntax_names.proofs.Placed.{find, inserted_key_is_found_after_others}
 use Rattle.fluent_syntax_names.proofs.first_places.FirstPlaces.note.Goals as goal
 
 pub returns-in-Vacant-clause-noted : goal.returns-in-Vacant-clause-noted
@@ -11,4 +11,4 @@ returns-in-Vacant-clause-noted g c = λ name.
     let same : c.self-in-Vacant-2-1.given.0 ≡ map_with_value c.in_ok-entry.field-0 c.args.place = search rules in
     ap (λ table. place_of table name) same
     ∙ ap (find name) (c.in_ok-entry.ensures.update.1 c.args.place)
-    ∙ put_in c.args.name c.args.place name had.entries absent
+    ∙ inserted_key_is_found_after_others c.args.name c.args.place name had.entries absent

@@ -4,7 +4,7 @@ use Rattle.std.specs.declared.alloc.Global.{Global}
 use Rattle.std.proofs.lemmas.List.{length-map}
 use Rattle.fluent_syntax_names.specs.Certificates.{numbers_of}
 use Rattle.fluent_syntax_names.specs.Graph.{HasEdge, IsGraph, Reaches, SameComponents, targets_of}
-use Rattle.fluent_syntax_names.proofs.Certified.{edge_is_on_cycle, strongly_connected}
+use Rattle.fluent_syntax_names.proofs.Certified.{edge_is_on_cycle, numbers_are_strong_components}
 use Rattle.fluent_syntax_names.proofs.graph.component_numbers.components.Goals as goal
 
 ok_list_holds : {E : Type 0} (P : List ℕ → Type 0) (r : Result (Vec ℕ Global) E) (list : List ℕ)
@@ -27,7 +27,7 @@ returns-then-is_certified-clause-strongly_connected c =
     let notes = c.as_slice-notes.result.now in
     let certified = c.is_certified.ensures c.if-is_certified.true in
     ok_list_holds (SameComponents g) c.numbers_of.result (numbers_of notes) c.numbers_of.ensures
-    (strongly_connected g c.requires notes _ certified)
+    (numbers_are_strong_components g c.requires notes _ certified)
 
 pub returns-then-is_certified-clause-cycles : goal.returns-then-is_certified-clause-cycles
 returns-then-is_certified-clause-cycles c =
@@ -38,4 +38,4 @@ returns-then-is_certified-clause-cycles c =
     ok_list_holds (λ (l : List ℕ). (from to : ℕ) → from < length graph → HasEdge g from to
     → (slice_index l from ≡ slice_index l to) ↔ Reaches g to from) c.numbers_of.result (numbers_of notes)
     c.numbers_of.ensures (same_component_is_cycle graph c.requires (numbers_of notes)
-    (strongly_connected g c.requires notes _ certified))
+    (numbers_are_strong_components g c.requires notes _ certified))

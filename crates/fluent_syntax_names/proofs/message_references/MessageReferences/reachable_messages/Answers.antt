@@ -4,8 +4,9 @@ use Rattle.std.proofs.lemmas.List.{length-append}
 use Rattle.fluent_syntax_names.specs.MessageReferences.{followed_limit}
 use Rattle.fluent_syntax_names.specs.Rows.{reachable_of, row_of, texts_at}
 use Rattle.fluent_syntax_names.specs.QualifiedNames.{Text}
-use Rattle.fluent_syntax_names.proofs.ReachableWithin.{FollowedTo, followed_next, followed_none, followed_all}
-use Rattle.fluent_syntax_names.proofs.ReachableWithin.{followed_too_many}
+use Rattle.fluent_syntax_names.proofs.ReachableWithin.{FollowedTo, following_goes_on_with_targets}
+use Rattle.fluent_syntax_names.proofs.ReachableWithin.{too_many_targets_reach_nothing, followed_names_are_all_reachable}
+use Rattle.fluent_syntax_names.proofs.ReachableWithin.{too_many_names_reach_nothing}
 use Rattle.fluent_syntax_names.proofs.MessageReferences.{lengths_add_up, name_is_read, length-texts_at, length-texts_of}
 use Rattle.fluent_syntax_names.proofs.message_references.MessageReferences.reachable_messages.Goals as goal
 
@@ -17,7 +18,7 @@ returns-then-not-branch c =
     let size = ap length c.targets_of.ensures in
     let long : followed_limit < length first =
     grind (arith, common_steps, fits, size, length-texts_of c.targets_of.result.now) in
-    sym (followed_too_many (row_of self) followed_limit first long)
+    sym (too_many_names_reach_nothing (row_of self) followed_limit first long)
 
 pub returns-then-not-branch-2 : goal.returns-then-not-branch-2
 returns-then-not-branch-2 c =
@@ -30,7 +31,8 @@ returns-then-not-branch-2 c =
     let sizes = lengths_add_up messages c.targets_of-targets.result.now (row_of self x) c.targets_of-targets.ensures in
     let long : followed_limit < length (texts_at messages) + length (row_of self x) =
     grind (arith, common_steps, fits, sizes) in
-    sym (followed_none (row_of self) followed_limit (reachable_of self c.args.name.now) (texts_at messages) i read.few
+    sym (too_many_targets_reach_nothing (row_of self) followed_limit (reachable_of self c.args.name.now)
+    (texts_at messages) i read.few
     c.loop-index.invariant.left x read.within read.is long)
 
 pub loop-index-preserved : goal.loop-index-preserved
@@ -51,7 +53,8 @@ loop-index-preserved c =
     let size : length (texts_at messages) + length (row_of self x) ≡ length new =
     sym (length-append (texts_at messages) (row_of self x)) ∙ ap length longer ∙ length-texts_at new in
     let left =
-    followed_next (row_of self) followed_limit (reachable_of self c.args.name.now) (texts_at messages) i read.few
+    following_goes_on_with_targets (row_of self) followed_limit (reachable_of self c.args.name.now)
+    (texts_at messages) i read.few
     c.loop-index.invariant.left x read.within read.is in
     record {
       few = omega (arith, enough, size);
@@ -65,5 +68,6 @@ returns c =
     let self = c.args.self.now in
     let messages = c.loop-index.messages.items in
     let few : length (texts_at messages) ≤ followed_limit = omega (arith, length-texts_at messages) in
-    sym (followed_all (row_of self) followed_limit (reachable_of self c.args.name.now) (texts_at messages)
+    sym (followed_names_are_all_reachable (row_of self) followed_limit (reachable_of self c.args.name.now)
+    (texts_at messages)
     c.loop-index.index few c.loop-index.invariant.left (omega (arith, length-texts_at messages)))

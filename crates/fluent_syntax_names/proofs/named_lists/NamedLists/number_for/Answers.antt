@@ -1,8 +1,8 @@
 use Rattle.std.proofs.Common.{◌≡◌, inr, None, arith, rules}
 use Rattle.fluent_syntax_names.specs.NamedLists.{numbers_of}
 use Rattle.fluent_syntax_names.specs.FirstPlaces.{place_of}
-use Rattle.fluent_syntax_names.proofs.Listed.{length-items, list_more}
-use Rattle.fluent_syntax_names.proofs.Numbered.{name_known, name_stays}
+use Rattle.fluent_syntax_names.proofs.Listed.{length-items, pushed_empty_list_has_no_items}
+use Rattle.fluent_syntax_names.proofs.Numbered.{new_name_has_the_next_number, known_name_keeps_its_number}
 use Rattle.fluent_syntax_names.proofs.named_lists.NamedLists.number_for.Goals as goal
 
 pub returns : goal.returns
@@ -15,12 +15,13 @@ returns g c =
     let absent : old name ≡ None = search rules in
     let notes = c.in_ok-note.ensures.noted in
     record {
-      known = name_known old new name number absent notes;
-      stays = name_stays old new name number absent notes;
+      known = new_name_has_the_next_number old new name number absent notes;
+      stays = known_name_keeps_its_number old new name number absent notes;
       adds = inr (record {
         absent = absent;
         last = omega (arith, length-items lists);
         notes = notes;
-        longer = list_more lists c.push.new.self.items c.new.result c.in_ok-push.ensures.items c.new.ensures.items;
+        longer = pushed_empty_list_has_no_items lists c.push.new.self.items c.new.result c.in_ok-push.ensures.items
+            c.new.ensures.items;
       });
     }

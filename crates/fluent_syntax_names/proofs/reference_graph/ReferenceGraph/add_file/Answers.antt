@@ -3,7 +3,7 @@ use Rattle.fluent_syntax_tree.specs.declared.spans.Span.{Span}
 use Rattle.fluent_syntax_names.specs.Cycles.{links_in, no_pattern}
 use Rattle.fluent_syntax_names.specs.declared.mention.Mention.{Mention}
 use Rattle.fluent_syntax_names.specs.declared.mention.Mention.TheVariants as says
-use Rattle.fluent_syntax_names.proofs.Linking.{links_next, links_none}
+use Rattle.fluent_syntax_names.proofs.Linking.{links_are_left_after_next_mention, links_at_last_mention_are_all}
 use Rattle.fluent_syntax_names.proofs.reference_graph.ReferenceGraph.add_file.Goals as goal
 
 pub loop-mention-init : goal.loop-mention-init
@@ -20,13 +20,15 @@ loop-mention-preserved c =
     let mention = get_or c.args.mentions.now c.loop-mention.mention-index none in
     let adds_links = rw c.referenced_pattern.ensures at c.in_ok-add_reference.ensures in
     let left =
-    links_next text (links_in text no_pattern c.args.mentions.now) c.args.self.now c.loop-mention.self
+    links_are_left_after_next_mention text
+    (links_in text no_pattern c.args.mentions.now) c.args.self.now c.loop-mention.self
     c.args.mentions.now c.loop-mention.mention-index c.add_reference.new.self c.loop-mention.pattern mention none
     c.loop-mention-test.true refl c.loop-mention.invariant.left adds_links in
     record { left = rw c.pattern_after-pattern.ensures left }
 
 pub returns : goal.returns
 returns c =
-    links_none c.args.text.now (links_in c.args.text.now no_pattern c.args.mentions.now) c.args.self.now
+    links_at_last_mention_are_all c.args.text.now
+    (links_in c.args.text.now no_pattern c.args.mentions.now) c.args.self.now
     c.loop-mention.self c.args.mentions.now c.loop-mention.mention-index c.loop-mention.pattern
     c.loop-mention-test.false c.loop-mention.invariant.left
