@@ -1,10 +1,10 @@
 //! The word `compare`.
 
 use crate::commands::{color, exclude, texts_of};
-use crate::lint_args::{form, ignore, ignored_of, nesting};
+use crate::lint_args::{deny_warnings, form, ignore, ignored_of, nesting};
 use crate::options::Options;
-use clap::{Arg, ArgAction, ArgMatches, Command};
-use ftl_files::{DIFFERENCE_NAMES, ReportedKind};
+use clap::{Arg, ArgAction, ArgMatches, Command, Error};
+use ftl_files::{DIFFERENCE_NAMES, IgnoreRule};
 use std::alloc::{AllocError, Global};
 
 /// Files of a reference language, and of others to compare with it.
@@ -12,15 +12,21 @@ use std::alloc::{AllocError, Global};
 pub struct Compare<'a> {
     /// How a text is read, and how a difference is reported.
     pub options: Options,
-    /// Kinds that are not reported.
-    pub ignored: Vec<ReportedKind>,
+    /// What is not reported.
+    pub ignored: Vec<IgnoreRule>,
+    /// Whether warnings make the status 1, as errors do.
+    pub denies_warnings: bool,
     /// What is passed over in folders.
     pub excluded: Vec<&'a str>,
     /// Files, or folders for every file below: the reference, where the project names none, and the others.
     pub paths: Vec<&'a str>,
 }
 
-static KIND_NAMES: [&str; 10] = DIFFERENCE_NAMES;
+const IGNORE_HELP: &str =
+    "A kind that is not reported, or KIND:NAME for what has that name, where a * means any characters; \
+    may be given again; kinds: missing-file, obsolete-file, missing, missing-value, missing-attribute, \
+    missing-reference, obsolete, obsolete-value, obsolete-attribute, obsolete-reference, unknown-variable, \
+    unknown-function";
 
 /// The word, with its options.
 pub(crate) fn compare_command<'a>(alloc: Global) -> Result<Command<'a>, AllocError> {
@@ -38,7 +44,8 @@ Where ftl.toml has the line reference = \"locales/en\":
         )
         .arg(form(alloc))?
         .arg(color(alloc))?
-        .arg(ignore(alloc, KIND_NAMES.as_slice()))?
+        .arg(ignore(alloc, IGNORE_HELP))?
+        .arg(deny_warnings(alloc))?
         .arg(exclude(alloc))?
         .arg(nesting(alloc))?
         .arg(paths(alloc))
@@ -55,15 +62,16 @@ fn paths<'a>(alloc: Global) -> Arg<'a> {
         .num_args(1..)
 }
 
-/// What the options ask for.
+/// What the options ask for; a mistake in them as `Err`.
 pub(crate) fn compare_of<'a>(
     alloc: Global,
     said: Options,
     options: &ArgMatches<'a>,
-) -> Result<Compare<'a>, AllocError> {
+) -> Result<Compare<'a>, Error> {
     Ok(Compare {
         options: said,
-        ignored: ignored_of(alloc, options)?,
+        ignored: ignored_of(alloc, options, DIFFERENCE_NAMES.as_slice())?,
+        denies_warnings: options.get_flag("deny-warnings"),
         excluded: texts_of(alloc, options, "exclude")?,
         paths: texts_of(alloc, options, "paths")?,
     })

@@ -2,8 +2,9 @@
 
 use crate::commands::{color, exclude, texts_of};
 use crate::options::Options;
-use clap::{Arg, ArgAction, ArgMatches, Command, value_parser};
-use ftl_files::{FINDING_NAMES, ReportedKind, reported_kind_of_name};
+use clap::error::ErrorKind;
+use clap::{Arg, ArgAction, ArgMatches, Command, Error, value_parser};
+use ftl_files::{FINDING_NAMES, IgnoreRule, ignore_rule_of_text};
 use std::alloc::{AllocError, Global};
 
 /// Files to search for mistakes between names.
@@ -11,8 +12,10 @@ use std::alloc::{AllocError, Global};
 pub struct Lint<'a> {
     /// How a text is read, and how a finding is reported.
     pub options: Options,
-    /// Kinds that are not reported.
-    pub ignored: Vec<ReportedKind>,
+    /// What is not reported.
+    pub ignored: Vec<IgnoreRule>,
+    /// Whether warnings make the status 1, as errors do.
+    pub denies_warnings: bool,
     /// What is passed over in folders.
     pub excluded: Vec<&'a str>,
     /// Whether each folder directly below a path is a set of its own.
@@ -20,8 +23,6 @@ pub struct Lint<'a> {
     /// Files and folders, which are one set, or one for each language of the project.
     pub paths: Vec<&'a str>,
 }
-
-static KIND_NAMES: [&str; 8] = FINDING_NAMES;
 
 static FORMS: [&str; 4] = ["full", "lines", "json", "github"];
 
@@ -39,21 +40,34 @@ Where ftl.toml has the line reference = \"locales/en\", each folder in locales i
         )
         .arg(form(alloc))?
         .arg(color(alloc))?
-        .arg(ignore(alloc, KIND_NAMES.as_slice()))?
+        .arg(ignore(alloc, IGNORE_HELP))?
+        .arg(deny_warnings(alloc))?
         .arg(exclude(alloc))?
         .arg(each(alloc))?
         .arg(nesting(alloc))?
         .arg(paths(alloc))
 }
 
-/// The option for the kinds that are not reported, which are among these.
-pub(crate) fn ignore<'a>(alloc: Global, kinds: &'a [&'a str]) -> Arg<'a> {
+const IGNORE_HELP: &str =
+    "A kind that is not reported, or KIND:NAME for what has that name, where a * means any characters; \
+    may be given again; kinds: defined-twice, attribute-twice, variant-twice, undefined-message, \
+    undefined-term, undefined-attribute, undefined-value, cyclic-reference";
+
+/// The option for what is not reported.
+pub(crate) fn ignore<'a>(alloc: Global, help: &'a str) -> Arg<'a> {
     Arg::new(alloc, "ignore")
         .long("ignore")
         .value_name("KIND")
-        .help("A kind that is not told; may be given again")
+        .help(help)
         .action(ArgAction::Append)
-        .value_parser(kinds)
+}
+
+/// The option for the status of warnings.
+pub(crate) fn deny_warnings<'a>(alloc: Global) -> Arg<'a> {
+    Arg::new(alloc, "deny-warnings")
+        .long("deny-warnings")
+        .help("Warnings have the status 1, as errors do")
+        .action(ArgAction::SetTrue)
 }
 
 fn each<'a>(alloc: Global) -> Arg<'a> {
@@ -94,31 +108,49 @@ fn paths<'a>(alloc: Global) -> Arg<'a> {
         .required(true)
 }
 
-/// What the options ask for.
+/// What the options ask for; a mistake in them as `Err`.
 pub(crate) fn lint_of<'a>(
     alloc: Global,
     said: Options,
     options: &ArgMatches<'a>,
-) -> Result<Lint<'a>, AllocError> {
+) -> Result<Lint<'a>, Error> {
     Ok(Lint {
         options: said,
-        ignored: ignored_of(alloc, options)?,
+        ignored: ignored_of(alloc, options, FINDING_NAMES.as_slice())?,
+        denies_warnings: options.get_flag("deny-warnings"),
         excluded: texts_of(alloc, options, "exclude")?,
         each: options.get_flag("each"),
         paths: texts_of(alloc, options, "paths")?,
     })
 }
 
-/// The kinds that the options name.
+/// What the options say is not reported, of these kinds; a text that says no such thing as `Err`.
 pub(crate) fn ignored_of(
     alloc: Global,
     options: &ArgMatches<'_>,
-) -> Result<Vec<ReportedKind>, AllocError> {
+    kinds: &[&str],
+) -> Result<Vec<IgnoreRule>, Error> {
     let mut ignored = Vec::new(alloc);
-    for name in options.get_strs("ignore").unwrap_or(&[]) {
-        if let Some(kind) = reported_kind_of_name(*name) {
-            ignored.push(kind)?;
+    for text in options.get_strs("ignore").unwrap_or(&[]) {
+        match ignore_rule_of_text(alloc, *text)? {
+            Some(rule) if kinds.contains(&rule.kind.name()) => ignored.push(rule)?,
+            _ => return Err(wrong_rule(alloc, *text, kinds)?),
         }
     }
     Ok(ignored)
+}
+
+/// The mistake that the text is no rule, in the words in which a value that is none of a list is reported.
+fn wrong_rule(alloc: Global, text: &str, kinds: &[&str]) -> Result<Error, AllocError> {
+    let mut message = format!(in alloc;
+        "invalid value '{text}' for '--ignore <KIND>'\n  [possible values: "
+    )?;
+    for (index, kind) in kinds.iter().enumerate() {
+        if index != 0 {
+            message.push_str(", ")?;
+        }
+        message.push_str(*kind)?;
+    }
+    message.push(']')?;
+    Command::new(alloc, "ftl").error(ErrorKind::InvalidValue, message.as_str())
 }

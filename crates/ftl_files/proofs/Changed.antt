@@ -13,10 +13,11 @@ tested_path_came_or_was false path at came was is = inr refl
 
 module _ (change : Change) (before : List Change) where
   -- what is at a path is what the change has left there, or what was there
-  pub newest : (path : List ℕ) → ((path ≡ string_bytes change.path)
+  pub bytes_at_path_are_changed_or_before : (path : List ℕ) → ((path ≡ string_bytes change.path)
       × (bytes_at (change ∷ before) path ≡ bytes_of change.bytes))
       ⊎ (bytes_at (change ∷ before) path ≡ bytes_at before path)
-  newest path = tested_path_came_or_was (bytes_eq path (string_bytes change.path)) path (string_bytes change.path)
+  bytes_at_path_are_changed_or_before path =
+      tested_path_came_or_was (bytes_eq path (string_bytes change.path)) path (string_bytes change.path)
       (bytes_of change.bytes)
       (bytes_at before path) (bytes_eq-Decides path (string_bytes change.path))
 
@@ -29,18 +30,19 @@ module _ (change : Change) (before : List Change) where
         ⊎ changes path left
     since t path left le (zero, within, is) = ⊎_elim
         (λ came. inr (comes path left came.0 (is ∙ came.1)))
-        (λ same. inl (0, omega (arith, le), is ∙ same)) (newest path)
+        (λ same. inl (0, omega (arith, le), is ∙ same)) (bytes_at_path_are_changed_or_before path)
     since t path left le (suc undone, within, is) = inl (undone, omega (arith, within), is)
 
-    pub changed : GoesOn (files_of before) (files_of (change ∷ before)) changes
-    changed = record {
+    pub files_go_on_to_change : GoesOn (files_of before) (files_of (change ∷ before)) changes
+    files_go_on_to_change = record {
       later = omega arith;
-      bytes = λ path. ⊎_elim (λ came. inr (comes path _ came.0 came.1)) inl (newest path);
+      bytes = λ path. ⊎_elim (λ came. inr (comes path _ came.0 came.1)) inl (bytes_at_path_are_changed_or_before path);
       hold = λ path bytes held. ⊎_elim
           (λ came. inr (comes path (Some bytes) came.0 (sym held ∙ came.1)))
-          (λ same. inl (sym same ∙ held)) (newest path);
+          (λ same. inl (sym same ∙ held)) (bytes_at_path_are_changed_or_before path);
       leave = λ path left is. ⊎_elim
-          (λ came. inr (comes path left came.0 (is ∙ came.1))) (λ same. inl (is ∙ same)) (newest path);
+          (λ came. inr (comes path left came.0 (is ∙ came.1))) (λ same. inl (is ∙ same))
+          (bytes_at_path_are_changed_or_before path);
       since = since;
       keeps = λ t path left le is. (suc is.0, omega (arith, is.1), is.2);
     }
@@ -50,4 +52,5 @@ pub goes_on_to_change : (before after : List Change) (change : Change) (changes 
     ((path : List ℕ) (left : Option (List ℕ)) → path ≡ string_bytes change.path → left ≡ bytes_of change.bytes →
     changes path left) → GoesOn (files_of before) (files_of after) changes
 goes_on_to_change before after change changes is comes =
-    subst (λ l. GoesOn (files_of before) (files_of l) changes) (sym is) (changed change before changes comes)
+    subst (λ l. GoesOn (files_of before) (files_of l) changes) (sym is)
+    (files_go_on_to_change change before changes comes)

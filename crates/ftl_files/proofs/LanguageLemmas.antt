@@ -12,9 +12,10 @@ pub path_is_joined : (languages name rest relative path : List ℕ) → path ≡
 path_is_joined languages name rest relative path place parts = place ∙ rw parts (simp append_assoc)
 
 -- what is before the first `/` of a path, and what follows it
-pub cut_at_slash : (relative : List ℕ) (name rest : Bor (List ℕ)) → IsSplitOnceResult 47 relative (Some (name, rest)) →
-    (relative ≡ name.now ++ 47 ∷ rest.now) × IsDirect name.now
-cut_at_slash relative name rest splits = split_parts 47 relative (Some (name, rest)) splits (omega arith)
+pub split_at_slash_gives_folder_name : (relative : List ℕ) (name rest : Bor (List ℕ)) →
+    IsSplitOnceResult 47 relative (Some (name, rest)) → (relative ≡ name.now ++ 47 ∷ rest.now) × IsDirect name.now
+split_at_slash_gives_folder_name relative name rest splits =
+    split_parts 47 relative (Some (name, rest)) splits (omega arith)
 
 -- what a path begins with before its ending
 path_is_front_and_ending : (rest path front : List ℕ) (k : ℕ) → path ≡ take (length path - k) path ++ rest →
@@ -48,18 +49,20 @@ is_language languages name rest relative path front k (Some x) place parts direc
       direct = direct;
     }
 
-pub found_is : (languages path : List ℕ) (r : Option (Bor (List ℕ))) → IsFound languages path r →
+pub found_language_is_language : (languages path : List ℕ) (r : Option (Bor (List ℕ))) → IsFound languages path r →
     IfSome r (λ language. IsLanguage languages path language.now)
-found_is languages path None never = absurd never
-found_is languages path (Some x) is = is
+found_language_is_language languages path None never = absurd never
+found_language_is_language languages path (Some x) is = is
 
-pub found_exists : (languages path : List ℕ) (r : Option (Bor (List ℕ))) → IsFound languages path r → r ≢ None
-found_exists languages path None never none = never
-found_exists languages path (Some x) is none = absurd cc
+pub found_language_is_not_none : (languages path : List ℕ) (r : Option (Bor (List ℕ))) → IsFound languages path r →
+    r ≢ None
+found_language_is_not_none languages path None never none = never
+found_language_is_not_none languages path (Some x) is none = absurd cc
 
 -- the relative path of what leads through the folder of a language
-pub language_relative : (languages path language relative : List ℕ) (l : IsLanguage languages path language) →
+pub relative_path_begins_with_language : (languages path language relative : List ℕ)
+    (l : IsLanguage languages path language) →
     path ≡ languages ++ codes "/" ++ relative → relative ≡ l.name ++ 47 ∷ l.rest
-language_relative languages path language relative l from =
+relative_path_begins_with_language languages path language relative l from =
     append_cancel_left (languages ++ codes "/") relative (l.name ++ 47 ∷ l.rest)
     (sym from ∙ l.path_is ∙ rw l.language_is (simp append_assoc))

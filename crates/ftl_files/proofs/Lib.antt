@@ -1,8 +1,10 @@
 pub mod Changed
+pub mod KindLists
 pub mod LanguageLemmas
 pub mod ListedNames
 pub mod OriginalLemmas
 pub mod PathLemmas
+pub mod PatternLemmas
 pub mod ReadingLemmas
 pub mod Refusing
 pub mod Replaced

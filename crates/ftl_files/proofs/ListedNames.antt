@@ -4,27 +4,27 @@ use Rattle.toml.specs.Data.{Data, array}
 use Rattle.toml.specs.View.{items_of}
 use Rattle.ftl_files.specs.Settings.{IsListed}
 
-items_of_injective : (xs ys : List Data) → items_of xs ≡ items_of ys → xs ≡ ys
-items_of_injective [] [] same = refl
-items_of_injective [] (y ∷ ys) same = cc
-items_of_injective (x ∷ xs) [] same = cc
-items_of_injective (x ∷ xs) (y ∷ ys) same =
+pub items_of_lists_are_injective : (xs ys : List Data) → items_of xs ≡ items_of ys → xs ≡ ys
+items_of_lists_are_injective [] [] same = refl
+items_of_lists_are_injective [] (y ∷ ys) same = cc
+items_of_lists_are_injective (x ∷ xs) [] same = cc
+items_of_lists_are_injective (x ∷ xs) (y ∷ ys) same =
     let others : items_of xs ≡ items_of ys = cc in
-    let beyond = items_of_injective xs ys others in
+    let beyond = items_of_lists_are_injective xs ys others in
     cc
 
 module _ {A : Type 0} (named : A → Data) where
   -- each value of a list of names is a name
-  no_other : (before : List Data) (value : Data) (after : List Data) (things : List A) →
+  list_of_names_has_no_other_value : (before : List Data) (value : Data) (after : List Data) (things : List A) →
       before ++ value ∷ after ≡ map named things → ((thing : A) → value ≢ named thing) → ⊥
-  no_other [] value after [] same other = cc
-  no_other (x ∷ before) value after [] same other = cc
-  no_other [] value after (k ∷ things) same other =
+  list_of_names_has_no_other_value [] value after [] same other = cc
+  list_of_names_has_no_other_value (x ∷ before) value after [] same other = cc
+  list_of_names_has_no_other_value [] value after (k ∷ things) same other =
       let here : value ≡ named k = cc in
       other k here
-  no_other (x ∷ before) value after (k ∷ things) same other =
+  list_of_names_has_no_other_value (x ∷ before) value after (k ∷ things) same other =
       let others : before ++ value ∷ after ≡ map named things = cc in
-      no_other before value after things others other
+      list_of_names_has_no_other_value before value after things others other
 
   -- no things are listed where one value is no name
   pub not_listed : (values : List Data) (before : List A) (value : Data) (after : List Data) (things : List A) →
@@ -33,11 +33,12 @@ module _ {A : Type 0} (named : A → Data) where
   not_listed values before value after things at other (inl none) = cc
   not_listed values before value after things at other (inr same) =
       let items : items_of values ≡ items_of (map named things) = cc in
-      no_other (map named before) value after things (sym at ∙ items_of_injective values (map named things) items) other
+      list_of_names_has_no_other_value (map named before) value after things
+      (sym at ∙ items_of_lists_are_injective values (map named things) items) other
 
-  pub is_listed : (values : List Data) (things : List A) → values ≡ map named things →
+  pub list_of_names_is_listed : (values : List Data) (things : List A) → values ≡ map named things →
       IsListed named (Some (array (items_of values))) things
-  is_listed values things same = rw same (inr refl)
+  list_of_names_is_listed values things same = rw same (inr refl)
 
 pub some_is_injective : {X : Type 0} (x y : X) → Some x ≡ Some y → x ≡ y
 some_is_injective x y same = cc

@@ -67,11 +67,13 @@ no_original_in_reference above own path original relative name rest o from cut s
     o.whole
 
 -- what a test says of two names that are not the same
-pub names_differ : (name own : List ℕ) (same : Bool) → same ≡ bytes_eq name own → same ≡ false → name ≢ own
-names_differ name own same is differs equal =
+pub failed_test_means_other_name : (name own : List ℕ) (same : Bool) → same ≡ bytes_eq name own → same ≡ false →
+    name ≢ own
+failed_test_means_other_name name own same is differs equal =
     let yes = (bytes_eq-Decides name own).1 equal in
     absurd cc
 
 -- and of two that are
-pub names_equal : (name own : List ℕ) (same : Bool) → same ≡ bytes_eq name own → same ≡ true → name ≡ own
-names_equal name own same is equal = (bytes_eq-Decides name own).0 (sym is ∙ equal)
+pub passed_test_means_same_name : (name own : List ℕ) (same : Bool) → same ≡ bytes_eq name own → same ≡ true →
+    name ≡ own
+passed_test_means_same_name name own same is equal = (bytes_eq-Decides name own).0 (sym is ∙ equal)

@@ -8,9 +8,10 @@ use Rattle.ftl_files.specs.declared.settings_fault.SettingsFault.{SettingsFault}
 use Rattle.ftl_files.specs.declared.settings_fault.SettingsFault.TheVariants.{Memory}
 use Rattle.ftl_files.specs.declared.settings.Settings.{Settings}
 
-pub fault_says_nothing : (text : List ℕ) (found : Members) (fault : SettingsFault) → parse_document text ≡ Some found →
+pub document_with_fault_says_no_settings : (text : List ℕ) (found : Members) (fault : SettingsFault) →
+    parse_document text ≡ Some found →
     (fault ≢ Memory → (settings : Settings) → Says found settings → ⊥) → fault ≢ Memory →
     (document : Members) (settings : Settings) → parse_document text ≡ Some document → Says document settings → ⊥
-fault_says_nothing text found fault reads none other document settings is says =
+document_with_fault_says_no_settings text found fault reads none other document settings is says =
     let same : document ≡ found = some_is_injective _ _ (sym is ∙ reads) in
     none other settings (subst (λ d. Says d settings) same says)

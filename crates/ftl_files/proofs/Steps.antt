@@ -3,12 +3,12 @@ use Rattle.std.proofs.Common.{◌∙◌, ℕ, List, Option, Some, arith, inl, in
 use Rattle.ftl_files.specs.Files.{Changes, Files, GoesOn}
 
 -- each of the first is one of the second
-abbrev pub IsPartOf : (some all : Changes) → Type 0
-IsPartOf some all = (path : List ℕ) (left : Option (List ℕ)) → some path left → all path left
+abbrev pub AreSomeOf : (some all : Changes) → Type 0
+AreSomeOf some all = (path : List ℕ) (left : Option (List ℕ)) → some path left → all path left
 
 -- one call, and then another
 pub then : (old mid new : Files) (first next all : Changes) → GoesOn old mid first → GoesOn mid new next →
-    IsPartOf first all → IsPartOf next all → GoesOn old new all
+    AreSomeOf first all → AreSomeOf next all → GoesOn old new all
 then old mid new first next all one two is_first is_next = record {
   later = omega (arith, one.later, two.later);
   bytes = λ path. ⊎_elim

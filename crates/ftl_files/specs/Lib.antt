@@ -1,11 +1,14 @@
 pub mod Files
+pub mod IgnoreRules
 pub mod Kinds
 pub mod Languages
+pub mod Levels
 pub mod Memory
 pub mod Nearness
 pub mod Options
 pub mod Originals
 pub mod Paths
+pub mod Patterns
 pub mod Reading
 pub mod Settings
 pub mod Store

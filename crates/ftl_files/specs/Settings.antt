@@ -1,13 +1,16 @@
 -- What the document of an `ftl.toml` says.
 use Rattle.std.specs.Prelude.{◌≡◌, ◌⊎◌, ◌<◌, ◌^◌, ℕ, List, [], map, Option, Some, None, Bool, true, ◌&&◌, ◌||◌}
-use Rattle.std.specs.Prelude.{IfSome, String, codes, option_map, pos, string_bytes}
+use Rattle.std.specs.Prelude.{IfSome, String, codes, false, option_map, pos, string_bytes}
 use Rattle.std.specs.declared.alloc.Global.{Global}
 use Rattle.std.specs.Str.{bytes_eq}
 use Rattle.toml.specs.Data.{Data, Members, array, get_member, integer, member, no_members, string}
 use Rattle.toml.specs.View.{items_of}
 use Rattle.fluent_syntax_tree.specs.declared.edition.Edition.{Edition}
+use Rattle.ftl_files.specs.IgnoreRules.{rule_text}
 use Rattle.ftl_files.specs.Kinds.{reported_name}
+use Rattle.ftl_files.specs.Levels.{have_common_kind}
 use Rattle.ftl_files.specs.Options.{blank_lines_name, color_name, edition_number, output_name}
+use Rattle.ftl_files.specs.declared.ignore_rules.IgnoreRule.{IgnoreRule}
 use Rattle.ftl_files.specs.declared.kinds.ReportedKind.{ReportedKind}
 use Rattle.ftl_files.specs.declared.options.BlankLines.{BlankLines}
 use Rattle.ftl_files.specs.declared.options.Color.{Color}
@@ -17,7 +20,8 @@ use Rattle.ftl_files.specs.declared.settings.Settings.{Settings}
 -- keys that have a meaning
 abbrev pub is_known : List ℕ → Bool
 is_known key =
-    bytes_eq key (codes "reference") || bytes_eq key (codes "ignore") || bytes_eq key (codes "exclude")
+    bytes_eq key (codes "reference") || bytes_eq key (codes "ignore") || bytes_eq key (codes "warn")
+    || bytes_eq key (codes "deny") || bytes_eq key (codes "exclude")
     || bytes_eq key (codes "edition") || bytes_eq key (codes "output") || bytes_eq key (codes "nesting")
     || bytes_eq key (codes "color") || bytes_eq key (codes "blank-lines")
 
@@ -34,9 +38,13 @@ abbrev pub IsListed : {A : Type 0} (named : A → Data) → Option Data → List
 IsListed named value things =
     ((value ≡ None) × (things ≡ [])) ⊎ (value ≡ Some (array (items_of (map named things))))
 
+-- the rules are those that these texts say
+abbrev pub IsIgnored : Option Data → List IgnoreRule → Type 0
+IsIgnored value rules = IsListed (λ rule. string (rule_text rule)) value rules
+
 -- the kinds are those that have these names
-abbrev pub IsIgnored : Option Data → List ReportedKind → Type 0
-IsIgnored value kinds = IsListed (λ kind. string (reported_name kind)) value kinds
+abbrev pub AreKinds : Option Data → List ReportedKind → Type 0
+AreKinds value kinds = IsListed (λ kind. string (reported_name kind)) value kinds
 
 -- what is excluded is named as it is spelled
 abbrev pub IsExcluded : Option Data → List (String Global) → Type 0
@@ -66,6 +74,9 @@ pub record Says (document : Members) (settings : Settings) : Type 0 where
   pub known : are_known document ≡ true
   pub reference : IsReference (get_member (codes "reference") document) settings.reference
   pub ignored : IsIgnored (get_member (codes "ignore") document) settings.ignored.items
+  pub warned : AreKinds (get_member (codes "warn") document) settings.warned.items
+  pub denied : AreKinds (get_member (codes "deny") document) settings.denied.items
+  pub apart : have_common_kind settings.warned.items settings.denied.items ≡ false
   pub excluded : IsExcluded (get_member (codes "exclude") document) settings.excluded.items
   pub edition : IsEdition (get_member (codes "edition") document) settings.edition
   pub output : IsOutput (get_member (codes "output") document) settings.output

@@ -1,6 +1,7 @@
 //! What is passed over where a folder is listed.
 
 use crate::paths::absolute_path;
+use crate::patterns::name_matches;
 use std::alloc::{AllocError, Global};
 
 /// What is passed over where a folder is listed: folders whose names begin with a `.`, and what it names. In a name a
@@ -72,25 +73,6 @@ fn path_matches(pattern: &str, path: &str) -> bool {
         && patterns
             .zip(parts)
             .all(|(pattern, part)| name_matches(pattern, part))
-}
-
-/// Whether the pattern is the name, where each `*` in it means any characters.
-fn name_matches(pattern: &str, name: &str) -> bool {
-    let Some((first, rest)) = pattern.split_once('*') else {
-        return pattern == name;
-    };
-    let Some(mut left) = name.strip_prefix(first) else {
-        return false;
-    };
-    let (middle, last) = rest.rsplit_once('*').unwrap_or(("", rest));
-    for part in middle.split('*') {
-        // the first place is the best one: it leaves most for the others
-        match left.split_once(part) {
-            Some((_, after)) => left = after,
-            None => return false,
-        }
-    }
-    left.ends_with(last)
 }
 
 /// The last part of the path.

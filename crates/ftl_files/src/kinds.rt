@@ -4,10 +4,10 @@ ghost use Rattle.fluent_syntax_names.specs.Differences.{difference_name};
 ghost use Rattle.fluent_syntax_names.specs.Severities.{name_of};
 ghost use Rattle.fluent_syntax_names.specs.declared.differences.Difference.{Difference};
 ghost use Rattle.fluent_syntax_names.specs.declared.finding.Kind.{Kind};
-ghost use Rattle.ftl_files.specs.Kinds.{reported_name};
+ghost use Rattle.ftl_files.specs.Kinds.{reported_name, reported_severity};
 ghost use Rattle.ftl_files.specs.declared.kinds.ReportedKind.{ReportedKind};
 
-use fluent_syntax_names::{Difference, Kind};
+use fluent_syntax_names::{Difference, Kind, Severity};
 
 /// The names of what `lint` reports.
 pub const FINDING_NAMES: [&str; 8] = [
@@ -22,8 +22,9 @@ pub const FINDING_NAMES: [&str; 8] = [
 ];
 
 /// The names of what `compare` reports.
-pub const DIFFERENCE_NAMES: [&str; 10] = [
+pub const DIFFERENCE_NAMES: [&str; 12] = [
     "missing-file",
+    "obsolete-file",
     "missing",
     "missing-value",
     "missing-attribute",
@@ -33,6 +34,7 @@ pub const DIFFERENCE_NAMES: [&str; 10] = [
     "obsolete-attribute",
     "obsolete-reference",
     "unknown-variable",
+    "unknown-function",
 ];
 
 /// A kind of what is reported of names.
@@ -42,8 +44,10 @@ pub enum ReportedKind {
     Finding(Kind),
     /// What `compare` reports of two files.
     Difference(Difference),
-    /// What `compare` reports of a file that is not there.
+    /// What `compare` reports of a file that the translation alone doesn't have.
     MissingFile,
+    /// What `compare` reports of a file that the translation alone has.
+    ObsoleteFile,
 }
 
 impl ReportedKind {
@@ -55,6 +59,19 @@ impl ReportedKind {
             ReportedKind::Finding(kind) => kind.name(),
             ReportedKind::Difference(difference) => difference.name(),
             ReportedKind::MissingFile => "missing-file",
+            ReportedKind::ObsoleteFile => "obsolete-file",
+        }
+    }
+
+    /// How grave it is, where no project says otherwise.
+    pub fn severity(self) -> Severity
+        ensures { result ≡ reported_severity self }
+    {
+        match self {
+            ReportedKind::Finding(kind) => kind.severity(),
+            ReportedKind::Difference(difference) => difference.severity(),
+            ReportedKind::MissingFile => Severity::Error,
+            ReportedKind::ObsoleteFile => Severity::Warning,
         }
     }
 }
@@ -64,8 +81,10 @@ pub fn reported_kind_of_name(name: &str) -> Option<ReportedKind>
     ensures named { IfSome result (λ kind. reported_name kind ≡ name.now) }
     ensures none { result ≡ None → (kind : ReportedKind) → reported_name kind ≢ name.now }
 {
-    if name == "missing-file" {
-        return Some(ReportedKind::MissingFile);
+    match name {
+        "missing-file" => return Some(ReportedKind::MissingFile),
+        "obsolete-file" => return Some(ReportedKind::ObsoleteFile),
+        _ => (),
     }
     match kind_of_name(name) {
         Some(kind) => Some(ReportedKind::Finding(kind)),
@@ -109,6 +128,7 @@ fn difference_of_name(name: &str) -> Option<Difference>
         "obsolete-attribute" => Some(Difference::ObsoleteAttribute),
         "obsolete-reference" => Some(Difference::ObsoleteReference),
         "unknown-variable" => Some(Difference::UnknownVariable),
+        "unknown-function" => Some(Difference::UnknownFunction),
         _ => None,
     }
 }

@@ -7,8 +7,10 @@ mod disk;
 mod excluded;
 mod file_system;
 mod folders;
+mod ignore_rules;
 mod kinds;
 mod languages;
+mod levels;
 mod limits;
 mod listing;
 mod memory;
@@ -16,10 +18,12 @@ mod nearness;
 mod options;
 mod originals;
 mod paths;
+mod patterns;
 mod reading;
 mod replacing;
 mod settings;
 mod settings_fault;
+mod settings_kinds;
 mod store;
 mod uris;
 
@@ -27,10 +31,12 @@ pub use disk::Disk;
 pub use excluded::Excluded;
 pub use file_system::FileSystem;
 pub use folders::Folders;
+pub use ignore_rules::{IgnoreRule, ignore_rule_of_text, is_ignored};
 pub use kinds::{
     DIFFERENCE_NAMES, FINDING_NAMES, ReportedKind, kind_of_name, reported_kind_of_name,
 };
 pub use languages::{folder_of_languages, language_of};
+pub use levels::Levels;
 pub use limits::{BYTES_LIMIT, FILE_LIMIT, FILES_LIMIT, FOLDERS_LIMIT};
 pub use listing::{Listing, list};
 pub use memory::Memory;

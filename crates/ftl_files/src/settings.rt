@@ -13,14 +13,18 @@ ghost use Rattle.ftl_files.specs.Settings.{IsOutput, IsReference, Says, are_know
 ghost use Rattle.ftl_files.specs.declared.options.BlankLines.{BlankLines};
 ghost use Rattle.ftl_files.specs.declared.options.Color.{Color};
 ghost use Rattle.ftl_files.specs.declared.options.Output.{Output};
-ghost use Rattle.ftl_files.specs.Kinds.{reported_name};
-ghost use Rattle.ftl_files.specs.declared.kinds.ReportedKind.{ReportedKind};
+ghost use Rattle.ftl_files.specs.IgnoreRules.{rule_text};
+ghost use Rattle.ftl_files.specs.Levels.{have_common_kind};
+ghost use Rattle.ftl_files.specs.declared.ignore_rules.IgnoreRule.{IgnoreRule};
 
-use crate::kinds::{ReportedKind, reported_kind_of_name};
+use crate::ignore_rules::{IgnoreRule, ignore_rule_of_text};
+use crate::kinds::ReportedKind;
+use crate::levels::common_kind;
 use crate::options::{
     BlankLines, Color, Output, blank_lines_of_name, color_of_name, output_of_name,
 };
 use crate::settings_fault::SettingsFault;
+use crate::settings_kinds::kinds_of;
 use fluent_syntax_tree::edition::Edition;
 use std::alloc::{AllocError, Global};
 use toml::{Table, Value};
@@ -33,8 +37,12 @@ const GREATEST_NESTING: i64 = 4_294_967_295;
 pub struct Settings {
     /// `reference`: the file or the folder of the reference language.
     pub reference: Option<String>,
-    /// `ignore`: the kinds that are not reported, in the order of the text.
-    pub ignored: Vec<ReportedKind>,
+    /// `ignore`: what is not reported, in the order of the text.
+    pub ignored: Vec<IgnoreRule>,
+    /// `warn`: the kinds that are warnings, in the order of the text.
+    pub warned: Vec<ReportedKind>,
+    /// `deny`: the kinds that are errors, in the order of the text. None of them is one of the others.
+    pub denied: Vec<ReportedKind>,
     /// `exclude`: what is passed over where a folder is listed, in the order of the text.
     pub excluded: Vec<String>,
     /// `edition`: that of the grammar.
@@ -57,6 +65,8 @@ impl Settings {
         Settings {
             reference: None,
             ignored: Vec::new(alloc),
+            warned: Vec::new(alloc),
+            denied: Vec::new(alloc),
             excluded: Vec::new(alloc),
             edition: None,
             output: None,
@@ -71,7 +81,9 @@ impl Settings {
 ///
 /// `Memory`: a growth was refused. `Toml`: the text is no TOML document. `Key`: it has a key that has no meaning.
 /// `Reference`, `Ignore`, `Exclude`, `Edition`, `Output`, `Nesting`, `Color`, `BlankLines`: the value of that key is of
-/// another kind, or is none of those that the key may have. `Kind`: that of `ignore` has a text that names no kind.
+/// another kind, or is none of those that the key may have. `Kind`: that of `ignore` has a text that is no rule.
+/// `Kinds`, `UnknownKind`: that of `warn` or `deny` is no list of texts, or has one that names no kind. `CommonKind`:
+/// both have a kind.
 pub fn settings_of(alloc: Global, text: &str) -> Result<Settings, SettingsFault>
     ensures says { IfOk result (λ settings. (document : Members)
         × (parse_document text.now ≡ Some document) × Says document settings) }
@@ -86,6 +98,9 @@ pub fn settings_of(alloc: Global, text: &str) -> Result<Settings, SettingsFault>
     check_keys(alloc, &table)?;
     let reference = reference_of(alloc, table.get("reference"))?;
     let ignored = ignored_of(alloc, table.get("ignore"))?;
+    let warned = kinds_of(alloc, "warn", table.get("warn"))?;
+    let denied = kinds_of(alloc, "deny", table.get("deny"))?;
+    check_apart(&warned, &denied)?;
     let excluded = excluded_of(alloc, table.get("exclude"))?;
     let edition = edition_of(table.get("edition"))?;
     let output = output_of(table.get("output"))?;
@@ -95,6 +110,8 @@ pub fn settings_of(alloc: Global, text: &str) -> Result<Settings, SettingsFault>
     Ok(Settings {
         reference,
         ignored,
+        warned,
+        denied,
         excluded,
         edition,
         output,
@@ -126,6 +143,17 @@ fn check_keys(alloc: Global, table: &Table) -> Result<(), SettingsFault>
     Ok(())
 }
 
+/// Refuses kinds that are both warnings and errors.
+fn check_apart(warned: &[ReportedKind], denied: &[ReportedKind]) -> Result<(), SettingsFault>
+    ensures apart { IfOk result (λ _. have_common_kind warned.now denied.now ≡ false) }
+    ensures refused { IfErr result (λ fault. have_common_kind warned.now denied.now ≡ true) }
+{
+    match common_kind(warned, denied) {
+        Some(kind) => Err(SettingsFault::CommonKind(kind)),
+        None => Ok(()),
+    }
+}
+
 fn is_known(key: &str) -> bool
     ensures { result ≡ is_known key.now }
 {
@@ -133,6 +161,8 @@ fn is_known(key: &str) -> bool
         key,
         "reference"
             | "ignore"
+            | "warn"
+            | "deny"
             | "exclude"
             | "edition"
             | "output"
@@ -156,43 +186,43 @@ fn reference_of(alloc: Global, value: Option<&Value>) -> Result<Option<String>, 
     }
 }
 
-fn ignored_of(alloc: Global, value: Option<&Value>) -> Result<Vec<ReportedKind>, SettingsFault>
-    ensures says { IfOk result (λ kinds. IsIgnored (option_map (λ v. view v.now) value.entry) kinds.items) }
-    ensures refused { IfErr result (λ fault. fault ≢ SettingsFault.Memory → (kinds : List ReportedKind) →
-        IsIgnored (option_map (λ v. view v.now) value.entry) kinds → ⊥) }
+fn ignored_of(alloc: Global, value: Option<&Value>) -> Result<Vec<IgnoreRule>, SettingsFault>
+    ensures says { IfOk result (λ rules. IsIgnored (option_map (λ v. view v.now) value.entry) rules.items) }
+    ensures refused { IfErr result (λ fault. fault ≢ SettingsFault.Memory → (rules : List IgnoreRule) →
+        IsIgnored (option_map (λ v. view v.now) value.entry) rules → ⊥) }
 {
-    let mut kinds = Vec::new(alloc);
+    let mut rules = Vec::new(alloc);
     let Some(value) = value else {
-        return Ok(kinds);
+        return Ok(rules);
     };
-    let Value::Array(names) = value else {
+    let Value::Array(texts) = value else {
         return Err(SettingsFault::Ignore);
     };
-    for name in names {
-        add_kind(&mut kinds, kind_of(alloc, name)?)?;
+    for text in texts {
+        add_rule(&mut rules, rule_of(alloc, text)?)?;
     }
-    Ok(kinds)
+    Ok(rules)
 }
 
-fn add_kind(kinds: &mut Vec<ReportedKind>, kind: ReportedKind) -> Result<(), AllocError>
-    ensures { OnOk result (kinds.new.items ≡ kinds.old.items ++ kind ∷ []) }
+fn add_rule(rules: &mut Vec<IgnoreRule>, rule: IgnoreRule) -> Result<(), AllocError>
+    ensures { OnOk result (rules.new.items ≡ rules.old.items ++ rule ∷ []) }
 {
-    kinds.push(kind)?;
+    rules.push(rule)?;
     Ok(())
 }
 
-/// The kind that the value names.
-fn kind_of(alloc: Global, value: &Value) -> Result<ReportedKind, SettingsFault>
-    ensures says { IfOk result (λ kind. view value.now ≡ string (reported_name kind)) }
+/// The rule that the value says.
+fn rule_of(alloc: Global, value: &Value) -> Result<IgnoreRule, SettingsFault>
+    ensures says { IfOk result (λ rule. view value.now ≡ string (rule_text rule)) }
     ensures refused { IfErr result (λ fault. fault ≢ SettingsFault.Memory →
-        (kind : ReportedKind) → view value.now ≢ string (reported_name kind)) }
+        (rule : IgnoreRule) → view value.now ≢ string (rule_text rule)) }
 {
-    let Value::String(name) = value else {
+    let Value::String(text) = value else {
         return Err(SettingsFault::Ignore);
     };
-    match reported_kind_of_name(name.as_str()) {
-        Some(kind) => Ok(kind),
-        None => Err(SettingsFault::Kind(String::from_str(alloc, name.as_str())?)),
+    match ignore_rule_of_text(alloc, text.as_str())? {
+        Some(rule) => Ok(rule),
+        None => Err(SettingsFault::Kind(String::from_str(alloc, text.as_str())?)),
     }
 }
 

@@ -1,6 +1,6 @@
 //! Why an `ftl.toml` says nothing that can be gone by.
 
-use crate::kinds::{DIFFERENCE_NAMES, FINDING_NAMES};
+use crate::kinds::{DIFFERENCE_NAMES, FINDING_NAMES, ReportedKind};
 use std::alloc::AllocError;
 use std::fmt;
 
@@ -19,6 +19,12 @@ pub enum SettingsFault {
     Ignore,
     /// The value of `ignore` has a text that names no kind.
     Kind(String),
+    /// The value of `warn` or `deny`, whichever this is, is no list of texts.
+    Kinds(&'static str),
+    /// The value of that key has a text that names no kind.
+    UnknownKind(&'static str, String),
+    /// The values of `warn` and `deny` both have the kind.
+    CommonKind(ReportedKind),
     /// The value of `exclude` is no list of texts.
     Exclude,
     /// The value of `edition` is not the number of one.
@@ -56,11 +62,16 @@ impl fmt::Display for SettingsFault {
                     "`ignore` wants a list of kinds, as `ftl help lint` and `ftl help compare` have them",
                 )
             }
-            SettingsFault::Kind(name) => {
-                write!(f, "`ignore` knows no kind `{name}`; possible values: ")?;
-                write_names(f, FINDING_NAMES.as_slice())?;
-                f.write_str(", ")?;
-                write_names(f, DIFFERENCE_NAMES.as_slice())
+            SettingsFault::Kind(name) => write_unknown_kind(f, "ignore", name.as_str()),
+            SettingsFault::Kinds(key) => {
+                write!(
+                    f,
+                    "`{key}` wants a list of kinds, as `ftl help lint` and `ftl help compare` have them"
+                )
+            }
+            SettingsFault::UnknownKind(key, name) => write_unknown_kind(f, *key, name.as_str()),
+            SettingsFault::CommonKind(kind) => {
+                write!(f, "`warn` and `deny` both have `{}`", kind.name())
             }
             SettingsFault::Exclude => {
                 f.write_str("`exclude` wants a list of names and paths in quotes")
@@ -78,6 +89,17 @@ impl fmt::Display for SettingsFault {
             }
         }
     }
+}
+
+fn write_unknown_kind<W: fmt::Write>(
+    f: &mut fmt::Formatter<W>,
+    key: &str,
+    name: &str,
+) -> fmt::Result {
+    write!(f, "`{key}` knows no kind `{name}`; possible values: ")?;
+    write_names(f, FINDING_NAMES.as_slice())?;
+    f.write_str(", ")?;
+    write_names(f, DIFFERENCE_NAMES.as_slice())
 }
 
 /// The names, with a comma after each but the last.

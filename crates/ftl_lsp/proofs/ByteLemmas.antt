@@ -28,10 +28,11 @@ line_is_ahead t position at begins =
     record { line = omega (arith, begins.line); column = λ e. omega (arith, begins.character) }
 
 -- a line ends with a byte at which its text ends
-break_of : (is_lf is_cr before_lf : Bool) → (is_lf || (is_cr && not before_lf)) ≡ true → (is_lf || is_cr) ≡ true
-break_of true is_cr before_lf e = refl
-break_of false true before_lf e = refl
-break_of false false before_lf e = e
+line_break_test_means_break : (is_lf is_cr before_lf : Bool) → (is_lf || (is_cr && not before_lf)) ≡ true →
+    (is_lf || is_cr) ≡ true
+line_break_test_means_break true is_cr before_lf e = refl
+line_break_test_means_break false true before_lf e = refl
+line_break_test_means_break false false before_lf e = e
 
 -- the first half of what is so, and the second
 both_of_and_are_true : (a b : Bool) → (a && b) ≡ true → (a ≡ true) × (b ≡ true)
@@ -40,20 +41,23 @@ both_of_and_are_true true false e = absurd cc
 both_of_and_are_true false b e = absurd cc
 
 -- where bytes that go on with a character count nothing, a place is not reached at one of them
-stops_at_lead : (b character column : ℕ) → character ≤ column → stops_at b character column ≡ true → 128 ≤ b → 192 ≤ b
-stops_at_lead b character column l e h = grind (arith, l, e, h)
+stop_inside_char_is_at_lead_byte : (b character column : ℕ) → character ≤ column → stops_at b character column ≡ true →
+    128 ≤ b → 192 ≤ b
+stop_inside_char_is_at_lead_byte b character column l e h = grind (arith, l, e, h)
 
 -- a line's text doesn't end where a place is not reached
-break_stops : (b character column : ℕ) → stops_at b character column ≡ false → is_break b ≡ true → ⊥
-break_stops b character column e f = grind (arith, e, f)
+break_byte_stops_column : (b character column : ℕ) → stops_at b character column ≡ false → is_break b ≡ true → ⊥
+break_byte_stops_column b character column e f = grind (arith, e, f)
 
 -- where a place is not reached before a byte, what begins with it doesn't reach beyond the column
-fits_column : (b character column : ℕ) → stops_at b character column ≡ false → character + utf16_units b ≤ column
-fits_column b character column e = grind (arith, e)
+byte_that_stops_not_fits_column : (b character column : ℕ) → stops_at b character column ≡ false →
+    character + utf16_units b ≤ column
+byte_that_stops_not_fits_column b character column e = grind (arith, e)
 
 module _ (t : List ℕ) (position : Position) (at : ℕ) where
   ends_at_break : ends_line t at ≡ true → is_break (slice_index t at) ≡ true
-  ends_at_break e = break_of (slice_index t at == lf) (slice_index t at == cr) (slice_index t (at + 1) == lf) e
+  ends_at_break e =
+      line_break_test_means_break (slice_index t at == lf) (slice_index t at == cr) (slice_index t (at + 1) == lf) e
 
   module _ (ahead : IsAhead t position at) where
     -- where the place is reached before a byte, it is there
@@ -66,7 +70,7 @@ module _ (t : List ℕ) (position : Position) (at : ℕ) where
         record {
           boundary = (
             omega arith,
-            λ m. stops_at_lead (slice_index t at) (character_at t at) position.character
+            λ m. stop_inside_char_is_at_lead_byte (slice_index t at) (character_at t at) position.character
                 (ahead.column line) h.1,
           );
           there = inl (record { line = line; column = ahead.column line; reached = inr h.1 });
@@ -84,10 +88,15 @@ module _ (t : List ℕ) (position : Position) (at : ℕ) where
       beyond true e =
           let low : line_at t at ≤ position.line = ahead.line in
           let other : line_at t at ≡ position.line → ⊥ = λ same.
-          break_stops (slice_index t at) (character_at t at) position.character (not_stopped same) (ends_at_break e) in
+          break_byte_stops_column (slice_index t at) (character_at t at) position.character (not_stopped same)
+          (ends_at_break e) in
           (grind (arith, low, other), λ same. omega arith)
-      beyond false e =
-          (ahead.line, λ same. fits_column (slice_index t at) (character_at t at) position.character (not_stopped same))
+      beyond false e = (
+        ahead.line,
+        λ same.
+            byte_that_stops_not_fits_column (slice_index t at) (character_at t at) position.character
+            (not_stopped same),
+      )
 
       pub still_ahead : IsAhead t position (at + 1)
       still_ahead =
@@ -99,13 +108,13 @@ module _ (t : List ℕ) (position : Position) (at : ℕ) where
 pub is_at_text_end : (t : List ℕ) (position : Position) → IsAhead t position (length t) → IsByteOf t position (length t)
 is_at_text_end t position ahead = record {
   boundary = IsCharBoundary-end t;
-  there = by_line (nat_le position.line (line_at t (length t))) refl;
+  there = text_end_is_in_line_or_past_last (nat_le position.line (line_at t (length t))) refl;
 }
   where
-    by_line : (b : Bool) → nat_le position.line (line_at t (length t)) ≡ b →
+    text_end_is_in_line_or_past_last : (b : Bool) → nat_le position.line (line_at t (length t)) ≡ b →
         IsInLine t position (length t) ⊎ IsPastLastLine t position (length t)
-    by_line true e =
+    text_end_is_in_line_or_past_last true e =
         let low : line_at t (length t) ≤ position.line = ahead.line in
         let line : line_at t (length t) ≡ position.line = grind (arith, e, low) in
         inl (record { line = line; column = ahead.column line; reached = inl refl })
-    by_line false e = inr (record { line = grind (arith, e); end = refl })
+    text_end_is_in_line_or_past_last false e = inr (record { line = grind (arith, e); end = refl })

@@ -5,18 +5,20 @@ use Rattle.ftl_lsp.specs.HeaderEnds.{IsLineEnd}
 use Rattle.ftl_lsp.specs.Fields.{HasLength, NamesLength, number_of}
 use Rattle.ftl_lsp.specs.Fields.HasLength.{in_line, below_line, nowhere}
 
-pub length_in_line : (t line : List ℕ) (at : ℕ) (n : Option ℕ) → IsLineEnd t at → line ≡ take at t → NamesLength line →
-    n ≡ number_of (drop 15 line) → HasLength t n
-length_in_line t line at n ends same names is =
+pub line_that_names_length_has_it : (t line : List ℕ) (at : ℕ) (n : Option ℕ) → IsLineEnd t at → line ≡ take at t →
+    NamesLength line → n ≡ number_of (drop 15 line) → HasLength t n
+line_that_names_length_has_it t line at n ends same names is =
     subst (HasLength t) (sym (is ∙ ap (λ l. number_of (drop 15 l)) same))
     (in_line t at ends (subst NamesLength same names))
 
-pub length_below_line : (t line rest : List ℕ) (at : ℕ) (n : Option ℕ) → IsLineEnd t at → line ≡ take at t →
+pub length_is_below_line_that_names_none : (t line rest : List ℕ) (at : ℕ) (n : Option ℕ) → IsLineEnd t at →
+    line ≡ take at t →
     ¬ (NamesLength line) → at + 2 ≤ length t → rest ≡ drop (at + 2) t → HasLength rest n → HasLength t n
-length_below_line t line rest at n ends same other room is has =
+length_is_below_line_that_names_none t line rest at n ends same other room is has =
     below_line t at n ends (λ names. other (subst NamesLength (sym same) names)) room
     (subst (λ u. HasLength u n) is has)
 
-pub no_length : (t line : List ℕ) (at : ℕ) → IsLineEnd t at → line ≡ take at t → ¬ (NamesLength line) →
-    length t < at + 2 → HasLength t None
-no_length t line at ends same other room = nowhere t at ends (λ names. other (subst NamesLength (sym same) names)) room
+pub last_line_that_names_none_has_no_length : (t line : List ℕ) (at : ℕ) → IsLineEnd t at → line ≡ take at t →
+    ¬ (NamesLength line) → length t < at + 2 → HasLength t None
+last_line_that_names_none_has_no_length t line at ends same other room =
+    nowhere t at ends (λ names. other (subst NamesLength (sym same) names)) room

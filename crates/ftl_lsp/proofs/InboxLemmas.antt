@@ -9,7 +9,8 @@ use Rattle.ftl_lsp.specs.Frames.{IsFrame, IsFraming}
 use Rattle.ftl_lsp.specs.Inbox.{TakesFrame}
 use Rattle.ftl_lsp.specs.declared.sessions.frames.FrameFault.{FrameFault}
 use Rattle.ftl_lsp.specs.declared.sessions.frames.Framing.TheVariants.{Frame, Refused}
-use Rattle.ftl_lsp.proofs.FramesMore.{framing_more, framed_bytes_are_frame, header_more}
+use Rattle.ftl_lsp.proofs.FramesMore.{framing_stays_before_more_bytes, framed_bytes_are_frame}
+use Rattle.ftl_lsp.proofs.FramesMore.{header_stays_before_more_bytes}
 
 -- a frame with more bytes after it
 IsFrame-append : (t body rest more : List ℕ) → IsFrame t body rest → IsFrame (t ++ more) body (rest ++ more)
@@ -21,19 +22,19 @@ IsFrame-append t body rest more f =
       header = f.header;
       whole =
           ap (λ l. l ++ more) f.whole ∙ append_assoc (f.header ++ codes "\r\n\r\n" ++ body) rest more;
-      first = (header_more t more (length f.header) header).ends;
+      first = (header_stays_before_more_bytes t more (length f.header) header).ends;
       short = f.short;
       says = f.says;
       small = f.small;
     }
 
 -- a frame that was taken off the pending bytes was taken off those that were left
-pub takes_frame : (old left : Option (List ℕ)) (s t pending body : List ℕ) (start end : ℕ) →
+pub framed_bytes_are_taken : (old left : Option (List ℕ)) (s t pending body : List ℕ) (start end : ℕ) →
     Keeps old (prepend_known t left) → s ≡ t → IsFraming s (Frame start end) → body ≡ slice_range t start end →
     pending ≡ drop end t → TakesFrame old (prepend_known pending left) body
-takes_frame None left s t pending body start end same is framing parts rest = tt
-takes_frame (Some bytes) None s t pending body start end same is framing parts rest = absurd same
-takes_frame (Some bytes) (Some more) s t pending body start end same is framing parts rest =
+framed_bytes_are_taken None left s t pending body start end same is framing parts rest = tt
+framed_bytes_are_taken (Some bytes) None s t pending body start end same is framing parts rest = absurd same
+framed_bytes_are_taken (Some bytes) (Some more) s t pending body start end same is framing parts rest =
     let there : IsFrame t (slice_range t start end) (drop end t) =
     framed_bytes_are_frame t start end (subst (λ u. IsFraming u (Frame start end)) is framing) in
     let named : IsFrame t body pending =
@@ -42,10 +43,11 @@ takes_frame (Some bytes) (Some more) s t pending body start end same is framing 
     subst (λ x. IsFrame x body (pending ++ more)) same (IsFrame-append t body pending more named)
 
 -- pending bytes that are no frame are none with what is left after them
-pub refuses : (old left : Option (List ℕ)) (s t : List ℕ) (fault : FrameFault) → Keeps old (prepend_known t left) →
+pub refused_framing_refuses_input : (old left : Option (List ℕ)) (s t : List ℕ) (fault : FrameFault) →
+    Keeps old (prepend_known t left) →
     s ≡ t → IsFraming s (Refused fault) → IfSome old (λ bytes. IsFraming bytes (Refused fault))
-refuses None left s t fault same is framing = tt
-refuses (Some bytes) None s t fault same is framing = absurd same
-refuses (Some bytes) (Some more) s t fault same is framing =
+refused_framing_refuses_input None left s t fault same is framing = tt
+refused_framing_refuses_input (Some bytes) None s t fault same is framing = absurd same
+refused_framing_refuses_input (Some bytes) (Some more) s t fault same is framing =
     subst (λ x. IsFraming x (Refused fault)) (ap (λ u. u ++ more) is ∙ same)
-    (framing_more s more (Refused fault) (λ e. cc) framing)
+    (framing_stays_before_more_bytes s more (Refused fault) (λ e. cc) framing)

@@ -50,13 +50,13 @@ range_units-more t start n h l =
     (get_or-drop start t (n - start) 0 ∙ ap (λ m. get_or t m 0) there)
 
 -- the place after a byte, by whether a line ends with it
-one_more : (t : List ℕ) (n : ℕ) (ends : Bool) → n < length t → ends_line t n ≡ ends → IsPosition t n (position_at t n) →
-    IsPosition t (suc n)
+position_after_byte_is_next_position : (t : List ℕ) (n : ℕ) (ends : Bool) → n < length t → ends_line t n ≡ ends →
+    IsPosition t n (position_at t n) → IsPosition t (suc n)
     (record {
       line = next_line ends (line_at t n);
       character = next_character ends (utf16_units (slice_index t n)) (character_at t n);
     })
-one_more t n true l e p = record {
+position_after_byte_is_next_position t n true l e p = record {
   start = suc n;
   before = omega arith;
   begins = λ h. let here : suc n - 1 ≡ n = omega arith in subst (λ m. ends_line t m ≡ true) (sym here) e;
@@ -66,7 +66,7 @@ one_more t n true l e p = record {
       let none : 0 ≡ suc n - suc n = omega arith in
       ap (λ m. sum_by utf16_units (take m (drop (suc n) t))) none;
 }
-one_more t n false l e p = record {
+position_after_byte_is_next_position t n false l e p = record {
   start = p.start;
   before = let h : p.start ≤ n = p.before in omega arith;
   begins = p.begins;
@@ -89,4 +89,4 @@ position_at_is_position t zero l = record {
 position_at_is_position t (suc n) l =
     let within : n ≤ length t = omega arith in
     let inside : n < length t = omega arith in
-    one_more t n (ends_line t n) inside refl (position_at_is_position t n within)
+    position_after_byte_is_next_position t n (ends_line t n) inside refl (position_at_is_position t n within)

@@ -28,10 +28,10 @@ cut_is_range_of_name t span name named (inl is) = sym is
 cut_is_range_of_name t span name named (inr none) = absurd (true≢false (sym named ∙ ap is_name none))
 
 -- an edit of that span renames it
-pub edit_renames : (t old identifier positions : List ℕ) (span : Span) (value : Data) →
+pub edit_of_span_renames_identifier : (t old identifier positions : List ℕ) (span : Span) (value : Data) →
     value ≡ edit_form positions identifier span → positions ≡ t → is_name old ≡ true → IsCut t span old →
     RenamesAt t old identifier value
-edit_renames t old identifier positions span value form same named cut =
+edit_of_span_renames_identifier t old identifier positions span value form same named cut =
     subst (RenamesAt t old identifier) (sym (form ∙ ap (λ (u : List ℕ). edit_form u identifier span) same))
     (renames_at span (cut_is_range_of_name t span old named cut))
 
@@ -43,9 +43,9 @@ absent_is_none f (Some x) e = absurd (true≢false (sym e))
 -- a document under the name of one that is open has its text
 pub has_open_text : (texts : List ℕ → Option OpenText) (uri t : List ℕ) (version : Option ℤ) (found : OpenText) →
     texts uri ≡ Some found → HasText texts uri t version → t ≡ found.text
-has_open_text texts uri t version found open' (inl is) = ap (text_or t) (sym is ∙ open')
+has_open_text texts uri t version found open' (inl is) = ap (text_of_open_document_or t) (sym is ∙ open')
   where
-    text_or : List ℕ → Option OpenText → List ℕ
-    text_or other None = other
-    text_or other (Some there) = there.text
+    text_of_open_document_or : List ℕ → Option OpenText → List ℕ
+    text_of_open_document_or other None = other
+    text_of_open_document_or other (Some there) = there.text
 has_open_text texts uri t version found open' (inr h) = absurd (true≢false (sym (ap is_some open') ∙ ap is_some h.0))

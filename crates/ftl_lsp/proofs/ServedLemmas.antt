@@ -17,21 +17,21 @@ use Rattle.ftl_lsp.specs.declared.sessions.endings.Ending.TheVariants.{Input, Me
 use Rattle.ftl_lsp.specs.declared.sessions.phases.Phase.{Phase}
 use Rattle.ftl_lsp.specs.declared.sessions.phases.Phase.TheVariants.{Exited, Fresh, Left, Running, ShutDown}
 
-nothing_pending : (input : Option (List ℕ)) → prepend_known [] input ≡ input
-nothing_pending None = refl
-nothing_pending (Some bytes) = refl
+nothing_before_input_is_input : (input : Option (List ℕ)) → prepend_known [] input ≡ input
+nothing_before_input_is_input None = refl
+nothing_before_input_is_input (Some bytes) = refl
 
 -- all of the input is left before the first message
 pub begins_with_all_input : (input output : Option (List ℕ)) (session : Session) (pending : List ℕ) → IsFresh session →
     pending ≡ [] → Serves input output session (prepend_known pending input) output
 begins_with_all_input input output session pending is none =
     subst (λ (left : Option (List ℕ)). Serves input output session left output)
-    (sym (ap (λ (p : List ℕ). prepend_known p input) none ∙ nothing_pending input)) (begins session is)
+    (sym (ap (λ (p : List ℕ). prepend_known p input) none ∙ nothing_before_input_is_input input)) (begins session is)
 
 -- a block that was filled has room still
-pub keeps_room : (n : ℕ) (new old : List ℕ) → 0 < length old → length old ≡ n →
+pub buffer_keeps_room : (n : ℕ) (new old : List ℕ) → 0 < length old → length old ≡ n →
     0 < length (take n (new ++ drop (length new) old))
-keeps_room n new old room is =
+buffer_keeps_room n new old room is =
     omega (
       arith,
       length-take n (new ++ drop (length new) old),
@@ -92,20 +92,21 @@ unasked_value_goes_on (Ok x) old mid left written sent_on value same unasked sen
 unasked_value_goes_on (Err e) old mid left written sent_on value same unasked sends = sends
 
 -- why a session stops after what changes nothing of it
-pub same_session_stops : {X : Type 0} (r : Result X Ending) (old mid : Session) (left written now : Option (List ℕ)) →
-    mid ≡ old → IfErr r (λ ending. Stops mid left written ending now) →
+pub equal_session_stops_alike : {X : Type 0} (r : Result X Ending) (old mid : Session)
+    (left written now : Option (List ℕ)) → mid ≡ old → IfErr r (λ ending. Stops mid left written ending now) →
     IfErr r (λ ending. Stops old left written ending now)
-same_session_stops r old mid left written now same stopped =
+equal_session_stops_alike r old mid left written now same stopped =
     subst (λ (s : Session). IfErr r (λ ending. Stops s left written ending now)) same stopped
 
 -- what is unasked could not be sent
-pub not_published : {Y : Type 0} (r : Result Y Ending) (before : Session) (left written now : Option (List ℕ))
+pub unpublished_value_stops_session : {Y : Type 0} (r : Result Y Ending) (before : Session)
+    (left written now : Option (List ℕ))
     (value : Data) → Unasked before value → IfErr r (λ ending. (ending ≡ Memory) ⊎ (ending ≡ Output)) →
     (r ≡ Err Memory → now ≡ written) → IfErr r (λ ending. Stops before left written ending now)
-not_published (Ok x) before left written now value anew fault same = fault
-not_published (Err e) before left written now value anew (inl is) same =
+unpublished_value_stops_session (Ok x) before left written now value anew fault same = fault
+unpublished_value_stops_session (Err e) before left written now value anew (inl is) same =
     subst (λ (ending : Ending). Stops before left written ending now) (sym is)
     (is_unpublished Memory now (has_no_memory_to_publish now (same (ap Err is))))
-not_published (Err e) before left written now value anew (inr is) same =
+unpublished_value_stops_session (Err e) before left written now value anew (inr is) same =
     subst (λ (ending : Ending). Stops before left written ending now) (sym is)
     (is_unpublished Output now (publishes_unwritten now value anew))

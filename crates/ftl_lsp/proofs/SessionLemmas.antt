@@ -22,8 +22,8 @@ use Rattle.ftl_lsp.specs.Replies.{sends_diagnostics, sends_none, sends_withdrawa
 use Rattle.ftl_lsp.specs.Diagnostics.{DiagnosesText, shown}
 use Rattle.ftl_lsp.specs.DiagnosticForms.{IsLintDiagnostic, PublishesDiagnostics, error_form}
 use Rattle.ftl_lsp.specs.declared.diagnostics.Diagnostic.{Diagnostic}
-use Rattle.ftl_lsp.specs.Sessions.{SendsForMessage, SendsForNotification, SendsForRequest, SendsWhileRunning, HandlesNotification}
-use Rattle.ftl_lsp.specs.Sessions.{Finds, RefusesFor, Republishes, fits}
+use Rattle.ftl_lsp.specs.Sessions.{SendsForMessage, SendsForNotification, SendsForRequest, SendsWhileRunning}
+use Rattle.ftl_lsp.specs.Sessions.{Finds, HandlesNotification, RefusesFor, Republishes, fits}
 use Rattle.ftl_lsp.specs.Sessions.{IsMethod, Session, TakesRequest, concerns}
 use Rattle.ftl_lsp.specs.Asking.{IsResult, names_open}
 use Rattle.ftl_lsp.specs.Sessions.{changes, published, requested, notified, opens, passes, runs}
@@ -42,8 +42,9 @@ IfOk-with (Ok x) P Q R both p q = both p x q
 IfOk-with (Err e) P Q R both p q = q
 
 -- a value that is as one that is sent
-pub sent_as : (reply : Reply) (value sent : Data) → value ≡ sent → IsSent reply (Some sent) → IsSent reply (Some value)
-sent_as reply value sent same is = subst (λ (d : Data). IsSent reply (Some d)) (sym same) is
+pub equal_value_is_sent : (reply : Reply) (value sent : Data) → value ≡ sent → IsSent reply (Some sent) →
+    IsSent reply (Some value)
+equal_value_is_sent reply value sent same is = subst (λ (d : Data). IsSent reply (Some d)) (sym same) is
 
 -- a session in another phase
 abbrev pub in_phase : Phase → Session → Session
@@ -71,32 +72,33 @@ pub unnamed_is_closed : (texts : List ℕ → Option OpenText) (d : Data) → ur
 unnamed_is_closed texts d none = ap (λ o. is_some (option_and_then texts o)) none
 
 -- nothing is opened without a name, or without a text
-pub opening_needs_name : (texts : List ℕ → Option OpenText) (d : Data) → uri_in d ≡ None →
+pub opening_without_name_concerns_nothing : (texts : List ℕ → Option OpenText) (d : Data) → uri_in d ≡ None →
     concerns texts d (Some DidOpen) ≡ false
-opening_needs_name texts d none = ap (λ o. is_some o && is_some (opened_text_in d)) none
+opening_without_name_concerns_nothing texts d none = ap (λ o. is_some o && is_some (opened_text_in d)) none
 
-pub open_needs_text : (texts : List ℕ → Option OpenText) (d : Data) (uri : List ℕ) → uri_in d ≡ Some uri →
-    opened_text_in d ≡ None → concerns texts d (Some DidOpen) ≡ false
-open_needs_text texts d uri named none =
+pub opening_without_text_concerns_nothing : (texts : List ℕ → Option OpenText) (d : Data) (uri : List ℕ) →
+    uri_in d ≡ Some uri → opened_text_in d ≡ None → concerns texts d (Some DidOpen) ≡ false
+opening_without_text_concerns_nothing texts d uri named none =
     ap (λ o. is_some o && is_some (opened_text_in d)) named ∙ ap is_some none
 
-and_false : (b : Bool) → (b && false) ≡ false
-and_false true = refl
-and_false false = refl
+and_with_false_is_none : (b : Bool) → (b && false) ≡ false
+and_with_false_is_none true = refl
+and_with_false_is_none false = refl
 
 -- nothing is changed that is not open, or by what can't be read
 pub changing_needs_open : (texts : List ℕ → Option OpenText) (d : Data) → names_open texts d ≡ false →
     concerns texts d (Some DidChange) ≡ false
 changing_needs_open texts d closed = ap (λ b. b && is_some (option_and_then edits_in (changes_in d))) closed
 
-pub change_needs_edit : (texts : List ℕ → Option OpenText) (d : Data) → option_and_then edits_in (changes_in d) ≡ None →
-    concerns texts d (Some DidChange) ≡ false
-change_needs_edit texts d none = ap (λ o. names_open texts d && is_some o) none ∙ and_false (names_open texts d)
+pub change_without_edits_concerns_nothing : (texts : List ℕ → Option OpenText) (d : Data) →
+    option_and_then edits_in (changes_in d) ≡ None → concerns texts d (Some DidChange) ≡ false
+change_without_edits_concerns_nothing texts d none =
+    ap (λ o. names_open texts d && is_some o) none ∙ and_with_false_is_none (names_open texts d)
 
-pub edits_of_changes : (d : Data) (slice values : List Value) (edits : Option (List Edit)) →
+pub edits_of_changes_are_read : (d : Data) (slice values : List Value) (edits : Option (List Edit)) →
     changes_in d ≡ Some (items_view values) → slice ≡ values → edits ≡ edits_in (items_view slice) →
     option_and_then edits_in (changes_in d) ≡ edits
-edits_of_changes d slice values edits stated same is_read =
+edits_of_changes_are_read d slice values edits stated same is_read =
     ap (option_and_then edits_in) stated
     ∙ ap (λ (vs : List Value). edits_in (items_view vs)) (sym same) ∙ sym is_read
 
@@ -112,28 +114,30 @@ pub open_text_is_published : (old mid : Session) (uri : List ℕ) (found : OpenT
     PublishesDiagnostics uri found.text list → IsSent (published uri (old.texts uri)) (Some value)
 open_text_is_published old mid uri found value list same open' is publishes_all =
     let at : Session → Type 0 = λ s. IsSent (published uri (s.texts uri)) (Some value) in
-    let sent = sent_as (diagnosed uri found.text) value _ is (sends_diagnostics uri found.text list publishes_all) in
+    let sent = equal_value_is_sent (diagnosed uri found.text) value _ is
+    (sends_diagnostics uri found.text list publishes_all) in
     subst at same (subst (λ (o : Option OpenText). IsSent (published uri o) (Some value)) open' sent)
 
 -- what is reported of a document: its errors, and then what is reported with them
-pub publishes_document : (uri t : List ℕ) (takes_related : Bool) (errors : List Diagnostic)
+pub diagnostics_of_text_are_published : (uri t : List ℕ) (takes_related : Bool) (errors : List Diagnostic)
     (values others all : List Value) → ∥ DiagnosesText t (map shown errors) ∥₁ →
     map view values ≡ map (error_form uri takes_related) errors →
     All IsLintDiagnostic (map view others) → all ≡ values ++ others → PublishesDiagnostics uri t (map view all)
-publishes_document uri t takes_related errors values others all diagnoses stated lint_diagnostics is = record {
-  takes_related = takes_related;
-  errors = errors;
-  diagnoses = diagnoses;
-  others = map view others;
-  lint_diagnostics = lint_diagnostics;
-  publishes_each = ap (map view) is ∙ map-append view values others ∙ ap (λ l. l ++ map view others) stated;
-}
+diagnostics_of_text_are_published uri t takes_related errors values others all diagnoses stated lint_diagnostics is =
+    record {
+      takes_related = takes_related;
+      errors = errors;
+      diagnoses = diagnoses;
+      others = map view others;
+      lint_diagnostics = lint_diagnostics;
+      publishes_each = ap (map view) is ∙ map-append view values others ∙ ap (λ l. l ++ map view others) stated;
+    }
 
 -- that there are none any more
-pub withdraws_all : (uri : List ℕ) (value : Data) (list : List Data) → value ≡ diagnostics_form uri list → list ≡ [] →
-    IsSent (withdrawn uri) (Some value)
-withdraws_all uri value list is none =
-    sent_as (withdrawn uri) value _ (is ∙ ap (diagnostics_form uri) none) (sends_withdrawal uri)
+pub empty_list_withdraws_diagnostics : (uri : List ℕ) (value : Data) (list : List Data) →
+    value ≡ diagnostics_form uri list → list ≡ [] → IsSent (withdrawn uri) (Some value)
+empty_list_withdraws_diagnostics uri value list is none =
+    equal_value_is_sent (withdrawn uri) value _ (is ∙ ap (diagnostics_form uri) none) (sends_withdrawal uri)
 
 -- the diagnostics of a document that is open are reported, after what was done before
 pub republishes : {Y : Type 0} (r : Result (Option Value) Y) (old : List ℕ → Option OpenText) (d : Data)
@@ -152,12 +156,13 @@ republishes r old d method uri found mid new open' follows same sent =
     same sent
 
 -- a document that was opened
-pub publishes_opened : {Y : Type 0} (r : Result (Option Value) Y) (d : Data) (uri text : List ℕ) (version : Option ℤ)
+pub opened_text_is_published : {Y : Type 0} (r : Result (Option Value) Y) (d : Data) (uri text : List ℕ)
+    (version : Option ℤ)
     (old mid new : Session) → uri_in d ≡ Some uri → opened_text_in d ≡ Some text → version ≡ version_in d →
     Sets old.texts uri (Some (record { text = text; version = version })) mid.texts → OnOk r (new ≡ mid) →
     IfOk r (λ sent. IsSent (published uri (mid.texts uri)) (option_map view sent)) →
     IfOk r (λ sent. SendsWhileRunning old.texts d (Some DidOpen) (option_map view sent) new.texts)
-publishes_opened r d uri text version old mid new named stated numbered sets same sent =
+opened_text_is_published r d uri text version old mid new named stated numbered sets same sent =
     let made = subst
     (λ (n : Option ℤ). Sets old.texts uri (Some (record { text = text; version = n })) mid.texts) numbered sets in
     republishes r old.texts d (Some DidOpen) uri (record { text = text; version = version }) mid new
@@ -169,43 +174,45 @@ publishes_opened r d uri text version old mid new named stated numbered sets sam
     same sent
 
 -- a document that was changed
-pub publishes_changed : {Y : Type 0} (r : Result (Option Value) Y) (d : Data) (uri : List ℕ) (items : Items)
+pub changed_text_is_published : {Y : Type 0} (r : Result (Option Value) Y) (d : Data) (uri : List ℕ) (items : Items)
     (edits : List Edit) (version : Option ℤ) (found : Bool) (old mid new : Session) → uri_in d ≡ Some uri →
     changes_in d ≡ Some items → edits_in items ≡ Some edits → version ≡ version_in d →
     is_some (old.texts uri) ≡ true → SetsMade old.texts uri version edits found mid.texts → OnOk r (new ≡ mid) →
     IfOk r (λ sent. IsSent (published uri (mid.texts uri)) (option_map view sent)) →
     IfOk r (λ sent. SendsWhileRunning old.texts d (Some DidChange) (option_map view sent) new.texts)
-publishes_changed r d uri items edits version true old mid new named stated is_read numbered open'
+changed_text_is_published r d uri items edits version true old mid new named stated is_read numbered open'
     (before, after, was, makes, sets) same sent =
     republishes r old.texts d (Some DidChange) uri after mid new (is_open old.texts mid.texts uri after sets)
     (λ now e. changes uri items edits before after now named stated is_read was
     (subst (λ (n : Option ℤ). MakesOpen before n edits after) numbered makes)
     (subst (λ (t : List ℕ → Option OpenText). Sets old.texts uri (Some after) t) (sym e) sets))
     same sent
-publishes_changed r d uri items edits version false old mid new named stated is_read numbered open' h same sent =
+changed_text_is_published r d uri items edits version false old mid new named stated is_read numbered open' h same
+    sent =
     absurd (true≢false (sym open' ∙ ap is_some h.0))
 
 -- a document that is saved
-takes_saving : (old new : List ℕ → Option OpenText) (d : Data) (uri : List ℕ) (sent : Option Data)
+saving_is_answered_by_diagnostics : (old new : List ℕ → Option OpenText) (d : Data) (uri : List ℕ) (sent : Option Data)
     (found : Option OpenText) → old uri ≡ found → uri_in d ≡ Some uri → new ≡ old → IsSent (published uri found) sent →
     SendsWhileRunning old d (Some DidSave) sent new
-takes_saving old new d uri sent (Some found) open' named same is =
+saving_is_answered_by_diagnostics old new d uri sent (Some found) open' named same is =
     (diagnosed uri found.text, is, saves uri found new named open' same)
-takes_saving old new d uri sent None open' named same is =
+saving_is_answered_by_diagnostics old new d uri sent None open' named same is =
     (silence, is, passes (Some DidSave) new (named_document_is_open old d uri named ∙ ap is_some open') same)
 
-pub publishes_saved : {Y : Type 0} (r : Result (Option Value) Y) (d : Data) (uri : List ℕ) (old new : Session) →
+pub saved_text_is_published : {Y : Type 0} (r : Result (Option Value) Y) (d : Data) (uri : List ℕ) (old new : Session) →
     uri_in d ≡ Some uri → OnOk r (new ≡ old) →
     IfOk r (λ sent. IsSent (published uri (old.texts uri)) (option_map view sent)) →
     IfOk r (λ sent. SendsWhileRunning old.texts d (Some DidSave) (option_map view sent) new.texts)
-publishes_saved r d uri old new named same sent =
-    IfOk-with r _ _ _ (λ e x h. takes_saving old.texts new.texts d uri _ _ refl named (ap (λ s. s.texts) e) h) same sent
+saved_text_is_published r d uri old new named same sent =
+    IfOk-with r _ _ _ (λ e x h.
+    saving_is_answered_by_diagnostics old.texts new.texts d uri _ _ refl named (ap (λ s. s.texts) e) h) same sent
 
 -- what is found for a request, where it is known to be a value
-pub finds_value : (old : Session) (d : Data) (method : Option Method) (found : Result Value ErrorCode) (value : Value) →
-    refusal_of old.phase method ≡ None → IfOk found (λ v. fits old.texts d method ≡ true) →
+pub found_value_is_sent_as_result : (old : Session) (d : Data) (method : Option Method) (found : Result Value ErrorCode)
+    (value : Value) → refusal_of old.phase method ≡ None → IfOk found (λ v. fits old.texts d method ≡ true) →
     IfOk found (λ v. IsResult old.texts d method (view v)) → found ≡ Ok value → Finds old d method (view value)
-finds_value old d method found value allowed fitting is_result is = record {
+found_value_is_sent_as_result old d method found value allowed fitting is_result is = record {
   allowed = allowed;
   fitting = subst (λ (r : Result Value ErrorCode). IfOk r (λ v. fits old.texts d method ≡ true)) is fitting;
   is_result = subst (λ (r : Result Value ErrorCode). IfOk r (λ v. IsResult old.texts d method (view v))) is is_result;
@@ -232,43 +239,45 @@ takes_request (Ok sent) old mid new body d id same_id name method is_read asked 
 )
 takes_request (Err e) old mid new body d id same_id name method is_read asked same named before h = h
 
-pub takes_notification : {Y : Type 0} (r : Result (Option Value) Y) (old new : Session) (body : List ℕ) (d : Data)
-    (name : List ℕ) (method : Option Method) → read body ≡ Some d →
+pub session_takes_notification : {Y : Type 0} (r : Result (Option Value) Y) (old new : Session) (body : List ℕ)
+    (d : Data) (name : List ℕ) (method : Option Method) → read body ≡ Some d →
     message_in d ≡ notification name → IsMethod name method →
     IfOk r (λ sent. SendsForNotification old d method (option_map view sent) new) →
     IfOk r (λ sent. SendsForMessage old body (option_map view sent) new)
-takes_notification (Ok sent) old new body d name method is_read asked named (reply, is, takes) =
+session_takes_notification (Ok sent) old new body d name method is_read asked named (reply, is, takes) =
     (reply, is, notified d name method reply new is_read asked named takes)
-takes_notification (Err e) old new body d name method is_read asked named h = h
+session_takes_notification (Err e) old new body d name method is_read asked named h = h
 
 -- nothing is done for a method that concerns no document
-unconcerned : (texts : List ℕ → Option OpenText) (d : Data) (method : Method) → method ≢ DidOpen → method ≢ DidChange →
-    method ≢ DidClose → method ≢ DidSave → concerns texts d (Some method) ≡ false
-unconcerned texts d DidOpen a b c e = absurd (a refl)
-unconcerned texts d DidChange a b c e = absurd (b refl)
-unconcerned texts d DidClose a b c e = absurd (c refl)
-unconcerned texts d DidSave a b c e = absurd (e refl)
-unconcerned texts d _ a b c e = refl
+other_methods_concern_no_text : (texts : List ℕ → Option OpenText) (d : Data) (method : Method) → method ≢ DidOpen →
+    method ≢ DidChange → method ≢ DidClose → method ≢ DidSave → concerns texts d (Some method) ≡ false
+other_methods_concern_no_text texts d DidOpen a b c e = absurd (a refl)
+other_methods_concern_no_text texts d DidChange a b c e = absurd (b refl)
+other_methods_concern_no_text texts d DidClose a b c e = absurd (c refl)
+other_methods_concern_no_text texts d DidSave a b c e = absurd (e refl)
+other_methods_concern_no_text texts d _ a b c e = refl
 
-pub takes_none : (old : List ℕ → Option OpenText) (d : Data) (method : Option Method) → concerns old d method ≡ false →
-    SendsWhileRunning old d method None old
-takes_none old d method none = (silence, sends_none, passes method old none refl)
+pub unconcerned_texts_take_nothing : (old : List ℕ → Option OpenText) (d : Data) (method : Option Method) →
+    concerns old d method ≡ false → SendsWhileRunning old d method None old
+unconcerned_texts_take_nothing old d method none = (silence, sends_none, passes method old none refl)
 
 pub other_method_passes_over : (old : List ℕ → Option OpenText) (d : Data) (method : Option Method) (known : Method) →
     method ≡ Some known → known ≢ DidOpen → known ≢ DidChange → known ≢ DidClose → known ≢ DidSave →
     SendsWhileRunning old d method None old
 other_method_passes_over old d method known is a b c e =
-    takes_none old d method (ap (concerns old d) is ∙ unconcerned old d known a b c e)
+    unconcerned_texts_take_nothing old d method
+    (ap (concerns old d) is ∙ other_methods_concern_no_text old d known a b c e)
 
 -- files are watched, or nothing is sent
-pub initialized_watches : (old : List ℕ → Option OpenText) (d : Data) (method : Option Method) (known : Method)
+pub initialized_is_answered_by_watching : (old : List ℕ → Option OpenText) (d : Data) (method : Option Method)
+    (known : Method)
     (sent : Option Data) → method ≡ Some known → known ≡ Initialized → IsSent watch sent ⊎ IsSent silence sent →
     SendsWhileRunning old d method sent old
-initialized_watches old d method known sent is named (inl watches') =
+initialized_is_answered_by_watching old d method known sent is named (inl watches') =
     let follows = subst (λ (m : Option Method). HandlesNotification old d m watch old) (sym (is ∙ ap Some named))
     (watches old refl) in
     (watch, watches', follows)
-initialized_watches old d method known sent is named (inr none) =
+initialized_is_answered_by_watching old d method known sent is named (inr none) =
     (silence, none, passes method old (ap (concerns old d) (is ∙ ap Some named)) refl)
 
 -- a notification that was followed while the session runs
@@ -297,18 +306,18 @@ running_notice_is_taken old mid beyond noted d method sent last is_running same 
 
 -- ---- What is published again
 
-published_if_open : (session : Session) (uri : List ℕ) (found : Option OpenText) (value : Data) →
+diagnostics_are_republished_if_open : (session : Session) (uri : List ℕ) (found : Option OpenText) (value : Data) →
     session.phase ≡ Running → session.texts uri ≡ found → IsSent (published uri found) (Some value) →
     Republishes session value
-published_if_open session uri (Some found) value running open' sent =
+diagnostics_are_republished_if_open session uri (Some found) value running open' sent =
     record { runs = running; uri = uri; found = found; is_open = open'; diagnostics = sent }
-published_if_open session uri None value running open' sent = elim sent [ ]
+diagnostics_are_republished_if_open session uri None value running open' sent = elim sent [ ]
 
 -- what is published of a document is reported of one that is open
 pub publishes_open : {Y : Type 0} (r : Result (Option Value) Y) (session : Session) (uri : List ℕ) →
     session.phase ≡ Running → IfOk r (λ sent. IsSent (published uri (session.texts uri)) (option_map view sent)) →
     IfOk r (λ sent. IfSome sent (λ value. Republishes session (view value)))
 publishes_open (Ok (Some value)) session uri running sent =
-    published_if_open session uri _ (view value) running refl sent
+    diagnostics_are_republished_if_open session uri _ (view value) running refl sent
 publishes_open (Ok None) session uri running sent = tt
 publishes_open (Err e) session uri running sent = sent

@@ -5,10 +5,14 @@ use Rattle.std.specs.Global.{Global}
 use Rattle.std.specs.declared.string.String.{String}
 use Rattle.serde_json.specs.Data.{Data, number, unsigned, string, array, object, member, no_members}
 use Rattle.serde_json.specs.View.{items_of}
-use Rattle.fluent_syntax_names.specs.Differences.{difference_name, difference_severity}
+use Rattle.fluent_syntax_names.specs.Differences.{difference_name}
 use Rattle.fluent_syntax_names.specs.Severities as finding
 use Rattle.fluent_syntax_names.specs.declared.finding.Severity.{Severity}
 use Rattle.fluent_syntax_names.specs.declared.finding.Severity.TheVariants.{Error, Warning}
+use Rattle.ftl_files.specs.Levels as level
+use Rattle.ftl_files.specs.declared.kinds.ReportedKind.{ReportedKind}
+use Rattle.ftl_files.specs.declared.kinds.ReportedKind.TheVariants as kinds
+use Rattle.ftl_files.specs.declared.levels.Levels.{Levels}
 use Rattle.ftl_lsp.specs.Diagnostics.{DiagnosesText, shown}
 use Rattle.ftl_lsp.specs.Locations.{range_form}
 use Rattle.ftl_lsp.specs.declared.diagnostics.Diagnostic.{Diagnostic}
@@ -74,21 +78,26 @@ error_form uri false d = error_alone (range_of d) d
 
 -- ---- besides the errors
 
-abbrev pub severity_of : LintDiagnosticKind → Severity
-severity_of (Finding kind) = finding.severity_of kind
-severity_of (Difference difference) = difference_severity difference
+-- as settings name it
+abbrev pub reported_kind : LintDiagnosticKind → ReportedKind
+reported_kind (Finding kind) = kinds.Finding kind
+reported_kind (Difference difference) = kinds.Difference difference
+
+abbrev pub severity_of : Levels → LintDiagnosticKind → Severity
+severity_of levels kind = level.severity_of levels (reported_kind kind)
 
 -- its name, as a command line has it: no error has one of these
 abbrev pub code_of : LintDiagnosticKind → List ℕ
 code_of (Finding kind) = finding.name_of kind
 code_of (Difference difference) = difference_name difference
 
--- The diagnostic of a finding, or of a difference from the original.
+-- The diagnostic of a finding, or of a difference from the original, as grave as some settings say.
 pub data IsLintDiagnostic : Data → Type 0 where
-  alone : (range : PositionRange) (kind : LintDiagnosticKind) (message : List ℕ) →
-      IsLintDiagnostic (diagnostic_form range (severity_of kind) (code_of kind) message)
-  with_related : (range : PositionRange) (kind : LintDiagnosticKind) (message : List ℕ) (positions : Data) →
-      IsLintDiagnostic (diagnostic_with_related range (severity_of kind) (code_of kind) message positions)
+  alone : (range : PositionRange) (levels : Levels) (kind : LintDiagnosticKind) (message : List ℕ) →
+      IsLintDiagnostic (diagnostic_form range (severity_of levels kind) (code_of kind) message)
+  with_related : (range : PositionRange) (levels : Levels) (kind : LintDiagnosticKind) (message : List ℕ)
+      (positions : Data) →
+      IsLintDiagnostic (diagnostic_with_related range (severity_of levels kind) (code_of kind) message positions)
 
 -- The list has a diagnostic for each error of the text, in order, and after them those of findings and differences. The
 -- other places of errors are in the document with the name.

@@ -15,7 +15,7 @@ use crate::workspace::file_sets::FileSet;
 use crate::workspace::workspace_folder::WorkspaceFolder;
 use fluent_syntax_names::DefinedNames;
 use ftl_files::{
-    BlankLines, Folders, ReportedKind, SourceFile, SourceFiles, path_of_uri, read_files,
+    BlankLines, Folders, IgnoreRule, Levels, SourceFile, SourceFiles, path_of_uri, read_files,
 };
 use serde_json::Value;
 use std::alloc::{AllocError, Global};
@@ -166,16 +166,33 @@ impl Workspace {
         Ok(files)
     }
 
-    /// The kinds that are not reported of a file at the path: those that a folder leaves out below which it is.
-    /// `AllocError` where a growth was refused.
-    pub fn ignored_at(&self, alloc: Global, path: &str) -> Result<Vec<ReportedKind>, AllocError> {
+    /// What is not reported of a file at the path: what a folder leaves out below which it is. `AllocError` where a
+    /// growth was refused.
+    pub fn ignored_at(&self, alloc: Global, path: &str) -> Result<Vec<IgnoreRule>, AllocError> {
         let mut ignored = Vec::new(alloc);
         for folder in &self.folders {
             if folder.has(path) {
-                ignored.extend_from_slice(&folder.ignored)?;
+                for rule in &folder.ignored {
+                    ignored.push(rule.clone()?)?;
+                }
             }
         }
         Ok(ignored)
+    }
+
+    /// How grave what is reported of a file at the path is: as the first folder says below which it is.
+    pub fn levels_at(&self, path: Option<&str>) -> Levels<'_> {
+        if let Some(path) = path {
+            for folder in &self.folders {
+                if folder.has(path) {
+                    return folder.levels();
+                }
+            }
+        }
+        Levels {
+            warned: &[],
+            denied: &[],
+        }
     }
 
     /// What becomes of blank lines in a file at the path: what the first folder says below which it is.

@@ -2,15 +2,17 @@
 
 use crate::colors::form_over_paths;
 use crate::counterparts::{Counterparts, counterparts_of};
-use crate::listed::{Named, NamedFiles, listing_at};
+use crate::file_sets::languages_of;
+use crate::lint::report_no_reference;
+use crate::listed::{Named, NamedFiles, listing_at, report_note};
 use crate::messages::{WRONG_ARGS, end_run, refuse_input, report_nothing_to_compare, run_status};
 use crate::project::{Project, ProjectPaths, projects_of};
 use ftl::{RunFault, Watched};
 use ftl_args::{Compare, Options};
-use ftl_files::{Disk, ReportedKind};
+use ftl_files::{Disk, Form, IgnoreRule};
 use ftl_project::{
-    CompareOptions, Pair, Share, Streams, Tally, check_summary, compare_files, note_line,
-    share_line,
+    CompareOptions, Pair, Presence, Share, Streams, Tally, check_summary, compare_files, note_line,
+    share_json, share_line,
 };
 use std::alloc::{AllocError, Global};
 use std::io;
@@ -79,32 +81,47 @@ fn compare_in(
     paths: &[&str],
 ) -> Result<u8, RunFault> {
     let counterparts = counterparts_of(rt, project, paths)?;
+    let options = compare.options.or(&project.settings);
+    let mut tally = Tally::new();
     if counterparts.is_empty() && (project.settings.reference.is_none() || paths.is_empty()) {
-        return Ok(report_nothing_to_compare(rt));
+        if !has_languages(rt.alloc(), project)? {
+            return Ok(report_nothing_to_compare(rt));
+        }
+        report_no_language(rt, project, form_over_paths(rt, options), &mut tally)?;
     }
-    let Ok(ignored) = ignored_of(rt, compare, project) else {
+    let Ok(ignored) = project.ignored_with(rt, &compare.ignored) else {
         return Err(RunFault::Memory);
     };
     let comparison = Comparison {
         rt,
         project,
-        options: compare.options.or(&project.settings),
+        options,
         ignored: &ignored,
     };
-    let mut tally = Tally::new();
     comparison.compare_all(&counterparts, &mut tally)?;
-    Ok(end_run(rt, &tally, check_summary(rt.alloc(), &tally)))
+    let status = end_run(rt, &tally, check_summary(rt.alloc(), &tally));
+    Ok(status.max(tally.warnings_status(compare.denies_warnings)))
 }
 
-/// The kinds that are not reported.
-fn ignored_of(
+/// Whether the project has a folder of languages.
+fn has_languages(alloc: Global, project: &Project) -> Result<bool, RunFault> {
+    match languages_of(alloc, project) {
+        Ok(languages) => Ok(languages.is_some()),
+        Err(AllocError) => Err(RunFault::Memory),
+    }
+}
+
+/// Reports that there is no language but the reference, or not even that.
+fn report_no_language(
     rt: &HostRuntime,
-    compare: &Compare<'_>,
     project: &Project,
-) -> Result<Vec<ReportedKind>, AllocError> {
-    let mut ignored = project.settings.ignored.to_vec(rt.alloc())?;
-    ignored.extend_from_slice(&compare.ignored)?;
-    Ok(ignored)
+    form: Form,
+    tally: &mut Tally,
+) -> Result<(), RunFault> {
+    if let Some(reference) = &project.settings.reference {
+        report_note(rt, reference.as_str(), "has no other language next to it")?;
+    }
+    report_no_reference(rt, project, form, tally)
 }
 
 /// How what paths name is compared.
@@ -113,11 +130,16 @@ struct Comparison<'p> {
     rt: &'p HostRuntime,
     project: &'p Project,
     options: Options,
-    /// Kinds that are not reported.
-    ignored: &'p [ReportedKind],
+    /// What is not reported.
+    ignored: &'p [IgnoreRule],
 }
 
 impl Comparison<'_> {
+    /// How what is found is reported.
+    fn form(&self) -> Form {
+        form_over_paths(self.rt, self.options)
+    }
+
     /// Compares each file or folder, once, with its counterpart. What can't be listed, and a file where the other one
     /// is a folder, or the other way round, is reported, and the others are compared.
     fn compare_all(
@@ -125,44 +147,58 @@ impl Comparison<'_> {
         counterparts: &[Counterparts],
         tally: &mut Tally,
     ) -> Result<(), RunFault> {
-        let mut named = NamedFiles::new(self.rt, self.project);
+        let form = self.form();
+        let mut named = NamedFiles::new(self.rt, self.project, form);
         let mut last = "";
         let mut listed: Option<Named> = None;
         for counterpart in counterparts {
             if !named.is_new(self.rt, counterpart.other.as_str())? {
                 continue;
             }
+            if !counterpart.has_reference {
+                self.compare_other(counterpart, None, tally)?;
+                continue;
+            }
             let reference = counterpart.reference.as_str();
             if listed.is_none() || reference != last {
-                listed = Some(listing_at(self.rt, self.project, reference, tally)?);
+                listed = Some(listing_at(self.rt, self.project, reference, form, tally)?);
                 last = reference;
             }
             match &listed {
-                Some(own) if !own.has_failed => self.compare_other(counterpart, own, tally)?,
+                Some(own) if !own.has_failed => {
+                    self.compare_other(counterpart, Some(own), tally)?
+                }
                 _ => (),
             }
         }
         Ok(())
     }
 
-    /// Compares the other one with the reference, which has these files.
+    /// Compares the other one with the reference, which has these files; none where it is not there.
     fn compare_other(
         &self,
         counterpart: &Counterparts,
-        own: &Named,
+        own: Option<&Named>,
         tally: &mut Tally,
     ) -> Result<(), RunFault> {
         let rt = self.rt;
         let (reference, other) = (counterpart.reference.as_str(), counterpart.other.as_str());
-        let named = listing_at(rt, self.project, other, tally)?;
-        if named.has_failed || (named.files.is_empty() && !counterpart.is_named) {
+        let named = listing_at(rt, self.project, other, self.form(), tally)?;
+        if named.has_failed {
             return Ok(());
         }
-        if named.is_file != own.is_file {
-            tally.add_fault(WRONG_ARGS);
-            return report_other_kind(rt, reference, own.is_file, other);
+        if named.files.is_empty() && !counterpart.is_named {
+            return report_note(rt, other, "has no .ftl file");
         }
-        let Ok(pairs) = pairs_of(rt.alloc(), reference, &own.files, other, &named.files) else {
+        let own_files = match own {
+            Some(own) if named.is_file != own.is_file => {
+                tally.add_fault(WRONG_ARGS);
+                return report_other_kind(rt, reference, own.is_file, other);
+            }
+            Some(own) => own.files.as_slice(),
+            None => &[],
+        };
+        let Ok(pairs) = pairs_of(rt.alloc(), reference, own_files, other, &named.files) else {
             return Err(RunFault::Memory);
         };
         self.compare_pairs(other, &pairs, tally)
@@ -183,6 +219,7 @@ impl Comparison<'_> {
         let mut streams = Streams {
             out: &mut Watched::new(io::writer(rt)),
             err: &mut Watched::new(rt.stderr()),
+            form: self.form(),
         };
         compare_files(
             rt.alloc(),
@@ -190,23 +227,32 @@ impl Comparison<'_> {
             pairs,
             self.options.reading(),
             CompareOptions {
-                form: form_over_paths(rt, self.options),
+                form: self.form(),
                 ignored: self.ignored,
+                levels: self.project.levels(),
             },
             tally,
             &mut share,
             &mut streams,
         )?;
-        match share_line(rt.alloc(), &share) {
+        let shown = match self.form() {
+            Form::Json => share_json(rt.alloc(), other, &share),
+            _ => share_of(rt.alloc(), other, &share),
+        };
+        match shown {
             Ok(line) => {
-                let _ = rt.eprint(other);
-                let _ = rt.eprint(": ");
                 let _ = rt.eprint(line.as_str());
                 Ok(())
             }
             Err(AllocError) => Err(RunFault::Memory),
         }
     }
+}
+
+/// How much of the reference the other one has, on a line.
+fn share_of(alloc: Global, other: &str, share: &Share) -> Result<String, AllocError> {
+    let line = share_line(alloc, share)?;
+    format!(in alloc; "{other}: {line}")
 }
 
 /// Reports that one of the two is a file and the other one a folder.
@@ -232,7 +278,8 @@ fn report_other_kind(
     Ok(())
 }
 
-/// The files of the reference with those of the other of the same path below; or the two files that are named.
+/// The files of the reference with those of the other of the same path below, or the two files that are named; and
+/// after them those that the other alone has.
 fn pairs_of(
     alloc: Global,
     reference: &str,
@@ -240,20 +287,41 @@ fn pairs_of(
     other: &str,
     other_files: &[String],
 ) -> Result<Vec<Pair>, AllocError> {
-    let mut there = Vec::new(alloc);
-    for file in other_files {
-        there.push(below(other, file.as_str()))?;
-    }
+    let wanted = names_below(alloc, reference, reference_files)?;
+    let there = names_below(alloc, other, other_files)?;
     let mut pairs = Vec::new(alloc);
-    for file in reference_files {
-        let name = below(reference, file.as_str());
+    for (file, name) in reference_files.iter().zip(&wanted) {
         pairs.push(Pair {
             reference: String::from_str(alloc, file.as_str())?,
-            other: path_below(alloc, other, name)?,
-            is_there: there.binary_search(&name).is_ok(),
+            other: path_below(alloc, other, *name)?,
+            presence: match there.binary_search(name) {
+                Ok(_) => Presence::Both,
+                Err(_) => Presence::ReferenceAlone,
+            },
         })?;
     }
+    for (file, name) in other_files.iter().zip(&there) {
+        if wanted.binary_search(name).is_err() {
+            pairs.push(Pair {
+                reference: path_below(alloc, reference, *name)?,
+                other: String::from_str(alloc, file.as_str())?,
+                presence: Presence::OtherAlone,
+            })?;
+        }
+    }
     Ok(pairs)
+}
+
+/// The paths of the files below the folder.
+fn names_below<'f>(
+    alloc: Global,
+    folder: &str,
+    files: &'f [String],
+) -> Result<Vec<&'f str>, AllocError> {
+    files
+        .iter()
+        .map(|file| below(folder, file.as_str()))
+        .collect(alloc)
 }
 
 /// The path of the file below the folder; none of the file itself.

@@ -6,6 +6,7 @@ use ftl::RunFault;
 use ftl_files::{absolute_path, is_below, original_of};
 use std::alloc::{AllocError, Global};
 use std::fs;
+use std::io::ErrorKind;
 
 /// A file or a folder, and what it is compared with, as both are shown.
 #[derive(Drop)]
@@ -14,15 +15,18 @@ pub(crate) struct Counterparts {
     pub(crate) other: String,
     /// Whether the words name the other one. A folder that they don't name is a language only if it has a file.
     pub(crate) is_named: bool,
+    /// Whether the reference has it; a language may have more.
+    pub(crate) has_reference: bool,
 }
 
 impl Counterparts {
     /// Two that the words name.
-    fn named(alloc: Global, reference: &str, other: &str) -> Result<Self, AllocError> {
+    fn between(alloc: Global, reference: &str, other: &str) -> Result<Self, AllocError> {
         Ok(Counterparts {
             reference: String::from_str(alloc, reference)?,
             other: String::from_str(alloc, other)?,
             is_named: true,
+            has_reference: true,
         })
     }
 }
@@ -49,7 +53,7 @@ fn counterparts_of_first(alloc: Global, paths: &[&str]) -> Result<Vec<Counterpar
     let mut found = Vec::new(alloc);
     if let Some((reference, others)) = paths.split_first() {
         for other in others {
-            found.push(Counterparts::named(alloc, *reference, *other)?)?;
+            found.push(Counterparts::between(alloc, *reference, *other)?)?;
         }
     }
     Ok(found)
@@ -68,7 +72,7 @@ fn counterparts_in(
     let mut found = Vec::new(alloc);
     let Some(languages) = &languages else {
         for path in paths {
-            found.push(Counterparts::named(alloc, reference, *path)?)?;
+            found.push(Counterparts::between(alloc, reference, *path)?)?;
         }
         return Ok(found);
     };
@@ -81,7 +85,7 @@ fn counterparts_in(
     match paths {
         [] => finder.add_languages(&mut found)?,
         [one, other] if finder.is_file_elsewhere(*one)? && finder.is_file_elsewhere(*other)? => {
-            found.push(Counterparts::named(alloc, *one, *other)?)?;
+            found.push(Counterparts::between(alloc, *one, *other)?)?;
         }
         paths => {
             for path in paths {
@@ -114,7 +118,7 @@ impl Finder<'_> {
         let own = self.own_name();
         let folder = format!(in alloc; "{}/{own}", self.languages)?;
         if is_below(folder.as_str(), place) {
-            found.push(Counterparts::named(alloc, path, path)?)?;
+            found.push(Counterparts::between(alloc, path, path)?)?;
             return Ok(());
         }
         let original = original_of(alloc, self.languages, own, place)?;
@@ -126,9 +130,12 @@ impl Finder<'_> {
             Some("") if self.is_of_no_language(path) => (),
             Some(rest) => {
                 let reference = format!(in alloc; "{}{rest}", self.reference)?;
-                found.push(Counterparts::named(alloc, reference.as_str(), path)?)?;
+                found.push(Counterparts {
+                    has_reference: rest.is_empty() || self.is_there(reference.as_str()),
+                    ..Counterparts::between(alloc, reference.as_str(), path)?
+                })?;
             }
-            None => found.push(Counterparts::named(alloc, self.reference, path)?)?,
+            None => found.push(Counterparts::between(alloc, self.reference, path)?)?,
         }
         Ok(())
     }
@@ -144,6 +151,13 @@ impl Finder<'_> {
     /// Whether the path is that of a file that is no `.ftl` file.
     fn is_of_no_language(&self, path: &str) -> bool {
         !path.ends_with(".ftl") && self.is_file(path)
+    }
+
+    fn is_there(&self, path: &str) -> bool {
+        match fs::metadata(self.rt, path) {
+            Ok(_) => true,
+            Err(error) => error.kind() != ErrorKind::NotFound,
+        }
     }
 
     fn is_file(&self, path: &str) -> bool {
@@ -168,7 +182,7 @@ impl Finder<'_> {
             let path = format!(in alloc; "{way}{name}")?;
             found.push(Counterparts {
                 is_named: false,
-                ..Counterparts::named(alloc, self.reference, path.as_str())?
+                ..Counterparts::between(alloc, self.reference, path.as_str())?
             })?;
         }
         Ok(())

@@ -4,7 +4,7 @@ use crate::listed::listing_at;
 use crate::project::{Project, path_between};
 use ftl::RunFault;
 use ftl_files::{SeenPaths, absolute_path, folder_of_languages, language_of};
-use ftl_project::{LintFile, Tally};
+use ftl_project::{Form, LintFile, Tally};
 use std::alloc::{AllocError, Global};
 
 /// Files that are searched as one set.
@@ -23,12 +23,13 @@ impl FileSet {
         &mut self,
         rt: &HostRuntime,
         project: &Project,
+        form: Form,
         tally: &mut Tally,
     ) -> Result<(), RunFault> {
         if self.language.is_empty() {
             return Ok(());
         }
-        let listed = listing_at(rt, project, self.folder.as_str(), tally)?.files;
+        let listed = listing_at(rt, project, self.folder.as_str(), form, tally)?.files;
         match self.add_others(rt.alloc(), project, listed) {
             Ok(()) => Ok(()),
             Err(AllocError) => Err(RunFault::Memory),

@@ -5,16 +5,15 @@ use crate::file_sets::{FileSet, add_files, languages_of};
 use crate::listed::{NamedFiles, report_listing_fault};
 use crate::messages::{end_run, refuse_input, run_status};
 use crate::project::{Project, ProjectPaths, projects_of};
-use fluent_syntax_names::Kind;
 use ftl::{RunFault, Watched};
 use ftl_args::Lint;
-use ftl_files::{Disk, Reading, ReportedKind, absolute_path};
+use ftl_files::{Disk, Form, Reading, absolute_path};
 use ftl_project::{Fault, LintOptions, Streams, Tally, check_summary, lint_files};
 use std::alloc::{AllocError, Global};
 use std::{fs, io};
 
 /// Searches the files that the paths name, each language as a set of its own, which all its files are in; the exit
-/// status. Kinds that the project ignores are not reported.
+/// status. What the project ignores is not reported.
 pub(crate) fn lint_paths(rt: &HostRuntime, lint: &Lint<'_>) -> u8 {
     if lint.paths.contains(&"-") {
         return refuse_input(rt, "lint");
@@ -35,7 +34,10 @@ fn lint_projects(
     for project in projects {
         let mut tally = Tally::new();
         lint_project(rt, lint, project, &mut tally)?;
-        status = status.max(end_run(rt, &tally, check_summary(rt.alloc(), &tally)));
+        let ended = end_run(rt, &tally, check_summary(rt.alloc(), &tally));
+        status = status
+            .max(ended)
+            .max(tally.warnings_status(lint.denies_warnings));
     }
     Ok(status)
 }
@@ -47,18 +49,20 @@ fn lint_project(
     tally: &mut Tally,
 ) -> Result<(), RunFault> {
     let options = lint.options.or(&project.settings);
-    let Ok(ignored) = ignored_of(rt, lint, project) else {
+    let Ok(ignored) = project.ignored_with(rt, &lint.ignored) else {
         return Err(RunFault::Memory);
     };
-    report_no_reference(rt, project, tally)?;
-    let mut sets = sets_of(rt, lint, project, paths, tally)?;
+    let form = form_over_paths(rt, options);
+    report_no_reference(rt, project, form, tally)?;
+    let mut sets = sets_of(rt, lint, project, paths, form, tally)?;
     for set in sets.iter_mut() {
-        set.complete(rt, project, tally)?;
+        set.complete(rt, project, form, tally)?;
     }
     for set in &sets {
         let lint_options = LintOptions {
-            form: form_over_paths(rt, options),
+            form,
             ignored: &ignored,
+            levels: project.levels(),
             set_name: set.folder.as_str(),
         };
         lint_set(rt, set, options.reading(), lint_options, tally)?;
@@ -67,9 +71,10 @@ fn lint_project(
 }
 
 /// Reports that the project's reference is not there, if it is not: then no folder is that of languages.
-fn report_no_reference(
+pub(crate) fn report_no_reference(
     rt: &HostRuntime,
     project: &Project,
+    form: Form,
     tally: &mut Tally,
 ) -> Result<(), RunFault> {
     let Some(reference) = &project.settings.reference else {
@@ -77,7 +82,13 @@ fn report_no_reference(
     };
     match fs::metadata(rt, reference.as_str()) {
         Ok(_) => Ok(()),
-        Err(error) => report_listing_fault(rt, reference.as_str(), &Fault::Read(error), tally),
+        Err(error) => report_listing_fault(
+            rt,
+            reference.as_str(),
+            &Fault::Read(error),
+            form,
+            tally,
+        ),
     }
 }
 
@@ -91,6 +102,7 @@ fn lint_set(
     let mut streams = Streams {
         out: &mut Watched::new(io::writer(rt)),
         err: &mut Watched::new(rt.stderr()),
+        form: lint_options.form,
     };
     lint_files(
         rt.alloc(),
@@ -103,31 +115,17 @@ fn lint_set(
     )
 }
 
-/// The kinds of findings that are not reported.
-fn ignored_of(
-    rt: &HostRuntime,
-    lint: &Lint<'_>,
-    project: &Project,
-) -> Result<Vec<Kind>, AllocError> {
-    let mut ignored = Vec::new(rt.alloc());
-    for kind in project.settings.ignored.iter().chain(&lint.ignored) {
-        if let ReportedKind::Finding(kind) = kind {
-            ignored.push(*kind)?;
-        }
-    }
-    Ok(ignored)
-}
-
 /// The files that the paths name, each once, by language. What can't be listed is reported.
 fn sets_of(
     rt: &HostRuntime,
     lint: &Lint<'_>,
     project: &Project,
     paths: &[&str],
+    form: Form,
     tally: &mut Tally,
 ) -> Result<Vec<FileSet>, RunFault> {
     let alloc = rt.alloc();
-    let mut named = NamedFiles::new(rt, project);
+    let mut named = NamedFiles::new(rt, project, form);
     let mut sets = Vec::new(alloc);
     for path in paths {
         let files = named.files_at(rt, *path, tally)?;

@@ -3,7 +3,7 @@
 use crate::project::Project;
 use ftl::{RunFault, Watched};
 use ftl_files::{SeenPaths, list};
-use ftl_project::{Fault, Streams, Tally, note_line, report_fault};
+use ftl_project::{Fault, Form, Streams, Tally, note_line, report_fault};
 use std::alloc::AllocError;
 use std::io;
 
@@ -11,14 +11,17 @@ use std::io;
 #[derive(Drop)]
 pub(crate) struct NamedFiles<'p> {
     project: &'p Project,
+    /// How what can't be listed is reported.
+    form: Form,
     seen: SeenPaths,
 }
 
 impl<'p> NamedFiles<'p> {
     /// None so far.
-    pub(crate) fn new(rt: &HostRuntime, project: &'p Project) -> Self {
+    pub(crate) fn new(rt: &HostRuntime, project: &'p Project, form: Form) -> Self {
         NamedFiles {
             project,
+            form,
             seen: SeenPaths::new(rt.alloc()),
         }
     }
@@ -31,7 +34,7 @@ impl<'p> NamedFiles<'p> {
         tally: &mut Tally,
     ) -> Result<Vec<String>, RunFault> {
         let mut files = Vec::new(rt.alloc());
-        let named = listing_at(rt, self.project, path, tally)?;
+        let named = listing_at(rt, self.project, path, self.form, tally)?;
         if named.files.is_empty() && !named.has_failed {
             report_note(rt, path, "has no .ftl file")?;
         }
@@ -71,6 +74,7 @@ pub(crate) fn listing_at(
     rt: &HostRuntime,
     project: &Project,
     path: &str,
+    form: Form,
     tally: &mut Tally,
 ) -> Result<Named, RunFault> {
     let Ok(listing) = list(rt, project.current.as_str(), path, &project.excluded) else {
@@ -79,7 +83,7 @@ pub(crate) fn listing_at(
     let is_file = listing.is_of_file(path);
     let has_failed = listing.has_failed(path);
     for (path, error) in listing.faults {
-        report_listing_fault(rt, path.as_str(), &Fault::Read(error), tally)?;
+        report_listing_fault(rt, path.as_str(), &Fault::Read(error), form, tally)?;
     }
     for folder in &listing.with_other_names {
         report_note(
@@ -111,11 +115,13 @@ pub(crate) fn report_listing_fault(
     rt: &HostRuntime,
     path: &str,
     fault: &Fault,
+    form: Form,
     tally: &mut Tally,
 ) -> Result<(), RunFault> {
     let mut streams = Streams {
         out: &mut Watched::new(io::writer(rt)),
         err: &mut Watched::new(rt.stderr()),
+        form,
     };
     report_fault(rt.alloc(), tally, path, fault, &mut streams)
 }

@@ -7,7 +7,7 @@ use crate::project::ProjectPaths;
 use crate::standard_input::{all_input, print_terminal_hint};
 use ftl::{RunFault, Watched};
 use ftl_args::{Change, Options, Task, Work};
-use ftl_files::{Disk, Memory, Store};
+use ftl_files::{Disk, Form, Memory, Store};
 use ftl_project::{
     CheckTask, ConvertTask, DiffTask, FormatOptions, FormatTask, NameTask, PrintTask,
     RewriteCounts, Streams, Tally, answer_files, check_summary, format_summary, write_files,
@@ -58,7 +58,7 @@ pub(crate) fn answer_paths(
 ) -> Result<u8, RunFault> {
     let options = work.options.or(&project.settings);
     let mut met = Met::new();
-    let mut named = NamedFiles::new(rt, project);
+    let mut named = NamedFiles::new(rt, project, fault_form(rt, work.task, options));
     for path in paths {
         if *path == "-" {
             answer_named_input(rt, work, options, &mut met)?;
@@ -116,6 +116,14 @@ fn put_named<R: AllocGlobal>(
     Ok(())
 }
 
+/// How faults are reported: only what checks has forms.
+fn fault_form(rt: &HostRuntime, task: Task, options: Options) -> Form {
+    match task {
+        Task::Check => form_over_paths(rt, options),
+        _ => Form::Full,
+    }
+}
+
 /// Does with the files what is asked.
 fn run_task<S: Store>(
     rt: &HostRuntime,
@@ -135,6 +143,7 @@ fn run_task<S: Store>(
     let mut streams = Streams {
         out: &mut Watched::new(io::writer(rt)),
         err: &mut Watched::new(rt.stderr()),
+        form: fault_form(rt, task, options),
     };
     match (task, task.command(reading.edition)) {
         (Task::Check, _) => {

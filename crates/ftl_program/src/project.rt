@@ -2,8 +2,10 @@
 
 use crate::messages::refuse_run;
 use ftl::RunFault;
-use ftl_files::{Disk, Excluded, Settings, SettingsFault, Store, absolute_path, settings_of};
-use ftl_project::{Fault, note_line};
+use ftl_files::{
+    Disk, Excluded, IgnoreRule, Levels, Settings, SettingsFault, Store, absolute_path, settings_of,
+};
+use ftl_project::{Fault, InvalidText, note_line};
 use std::alloc::{AllocError, Global};
 use std::fmt::Display;
 use std::io::ErrorKind;
@@ -23,6 +25,29 @@ pub(crate) struct Project {
     pub(crate) excluded: Excluded,
     /// The current folder, from the root on.
     pub(crate) current: String,
+}
+
+impl Project {
+    /// How grave what is reported is.
+    pub(crate) fn levels(&self) -> Levels<'_> {
+        Levels {
+            warned: &self.settings.warned,
+            denied: &self.settings.denied,
+        }
+    }
+
+    /// What is not reported: what the project says, and then what the words say.
+    pub(crate) fn ignored_with(
+        &self,
+        rt: &HostRuntime,
+        words: &[IgnoreRule],
+    ) -> Result<Vec<IgnoreRule>, AllocError> {
+        let mut ignored = Vec::new(rt.alloc());
+        for rule in self.settings.ignored.iter().chain(words) {
+            ignored.push(rule.clone()?)?;
+        }
+        Ok(ignored)
+    }
 }
 
 /// A project, and the paths that are nearest to it.
@@ -258,7 +283,10 @@ fn settings_in(rt: &HostRuntime, folder: &str) -> Result<Settings, Refusal> {
     };
     let text = match str::from_utf8(bytes.as_slice()) {
         Ok(text) => text,
-        Err(error) => return Err(refuse_file(rt, path, &Fault::NotText(error.valid_up_to()))),
+        Err(error) => {
+            let invalid = InvalidText::at(bytes.as_slice(), error.valid_up_to());
+            return Err(refuse_file(rt, path, &Fault::NotText(invalid)));
+        }
     };
     match settings_of(rt.alloc(), text) {
         Ok(settings) => Ok(settings),

@@ -22,21 +22,22 @@ known_bytes_append_nothing : (known : Option (List ℕ)) → Appends known known
 known_bytes_append_nothing None = tt
 known_bytes_append_nothing (Some bytes) = sym (append-nil bytes)
 
-pub appends_nothing : (before after : Option (List ℕ)) → after ≡ before → Appends before after []
-appends_nothing before after same = subst (λ o. Appends before o []) (sym same) (known_bytes_append_nothing before)
+pub unchanged_output_appends_nothing : (before after : Option (List ℕ)) → after ≡ before → Appends before after []
+unchanged_output_appends_nothing before after same =
+    subst (λ o. Appends before o []) (sym same) (known_bytes_append_nothing before)
 
 pub Appends-as : (before between after : Option (List ℕ)) (said text : List ℕ) → Appends before between said →
     said ≡ text → after ≡ between → Appends before after text
 Appends-as before between after said text appends says same =
     subst (λ t. Appends before after t) says (subst (λ o. Appends before o said) (sym same) appends)
 
-pub on_ok_given : {A E P : Type 0} (result : Result A E) → P → OnOk result P
-on_ok_given (Ok value) holds = holds
-on_ok_given (Err error) holds = tt
+pub fact_holds_on_ok : {A E P : Type 0} (result : Result A E) → P → OnOk result P
+fact_holds_on_ok (Ok value) holds = holds
+fact_holds_on_ok (Err error) holds = tt
 
-pub on_ok_then : {A E P Q : Type 0} (result : Result A E) → (P → Q) → OnOk result P → OnOk result Q
-on_ok_then (Ok value) then holds = then holds
-on_ok_then (Err error) then holds = tt
+pub consequence_holds_on_ok : {A E P Q : Type 0} (result : Result A E) → (P → Q) → OnOk result P → OnOk result Q
+consequence_holds_on_ok (Ok value) then holds = then holds
+consequence_holds_on_ok (Err error) then holds = tt
 
 -- A fault that was reported was counted, and nothing was written of the file.
 pub Writes-report_text : {E : Type 0} (Is : Processed → List ℕ → Type 0) (Why : Fault → Type 0)
@@ -45,12 +46,12 @@ pub Writes-report_text : {E : Type 0} (Is : Processed → List ℕ → Type 0) (
     ((status : ℕ) → Fails Why status → Is (failed status) []) → Why fault →
     ((status : ℕ) × HasStatus fault status × (new ≡ counted old (failed status))) → after ≡ before →
     OnOk result (Writes Is old new before after)
-Writes-report_text Is Why result fault old new before after fails why report_text same = on_ok_given result (
+Writes-report_text Is Why result fault old new before after fails why report_text same = fact_holds_on_ok result (
   failed report_text.0,
   [],
   fails report_text.0 (fault, why, report_text.1),
   report_text.2,
-  appends_nothing before after same,
+  unchanged_output_appends_nothing before after same,
 )
 
 -- Files are met as their bytes are, which are those of the beginning.

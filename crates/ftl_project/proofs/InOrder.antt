@@ -1,8 +1,7 @@
 -- What is done with each of a list, one after another.
-use Rattle.std.proofs.Common.{◌≡◌, ◌<◌, ◌+◌, ◌++◌, [], ◌∷◌, ℕ, List, length, get_or, take, subst, sym}
+use Rattle.std.proofs.Common.{◌≡◌, ◌<◌, ◌+◌, ◌++◌, [], ◌∷◌, ℕ, List, length, get_or, take, sym}
 use Rattle.std.proofs.lemmas.List.{take_more}
-use Rattle.std.specs.Global.{Global}
-use Rattle.std.specs.Prelude.{Option, String, string_bytes}
+use Rattle.std.specs.Prelude.{Option}
 use Rattle.fluent_syntax_names.specs.declared.name_index.NameIndex.{NameIndex}
 use Rattle.ftl_project.specs.Comparing.{Compares, ComparesEach, pair_more}
 use Rattle.ftl_project.specs.Faults.{Failing}
@@ -10,8 +9,8 @@ use Rattle.ftl_project.specs.Linting.{NameIndexesEach, NameIndexesSource, Reads,
 use Rattle.ftl_project.specs.Linting.{read_more}
 use Rattle.ftl_project.specs.Diagnostics.{ReportsEach, then_report}
 use Rattle.ftl_project.specs.declared.comparing.CompareOptions.{CompareOptions}
-use Rattle.ftl_project.specs.declared.comparing.Pair.{Pair}
-use Rattle.ftl_project.specs.declared.comparing.Share.{Share}
+use Rattle.ftl_project.specs.declared.comparing.pair.Pair.{Pair}
+use Rattle.ftl_project.specs.declared.comparing.share.Share.{Share}
 use Rattle.ftl_project.specs.declared.linting.LintFile.{LintFile}
 use Rattle.ftl_project.specs.declared.linting.findings.Source.{Source}
 use Rattle.ftl_files.specs.declared.options.Reading.{Reading}

@@ -10,33 +10,35 @@ use Rattle.ftl_project.specs.declared.formatting.replacement.Replacement.{Replac
 use Rattle.ftl_project.specs.declared.formatting.replacement.Replacement.TheVariants as replacement
 
 module _ (options : FormatOptions) where
-  same : (old new : Option (List ℕ)) → new ≡ old → Reaches options old new
-  same old new e = subst (λ bytes. Reaches options old bytes) (sym e) stays
+  unchanged_file_is_reached : (old new : Option (List ℕ)) → new ≡ old → Reaches options old new
+  unchanged_file_is_reached old new e = subst (λ bytes. Reaches options old bytes) (sym e) stays
 
-  further : {old now new : Option (List ℕ)} → Reaches options old now → Reaches options now new →
+  reach_after_reach_is_reach : {old now new : Option (List ℕ)} → Reaches options old now → Reaches options now new →
       Reaches options old new
-  further first stays = first
-  further first (goes more step) = goes (further first more) step
+  reach_after_reach_is_reach first stays = first
+  reach_after_reach_is_reach first (goes more step) = goes (reach_after_reach_is_reach first more) step
 
   pub AllReach-untouched : (old new : List ℕ → Option (List ℕ)) → AllUnchanged old new → AllReach options old new
-  AllReach-untouched old new untouched = λ path. same (old path) (new path) (untouched path)
+  AllReach-untouched old new untouched = λ path. unchanged_file_is_reached (old path) (new path) (untouched path)
 
   pub AllReach-trans : (old now new : List ℕ → Option (List ℕ)) → AllReach options old now → AllReach options now new →
       AllReach options old new
-  AllReach-trans old now new first next = λ path. further (first path) (next path)
+  AllReach-trans old now new first next = λ path. reach_after_reach_is_reach (first path) (next path)
 
   -- where no file was, one may have come
-  came : (old new : Option (List ℕ)) → old ≡ None → Reaches options old new
-  came old new none = goes stays (subst (λ o. BecomesRewriting options o new) (sym none) tt)
+  new_file_is_reached : (old new : Option (List ℕ)) → old ≡ None → Reaches options old new
+  new_file_is_reached old new none = goes stays (subst (λ o. BecomesRewriting options o new) (sym none) tt)
 
-  at_path : (old new : List ℕ → Option (List ℕ)) (path other : List ℕ) → Reaches options (old path) (new path) →
-      other ≡ path → Reaches options (old other) (new other)
-  at_path old new path other reach e = subst (λ p. Reaches options (old p) (new p)) (sym e) reach
+  file_at_equal_path_is_reached : (old new : List ℕ → Option (List ℕ)) (path other : List ℕ) →
+      Reaches options (old path) (new path) → other ≡ path → Reaches options (old other) (new other)
+  file_at_equal_path_is_reached old new path other reach e = subst (λ p. Reaches options (old p) (new p)) (sym e) reach
 
-  one_path : (old new : List ℕ → Option (List ℕ)) (path : List ℕ) → Reaches options (old path) (new path) →
-      OthersUnchanged old new path → AllReach options old new
-  one_path old new path reach others = λ other. ⊎_elim (same (old other) (new other))
-      (⊎_elim (at_path old new path other reach) (came (old other) (new other))) (others other)
+  file_alone_changed_is_reached : (old new : List ℕ → Option (List ℕ)) (path : List ℕ) →
+      Reaches options (old path) (new path) → OthersUnchanged old new path → AllReach options old new
+  file_alone_changed_is_reached old new path reach others =
+      λ other. ⊎_elim (unchanged_file_is_reached (old other) (new other))
+      (⊎_elim (file_at_equal_path_is_reached old new path other reach) (new_file_is_reached (old other) (new other)))
+      (others other)
 
 -- The text that is there now is a rewriting of the bytes that were known.
 pub becomes_rewriting : (options : FormatOptions) (old new : Option (List ℕ)) (read text : List ℕ) → IsRead old read →
@@ -50,7 +52,7 @@ pub AllReach-rewrites : (CallFails : Failing) (options : FormatOptions) (path : 
     (old new : List ℕ → Option (List ℕ)) (result : Result Replacement Fault) →
     Rewrites CallFails options path old new result → AllReach options old new
 AllReach-rewrites CallFails options path old new (Ok (replacement.Text text)) (read, is, that, puts) =
-    one_path options old new path (goes stays (becomes_rewriting options (old path) (new path) read
+    file_alone_changed_is_reached options old new path (goes stays (becomes_rewriting options (old path) (new path) read
     (string_bytes text) is that.0 puts.0)) puts.1
 AllReach-rewrites CallFails options path old new (Ok replacement.Same) done =
     AllReach-untouched options old new done.3
@@ -58,5 +60,5 @@ AllReach-rewrites CallFails options path old new (Ok (replacement.Errors refused
     AllReach-untouched options old new done.3
 AllReach-rewrites CallFails options path old new (Ok (replacement.Lossy entry)) done =
     AllReach-untouched options old new done.3
-AllReach-rewrites CallFails options path old new (Err fault) done = one_path options old new path
-    (⊎_elim (same options (old path) (new path)) (λ becomes. goes stays becomes) done.0) done.1
+AllReach-rewrites CallFails options path old new (Err fault) done = file_alone_changed_is_reached options old new path
+    (⊎_elim (unchanged_file_is_reached options (old path) (new path)) (λ becomes. goes stays becomes) done.0) done.1

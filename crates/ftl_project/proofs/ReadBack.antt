@@ -31,10 +31,11 @@ abbrev AnswersAndSettles : Edition → (t text : Text) → Type 0
 AnswersAndSettles edition t text = (answer : IsAnswer (format_of edition) t text Clean)
     × (is_lossless edition (tree_of t answer.tiles) ≡ true) × Settles edition (tree_of t answer.tiles) text
 
-normal_settles : (edition : Edition) (t text : Text) (tree : BodyTree Text) → IsUtf8 t → ReadsAs edition t tree →
+normal_text_of_lossless_tree_settles : (edition : Edition) (t text : Text) (tree : BodyTree Text) → IsUtf8 t →
+    ReadsAs edition t tree →
     text ≡ written false tree → is_lossless edition tree ≡ true → FormatsAgain t → ReadsBack Two tree →
     AnswersAndSettles edition t text
-normal_settles One t text tree utf8 reads is_written lossless law back =
+normal_text_of_lossless_tree_settles One t text tree utf8 reads is_written lossless law back =
     let first : IsAnswer Format t text Clean = record {
       is_utf8 = utf8;
       tiles = reads.tiles;
@@ -44,7 +45,7 @@ normal_settles One t text tree utf8 reads is_written lossless law back =
     } in
     let is_canonical = ap (is_lossless One) reads.same ∙ lossless in
     (first, is_canonical, λ again next second. law text again Clean next first second is_canonical)
-normal_settles Two t text tree utf8 reads is_written lossless law back =
+normal_text_of_lossless_tree_settles Two t text tree utf8 reads is_written lossless law back =
     let first : IsAnswer FormatTwo t text Clean = record {
       is_utf8 = utf8;
       tiles = reads.tiles;
@@ -64,5 +65,6 @@ pub is_rewriting : (options : FormatOptions) (t normal text : Text) (tree : Body
     IsWritten options.blank_lines options.reading.edition t normal text → IsRewriting options t text
 is_rewriting options t normal text tree utf8 reads is_written lossless law back is =
     let (answer, safe, settles) =
-    normal_settles options.reading.edition t normal tree utf8 reads is_written lossless law back in
+    normal_text_of_lossless_tree_settles options.reading.edition t normal tree utf8 reads is_written lossless law
+    back in
     record { normal = normal; answer = answer; lossless = safe; settles = settles; written = is }

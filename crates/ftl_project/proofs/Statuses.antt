@@ -14,13 +14,15 @@ call_status_is_3_or_more : (kind : ErrorKind) (other : ℕ) → 3 ≤ other → 
 call_status_is_3_or_more OutOfMemory other least = omega arith
 call_status_is_3_or_more _ other least = least
 
-pub status_least : (fault : Fault) (status : ℕ) → HasStatus fault status → 3 ≤ status
-status_least (Read error) status has = omega (arith, has, call_status_is_3_or_more (error_kind error) 3 (omega arith))
-status_least (NotText place) status has = omega arith
-status_least Memory status has = omega arith
-status_least (Write error) status has = omega (arith, has, call_status_is_3_or_more (error_kind error) 5 (omega arith))
-status_least TooDeep status has = omega arith
-status_least (Json (Syntax line column)) status has = omega (arith, has)
-status_least (Json Shape) status has = omega (arith, has)
-status_least (Json json.Memory) status has = omega (arith, has)
-status_least (Json json.TooDeep) status has = omega (arith, has)
+pub status_of_fault_is_at_least_three : (fault : Fault) (status : ℕ) → HasStatus fault status → 3 ≤ status
+status_of_fault_is_at_least_three (Read error) status has =
+    omega (arith, has, call_status_is_3_or_more (error_kind error) 3 (omega arith))
+status_of_fault_is_at_least_three (NotText invalid) status has = omega arith
+status_of_fault_is_at_least_three Memory status has = omega arith
+status_of_fault_is_at_least_three (Write error) status has =
+    omega (arith, has, call_status_is_3_or_more (error_kind error) 5 (omega arith))
+status_of_fault_is_at_least_three TooDeep status has = omega arith
+status_of_fault_is_at_least_three (Json (Syntax line column)) status has = omega (arith, has)
+status_of_fault_is_at_least_three (Json Shape) status has = omega (arith, has)
+status_of_fault_is_at_least_three (Json json.Memory) status has = omega (arith, has)
+status_of_fault_is_at_least_three (Json json.TooDeep) status has = omega (arith, has)

@@ -1,26 +1,34 @@
 -- How a comparison meets each pair.
 use Rattle.std.specs.Io.KnownBytes.{Appends}
-use Rattle.std.specs.Prelude.{◌≡◌, ◌⊎◌, ◌==◌, ◌+◌, ◌-◌, ◌^◌, ◌++◌, ℕ, Bool, true, false, not, List, [], ◌∷◌, Option}
-use Rattle.std.specs.Prelude.{None, Some, codes, count_by, if◌then◌else◌, min, option_map, string_bytes}
+use Rattle.std.specs.Prelude.{◌≡◌, ◌⊎◌, ◌==◌, ◌+◌, ◌-◌, ◌^◌, ◌++◌, ◌&&◌, ℕ, Bool, true, false, not, List, [], ◌∷◌}
+use Rattle.std.specs.Prelude.{Option, None, Some, codes, count_by, if◌then◌else◌, min, option_map, string_bytes}
 use Rattle.std.specs.Fmt.{decimal}
+use Rattle.fluent_syntax_names.specs.EntryPlaces.{entry_count}
 use Rattle.fluent_syntax_names.specs.MissingParts.{all_missing_parts, is_entry_part, is_junk}
 use Rattle.fluent_syntax_names.specs.declared.missing_part.MissingPart.{MissingPart}
 use Rattle.fluent_syntax_names.specs.declared.name_index.NameIndex.{NameIndex}
 use Rattle.fluent_syntax_names.specs.Differences.{difference_name, side_difference}
 use Rattle.fluent_syntax_names.specs.Sentences.{part_sentence}
 use Rattle.fluent_syntax_names.specs.ShownNames.{shown_name}
-use Rattle.ftl_project.specs.Differences.{counts_as_error, counts_as_warning, is_reported, reported_parts}
+use Rattle.ftl_project.specs.Differences.{counts_as_error, counts_as_warning, is_error_kind, is_reported}
+use Rattle.ftl_project.specs.Differences.{reported_parts}
 use Rattle.ftl_project.specs.Faults.{Failing, Fails, IsFault, IsRead, IsTooDeep, IsUnparsed}
-use Rattle.ftl_project.specs.NameIndexes.{IsNameIndex, entry_count}
+use Rattle.ftl_project.specs.NameIndexes.{IsNameIndex}
 use Rattle.ftl_project.specs.Diagnostics.{IsDiagnostic, ReportsEach, location_at}
 use Rattle.ftl_project.specs.Tally.{Processed, answered, counted, failed}
 use Rattle.ftl_project.specs.declared.comparing.CompareOptions.{CompareOptions}
-use Rattle.ftl_project.specs.declared.comparing.Pair.{Pair}
-use Rattle.ftl_project.specs.declared.comparing.Share.{Share}
+use Rattle.ftl_project.specs.declared.comparing.pair.Pair.{Pair}
+use Rattle.ftl_project.specs.declared.comparing.pair.Presence.{Presence}
+use Rattle.ftl_project.specs.declared.comparing.pair.Presence.TheVariants.{Both, ReferenceAlone, OtherAlone}
+use Rattle.ftl_project.specs.declared.comparing.share.Share.{Share}
 use Rattle.fluent_syntax_names.specs.declared.differences.Difference.{Difference}
 use Rattle.fluent_syntax_names.specs.declared.differences.Side.{Side}
 use Rattle.fluent_syntax_names.specs.declared.differences.Side.TheVariants.{Reference, Other}
 use Rattle.ftl_project.specs.declared.fault.Fault.{Fault}
+use Rattle.ftl_project.specs.declared.fault.Fault.TheVariants.{Memory}
+use Rattle.ftl_files.specs.declared.kinds.ReportedKind.{ReportedKind}
+use Rattle.ftl_files.specs.declared.kinds.ReportedKind.TheVariants.{MissingFile, ObsoleteFile}
+use Rattle.ftl_files.specs.declared.levels.Levels.{Levels}
 use Rattle.ftl_files.specs.declared.options.Form.{Form}
 use Rattle.ftl_files.specs.declared.options.Reading.{Reading}
 use Rattle.ftl_project.specs.declared.reporting.diagnostics.SourceLocation.{SourceLocation}
@@ -86,13 +94,14 @@ abbrev pub missing_entries : List MissingPart → ℕ
 missing_entries missing_parts = count_by (λ (missing : MissingPart). is_entry_part missing.part) missing_parts
 
 -- how many of what this file has and the other one lacks are reported as errors
-abbrev pub errors_of : Side → List MissingPart → ℕ
-errors_of side missing_parts = count_by (λ (missing : MissingPart). counts_as_error side missing.part) missing_parts
+abbrev pub errors_of : Levels → Side → List MissingPart → ℕ
+errors_of levels side missing_parts =
+    count_by (λ (missing : MissingPart). counts_as_error levels side missing.part) missing_parts
 
 -- and how many as warnings
-abbrev pub warnings_of : Side → List MissingPart → ℕ
-warnings_of side missing_parts =
-    count_by (λ (missing : MissingPart). counts_as_warning side missing.part) missing_parts
+abbrev pub warnings_of : Levels → Side → List MissingPart → ℕ
+warnings_of levels side missing_parts =
+    count_by (λ (missing : MissingPart). counts_as_warning levels side missing.part) missing_parts
 
 -- the sum of what was met before and this part; a number that has come to the greatest `usize` stays there
 abbrev pub with_share : Share → Option Share → Share
@@ -104,28 +113,53 @@ with_share share (Some part) = record {
 
 -- ---- a pair
 
--- This is reported of a file that is not there, if that is reported.
-abbrev pub IsFileReport : Form → Pair → (is_reported : Bool) → (report_text : List ℕ) → Type 0
-IsFileReport form pair false report_text = report_text ≡ []
-IsFileReport form pair true report_text =
-    IsDiagnostic form (string_bytes pair.other) None (codes "missing-file") None
-    (codes "there is no such file; the reference has " ++ string_bytes pair.reference) report_text
+-- This is reported of the translation's file as a whole, if that is reported.
+abbrev pub IsFileReport : Form → Pair → (kind message : List ℕ) → (is_reported : Bool) → (report_text : List ℕ) →
+    Type 0
+IsFileReport form pair kind message false report_text = report_text ≡ []
+IsFileReport form pair kind message true report_text =
+    IsDiagnostic form (string_bytes pair.other) None kind None message report_text
 
--- The other file is not there: that is the one error, if it is reported, and all of the reference is missing.
+-- what is said of a file that is not there, and of one that the reference doesn't have
+abbrev pub missing_file_message : Pair → List ℕ
+missing_file_message pair = codes "there is no such file; the reference has " ++ string_bytes pair.reference
+
+abbrev pub obsolete_file_message : Pair → List ℕ
+obsolete_file_message pair = codes "the reference has no file " ++ string_bytes pair.reference
+
+-- whether what this kind says of a file as a whole is reported as an error, and whether as a warning
+abbrev pub is_file_error : CompareOptions → ReportedKind → Bool
+is_file_error options kind = is_reported options.ignored.now kind [] && is_error_kind options.levels kind
+
+abbrev pub is_file_warning : CompareOptions → ReportedKind → Bool
+is_file_warning options kind = is_reported options.ignored.now kind [] && not (is_error_kind options.levels kind)
+
+-- The other file is not there: that is all that is reported, if it is, and all of the reference is missing.
 pub record IsFileMissing (options : CompareOptions) (pair : Pair) (reference : NameIndex) (errors warnings : ℕ)
     (share : Share) (text : List ℕ) : Type 0 where
-  pub report_is : IsFileReport options.form pair (is_reported options.ignored.now (codes "missing-file")) text
-  pub errors_are : errors ≡ (if is_reported options.ignored.now (codes "missing-file") then 1 else 0)
-  pub no_warnings : warnings ≡ 0
+  pub report_is : IsFileReport options.form pair (codes "missing-file") (missing_file_message pair)
+      (is_reported options.ignored.now MissingFile []) text
+  pub errors_are : errors ≡ (if is_file_error options MissingFile then 1 else 0)
+  pub warnings_are : warnings ≡ (if is_file_warning options MissingFile then 1 else 0)
   pub share_is : share ≡ record { wanted = entry_count reference; missing = entry_count reference }
+
+-- The reference has no such file: that is all that is reported, if it is.
+pub record IsFileObsolete (options : CompareOptions) (pair : Pair) (errors warnings : ℕ) (share : Share)
+    (text : List ℕ) : Type 0 where
+  pub report_is : IsFileReport options.form pair (codes "obsolete-file") (obsolete_file_message pair)
+      (is_reported options.ignored.now ObsoleteFile []) text
+  pub errors_are : errors ≡ (if is_file_error options ObsoleteFile then 1 else 0)
+  pub warnings_are : warnings ≡ (if is_file_warning options ObsoleteFile then 1 else 0)
+  pub share_is : share ≡ record { wanted = 0; missing = 0 }
 
 -- what is reported of that which the reference has and the other lacks, and the other way round
 abbrev pub reported_missing : CompareOptions → (reference other : NameIndex) → List MissingPart
 reported_missing options reference other =
-    reported_parts options.ignored.now Reference (all_missing_parts reference other)
+    reported_parts options.ignored.now Reference reference.text.now (all_missing_parts reference other)
 
 abbrev pub reported_extra : CompareOptions → (reference other : NameIndex) → List MissingPart
-reported_extra options reference other = reported_parts options.ignored.now Other (all_missing_parts other reference)
+reported_extra options reference other =
+    reported_parts options.ignored.now Other other.text.now (all_missing_parts other reference)
 
 -- What the reference has and the other lacks is reported, in the order of the reference, and after it what the other
 -- and the reference lacks, in the order of the other. All that is missing counts for the share.
@@ -139,11 +173,11 @@ pub record IsPairCompared (options : CompareOptions) (pair : Pair) (reference ot
       (reported_extra options reference other) more
   pub text_is : text ≡ missing ++ more
   pub errors_are : errors
-      ≡ min (errors_of Reference (reported_missing options reference other) + errors_of Other
-      (reported_extra options reference other)) (2 ^ 64 - 1)
+      ≡ min (errors_of options.levels Reference (reported_missing options reference other)
+      + errors_of options.levels Other (reported_extra options reference other)) (2 ^ 64 - 1)
   pub warnings_are : warnings
-      ≡ min (warnings_of Reference (reported_missing options reference other) + warnings_of Other
-      (reported_extra options reference other)) (2 ^ 64 - 1)
+      ≡ min (warnings_of options.levels Reference (reported_missing options reference other)
+      + warnings_of options.levels Other (reported_extra options reference other)) (2 ^ 64 - 1)
   pub share_is : share
       ≡ record { wanted = entry_count reference; missing = missing_entries (all_missing_parts reference other) }
 
@@ -152,35 +186,41 @@ module _ (CallFails : Failing) (reading : Reading) (options : CompareOptions) (a
   abbrev pub IsNameIndexAt : (path : List ℕ) → NameIndex → Type 0
   IsNameIndexAt path name_index = (text : List ℕ) × IsRead (at path) text × IsNameIndex reading.edition text name_index
 
-  -- what comes of a pair, by whether the other file is there
-  abbrev pub IsComparison : (is_there : Bool) → Pair → (errors warnings : ℕ) → Share → (text : List ℕ) → Type 0
-  IsComparison false pair errors warnings share text = (reference : NameIndex)
-      × IsNameIndexAt (string_bytes pair.reference) reference
-      × IsFileMissing options pair reference errors warnings share text
-  IsComparison true pair errors warnings share text = (reference : NameIndex)
+  -- what comes of a pair, by which of its files are there
+  abbrev pub IsComparison : Presence → Pair → (errors warnings : ℕ) → Share → (text : List ℕ) → Type 0
+  IsComparison Both pair errors warnings share text = (reference : NameIndex)
       × IsNameIndexAt (string_bytes pair.reference) reference
       × (other : NameIndex) × IsNameIndexAt (string_bytes pair.other) other
       × IsPairCompared options pair reference other errors warnings share text
+  IsComparison ReferenceAlone pair errors warnings share text = (reference : NameIndex)
+      × IsNameIndexAt (string_bytes pair.reference) reference
+      × IsFileMissing options pair reference errors warnings share text
+  IsComparison OtherAlone pair errors warnings share text = IsFileObsolete options pair errors warnings share text
 
-  -- Why a pair was not compared: one of its files was not answered.
+  -- Why a pair was not compared: one of its files was not answered, or memory was wanted.
   abbrev pub IsFileFault : (path : List ℕ) → Fault → Type 0
   IsFileFault path = IsFault CallFails (at path) (λ text. IsUnparsed (IsTooDeep reading text))
 
-  abbrev pub IsPairFault : Pair → Fault → Type 0
-  IsPairFault pair fault = IsFileFault (string_bytes pair.reference) fault
-      ⊎ (pair.is_there ≡ true) × IsFileFault (string_bytes pair.other) fault
+  abbrev pub IsPairFault : Presence → Pair → Fault → Type 0
+  IsPairFault Both pair fault =
+      IsFileFault (string_bytes pair.reference) fault ⊎ IsFileFault (string_bytes pair.other) fault
+  IsPairFault ReferenceAlone pair fault = IsFileFault (string_bytes pair.reference) fault
+  IsPairFault OtherAlone pair fault = fault ≡ Memory
 
   -- So the file of that side was not.
-  abbrev pub IsSideFault : Pair → Side → Fault → Type 0
-  IsSideFault pair side fault = ((side ≡ Reference) × IsFileFault (string_bytes pair.reference) fault)
-      ⊎ ((side ≡ Other) × (pair.is_there ≡ true) × IsFileFault (string_bytes pair.other) fault)
+  abbrev pub IsSideFault : Presence → Pair → Side → Fault → Type 0
+  IsSideFault Both pair side fault = ((side ≡ Reference) × IsFileFault (string_bytes pair.reference) fault)
+      ⊎ ((side ≡ Other) × IsFileFault (string_bytes pair.other) fault)
+  IsSideFault ReferenceAlone pair side fault = (side ≡ Reference) × IsFileFault (string_bytes pair.reference) fault
+  IsSideFault OtherAlone pair side fault = fault ≡ Memory
 
   -- how a pair is met, with how much of it is there, and what is reported of it
   abbrev pub IsCompared : Pair → Processed → Option Share → (text : List ℕ) → Type 0
   IsCompared pair (answered errors warnings has_problems) share text =
-      (part : Share) × (share ≡ Some part) × IsComparison pair.is_there pair errors warnings part text
+      (part : Share) × (share ≡ Some part) × IsComparison pair.presence pair errors warnings part text
       × (has_problems ≡ not (errors == 0))
-  IsCompared pair (failed status) share text = Fails (IsPairFault pair) status × (share ≡ None) × (text ≡ [])
+  IsCompared pair (failed status) share text =
+      Fails (IsPairFault pair.presence pair) status × (share ≡ None) × (text ≡ [])
 
   -- It was counted and its share added, and the text was written after what was written before.
   abbrev pub Compares : Pair → (old new : Tally) → (had has : Share) → (before after : Option (List ℕ)) → Type 0

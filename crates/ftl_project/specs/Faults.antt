@@ -20,7 +20,7 @@ status_of_call _ other = other
 -- the exit status of a fault
 abbrev pub HasStatus : Fault → ℕ → Type 0
 HasStatus (Read error) status = status ≡ status_of_call (error_kind error) 3
-HasStatus (NotText place) status = status ≡ 3
+HasStatus (NotText invalid) status = status ≡ 3
 HasStatus Memory status = status ≡ 4
 HasStatus (Write error) status = status ≡ status_of_call (error_kind error) 5
 HasStatus TooDeep status = status ≡ 6
@@ -66,7 +66,7 @@ module _ (CallFails : Failing) (bytes : Option (List ℕ)) where
   -- Why no text was read of the file: the call failed, or what was read is no text.
   abbrev pub IsUnread : Fault → Type 0
   IsUnread (Read error) = CallFails bytes error
-  IsUnread (NotText place) = (read : List ℕ) × IsRead bytes read × IsNoText read place
+  IsUnread (NotText invalid) = (read : List ℕ) × IsRead bytes read × IsNoText read invalid.place
   IsUnread _ = ⊥
 
   -- Why nothing was written in its place: the call failed.

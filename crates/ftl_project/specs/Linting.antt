@@ -2,27 +2,29 @@
 use Rattle.std.specs.Io.KnownBytes.{Appends}
 use Rattle.std.specs.Prelude.{◌≡◌, ◌≤◌, ◌⊎◌, ◌+◌, ◌-◌, ◌^◌, ◌++◌, ◌&&◌, ℕ, min, Bool, not, List, [], ◌∷◌}
 use Rattle.std.specs.Prelude.{false, length, nat_eq}
-use Rattle.std.specs.Prelude.{Option, None, Some, IfSome, String, count_by, filter, if◌then◌else◌, option_map, slice_get}
-use Rattle.std.specs.Prelude.{string_bytes}
+use Rattle.std.specs.Prelude.{Option, None, Some, IfSome, String, count_by, filter, if◌then◌else◌, option_map}
+use Rattle.std.specs.Prelude.{slice_get, string_bytes}
 use Rattle.std.specs.Global.{Global}
-use Rattle.std.specs.List.{list_any}
 use Rattle.std.specs.Option.{option_eq}
-use Rattle.std.specs.Str.{bytes_eq}
 use Rattle.fluent_syntax_names.specs.Findings.{all_findings}
 use Rattle.fluent_syntax_names.specs.ShownNames.{shown_name}
-use Rattle.fluent_syntax_names.specs.Severities.{name_of, severity_of}
+use Rattle.fluent_syntax_names.specs.Severities.{name_of}
 use Rattle.fluent_syntax_names.specs.declared.finding.Finding.{Finding}
-use Rattle.fluent_syntax_names.specs.declared.finding.Kind.{Kind}
 use Rattle.fluent_syntax_names.specs.declared.name_index.NameIndex.{NameIndex}
 use Rattle.fluent_syntax_tree.specs.declared.spans.Span.{Span}
-use Rattle.ftl_project.specs.Differences.{is_error_severity}
+use Rattle.ftl_project.specs.Differences.{is_error_kind}
 use Rattle.ftl_project.specs.Faults.{Failing, Fails, HasStatus, IsTooDeep, IsUnread}
 use Rattle.ftl_project.specs.NameIndexes.{IsNameIndex, SaysNothing}
 use Rattle.ftl_project.specs.Diagnostics.{IsDiagnostic, ReportsEach, location_at}
 use Rattle.ftl_project.specs.Tally.{counted, failed}
 use Rattle.ftl_project.specs.declared.fault.Fault.TheVariants.{TooDeep}
 use Rattle.ftl_project.specs.declared.linting.LintFile.{LintFile}
+use Rattle.ftl_project.specs.declared.linting.LintOptions.{LintOptions}
 use Rattle.ftl_project.specs.declared.linting.findings.Source.{Source}
+use Rattle.ftl_files.specs.IgnoreRules.{is_ignored}
+use Rattle.ftl_files.specs.declared.levels.Levels.{Levels}
+use Rattle.ftl_files.specs.declared.ignore_rules.IgnoreRule.{IgnoreRule}
+use Rattle.ftl_files.specs.declared.kinds.ReportedKind.TheVariants as kinds
 use Rattle.ftl_files.specs.declared.options.Form.{Form}
 use Rattle.ftl_files.specs.declared.options.Reading.{Reading}
 use Rattle.ftl_project.specs.declared.reporting.diagnostics.SourceLocation.{SourceLocation}
@@ -70,38 +72,43 @@ pub data NameIndexesEach (reading : Reading) : List Source → List NameIndex �
 
 -- ---- what is found
 
-abbrev pub same_kind : Kind → Kind → Bool
-same_kind one other = bytes_eq (name_of one) (name_of other)
-
 -- whether the file is asked for, if there is one
 abbrev pub is_asked : Option Source → Bool
 is_asked None = false
 is_asked (Some source) = source.is_asked
 
--- whether it is of none of the kinds, and in a file that is asked for
-abbrev pub is_reported : List Kind → List Source → Finding → Bool
-is_reported ignored sources finding =
-    not (list_any (same_kind finding.kind) ignored) && is_asked (slice_get sources finding.file)
+-- the name as it is shown; nothing where there is no place
+abbrev pub found_name : Option NameIndex → Option Span → List ℕ
+found_name None place = []
+found_name (Some name_index) None = []
+found_name (Some name_index) (Some name) = shown_name name_index.text.now name
 
--- all that is found in what the files say, without the kinds that are left out, in those that are asked for
-abbrev pub reported_findings : List Kind → List Source → List NameIndex → List Finding
-reported_findings ignored sources name_indexes = filter (is_reported ignored sources) (all_findings name_indexes)
+-- whether no rule leaves it out, and it is in a file that is asked for
+abbrev pub is_reported : List IgnoreRule → List Source → List NameIndex → Finding → Bool
+is_reported ignored sources name_indexes finding =
+    not (is_ignored ignored (kinds.Finding finding.kind)
+    (found_name (slice_get name_indexes finding.file) finding.place)) && is_asked (slice_get sources finding.file)
+
+-- all that is found in what the files say, and is left out by no rule, in those that are asked for
+abbrev pub reported_findings : List IgnoreRule → List Source → List NameIndex → List Finding
+reported_findings ignored sources name_indexes =
+    filter (is_reported ignored sources name_indexes) (all_findings name_indexes)
 
 -- ---- what is counted
 
-abbrev pub is_error : Finding → Bool
-is_error finding = is_error_severity (severity_of finding.kind)
+abbrev pub is_error : Levels → Finding → Bool
+is_error levels finding = is_error_kind levels (kinds.Finding finding.kind)
 
-abbrev pub is_warning : Finding → Bool
-is_warning finding = not (is_error finding)
+abbrev pub is_warning : Levels → Finding → Bool
+is_warning levels finding = not (is_error levels finding)
 
 -- how many files have an error, of findings in the order of their files, besides the last one that was counted
-abbrev pub with_problems_after : (last : Option ℕ) → List Finding → ℕ
-with_problems_after last [] = 0
-with_problems_after last (finding ∷ findings) =
-    if is_error finding && not (option_eq nat_eq last (Some finding.file))
-    then with_problems_after (Some finding.file) findings + 1
-    else with_problems_after last findings
+abbrev pub with_problems_after : Levels → (last : Option ℕ) → List Finding → ℕ
+with_problems_after levels last [] = 0
+with_problems_after levels last (finding ∷ findings) =
+    if is_error levels finding && not (option_eq nat_eq last (Some finding.file))
+    then with_problems_after levels (Some finding.file) findings + 1
+    else with_problems_after levels last findings
 
 -- how many of the files are asked for
 abbrev pub asked_count : List Source → ℕ
@@ -109,12 +116,12 @@ asked_count sources = count_by (λ source. source.is_asked) sources
 
 -- the tally once so many files and what was found in them are counted in it; a number that has come to the greatest
 -- `usize` stays there
-abbrev pub searched : Tally → (files : ℕ) → List Finding → Tally
-searched tally files findings = record {
+abbrev pub searched : Levels → Tally → (files : ℕ) → List Finding → Tally
+searched levels tally files findings = record {
   files = min (tally.files + files) (2 ^ 64 - 1);
-  with_problems = min (tally.with_problems + with_problems_after None findings) (2 ^ 64 - 1);
-  errors = min (tally.errors + count_by is_error findings) (2 ^ 64 - 1);
-  warnings = min (tally.warnings + count_by is_warning findings) (2 ^ 64 - 1);
+  with_problems = min (tally.with_problems + with_problems_after levels None findings) (2 ^ 64 - 1);
+  errors = min (tally.errors + count_by (is_error levels) findings) (2 ^ 64 - 1);
+  warnings = min (tally.warnings + count_by (is_warning levels) findings) (2 ^ 64 - 1);
   fault = tally.fault;
 }
 
@@ -145,22 +152,23 @@ IsFindingReport form sources name_indexes finding report_text =
 
 -- The texts were searched as one set: what is found in those that are asked for was reported, in order, after what was
 -- written before, and counted.
-pub record Searches (reading : Reading) (form : Form) (ignored : List Kind) (sources : List Source) (old new : Tally)
+pub record Searches (reading : Reading) (options : LintOptions) (sources : List Source) (old new : Tally)
     (before after : Option (List ℕ)) : Type 0 where
   pub name_indexes : List NameIndex
   pub now : Tally
   pub has_name_indexes : NameIndexesEach reading sources name_indexes old now
   pub report_text : List ℕ
-  pub reports : ReportsEach (IsFindingReport form sources name_indexes)
-      (reported_findings ignored sources name_indexes) report_text
-  pub counts : new ≡ searched now (asked_count sources) (reported_findings ignored sources name_indexes)
+  pub reports : ReportsEach (IsFindingReport options.form sources name_indexes)
+      (reported_findings options.ignored.now sources name_indexes) report_text
+  pub counts : new
+      ≡ searched options.levels now (asked_count sources) (reported_findings options.ignored.now sources name_indexes)
   pub appends : Appends before after report_text
 
 -- The files were read, and the texts of those that could be were searched.
-pub record SearchesFiles (CallFails : Failing) (reading : Reading) (form : Form) (ignored : List Kind)
+pub record SearchesFiles (CallFails : Failing) (reading : Reading) (options : LintOptions)
     (at : List ℕ → Option (List ℕ)) (files : List LintFile) (old new : Tally)
     (before after : Option (List ℕ)) : Type 0 where
   pub sources : List Source
   pub now : Tally
   pub reads : Reads CallFails at files sources old now
-  pub searches : Searches reading form ignored sources now new before after
+  pub searches : Searches reading options sources now new before after

@@ -1,14 +1,10 @@
 -- What texts say of names.
-use Rattle.std.specs.Prelude.{◌≡◌, ◌+◌, ◌<◌, ◌^◌, ℕ, Bool, true, false, List, [], length}
-use Rattle.std.specs.Prelude.{count_by}
+use Rattle.std.specs.Prelude.{◌≡◌, ◌+◌, ◌<◌, ◌^◌, ℕ, List, [], length}
 use Rattle.fluent_syntax_grammar.specs.Body.{body}
 use Rattle.fluent_syntax_grammar.specs.Tiling.{Tile, Tiling}
 use Rattle.fluent_syntax_names.specs.Mentions.{body_mentions}
-use Rattle.fluent_syntax_names.specs.declared.mention.Mention.{Mention}
-use Rattle.fluent_syntax_names.specs.declared.mention.Mention.TheVariants as says
 use Rattle.fluent_syntax_names.specs.declared.name_index.NameIndex.{NameIndex}
 use Rattle.fluent_syntax_tree.specs.declared.edition.Edition.{Edition}
-use Rattle.fluent_syntax_tree.specs.declared.spans.Span.{Span}
 
 -- The name index is the text and all that the entries of its tiling by the edition say of names.
 pub record IsNameIndex (edition : Edition) (t : List ℕ) (name_index : NameIndex) : Type 0 where
@@ -24,13 +20,3 @@ SaysNothing name_index = (name_index.text.now ≡ []) × (name_index.mentions.it
 -- One more than its text's length is a number that fits.
 abbrev pub IsShort : NameIndex → Type 0
 IsShort name_index = length name_index.text.now + 1 < 2 ^ 64
-
--- whether it is the mention of a message or term that the text defines
-abbrev pub is_entry : Mention Span → Bool
-is_entry (says.Message x v) = true
-is_entry (says.Term x) = true
-is_entry _ = false
-
--- how many messages and terms the text defines
-abbrev pub entry_count : NameIndex → ℕ
-entry_count name_index = count_by is_entry name_index.mentions.items

@@ -1,8 +1,8 @@
 -- Lines that are reported.
-use Rattle.std.specs.Prelude.{ℕ, ◌-◌, ◌==◌, List, [], ◌++◌, Option, None, Some, codes, if◌then◌else◌}
+use Rattle.std.specs.Prelude.{ℕ, Bool, true, false, ◌-◌, ◌==◌, List, [], ◌++◌, Option, None, Some, codes, if◌then◌else◌}
 use Rattle.std.specs.Fmt.{decimal}
 use Rattle.ftl_project.specs.Excerpt.{shown_text}
-use Rattle.ftl_project.specs.declared.comparing.Share.{Share}
+use Rattle.ftl_project.specs.declared.comparing.share.Share.{Share}
 use Rattle.ftl_project.specs.declared.fault.Fault.{Fault}
 use Rattle.ftl_project.specs.declared.fault.Fault.TheVariants.{Json, Memory, NotText, Read, TooDeep, Write}
 use Rattle.ftl_project.specs.declared.tally.Tally.{Tally}
@@ -61,10 +61,17 @@ lossy_note_of path None rule = []
 lossy_note_of path (Some entry) rule =
     lossy_entry_line_of path entry (codes "what is written does not read back") rule
 
+-- what is said of bytes that are no UTF-8, by whether they begin with the byte order mark of UTF-16
+abbrev pub utf16_guess : Bool → List ℕ
+utf16_guess true = codes "; it begins as UTF-16 does"
+utf16_guess false = []
+
 -- what a fault says; what the system or the JSON says is not known
 abbrev pub fault_text : Fault → Option (List ℕ)
 fault_text (Read error) = None
-fault_text (NotText place) = Some (codes "is not UTF-8 from byte " ++ decimal place ++ codes " on")
+fault_text (NotText invalid) = Some
+    (codes "is not UTF-8 from byte " ++ decimal invalid.place ++ codes " on, at " ++ decimal invalid.line ++ codes ":"
+    ++ decimal invalid.column ++ utf16_guess invalid.is_utf16)
 fault_text Memory = Some (codes "no memory")
 fault_text (Write error) = None
 fault_text TooDeep = Some (codes "nests deeper than it may")

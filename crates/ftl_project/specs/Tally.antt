@@ -1,5 +1,5 @@
 -- What a run counts, and its exit status.
-use Rattle.std.specs.Prelude.{ℕ, ◌+◌, ◌-◌, ◌^◌, ◌==◌, Bool, max, min, if◌then◌else◌}
+use Rattle.std.specs.Prelude.{ℕ, ◌+◌, ◌-◌, ◌^◌, ◌==◌, ◌&&◌, Bool, max, min, not, if◌then◌else◌}
 use Rattle.ftl_project.specs.declared.tally.Tally.{Tally}
 
 -- How a file was met: it was answered, with so many errors and warnings, and with problems or not; or it was not, with
@@ -22,3 +22,7 @@ counted tally (failed status) = record tally { fault = max tally.fault status }
 -- the greatest status of a fault, else 1 where a file has errors or changes, else 0
 abbrev pub status_of : Tally → ℕ
 status_of tally = if tally.fault == 0 then (if tally.with_problems == 0 then 0 else 1) else tally.fault
+
+-- 1 where there are warnings and they are denied, else 0
+abbrev pub warnings_status : Tally → (are_denied : Bool) → ℕ
+warnings_status tally are_denied = if are_denied && not (tally.warnings == 0) then 1 else 0

@@ -1,79 +1,52 @@
 //! Files of a reference language are compared with those of another.
-ghost use Rattle.std.specs.Prelude.{◌≡◌, ◌≢◌, ◌⊎◌, Some, Err, IfErr, IfOk, OnOk, string_bytes, true};
+ghost use Rattle.std.specs.Prelude.{◌≡◌, ◌≢◌, ◌⊎◌, [], Err, IfErr, IfOk, OnOk, string_bytes, true};
 ghost use Rattle.fluent_syntax_names.specs.declared.differences.Side.TheVariants.{Other, Reference};
 ghost use Rattle.fluent_syntax_names.specs.declared.name_index.NameIndex.{NameIndex};
 ghost use Rattle.ftl_files.specs.Store.{AllUnchanged};
 ghost use Rattle.ftl_project.specs.Comparing.{Compares, ComparesEach, IsFileMissing, IsPairCompared, IsComparison};
-ghost use Rattle.ftl_project.specs.Comparing.{IsFileReport, IsSideFault};
-ghost use Rattle.ftl_project.specs.Comparing.{errors_of, missing_entries, warnings_of, with_share};
+ghost use Rattle.ftl_files.specs.Kinds.{reported_name};
+ghost use Rattle.ftl_project.specs.Differences.{is_reported};
+ghost use Rattle.ftl_project.specs.Comparing.{IsFileObsolete, IsFileReport, IsSideFault};
+ghost use Rattle.ftl_project.specs.Comparing.{errors_of, missing_entries, warnings_of};
+ghost use Rattle.ftl_project.specs.declared.comparing.pair.Presence.TheVariants.{Both, ReferenceAlone};
 ghost use Rattle.ftl.specs.Watched.{has_failed, inner_of};
 ghost use Rattle.ftl_project.specs.Faults.{IsRead, IsTooDeep, IsUnparsed, IsUnread};
 ghost use Rattle.ftl_project.specs.NameIndexes.{IsNameIndex, IsShort};
-ghost use Rattle.ftl_project.specs.Summaries.{share_line_of};
 
 pub mod comparison_report;
 pub mod differences;
+pub mod pair;
+pub mod share;
+mod unmatched;
 
 use crate::comparing::comparison_report::PairReporter;
 use crate::comparing::differences::{
-    counts_as_error, counts_as_warning, is_reported, reported_parts,
+    counts_as_error, counts_as_warning, is_file_error, is_file_warning, is_reported, reported_parts,
 };
+use crate::comparing::pair::{Pair, Presence};
+use crate::comparing::share::Share;
+use crate::comparing::unmatched::{EntryNames, UnmatchedNames};
 use crate::fault::Fault;
 use crate::formatting::rewriting::read_text;
-use crate::name_indexes::{entry_count, name_index};
+use crate::linting::findings::severity_name;
+use crate::name_indexes::name_index;
 use crate::reporting::diagnostics::{Diagnostic, diagnostic_text};
 use crate::streams::{Streams, byte_order_mark_note, report_fault};
 use crate::tally::Tally;
-use fluent_syntax_names::{MissingPart, NameIndex, Part, Side, missing_parts};
+use fluent_syntax_names::{MissingPart, NameIndex, Part, Side, entry_count, missing_parts};
 use ftl::{RunFault, write_all};
-use ftl_files::{Form, Reading, ReportedKind, Store};
+use ftl_files::{Form, IgnoreRule, Levels, Reading, ReportedKind, Store};
 use std::alloc::{AllocError, Global};
 use std::io::Write;
-
-/// A file of the reference, and the one that is to be its translation.
-#[derive(Debug, Drop)]
-pub struct Pair {
-    pub reference: String,
-    pub other: String,
-    /// Whether the other file is there.
-    pub is_there: bool,
-}
-
-impl Pair {
-    /// The path of the file of this side.
-    fn path(&self, side: Side) -> &str {
-        match side {
-            Side::Reference => self.reference.as_str(),
-            Side::Other => self.other.as_str(),
-        }
-    }
-}
 
 /// How differences are reported.
 #[derive(Clone, Copy, Debug)]
 pub struct CompareOptions<'a> {
     pub form: Form,
-    /// Kinds that are not reported, nor counted as errors.
-    pub ignored: &'a [ReportedKind],
-}
-
-/// What a comparison met besides its tally.
-#[derive(Clone, Copy, Debug, PartialEq, Eq)]
-pub struct Share {
-    /// Messages and terms of the reference.
-    pub wanted: usize,
-    /// Those that the other lacks.
-    pub missing: usize,
-}
-
-impl Share {
-    /// The sum of both.
-    fn add(&mut self, part: Share)
-        ensures { self.new ≡ with_share self.old (Some part) }
-    {
-        self.wanted = self.wanted.saturating_add(part.wanted);
-        self.missing = self.missing.saturating_add(part.missing);
-    }
+    /// What is not reported, nor counted.
+    pub ignored: &'a [IgnoreRule],
+    /// How grave a difference is.
+    pub levels: Levels<'a>,
 }
 
 /// What is reported of a pair, how many errors and warnings it has, and how much of it is there.
@@ -82,6 +55,8 @@ struct PairComparison {
     report_text: String,
     /// Which of the two begin with a byte order mark, on lines.
     notes: String,
+    /// Messages and terms that are reported as missing or obsolete.
+    names: EntryNames,
     errors: usize,
     warnings: usize,
     share: Share,
@@ -137,10 +112,14 @@ pub fn compare_files<S: Store, O: Write, E: Write>(
         reading,
         options,
     };
+    let mut unmatched = UnmatchedNames::new(alloc);
     for pair in pairs {
-        comparing.report_pair(store, pair, tally, share, streams)?;
+        comparing.report_pair(store, pair, tally, share, &mut unmatched, streams)?;
     }
-    Ok(())
+    match unmatched.notes(alloc, options.form) {
+        Ok(notes) => write_all(streams.err, notes.as_bytes()),
+        Err(AllocError) => Err(RunFault::Memory),
+    }
 }
 
 /// How pairs are compared, and how what they lack is reported.
@@ -159,6 +138,7 @@ impl Comparing<'_> {
         pair: &Pair,
         tally: &mut Tally,
         share: &mut Share,
+        unmatched: &mut UnmatchedNames,
         streams: &mut Streams<'_, O, E>,
     ) -> Result<(), RunFault>
         ensures untouched { AllUnchanged (S.bytes_at store.old) (S.bytes_at store.new) }
@@ -174,12 +154,30 @@ impl Comparing<'_> {
                 tally.count(compared.errors, compared.warnings, compared.errors != 0);
                 share.add(compared.share);
                 write_all(streams.out, compared.report_text.as_bytes())?;
-                write_all(streams.err, compared.notes.as_bytes())
+                self.put_notes(pair, &compared, unmatched, streams)
             }
             Err(fault) => {
                 let path = pair.path(fault.side);
                 report_fault(self.alloc, tally, path, &fault.fault, streams)
             }
+        }
+    }
+
+    /// Writes what else is reported of a pair, and notes the names that it has unmatched.
+    fn put_notes<O: Write, E: Write>(
+        &self,
+        pair: &Pair,
+        compared: &PairComparison,
+        unmatched: &mut UnmatchedNames,
+        streams: &mut Streams<'_, O, E>,
+    ) -> Result<(), RunFault>
+        ensures out { streams.new.out ≡ streams.old.out }
+        ensures input { result ≢ Err RunFault.Input }
+        ensures output { result ≡ Err RunFault.Output → has_failed streams.new.err.now ≡ true }
+    {
+        match unmatched.add(self.alloc, pair.other.as_str(), &compared.names) {
+            Ok(()) => write_all(streams.err, compared.notes.as_bytes()),
+            Err(AllocError) => Err(RunFault::Memory),
         }
     }
 
@@ -190,21 +188,58 @@ impl Comparing<'_> {
     ) -> Result<PairComparison, PairFault>
         ensures untouched { AllUnchanged (S.bytes_at store.old) (S.bytes_at store.new) }
         ensures compared { IfOk result (λ compared. IsComparison S.fails self.now.reading self.now.options
-            (S.bytes_at store.old) pair.now.is_there pair.now compared.errors compared.warnings compared.share
+            (S.bytes_at store.old) pair.now.presence pair.now compared.errors compared.warnings compared.share
             (string_bytes compared.report_text)) }
         ensures fault { IfErr result (λ fault. IsSideFault S.fails self.now.reading self.now.options
-            (S.bytes_at store.old) pair.now fault.side fault.fault) }
+            (S.bytes_at store.old) pair.now.presence pair.now fault.side fault.fault) }
+    {
+        match pair.presence {
+            Presence::Both => self.comparison_of_both(store, pair),
+            Presence::ReferenceAlone => self.comparison_without_other(store, pair),
+            Presence::OtherAlone => {
+                let compared = self.comparison_without_reference(pair)?;
+                Ok(compared)
+            }
+        }
+    }
+
+    /// What comes of a pair whose files are both there.
+    fn comparison_of_both<S: Store>(
+        &self,
+        store: &mut S,
+        pair: &Pair,
+    ) -> Result<PairComparison, PairFault>
+        ensures untouched { AllUnchanged (S.bytes_at store.old) (S.bytes_at store.new) }
+        ensures compared { IfOk result (λ compared. IsComparison S.fails self.now.reading self.now.options
+            (S.bytes_at store.old) Both pair.now compared.errors compared.warnings compared.share
+            (string_bytes compared.report_text)) }
+        ensures fault { IfErr result (λ fault. IsSideFault S.fails self.now.reading self.now.options
+            (S.bytes_at store.old) Both pair.now fault.side fault.fault) }
     {
         let reference = side_text(store, Side::Reference, pair.reference.as_str())?;
-        if !pair.is_there {
-            return self.comparison_without_file(pair, reference.as_str());
-        }
         let other = side_text(store, Side::Other, pair.other.as_str())?;
         self.comparison_of_texts(pair, reference.as_str(), other.as_str())
     }
 
-    /// What comes of a pair whose other file is not there.
-    fn comparison_without_file(
+    /// What comes of a pair of whose files that of the reference alone is there.
+    fn comparison_without_other<S: Store>(
+        &self,
+        store: &mut S,
+        pair: &Pair,
+    ) -> Result<PairComparison, PairFault>
+        ensures untouched { AllUnchanged (S.bytes_at store.old) (S.bytes_at store.new) }
+        ensures compared { IfOk result (λ compared. IsComparison S.fails self.now.reading self.now.options
+            (S.bytes_at store.old) ReferenceAlone pair.now compared.errors compared.warnings compared.share
+            (string_bytes compared.report_text)) }
+        ensures fault { IfErr result (λ fault. IsSideFault S.fails self.now.reading self.now.options
+            (S.bytes_at store.old) ReferenceAlone pair.now fault.side fault.fault) }
+    {
+        let reference = side_text(store, Side::Reference, pair.reference.as_str())?;
+        self.comparison_of_reference(pair, reference.as_str())
+    }
+
+    /// What comes of the text of a reference that has no translation.
+    fn comparison_of_reference(
         &self,
         pair: &Pair,
         reference: &str,
@@ -217,14 +252,21 @@ impl Comparing<'_> {
             × IsUnparsed (IsTooDeep self.now.reading reference.now) fault.fault) }
     {
         let reference = self.side_index(Side::Reference, reference)?;
-        let wanted = entry_count(&reference);
-        let is_reported = is_reported(self.options.ignored, "missing-file");
-        let report_text = self.no_file(pair, is_reported)?;
+        let wanted = entry_count(self.alloc, &reference)?;
+        let kind = ReportedKind::MissingFile;
+        let message = format!(in self.alloc;
+            "there is no such file; the reference has {}",
+            pair.reference.as_str()
+        )?;
+        let report_text = self.file_report(pair, kind, message)?;
+        let is_error = is_file_error(self.options, kind);
+        let is_warning = is_file_warning(self.options, kind);
         Ok(PairComparison {
             report_text,
             notes: String::new(self.alloc),
-            errors: usize::from(is_reported),
-            warnings: 0,
+            names: EntryNames::new(self.alloc),
+            errors: usize::from(is_error),
+            warnings: usize::from(is_warning),
             share: Share {
                 wanted,
                 missing: wanted,
@@ -232,24 +274,51 @@ impl Comparing<'_> {
         })
     }
 
-    /// What is reported of a pair whose other file is not there, if that is reported.
-    fn no_file(&self, pair: &Pair, is_reported: bool) -> Result<String, AllocError>
-        ensures { IfOk result (λ report_text. IsFileReport self.now.options.form pair.now is_reported
-            (string_bytes report_text)) }
+    /// What comes of a pair of whose files that of the translation alone is there. It is not read.
+    fn comparison_without_reference(&self, pair: &Pair) -> Result<PairComparison, AllocError>
+        ensures { IfOk result (λ compared. IsFileObsolete self.now.options pair.now compared.errors compared.warnings
+            compared.share (string_bytes compared.report_text)) }
     {
-        if !is_reported {
+        let kind = ReportedKind::ObsoleteFile;
+        let message = format!(in self.alloc;
+            "the reference has no file {}",
+            pair.reference.as_str()
+        )?;
+        let report_text = self.file_report(pair, kind, message)?;
+        let is_error = is_file_error(self.options, kind);
+        let is_warning = is_file_warning(self.options, kind);
+        Ok(PairComparison {
+            report_text,
+            notes: String::new(self.alloc),
+            names: EntryNames::new(self.alloc),
+            errors: usize::from(is_error),
+            warnings: usize::from(is_warning),
+            share: Share {
+                wanted: 0,
+                missing: 0,
+            },
+        })
+    }
+
+    /// What is reported of the translation's file as a whole, if that is reported.
+    fn file_report(
+        &self,
+        pair: &Pair,
+        kind: ReportedKind,
+        message: String,
+    ) -> Result<String, AllocError>
+        ensures { IfOk result (λ report_text. IsFileReport self.now.options.form pair.now (reported_name kind)
+            (string_bytes message) (is_reported self.now.options.ignored.now kind []) (string_bytes report_text)) }
+    {
+        if !is_reported(self.options.ignored, kind, "") {
             return Ok(String::new(self.alloc));
         }
-        let reference = pair.reference.as_str();
-        let message = format!(in self.alloc;
-            "there is no such file; the reference has {reference}"
-        )?;
         let diagnostic = Diagnostic {
             path: pair.other.as_str(),
             text: "",
             place: None,
-            kind: "missing-file",
-            severity: "error",
+            kind: kind.name(),
+            severity: severity_name(self.options.levels.severity(kind)),
             message,
             error: None,
             subject: None,
@@ -299,8 +368,14 @@ impl Comparing<'_> {
         reference: &NameIndex<'_>,
         other: &NameIndex<'_>,
     ) -> Result<String, AllocError> {
-        let mut notes = byte_order_mark_note(self.alloc, pair.reference.as_str(), reference.text)?;
-        let note = byte_order_mark_note(self.alloc, pair.other.as_str(), other.text)?;
+        let form = self.options.form;
+        let mut notes = byte_order_mark_note(
+            self.alloc,
+            pair.reference.as_str(),
+            reference.text,
+            form,
+        )?;
+        let note = byte_order_mark_note(self.alloc, pair.other.as_str(), other.text, form)?;
         notes.push_str(note.as_str())?;
         Ok(notes)
     }
@@ -318,18 +393,26 @@ impl Comparing<'_> {
             compared.errors compared.warnings compared.share (string_bytes compared.report_text)) }
     {
         let missing = missing_parts(self.alloc, reference, other)?;
-        let reported = reported_parts(self.alloc, self.options.ignored, Side::Reference, &missing)?;
+        let ignored = self.options.ignored;
+        let reported = reported_parts(
+            self.alloc,
+            ignored,
+            Side::Reference,
+            reference.text,
+            &missing,
+        )?;
         let reporter = PairReporter {
             alloc: self.alloc,
             pair,
             form: self.options.form,
+            levels: self.options.levels,
             side: Side::Reference,
             text: reference.text,
             other: other.text,
         };
         let mut report_text = reporter.report_of(&reported)?;
         let extra = missing_parts(self.alloc, other, reference)?;
-        let extra = reported_parts(self.alloc, self.options.ignored, Side::Other, &extra)?;
+        let extra = reported_parts(self.alloc, ignored, Side::Other, other.text, &extra)?;
         let reporter = PairReporter {
             side: Side::Other,
             text: other.text,
@@ -338,16 +421,18 @@ impl Comparing<'_> {
         };
         let other_report = reporter.report_of(&extra)?;
         report_text.push_str(other_report.as_str())?;
-        let missed = errors_of(Side::Reference, &reported);
-        let unknown = errors_of(Side::Other, &extra);
-        let warnings = warnings_of(Side::Reference, &reported);
+        let levels = self.options.levels;
+        let missed = errors_of(levels, Side::Reference, &reported);
+        let unknown = errors_of(levels, Side::Other, &extra);
+        let warnings = warnings_of(levels, Side::Reference, &reported);
         Ok(PairComparison {
             report_text,
             notes: self.mark_notes(pair, reference, other)?,
+            names: EntryNames::of(self.alloc, reference.text, &reported, other.text, &extra)?,
             errors: missed.saturating_add(unknown),
-            warnings: warnings.saturating_add(warnings_of(Side::Other, &extra)),
+            warnings: warnings.saturating_add(warnings_of(levels, Side::Other, &extra)),
             share: Share {
-                wanted: entry_count(reference),
+                wanted: entry_count(self.alloc, reference)?,
                 missing: missing_entries(&missing),
             },
         })
@@ -368,22 +453,22 @@ fn side_text<S: Store>(store: &mut S, side: Side, path: &str) -> Result<String, 
 }
 
 /// How many of the parts that this file has and the other one lacks are reported as errors.
-fn errors_of(side: Side, missing_parts: &[MissingPart]) -> usize
-    ensures { result ≡ errors_of side missing_parts.now }
+fn errors_of(levels: Levels<'_>, side: Side, missing_parts: &[MissingPart]) -> usize
+    ensures { result ≡ errors_of levels.entry side missing_parts.now }
 {
     missing_parts
         .iter()
-        .filter(|missing| counts_as_error(side, missing.part))
+        .filter(|missing| counts_as_error(levels, side, missing.part))
         .count()
 }
 
 /// How many of the parts that this file has and the other one lacks are reported as warnings.
-fn warnings_of(side: Side, missing_parts: &[MissingPart]) -> usize
-    ensures { result ≡ warnings_of side missing_parts.now }
+fn warnings_of(levels: Levels<'_>, side: Side, missing_parts: &[MissingPart]) -> usize
+    ensures { result ≡ warnings_of levels.entry side missing_parts.now }
 {
     missing_parts
         .iter()
-        .filter(|missing| counts_as_warning(side, missing.part))
+        .filter(|missing| counts_as_warning(levels, side, missing.part))
         .count()
 }
 
@@ -395,15 +480,4 @@ fn missing_entries(missing_parts: &[MissingPart]) -> usize
         .iter()
         .filter(|missing| matches!(missing.part, Part::Entry))
         .count()
-}
-
-/// How much of the reference is there, on a line: `95 of 100 messages and terms are there`.
-///
-/// `AllocError`: a growth was refused.
-pub fn share_line(alloc: Global, share: &Share) -> Result<String, AllocError>
-    ensures { IfOk result (λ line. string_bytes line ≡ share_line_of share.now) }
-{
-    let wanted = share.wanted;
-    let there = wanted.saturating_sub(share.missing);
-    format!(in alloc; "{there} of {wanted} messages and terms are there\n")
 }

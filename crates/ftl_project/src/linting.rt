@@ -4,14 +4,14 @@ ghost use Rattle.std.specs.Prelude.{string_bytes, true};
 ghost use Rattle.ftl.specs.Watched.{has_failed, inner_of};
 ghost use Rattle.ftl_files.specs.Store.{AllUnchanged};
 ghost use Rattle.ftl_project.specs.Linting.{IsSource, NameIndexesEach, NameIndexesSource, Reads, ReadsSource, Searches};
-ghost use Rattle.ftl_project.specs.Linting.{SearchesFiles, asked_count, is_asked, is_error, is_reported, is_warning};
-ghost use Rattle.ftl_project.specs.Linting.{searched, reported_findings, with_problems_after};
+ghost use Rattle.ftl_project.specs.Linting.{SearchesFiles, asked_count, found_name, is_asked, is_error, is_warning};
+ghost use Rattle.ftl_project.specs.Linting.{is_reported, reported_findings, searched, with_problems_after};
 ghost use Rattle.ftl_project.specs.NameIndexes.{IsShort};
 ghost use Rattle.ftl_project.specs.declared.linting.findings.Source.{Source};
 
 pub mod findings;
 
-use crate::comparing::differences::is_error_severity;
+use crate::comparing::differences::is_error_kind;
 use crate::fault::Fault;
 use crate::formatting::rewriting::read_text;
 use crate::linting::findings::{Source, report_findings};
@@ -19,9 +19,9 @@ use crate::name_indexes::name_index;
 use crate::reporting::terminal_text::push_shown_text;
 use crate::streams::{Streams, byte_order_mark_note, report_fault};
 use crate::tally::Tally;
-use fluent_syntax_names::{Finding, Kind, NameIndex, findings};
+use fluent_syntax_names::{Finding, Kind, NameIndex, findings, shown_name};
 use ftl::{RunFault, write_all};
-use ftl_files::{Form, Reading, Store};
+use ftl_files::{Form, IgnoreRule, Levels, Reading, ReportedKind, Store, is_ignored};
 use std::alloc::{AllocError, Global};
 use std::fmt::Write as _;
 use std::io::Write;
@@ -38,8 +38,10 @@ pub struct LintFile {
 #[derive(Clone, Copy, Debug)]
 pub struct LintOptions<'a> {
     pub form: Form,
-    /// Kinds that are not reported, nor counted.
-    pub ignored: &'a [Kind],
+    /// What is not reported, nor counted.
+    pub ignored: &'a [IgnoreRule],
+    /// How grave a finding is.
+    pub levels: Levels<'a>,
     /// What the set is called where its findings are counted; empty where it has no name.
     pub set_name: &'a str,
 }
@@ -58,9 +60,8 @@ pub fn lint_files<S: Store, O: Write, E: Write>(
     streams: &mut Streams<'_, O, E>,
 ) -> Result<(), RunFault>
     ensures untouched { AllUnchanged (S.bytes_at store.old) (S.bytes_at store.new) }
-    ensures searched { OnOk result (SearchesFiles S.fails reading lint_options.entry.form lint_options.entry.ignored.now
-        (S.bytes_at store.old) files.now tally.old tally.new (O.contents (inner_of streams.old.out.now))
-        (O.contents (inner_of streams.new.out.now))) }
+    ensures searched { OnOk result (SearchesFiles S.fails reading lint_options.entry (S.bytes_at store.old) files.now
+        tally.old tally.new (O.contents (inner_of streams.old.out.now)) (O.contents (inner_of streams.new.out.now))) }
     ensures input { result ≢ Err RunFault.Input }
     ensures output { result ≡ Err RunFault.Output → (has_failed streams.new.out.now ≡ true)
         ⊎ (has_failed streams.new.err.now ≡ true) }
@@ -144,9 +145,8 @@ fn lint_sources<O: Write, E: Write>(
     tally: &mut Tally,
     streams: &mut Streams<'_, O, E>,
 ) -> Result<(), RunFault>
-    ensures searched { OnOk result (Searches reading lint_options.entry.form lint_options.entry.ignored.now
-        sources.now tally.old tally.new (O.contents (inner_of streams.old.out.now))
-        (O.contents (inner_of streams.new.out.now))) }
+    ensures searched { OnOk result (Searches reading lint_options.entry sources.now tally.old tally.new
+        (O.contents (inner_of streams.old.out.now)) (O.contents (inner_of streams.new.out.now))) }
     ensures input { result ≢ Err RunFault.Input }
     ensures output { result ≡ Err RunFault.Output → (has_failed streams.new.out.now ≡ true)
         ⊎ (has_failed streams.new.err.now ≡ true) }
@@ -155,12 +155,20 @@ fn lint_sources<O: Write, E: Write>(
     let Ok(found) = reported_findings(alloc, sources, &name_indexes, lint_options.ignored) else {
         return Err(RunFault::Memory);
     };
-    count(tally, asked_count(sources), &found);
-    match report_findings(alloc, sources, &name_indexes, &found, lint_options.form) {
+    let levels = lint_options.levels;
+    count(tally, levels, asked_count(sources), &found);
+    match report_findings(
+        alloc,
+        sources,
+        &name_indexes,
+        &found,
+        lint_options.form,
+        levels,
+    ) {
         Ok(report_text) => write_all(streams.out, report_text.as_bytes())?,
         Err(AllocError) => return Err(RunFault::Memory),
     }
-    match notes(alloc, sources, &found, lint_options.set_name) {
+    match notes(alloc, sources, &found, lint_options) {
         Ok(notes) => write_all(streams.err, notes.as_bytes()),
         Err(AllocError) => Err(RunFault::Memory),
     }
@@ -226,27 +234,43 @@ fn source_name_index<'a, O: Write, E: Write>(
     }
 }
 
-/// What is found in the files that are asked for, without the kinds that are ignored.
+/// What is found in the files that are asked for, without what is ignored.
 fn reported_findings(
     alloc: Global,
     sources: &[Source],
     name_indexes: &[NameIndex<'_>],
-    ignored: &[Kind],
+    ignored: &[IgnoreRule],
 ) -> Result<Vec<Finding>, AllocError>
     ensures { IfOk result (λ found. found.items ≡ reported_findings ignored.now sources.now name_indexes.now) }
 {
     let all = findings(alloc, name_indexes)?;
     all.iter()
         .copied()
-        .filter(|finding| is_reported(ignored, sources, finding))
+        .filter(|finding| is_reported(ignored, sources, name_indexes, finding))
         .collect(alloc)
 }
 
-/// Whether it is of none of the kinds that are ignored, and in a file that is asked for.
-fn is_reported(ignored: &[Kind], sources: &[Source], finding: &Finding) -> bool
-    ensures { result ≡ is_reported ignored.now sources.now finding.now }
+/// Whether it is not ignored, and in a file that is asked for.
+fn is_reported(
+    ignored: &[IgnoreRule],
+    sources: &[Source],
+    name_indexes: &[NameIndex<'_>],
+    finding: &Finding,
+) -> bool
+    ensures { result ≡ is_reported ignored.now sources.now name_indexes.now finding.now }
 {
-    !ignored.contains(&finding.kind) && is_asked(sources, finding.file)
+    let kind = ReportedKind::Finding(finding.kind);
+    !is_ignored(ignored, kind, found_name(name_indexes, finding)) && is_asked(sources, finding.file)
+}
+
+/// The name of the finding, as it is shown; empty where it has no place.
+fn found_name<'t>(name_indexes: &[NameIndex<'t>], finding: &Finding) -> &'t str
+    ensures { result.now ≡ found_name (slice_get name_indexes.now finding.now.file) finding.now.place }
+{
+    match (name_indexes.get(finding.file), finding.place) {
+        (Some(name_index), Some(place)) => shown_name(name_index.text, place),
+        _ => "",
+    }
 }
 
 /// Whether the file of the number is asked for.
@@ -267,23 +291,25 @@ fn asked_count(sources: &[Source]) -> usize
 }
 
 /// Counts the files, and those that have an error among the findings.
-fn count(tally: &mut Tally, files: usize, found: &[Finding])
-    ensures { tally.new ≡ searched tally.old files found.now }
+fn count(tally: &mut Tally, levels: Levels<'_>, files: usize, found: &[Finding])
+    ensures { tally.new ≡ searched levels.entry tally.old files found.now }
 {
     tally.files = tally.files.saturating_add(files);
-    tally.with_problems = tally.with_problems.saturating_add(with_problems(found));
-    tally.errors = tally.errors.saturating_add(errors(found));
-    tally.warnings = tally.warnings.saturating_add(warnings(found));
+    tally.with_problems = tally
+        .with_problems
+        .saturating_add(with_problems(levels, found));
+    tally.errors = tally.errors.saturating_add(errors(levels, found));
+    tally.warnings = tally.warnings.saturating_add(warnings(levels, found));
 }
 
 /// How many files have an error among the findings, which are in the order of the files.
-fn with_problems(found: &[Finding]) -> usize
-    ensures { result ≡ with_problems_after None found.now }
+fn with_problems(levels: Levels<'_>, found: &[Finding]) -> usize
+    ensures { result ≡ with_problems_after levels.entry None found.now }
 {
     let mut number = 0;
     let mut last = None;
     for finding in found {
-        if is_error(finding) && last != Some(finding.file) {
+        if is_error(levels, finding) && last != Some(finding.file) {
             number += 1;
             last = Some(finding.file);
         }
@@ -291,28 +317,34 @@ fn with_problems(found: &[Finding]) -> usize
     number
 }
 
-fn errors(found: &[Finding]) -> usize
-    ensures { result ≡ count_by is_error found.now }
+fn errors(levels: Levels<'_>, found: &[Finding]) -> usize
+    ensures { result ≡ count_by (is_error levels.entry) found.now }
 {
-    found.iter().filter(|finding| is_error(finding)).count()
+    found
+        .iter()
+        .filter(|finding| is_error(levels, finding))
+        .count()
 }
 
-fn warnings(found: &[Finding]) -> usize
-    ensures { result ≡ count_by is_warning found.now }
+fn warnings(levels: Levels<'_>, found: &[Finding]) -> usize
+    ensures { result ≡ count_by (is_warning levels.entry) found.now }
 {
-    found.iter().filter(|finding| is_warning(finding)).count()
+    found
+        .iter()
+        .filter(|finding| is_warning(levels, finding))
+        .count()
 }
 
-fn is_warning(finding: &Finding) -> bool
-    ensures { result ≡ is_warning finding.now }
+fn is_warning(levels: Levels<'_>, finding: &Finding) -> bool
+    ensures { result ≡ is_warning levels.entry finding.now }
 {
-    !is_error(finding)
+    !is_error(levels, finding)
 }
 
-fn is_error(finding: &Finding) -> bool
-    ensures { result ≡ is_error finding.now }
+fn is_error(levels: Levels<'_>, finding: &Finding) -> bool
+    ensures { result ≡ is_error levels.entry finding.now }
 {
-    is_error_severity(finding.kind.severity())
+    is_error_kind(levels, ReportedKind::Finding(finding.kind))
 }
 
 const KINDS: [Kind; 8] = [
@@ -332,11 +364,13 @@ fn notes(
     alloc: Global,
     sources: &[Source],
     found: &[Finding],
-    set_name: &str,
+    options: LintOptions<'_>,
 ) -> Result<String, AllocError> {
+    let LintOptions { form, set_name, .. } = options;
     let mut out = String::new(alloc);
     for source in sources.iter().filter(|source| source.is_asked) {
-        let note = byte_order_mark_note(alloc, source.path.as_str(), source.text.as_str())?;
+        let (path, text) = (source.path.as_str(), source.text.as_str());
+        let note = byte_order_mark_note(alloc, path, text, form)?;
         out.push_str(note.as_str())?;
     }
     for kind in &KINDS {

@@ -1,12 +1,12 @@
 //! What texts say of names.
 ghost use Rattle.std.specs.Prelude.{◌≡◌, ◌+◌, ◌<◌, ◌^◌, IfErr, IfOk, length};
 ghost use Rattle.ftl_project.specs.Faults.{IsTooDeep, IsUnparsed};
-ghost use Rattle.ftl_project.specs.NameIndexes.{IsNameIndex, IsShort, entry_count};
+ghost use Rattle.ftl_project.specs.NameIndexes.{IsNameIndex, IsShort};
 
 use crate::fault::Fault;
 use fluent_syntax::parser::recovered;
 use fluent_syntax::spans::parse_spans_within;
-use fluent_syntax_names::{Mention, NameIndex, name_index_of};
+use fluent_syntax_names::{NameIndex, name_index_of};
 use ftl_files::Reading;
 use std::alloc::Global;
 
@@ -29,15 +29,4 @@ pub(crate) fn name_index<'a>(
     let (tree, _) = recovered(alloc, answer)?;
     let name_index = name_index_of(alloc, text, &tree.body)?;
     Ok(name_index)
-}
-
-/// How many messages and terms the text defines.
-pub(crate) fn entry_count(name_index: &NameIndex<'_>) -> usize
-    ensures { result ≡ entry_count name_index.now }
-{
-    name_index
-        .mentions
-        .iter()
-        .filter(|mention| matches!(mention, Mention::Message { .. } | Mention::Term { .. }))
-        .count()
 }

@@ -2,7 +2,7 @@
 ghost use Rattle.std.specs.Prelude.{◌≡◌, IfOk, string_bytes};
 ghost use Rattle.ftl_project.specs.Summaries.{check_summary_of, error_count_of, errors_in_files, file_count_of};
 ghost use Rattle.ftl_project.specs.Summaries.{format_summary_of, warnings_part};
-ghost use Rattle.ftl_project.specs.Tally.{answered, counted, failed, status_of};
+ghost use Rattle.ftl_project.specs.Tally.{answered, counted, failed, status_of, warnings_status};
 
 use std::alloc::{AllocError, Global};
 
@@ -42,6 +42,17 @@ impl Tally {
         if self.fault != 0 {
             self.fault
         } else if self.with_problems != 0 {
+            1
+        } else {
+            0
+        }
+    }
+
+    /// The exit status of the warnings: 1 where there are some and they are denied, else 0.
+    pub fn warnings_status(&self, are_denied: bool) -> u8
+        ensures { result ≡ warnings_status self.now are_denied }
+    {
+        if are_denied && self.warnings != 0 {
             1
         } else {
             0

@@ -3,13 +3,13 @@ ghost use Rattle.std.specs.Prelude.{◌≡◌, map, All, IfOk};
 ghost use Rattle.serde_json.specs.View.{view};
 ghost use Rattle.ftl_lsp.specs.DiagnosticForms.{IsLintDiagnostic, code_of, diagnostic_form, diagnostic_with_related};
 ghost use Rattle.ftl_lsp.specs.DiagnosticForms.{error_alone, error_form, note_form, related_form};
-ghost use Rattle.ftl_lsp.specs.DiagnosticForms.{severity_number, severity_of};
+ghost use Rattle.ftl_lsp.specs.DiagnosticForms.{reported_kind, severity_number, severity_of};
 
 use crate::diagnostics::{Diagnostic, RelatedNote};
 use crate::documents::positions::PositionRange;
 use crate::sessions::replies::range_form;
 use fluent_syntax_names::{Difference, Kind, Severity};
-use ftl_files::ReportedKind;
+use ftl_files::{Levels, ReportedKind};
 use serde_json::{Value, json};
 use std::alloc::{AllocError, Global};
 
@@ -31,17 +31,16 @@ pub enum LintDiagnosticKind {
 }
 
 impl LintDiagnosticKind {
-    fn severity(self) -> Severity
-        ensures { result ≡ severity_of self }
+    fn severity(self, levels: Levels<'_>) -> Severity
+        ensures { result ≡ severity_of levels.entry self }
     {
-        match self {
-            LintDiagnosticKind::Finding(kind) => kind.severity(),
-            LintDiagnosticKind::Difference(difference) => difference.severity(),
-        }
+        levels.severity(self.reported_kind())
     }
 
     /// The same, as settings name it.
-    pub(crate) fn reported_kind(self) -> ReportedKind {
+    fn reported_kind(self) -> ReportedKind
+        ensures { result ≡ reported_kind self }
+    {
         match self {
             LintDiagnosticKind::Finding(kind) => ReportedKind::Finding(kind),
             LintDiagnosticKind::Difference(difference) => ReportedKind::Difference(difference),
@@ -147,18 +146,19 @@ fn note_form(alloc: Global, uri: &str, note: &RelatedNote) -> Result<Value, Allo
     )
 }
 
-/// What is reported besides the errors, in order: each with the other place, if the editor takes one. `AllocError`
-/// where a growth was refused.
+/// What is reported besides the errors, in order: each as grave as the levels say, and with the other place, if the
+/// editor takes one. `AllocError` where a growth was refused.
 pub fn lint_diagnostic_list(
     alloc: Global,
     all: &[LintDiagnostic<'_>],
     takes_related: bool,
+    levels: Levels<'_>,
 ) -> Result<Vec<Value>, AllocError>
     ensures { IfOk result (λ list. All IsLintDiagnostic (map view list.items)) }
 {
     let mut list = Vec::new(alloc);
     for diagnostic in all {
-        list.push(lint_diagnostic_form(alloc, diagnostic, takes_related)?)?;
+        list.push(lint_diagnostic_form(alloc, diagnostic, takes_related, levels)?)?;
     }
     Ok(list)
 }
@@ -167,11 +167,12 @@ fn lint_diagnostic_form(
     alloc: Global,
     diagnostic: &LintDiagnostic<'_>,
     takes_related: bool,
+    levels: Levels<'_>,
 ) -> Result<Value, AllocError>
     ensures { IfOk result (λ value. IsLintDiagnostic (view value)) }
 {
     let (range, message) = (diagnostic.range, diagnostic.message.as_str());
-    let (severity, code) = (diagnostic.kind.severity(), diagnostic.kind.code());
+    let (severity, code) = (diagnostic.kind.severity(levels), diagnostic.kind.code());
     match diagnostic.related {
         Some(related) if takes_related => {
             let positions = json!(in alloc; [(related_form(alloc, related)?)])?;

@@ -6,11 +6,13 @@ use crate::documents::occurrences::{bytes_of, is_name_byte};
 use crate::documents::positions::{Position, PositionRange, Positions, START};
 use crate::workspace::originals::Original;
 use fluent_syntax::spans::Span;
-use fluent_syntax_names::{MissingPart, NameIndex, Side, missing_parts};
+use fluent_syntax_names::{Difference, MissingPart, NameIndex, Side, missing_parts, shown_name};
+use ftl_files::{IgnoreRule, ReportedKind, is_ignored};
 use std::alloc::{AllocError, Global};
 
 /// What the original has and the document lacks, in the order of the original, and then what the document has and the
-/// original lacks, in the order of the document. `shown` is the path of the original, as it is reported.
+/// original lacks, in the order of the document; but for what is ignored. `shown` is the path of the original, as it
+/// is reported.
 ///
 /// `AllocError` where a growth was refused.
 pub fn differences_of<'u>(
@@ -18,9 +20,10 @@ pub fn differences_of<'u>(
     document: &NameIndex<'_>,
     original: &Original<'u>,
     shown: &str,
+    ignored: &[IgnoreRule],
 ) -> Result<Vec<LintDiagnostic<'u>>, AllocError> {
-    let mut diagnostics = missing_of(alloc, document, original, shown)?;
-    diagnostics.append(&mut extra_of(alloc, document, original, shown)?)?;
+    let mut diagnostics = missing_of(alloc, document, original, shown, ignored)?;
+    diagnostics.append(&mut extra_of(alloc, document, original, shown, ignored)?)?;
     Ok(diagnostics)
 }
 
@@ -31,6 +34,7 @@ fn missing_of<'u>(
     document: &NameIndex<'_>,
     original: &Original<'u>,
     shown: &str,
+    ignored: &[IgnoreRule],
 ) -> Result<Vec<LintDiagnostic<'u>>, AllocError> {
     let theirs = &original.name_index;
     let missing_parts = missing_parts(alloc, theirs, document)?;
@@ -38,7 +42,8 @@ fn missing_of<'u>(
     let mut their_positions = Positions::new(theirs.text);
     let mut diagnostics = Vec::new(alloc);
     for missing in &missing_parts {
-        if let Some(difference) = Side::Reference.difference(missing.part) {
+        let difference = reported_difference(ignored, Side::Reference, theirs.text, missing);
+        if let Some(difference) = difference {
             let there = their_positions.range(missing.name);
             let place = place_text(alloc, shown, there.start)?;
             let place = Some(place.as_str());
@@ -62,6 +67,7 @@ fn extra_of<'u>(
     document: &NameIndex<'_>,
     original: &Original<'u>,
     shown: &str,
+    ignored: &[IgnoreRule],
 ) -> Result<Vec<LintDiagnostic<'u>>, AllocError> {
     let theirs = &original.name_index;
     let missing_parts = missing_parts(alloc, document, theirs)?;
@@ -69,7 +75,8 @@ fn extra_of<'u>(
     let mut positions = Positions::new(document.text);
     let mut diagnostics = Vec::new(alloc);
     for missing in &missing_parts {
-        if let Some(difference) = Side::Other.difference(missing.part) {
+        let difference = reported_difference(ignored, Side::Other, document.text, missing);
+        if let Some(difference) = difference {
             let junk = match name_in_other(theirs.text, missing) {
                 Some(name) if missing.is_junk() => Some(their_ranges.range(name)),
                 _ => None,
@@ -88,6 +95,21 @@ fn extra_of<'u>(
         }
     }
     Ok(diagnostics)
+}
+
+/// What is reported of a part that the file of this side, which has this text, has and the other one lacks.
+fn reported_difference(
+    ignored: &[IgnoreRule],
+    side: Side,
+    text: &str,
+    missing: &MissingPart,
+) -> Option<Difference> {
+    let difference = side.difference(missing.part)?;
+    let kind = ReportedKind::Difference(difference);
+    if is_ignored(ignored, kind, shown_name(text, missing.name)) {
+        return None;
+    }
+    Some(difference)
 }
 
 /// Where a text begins.

@@ -18,8 +18,10 @@ use crate::workspace::Workspace;
 use crate::workspace::file_sets::FileSet;
 use crate::workspace::originals::original_at;
 use crate::workspace::others::{look_up_others, name_indexes_of, others_of};
-use fluent_syntax_names::{Finding, NameIndex, findings, findings_with_externals, local_findings};
-use ftl_files::ReportedKind;
+use fluent_syntax_names::{
+    Finding, NameIndex, findings, findings_with_externals, local_findings, shown_name,
+};
+use ftl_files::{IgnoreRule, Levels, ReportedKind, is_ignored};
 use serde_json::Value;
 use std::alloc::{AllocError, Global};
 use std::slice::from_ref;
@@ -69,21 +71,23 @@ impl Server {
         }
         let name_index = open.document.name_index(self.alloc)?;
         let ignored = self.ignored_of(open)?;
-        let mut differences = self.differences(open, &name_index)?;
-        differences.retain(|differing| !ignored.contains(&differing.kind.reported_kind()));
+        let differences = self.differences(open, &name_index, &ignored)?;
         let findings = self.reported_findings(uri, name_index, &ignored)?;
         let diagnostics = finding_diagnostics(self.alloc, uri, open.document.text(), &findings)?;
-        let mut list = lint_diagnostic_list(self.alloc, &diagnostics, self.related)?;
-        let mut difference_list = lint_diagnostic_list(self.alloc, &differences, self.related)?;
+        let (related, levels) = (self.related, self.levels_of(open));
+        let mut list = lint_diagnostic_list(self.alloc, &diagnostics, related, levels)?;
+        let mut difference_list = lint_diagnostic_list(self.alloc, &differences, related, levels)?;
         list.append(&mut difference_list)?;
         Ok(list)
     }
 
-    /// What a document and its original don't have alike; nothing of one that has none, or one that is too long.
+    /// What a document and its original don't have alike, but for this; nothing of one that has none, or one that is
+    /// too long.
     fn differences(
         &self,
         open: &OpenDocument,
         name_index: &NameIndex<'_>,
+        ignored: &[IgnoreRule],
     ) -> Result<Vec<LintDiagnostic<'_>>, AllocError> {
         let none = Vec::new(self.alloc);
         let Some(path) = &open.path else {
@@ -101,28 +105,35 @@ impl Server {
             return Ok(none);
         }
         let shown = self.workspace.display_path(there.as_str());
-        differences_of(self.alloc, name_index, &original, shown)
+        differences_of(self.alloc, name_index, &original, shown, ignored)
     }
 
-    /// The kinds that are not reported of a document.
-    fn ignored_of(&self, open: &OpenDocument) -> Result<Vec<ReportedKind>, AllocError> {
+    /// How grave what is reported of a document is.
+    fn levels_of(&self, open: &OpenDocument) -> Levels<'_> {
+        let path = open.path.as_deref();
+        self.workspace.levels_at(path)
+    }
+
+    /// What is not reported of a document.
+    fn ignored_of(&self, open: &OpenDocument) -> Result<Vec<IgnoreRule>, AllocError> {
         match &open.path {
             Some(path) => self.workspace.ignored_at(self.alloc, path.as_str()),
             None => Ok(Vec::new(self.alloc)),
         }
     }
 
-    /// What is found in a document, but for these kinds.
+    /// What is found in a document, but for this.
     fn reported_findings(
         &self,
         uri: &str,
         name_index: NameIndex<'_>,
-        ignored: &[ReportedKind],
+        ignored: &[IgnoreRule],
     ) -> Result<Vec<Finding>, AllocError> {
+        let text = name_index.text;
         self.findings(uri, name_index)?
             .iter()
             .copied()
-            .filter(|finding| !ignored.contains(&ReportedKind::Finding(finding.kind)))
+            .filter(|finding| is_reported(ignored, text, finding))
             .collect(self.alloc)
     }
 
@@ -173,6 +184,12 @@ fn workspace_findings<'o>(
         .copied()
         .filter(|finding| finding.file == 0)
         .collect(alloc)
+}
+
+/// Whether no rule leaves out the finding in this text.
+fn is_reported(ignored: &[IgnoreRule], text: &str, finding: &Finding) -> bool {
+    let name = finding.place.map_or("", |place| shown_name(text, place));
+    !is_ignored(ignored, ReportedKind::Finding(finding.kind), name)
 }
 
 /// Whether the findings of a document are sought, which takes the longer the longer it is.

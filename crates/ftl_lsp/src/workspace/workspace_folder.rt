@@ -4,8 +4,8 @@ use crate::sessions::notices::Notice;
 use crate::workspace::originals::Reference;
 use crate::workspace::settings::{ProjectSettings, nearest_settings};
 use ftl_files::{
-    BlankLines, Excluded, Folders, ReportedKind, Settings, absolute_path, folder_of_languages,
-    is_below, language_of,
+    BlankLines, Excluded, Folders, IgnoreRule, Levels, ReportedKind, Settings, absolute_path,
+    folder_of_languages, is_below, language_of,
 };
 use std::alloc::{AllocError, Global};
 
@@ -14,8 +14,12 @@ use std::alloc::{AllocError, Global};
 pub struct WorkspaceFolder {
     /// Its path, which doesn't end in a `/`.
     pub path: String,
-    /// The kinds that are not reported of its files.
-    pub ignored: Vec<ReportedKind>,
+    /// What is not reported of its files.
+    pub ignored: Vec<IgnoreRule>,
+    /// The kinds that are warnings there.
+    warned: Vec<ReportedKind>,
+    /// The kinds that are errors there.
+    denied: Vec<ReportedKind>,
     /// What is passed over below it.
     pub excluded: Excluded,
     /// What becomes of blank lines where its files are formatted.
@@ -34,12 +38,22 @@ impl WorkspaceFolder {
         Ok(WorkspaceFolder {
             path: String::from_str(alloc, path)?,
             ignored: Vec::new(alloc),
+            warned: Vec::new(alloc),
+            denied: Vec::new(alloc),
             excluded: Excluded::new(alloc),
             blank_lines: BlankLines::Normal,
             reference: None,
             languages: None,
             fault: None,
         })
+    }
+
+    /// How grave what is reported of its files is.
+    pub fn levels(&self) -> Levels<'_> {
+        Levels {
+            warned: &self.warned,
+            denied: &self.denied,
+        }
     }
 
     /// Whether the path is below it.
@@ -90,6 +104,8 @@ impl WorkspaceFolder {
         self.reference = None;
         self.languages = None;
         self.ignored = Vec::new(alloc);
+        self.warned = Vec::new(alloc);
+        self.denied = Vec::new(alloc);
         self.excluded = Excluded::new(alloc);
         self.blank_lines = BlankLines::Normal;
         let Some(ProjectSettings { folder, settings }) = project else {
@@ -98,6 +114,8 @@ impl WorkspaceFolder {
         let Settings {
             reference,
             ignored,
+            warned,
+            denied,
             excluded,
             blank_lines,
             ..
@@ -112,6 +130,8 @@ impl WorkspaceFolder {
             self.reference = Reference::in_folder(alloc, "", path.trim_start_matches('/'))?;
         }
         self.ignored = ignored;
+        self.warned = warned;
+        self.denied = denied;
         Ok(())
     }
 }

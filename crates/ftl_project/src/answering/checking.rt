@@ -31,7 +31,7 @@ impl FileTask for CheckTask {
         let errors = refused.errors.len();
         let text = report(alloc, path, &refused, self.form)?;
         let note = match self.form {
-            Form::Lines => byte_order_mark_note(alloc, path, refused.text.as_str())?,
+            Form::Lines => byte_order_mark_note(alloc, path, refused.text.as_str(), self.form)?,
             _ => String::new(alloc),
         };
         Ok(Answer {

@@ -5,7 +5,7 @@ ghost use Rattle.ftl_project.specs.Faults.{IsMisspelled};
 use crate::answering::{Answer, FileTask};
 use crate::fault::Fault;
 use crate::streams::note_line;
-use fluent_syntax::ast::Resource;
+use fluent_syntax::ast::{Entry, Resource};
 use fluent_syntax::laws::Uncanonical;
 use fluent_syntax::parser::Edition;
 use fluent_syntax::serializer::serialize;
@@ -32,9 +32,26 @@ impl FileTask for ConvertTask {
             errors: 0,
             has_problems: false,
             text: serialize(alloc, &tree)?,
-            note: lossy_entry_note(alloc, path, &tree)?,
+            note: tree_note(alloc, path, &tree)?,
         })
     }
+}
+
+/// What is reported of a tree: how much junk it has, which is not written, and which entry would not read back.
+fn tree_note(alloc: Global, path: &str, tree: &Resource<String>) -> Result<String, AllocError> {
+    let mut note = lossy_entry_note(alloc, path, tree)?;
+    let junk = tree
+        .body
+        .iter()
+        .filter(|entry| matches!(entry, Entry::Junk { .. }))
+        .count();
+    let left_out = match junk {
+        0 => return Ok(note),
+        1 => String::from_str(alloc, "1 entry is junk, which is left out")?,
+        _ => format!(in alloc; "{junk} entries are junk, which is left out")?,
+    };
+    note.push_str(note_line(alloc, path, &left_out)?.as_str())?;
+    Ok(note)
 }
 
 /// What is reported of a tree whose text would not read back: by which entry, counted from 1.

@@ -8,6 +8,7 @@ use crate::answering::{Answer, FileTask};
 use crate::fault::Fault;
 use crate::streams::{byte_order_mark_note, note_line};
 use ftl::{Command, Outcome, answer_within};
+use ftl_files::Form;
 use std::alloc::{AllocError, Global};
 
 /// What is written of a file.
@@ -68,7 +69,7 @@ pub(crate) fn outcome_note(
         return Ok(String::new(alloc));
     }
     let mut note = note_line(alloc, path, &"has syntax errors")?;
-    let mark = byte_order_mark_note(alloc, path, text)?;
+    let mark = byte_order_mark_note(alloc, path, text, Form::Full)?;
     note.push_str(mark.as_str())?;
     Ok(note)
 }

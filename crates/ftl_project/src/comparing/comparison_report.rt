@@ -7,7 +7,7 @@ ghost use Rattle.ftl_project.specs.Comparing.{IsMissingPartReport, IsMissingRepo
 ghost use Rattle.ftl_project.specs.Comparing.{part_message, reference_place};
 ghost use Rattle.ftl_project.specs.Diagnostics.{IsDiagnostic, ReportsEach, location_at};
 
-use crate::comparing::Pair;
+use crate::comparing::pair::Pair;
 use crate::linting::findings::severity_name;
 use crate::locations::Locations;
 use crate::reporting::diagnostics::{
@@ -15,15 +15,17 @@ use crate::reporting::diagnostics::{
 };
 use fluent_syntax::spans::{Lines, Span};
 use fluent_syntax_names::{Difference, MissingPart, Part, Side, shown_name};
-use ftl_files::Form;
+use ftl_files::{Form, Levels, ReportedKind};
 use std::alloc::{AllocError, Global};
 
-/// A pair of which is reported what the file of this side has and the other one lacks: the texts of both, and the form.
+/// A pair of which is reported what the file of this side has and the other one lacks: the texts of both, the form, and
+/// how grave a difference is.
 #[derive(Clone, Copy)]
 pub(crate) struct PairReporter<'a> {
     pub(crate) alloc: Global,
     pub(crate) pair: &'a Pair,
     pub(crate) form: Form,
+    pub(crate) levels: Levels<'a>,
     pub(crate) side: Side,
     /// What the file of this side says.
     pub(crate) text: &'a str,
@@ -92,7 +94,7 @@ impl PairReporter<'_> {
             text: self.translation(),
             place,
             kind: difference.name(),
-            severity: severity_name(difference.severity()),
+            severity: severity_name(self.levels.severity(ReportedKind::Difference(difference))),
             message: self.message(difference, missing, reference)?,
             error: None,
             subject: Some(self.subject(missing, reference)),

@@ -1,67 +1,94 @@
 //! What is reported of a part that one of two files lacks, and whether it is an error.
 ghost use Rattle.std.specs.Prelude.{◌≡◌, IfOk};
-ghost use Rattle.ftl_project.specs.Differences.{counts_as_error, counts_as_warning, is_error_severity};
-ghost use Rattle.ftl_project.specs.Differences.{is_part_reported, is_reported, reported_parts};
+ghost use Rattle.ftl_project.specs.Comparing.{is_file_error, is_file_warning};
+ghost use Rattle.ftl_project.specs.Differences.{counts_as_error, counts_as_warning, is_error_kind};
+ghost use Rattle.ftl_project.specs.Differences.{is_error_severity, is_part_reported, is_reported, reported_parts};
 
-use fluent_syntax_names::{MissingPart, Part, Severity, Side};
-use ftl_files::ReportedKind;
+use crate::comparing::CompareOptions;
+use fluent_syntax_names::{MissingPart, Part, Severity, Side, shown_name};
+use ftl_files::{IgnoreRule, Levels, ReportedKind, is_ignored};
 use std::alloc::{AllocError, Global};
 
 /// Whether a part that the file of this side has and the other one lacks is reported as an error.
-pub(crate) fn counts_as_error(side: Side, part: Part) -> bool
-    ensures { result ≡ counts_as_error side part }
+pub(crate) fn counts_as_error(levels: Levels<'_>, side: Side, part: Part) -> bool
+    ensures { result ≡ counts_as_error levels.entry side part }
 {
     match side.difference(part) {
-        Some(difference) => is_error_severity(difference.severity()),
+        Some(difference) => is_error_kind(levels, ReportedKind::Difference(difference)),
         None => false,
     }
 }
 
 /// Whether it is reported as a warning.
-pub(crate) fn counts_as_warning(side: Side, part: Part) -> bool
-    ensures { result ≡ counts_as_warning side part }
+pub(crate) fn counts_as_warning(levels: Levels<'_>, side: Side, part: Part) -> bool
+    ensures { result ≡ counts_as_warning levels.entry side part }
 {
     match side.difference(part) {
-        Some(difference) => !is_error_severity(difference.severity()),
+        Some(difference) => !is_error_kind(levels, ReportedKind::Difference(difference)),
         None => false,
     }
 }
 
-/// Those of the parts that are reported, where these kinds are not.
+/// Those of the parts that are reported; the text is that of the file of this side.
 pub(crate) fn reported_parts(
     alloc: Global,
-    ignored: &[ReportedKind],
+    ignored: &[IgnoreRule],
     side: Side,
+    text: &str,
     missing_parts: &[MissingPart],
 ) -> Result<Vec<MissingPart>, AllocError>
-    ensures { IfOk result (λ parts. parts.items ≡ reported_parts ignored.now side missing_parts.now) }
+    ensures { IfOk result (λ parts. parts.items ≡ reported_parts ignored.now side text.now missing_parts.now) }
 {
     missing_parts
         .iter()
         .copied()
-        .filter(|missing| is_part_reported(ignored, side, missing.part))
+        .filter(|missing| is_part_reported(ignored, side, text, missing))
         .collect(alloc)
 }
 
-/// Whether a part that the file of this side has and the other one lacks is reported, where these kinds are not.
-fn is_part_reported(ignored: &[ReportedKind], side: Side, part: Part) -> bool
-    ensures { result ≡ is_part_reported ignored.now side part }
+/// Whether a part that the file of this side, which has this text, has and the other one lacks is reported.
+fn is_part_reported(ignored: &[IgnoreRule], side: Side, text: &str, missing: &MissingPart) -> bool
+    ensures { result ≡ is_part_reported ignored.now side text.now missing.now }
 {
-    match side.difference(part) {
-        Some(difference) => is_reported(ignored, difference.name()),
+    match side.difference(missing.part) {
+        Some(difference) => {
+            let kind = ReportedKind::Difference(difference);
+            is_reported(ignored, kind, shown_name(text, missing.name))
+        }
         None => true,
     }
 }
 
-/// Whether the kind of that name is reported, where these are not.
-pub(crate) fn is_reported(ignored: &[ReportedKind], name: &str) -> bool
-    ensures { result ≡ is_reported ignored.now name.now }
+/// Whether no rule leaves out what is of the kind and has the name.
+pub(crate) fn is_reported(ignored: &[IgnoreRule], kind: ReportedKind, name: &str) -> bool
+    ensures { result ≡ is_reported ignored.now kind name.now }
 {
-    !ignored.iter().any(|kind| kind.name() == name)
+    !is_ignored(ignored, kind, name)
+}
+
+/// Whether what this kind says of a file as a whole is reported as an error.
+pub(crate) fn is_file_error(options: CompareOptions<'_>, kind: ReportedKind) -> bool
+    ensures { result ≡ is_file_error options.entry kind }
+{
+    is_reported(options.ignored, kind, "") && is_error_kind(options.levels, kind)
+}
+
+/// Whether it is reported as a warning.
+pub(crate) fn is_file_warning(options: CompareOptions<'_>, kind: ReportedKind) -> bool
+    ensures { result ≡ is_file_warning options.entry kind }
+{
+    is_reported(options.ignored, kind, "") && !is_error_kind(options.levels, kind)
+}
+
+/// Whether what is of the kind is an error.
+pub(crate) fn is_error_kind(levels: Levels<'_>, kind: ReportedKind) -> bool
+    ensures { result ≡ is_error_kind levels.entry kind }
+{
+    is_error_severity(levels.severity(kind))
 }
 
 /// Whether it is an error.
-pub(crate) fn is_error_severity(severity: Severity) -> bool
+fn is_error_severity(severity: Severity) -> bool
     ensures { result ≡ is_error_severity severity }
 {
     match severity {

@@ -1,6 +1,5 @@
 //! The lines in which two texts differ.
 
-use crate::reporting::terminal_text::push_shown_text;
 use std::alloc::{AllocError, Global};
 use std::fmt::Write;
 
@@ -60,13 +59,46 @@ pub(crate) fn line_diff(
     let mut out = String::new(alloc);
     for mark in ["--- ", "+++ "] {
         out.push_str(mark)?;
-        push_shown_text(&mut out, path)?;
+        push_file_name(&mut out, path)?;
         out.push('\n')?;
     }
     let old: Vec<&str> = old.split_inclusive('\n').collect(alloc)?;
     let new: Vec<&str> = new.split_inclusive('\n').collect(alloc)?;
     push_hunks(&mut out, &lines_of(alloc, &old, &new)?)?;
     Ok(out)
+}
+
+/// Adds the path as `patch` and `git apply` read it: in quotes where it has a quote, a backslash or a control
+/// character, and with a tab after it where it has a space. Git takes no path that begins with a `./`.
+fn push_file_name(out: &mut String, path: &str) -> Result<(), AllocError> {
+    let path = path.trim_start_matches("./");
+    if !path.chars().any(is_escaped) {
+        out.push_str(path)?;
+        return if path.contains(' ') {
+            out.push('\t')
+        } else {
+            Ok(())
+        };
+    }
+    out.push('"')?;
+    for c in path.chars() {
+        match c {
+            '\n' => out.push_str("\\n")?,
+            '\r' => out.push_str("\\r")?,
+            '\t' => out.push_str("\\t")?,
+            '"' | '\\' => write!(out, "\\{c}")?,
+            c if is_escaped(c) => {
+                let number = c as u32;
+                write!(out, "\\{}{}{}", number / 64, number / 8 % 8, number % 8)?
+            }
+            c => out.push(c)?,
+        }
+    }
+    out.push('"')
+}
+
+fn is_escaped(c: char) -> bool {
+    c < ' ' || c == '\u{7F}' || c == '"' || c == '\\'
 }
 
 /// The lines of both texts in one order.

@@ -4,7 +4,7 @@ ghost use Rattle.ftl_files.specs.Store.{AllUnchanged};
 ghost use Rattle.ftl_project.specs.Faults.{IsRead, IsUnread};
 ghost use Rattle.ftl_project.specs.Rewriting.{Rewrites};
 
-use crate::fault::Fault;
+use crate::fault::{Fault, InvalidText};
 use crate::formatting::replacement::{FormatOptions, Replacement, replacement_for};
 use ftl_files::Store;
 use std::alloc::Global;
@@ -41,6 +41,9 @@ pub(crate) fn read_text<S: Store>(store: &mut S, path: &str) -> Result<String, F
     };
     match String::from_utf8(bytes) {
         Ok(text) => Ok(text),
-        Err(error) => Err(Fault::NotText(error.utf8_error().valid_up_to())),
+        Err(error) => {
+            let place = error.utf8_error().valid_up_to();
+            Err(Fault::NotText(InvalidText::at(error.as_bytes(), place)))
+        }
     }
 }

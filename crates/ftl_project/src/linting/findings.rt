@@ -12,7 +12,7 @@ use crate::reporting::diagnostics::{
 use crate::reporting::line_starts::LineStarts;
 use fluent_syntax::spans::{Lines, Span};
 use fluent_syntax_names::{Finding, NameIndex, Severity, full_name, shown_name};
-use ftl_files::Form;
+use ftl_files::{Form, Levels, ReportedKind};
 use std::alloc::{AllocError, Global};
 
 /// A file that was read.
@@ -31,6 +31,7 @@ pub(crate) fn report_findings(
     name_indexes: &[NameIndex<'_>],
     findings: &[Finding],
     form: Form,
+    levels: Levels<'_>,
 ) -> Result<String, AllocError>
     requires { All IsShort name_indexes.now }
     ensures { IfOk result (λ report_text.
@@ -50,6 +51,7 @@ pub(crate) fn report_findings(
             text: text_of(name_indexes, file),
             starts: &starts,
             form,
+            levels,
         };
         let report_text = file_reporter.finding_report(&mut lines, finding)?;
         out.push_str(report_text.as_str())?;
@@ -114,7 +116,7 @@ fn line_starts_in(
     }
 }
 
-/// A file whose findings are reported: its path and its text, where its lines begin, and the form.
+/// A file whose findings are reported: its path and its text, where its lines begin, the form, and how grave they are.
 #[derive(Clone, Copy)]
 struct FileReporter<'a> {
     alloc: Global,
@@ -122,6 +124,7 @@ struct FileReporter<'a> {
     text: &'a str,
     starts: &'a LineStarts,
     form: Form,
+    levels: Levels<'a>,
 }
 
 impl FileReporter<'_> {
@@ -143,7 +146,7 @@ impl FileReporter<'_> {
             text: self.text,
             place: location_in(lines, self.text, finding.place),
             kind: finding.kind.name(),
-            severity: severity_name(finding.kind.severity()),
+            severity: severity_name(self.levels.severity(ReportedKind::Finding(finding.kind))),
             message: self.message(finding)?,
             error: None,
             subject: self.subject(finding),

@@ -5,7 +5,9 @@ use fluent_syntax::parser::Edition;
 use fluent_syntax_tests::alike::{assert_holds, assert_same};
 use ftl::Watched;
 use ftl_files::{Disk, Excluded, list};
-use ftl_project::{BlankLines, FormatOptions, Reading, RewriteCounts, Streams, Tally, write_files};
+use ftl_project::{
+    BlankLines, Form, FormatOptions, Reading, RewriteCounts, Streams, Tally, write_files,
+};
 use std::alloc::Global;
 use std::test::Fail;
 
@@ -45,6 +47,7 @@ fn format(alloc: Global, state: &State) -> Result<Tally, Fail> {
     let mut streams = Streams {
         out: &mut Watched::new(Vec::new(alloc)),
         err: &mut Watched::new(Vec::new(alloc)),
+        form: Form::Full,
     };
     let files = listing.files.as_slice();
     match write_files(

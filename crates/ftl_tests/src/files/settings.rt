@@ -1,19 +1,46 @@
 //! What an `ftl.toml` says, and what is shown of one that is refused.
 
 use fluent_syntax::parser::Edition;
-use fluent_syntax_names::Difference;
+use fluent_syntax_names::{Difference, Kind};
 use fluent_syntax_tests::alike::{assert_holds, assert_same, assert_same_text};
-use ftl_files::{BlankLines, Color, Output, ReportedKind, settings_of};
+use ftl_files::{BlankLines, Color, Output, ReportedKind, is_ignored, settings_of};
 use std::alloc::Global;
 use std::test::Fail;
 
 const EACH: &str =
-    "reference = \"l10n/en-US\"\nignore = ['obsolete', \"missing-file\"]\nexclude = ['locales/old']\n\
-    edition = 2\noutput = 'lines'\nnesting = 4294967295\ncolor = 'never'\nblank-lines = 'keep'\n";
+    "reference = \"l10n/en-US\"\nignore = ['obsolete', \"missing-file\", 'undefined-term:-new*']\n\
+    exclude = ['locales/old']\nwarn = ['missing']\ndeny = ['obsolete', 'variant-twice']\nedition = 2\n\
+    output = 'lines'\nnesting = 4294967295\ncolor = 'never'\nblank-lines = 'keep'\n";
 
-const KINDS: [ReportedKind; 2] = [
+/// The kinds and the names of what is ignored.
+const RULES: [(ReportedKind, &str); 3] = [
+    (ReportedKind::Difference(Difference::Obsolete), ""),
+    (ReportedKind::MissingFile, ""),
+    (ReportedKind::Finding(Kind::UndefinedTerm), "-new*"),
+];
+
+const WARNED: [ReportedKind; 1] = [ReportedKind::Difference(Difference::Missing)];
+
+const DENIED: [ReportedKind; 2] = [
     ReportedKind::Difference(Difference::Obsolete),
-    ReportedKind::MissingFile,
+    ReportedKind::Finding(Kind::VariantTwice),
+];
+
+/// Patterns, with a name, and whether they are it.
+const PATTERNS: [(&str, &str, bool); 13] = [
+    ("-brand", "-brand", true),
+    ("-brand", "-brands", false),
+    ("-newtab-*", "-newtab-", true),
+    ("-newtab-*", "-newtab", false),
+    ("*", "title", true),
+    ("*title", "title", true),
+    ("*title", "title-2", false),
+    ("t*e", "te", true),
+    ("t*e", "t", false),
+    ("a*ab", "aab", true),
+    ("*aab*b", "aaabb", true),
+    ("*ab*ab*", "aabb", false),
+    ("**b", "b", true),
 ];
 
 #[test]
@@ -24,10 +51,14 @@ fn settings(rt: HostRuntime) -> Result<(), Fail> {
     };
     let reference = settings.reference.as_deref();
     assert_same(alloc, "reference", &reference, &Some("l10n/en-US"))?;
+    let ignored = settings.ignored.iter();
+    let rules = ignored.map(|rule| (rule.kind, rule.name.as_str()));
+    assert_holds(alloc, "ignore", rules.eq(RULES))?;
     assert_holds(
         alloc,
-        "ignore",
-        settings.ignored.as_slice() == KINDS.as_slice(),
+        "warn and deny",
+        settings.warned.as_slice() == WARNED.as_slice()
+            && settings.denied.as_slice() == DENIED.as_slice(),
     )?;
     assert_same(alloc, "exclude", &settings.excluded.len(), &1)?;
     assert_holds(alloc, "edition", settings.edition == Some(Edition::Two))?;
@@ -39,6 +70,30 @@ fn settings(rt: HostRuntime) -> Result<(), Fail> {
         "blank lines",
         settings.blank_lines == Some(BlankLines::Keep),
     )
+}
+
+#[test]
+fn ignored_names(rt: HostRuntime) -> Result<(), Fail> {
+    let alloc = rt.alloc();
+    let kind = ReportedKind::Finding(Kind::UndefinedTerm);
+    for (pattern, name, is_it) in PATTERNS {
+        let text = format!(in alloc; "ignore = ['undefined-term:{pattern}']")?;
+        let Ok(settings) = settings_of(alloc, text.as_str()) else {
+            return Err("refused".into());
+        };
+        assert_same(
+            alloc,
+            name,
+            &is_ignored(&settings.ignored, kind, name),
+            &is_it,
+        )?;
+        assert_holds(
+            alloc,
+            name,
+            !is_ignored(&settings.ignored, ReportedKind::MissingFile, name),
+        )?;
+    }
+    Ok(())
 }
 
 fn assert_refused(alloc: Global, text: &str, sentence: &str) -> Result<(), Fail> {
@@ -53,5 +108,10 @@ fn assert_refused(alloc: Global, text: &str, sentence: &str) -> Result<(), Fail>
 
 #[test]
 fn refused_settings(rt: HostRuntime) -> Result<(), Fail> {
-    assert_refused(rt.alloc(), "edition = 3\n", "`edition` wants 1 or 2")
+    assert_refused(rt.alloc(), "edition = 3\n", "`edition` wants 1 or 2")?;
+    assert_refused(
+        rt.alloc(),
+        "warn = ['missing', 'obsolete']\ndeny = ['obsolete']\n",
+        "`warn` and `deny` both have `obsolete`",
+    )
 }

@@ -30,6 +30,7 @@ fn checked(
     let mut streams = Streams {
         out: &mut out,
         err: &mut Watched::new(err),
+        form: Form::Lines,
     };
     let task = CheckTask {
         reading,

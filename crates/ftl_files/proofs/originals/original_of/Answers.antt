@@ -1,7 +1,8 @@
 use Rattle.std.proofs.Common.{◌∙◌, ◌∷◌, None, Some, append_assoc, arith, inr, refl}
 use Rattle.std.proofs.lemmas.Str.Pattern.{split_parts}
-use Rattle.ftl_files.proofs.OriginalLemmas.{no_original_in_reference, no_original_of_reference, names_differ}
-use Rattle.ftl_files.proofs.OriginalLemmas.{reference_is_original, names_equal}
+use Rattle.ftl_files.proofs.OriginalLemmas.{no_original_in_reference, no_original_of_reference}
+use Rattle.ftl_files.proofs.OriginalLemmas.{failed_test_means_other_name}
+use Rattle.ftl_files.proofs.OriginalLemmas.{reference_is_original, passed_test_means_same_name}
 use Rattle.ftl_files.proofs.originals.original_of.Goals as goal
 
 pub returns-clause-some : goal.returns-clause-some
@@ -17,7 +18,7 @@ returns-clause-some c =
           c.in_ok-original.ensures ∙ simp (c.as_str.ensures.value, c.in_ok-reference.ensures, append_assoc);
       direct = parts.1;
       whole = inr (rest.now, refl);
-      other = names_differ _ _ _ c.eq.ensures c.if-eq.false;
+      other = failed_test_means_other_name _ _ _ c.eq.ensures c.if-eq.false;
     }
 
 pub returns-in_default-split_once-clause-some : goal.returns-in_default-split_once-clause-some
@@ -36,4 +37,4 @@ returns-then-eq-clause-none c none original o =
     let rest = c.in-Some-split_once.rest in
     let parts = split_parts 47 _ (Some (language, rest)) c.in-Some-split_once.ensures.cases (omega arith) in
     no_original_in_reference _ _ _ original _ language rest o c.in-Some.ensures parts.0
-    c.in-Some-split_once.ensures.cases (names_equal _ _ _ c.eq.ensures c.if-eq.true)
+    c.in-Some-split_once.ensures.cases (passed_test_means_same_name _ _ _ c.eq.ensures c.if-eq.true)

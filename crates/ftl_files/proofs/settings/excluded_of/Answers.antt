@@ -6,7 +6,7 @@ use Rattle.toml.proofs.Views.{view-Array}
 use Rattle.std.specs.Prelude.{String, string_bytes}
 use Rattle.std.specs.declared.alloc.Global.{Global}
 use Rattle.toml.specs.Data.{Data, array, string}
-use Rattle.ftl_files.proofs.ListedNames.{is_listed, not_listed}
+use Rattle.ftl_files.proofs.ListedNames.{list_of_names_is_listed, not_listed}
 use Rattle.ftl_files.proofs.settings.excluded_of.Goals as goal
 
 abbrev named : String Global → Data
@@ -46,4 +46,4 @@ returns-clause-says c =
     let array : view c.in-Some.value.now ≡ array (items_of values) =
     ap view c.in-Array.is ∙ view-Array c.in-Array.values
     ∙ ap (λ vs. array (items_of (map view vs))) (sym c.deref-text-items.ensures.value) in
-    rw (c.in-Some.is, array) (is_listed named values c.loop-text.texts.items all)
+    rw (c.in-Some.is, array) (list_of_names_is_listed named values c.loop-text.texts.items all)

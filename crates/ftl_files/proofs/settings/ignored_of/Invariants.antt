@@ -1,13 +1,13 @@
 use Rattle.std.proofs.Common.{◌≡◌, ◌++◌, drop, map}
 use Rattle.toml.specs.Data.{string}
 use Rattle.toml.specs.View.{view}
-use Rattle.ftl_files.specs.Kinds.{reported_name}
+use Rattle.ftl_files.specs.IgnoreRules.{rule_text}
 use Rattle.ftl_files.proofs.settings.ignored_of.Given as goal
 
--- the values are the names of the kinds so far, and those that are left
-abbrev pub invariant-loop-name : goal.invariant-loop-name
-invariant-loop-name l = record {
+-- the values are the texts of the rules so far, and those that are left
+abbrev pub invariant-loop-text : goal.invariant-loop-text
+invariant-loop-text l = record {
   named :
-      map view l.name-items
-      ≡ map (λ kind. string (reported_name kind)) l.kinds.items ++ map view (drop l.name-index l.name-items);
+      map view l.text-items
+      ≡ map (λ rule. string (rule_text rule)) l.rules.items ++ map view (drop l.text-index l.text-items);
 }

@@ -2,7 +2,8 @@ use Rattle.std.proofs.Common.{ap, refl}
 use Rattle.serde_json.specs.View.{view}
 use Rattle.ftl_lsp.specs.Served.{is_unpublished, has_no_memory_to_publish}
 use Rattle.ftl_lsp.specs.Sessions.{session_of}
-use Rattle.ftl_lsp.proofs.ServedLemmas.{step_then_goes_on, unasked_value_goes_on, same_session_stops, not_published}
+use Rattle.ftl_lsp.proofs.ServedLemmas.{step_then_goes_on, unasked_value_goes_on, equal_session_stops_alike}
+use Rattle.ftl_lsp.proofs.ServedLemmas.{unpublished_value_stops_session}
 use Rattle.ftl_lsp.proofs.sessions.go_on.Goals as goal
 
 pub returns-in-Ok-Some-clause-step : goal.returns-in-Ok-Some-clause-step
@@ -12,7 +13,7 @@ returns-in-Ok-Some-clause-step g c =
 
 pub returns-in-Ok-Some-clause-stops : goal.returns-in-Ok-Some-clause-stops
 returns-in-Ok-Some-clause-stops g c =
-    not_published c.send.result (session_of c.args.server.now) _ _ _ (view c.in-Ok-Some.value)
+    unpublished_value_stops_session c.send.result (session_of c.args.server.now) _ _ _ (view c.in-Ok-Some.value)
     (rw c.in-Ok-Some.field-0-is at c.in-Ok-Some.ensures.unasked) c.send.ensures.fault
     (λ is. ap g.W.Write.contents (c.send.ensures.unwritten is))
 
@@ -23,7 +24,8 @@ returns-in-Ok-None-clause-step g c =
 
 pub returns-in-Ok-None-clause-stops : goal.returns-in-Ok-None-clause-stops
 returns-in-Ok-None-clause-stops g c =
-    same_session_stops c.answer_next.result (session_of c.args.server.now) (session_of c.next_unasked.new.self) _ _ _
+    equal_session_stops_alike c.answer_next.result (session_of c.args.server.now)
+    (session_of c.next_unasked.new.self) _ _ _
     c.in-Ok-None.ensures.same c.answer_next.ensures.stops
 
 pub returns-in-Err-clause-stops : goal.returns-in-Err-clause-stops

@@ -2,7 +2,8 @@ use Rattle.std.proofs.Common.{Err, Some, ap, refl, rules, sym, ◌∙◌}
 use Rattle.ftl_lsp.specs.Phases.{ending_of}
 use Rattle.ftl_lsp.specs.Served.{exits, goes_on, has_no_frame, stops}
 use Rattle.ftl_lsp.specs.Sessions.{session_of}
-use Rattle.ftl_lsp.proofs.ServedLemmas.{begins_with_all_input, ends_before_first_message, ends_by_no_input, keeps_room}
+use Rattle.ftl_lsp.proofs.ServedLemmas.{begins_with_all_input, ends_before_first_message, ends_by_no_input}
+use Rattle.ftl_lsp.proofs.ServedLemmas.{buffer_keeps_room}
 use Rattle.ftl_lsp.proofs.sessions.serve.Goals as goal
 
 pub returns-in_default-clause-ends : goal.returns-in_default-clause-ends
@@ -30,7 +31,7 @@ returns-in-Some-clause-ends g c =
 
 pub loop-preserved : goal.loop-preserved
 loop-preserved g c = record {
-  room = keeps_room _ _ _ c.loop.invariant.room (search rules);
+  room = buffer_keeps_room _ _ _ c.loop.invariant.room (search rules);
   serves = goes_on (session_of c.loop.server) _ _ _ _ _ c.loop.invariant.serves c.loop.invariant.goes_on
       c.in_default-went_on.ensures.step;
   goes_on = sym c.in_default-ending.ensures;

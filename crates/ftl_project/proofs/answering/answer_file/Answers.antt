@@ -3,14 +3,14 @@ use Rattle.ftl.specs.Watched.{inner_of}
 use Rattle.ftl_project.specs.Faults.{IsFault}
 use Rattle.ftl_project.specs.Runs.{ProcessesFile}
 use Rattle.ftl_project.specs.Tally.{answered}
-use Rattle.ftl_project.proofs.Counting.{Writes-report_text, on_ok_then}
+use Rattle.ftl_project.proofs.Counting.{Writes-report_text, consequence_holds_on_ok}
 use Rattle.ftl_project.proofs.answering.answer_file.Goals as goal
 
 pub returns-in-Ok-clause-counted : goal.returns-in-Ok-clause-counted
 returns-in-Ok-clause-counted g c =
     let answer = c.in-Ok.answer in
     let found = c.in-Ok.ensures.answer in
-    on_ok_then c.put_answer.result (λ appends. (
+    consequence_holds_on_ok c.put_answer.result (λ appends. (
       answered answer.errors 0 answer.has_problems,
       string_bytes answer.text,
       (found.0, found.1, found.2, refl),

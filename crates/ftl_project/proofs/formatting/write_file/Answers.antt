@@ -1,7 +1,7 @@
 use Rattle.std.proofs.Common.{refl, subst, sym}
 use Rattle.ftl_project.specs.Formatting.{IsProcessed}
 use Rattle.ftl_project.specs.Tally.{failed}
-use Rattle.ftl_project.proofs.Counting.{on_ok_given}
+use Rattle.ftl_project.proofs.Counting.{fact_holds_on_ok}
 use Rattle.ftl_project.proofs.Reaching.{AllReach-rewrites}
 use Rattle.ftl_project.proofs.formatting.write_file.Goals as goal
 
@@ -16,7 +16,7 @@ returns-in-Err-clause-counted g c =
     let report_text = c.report_fault.ensures.counted in
     let processed = subst (λ r. IsProcessed r (failed report_text.0)) (sym c.in-Err.is)
     (report_text.0, report_text.1, refl) in
-    on_ok_given c.report_fault.result (
+    fact_holds_on_ok c.report_fault.result (
       c.rewrite.result,
       c.rewrite.ensures,
       failed report_text.0,

@@ -7,5 +7,6 @@ abbrev pub invariant-loop-finding : goal.invariant-loop-finding
 invariant-loop-finding l = record {
   few : l.number ≤ l.finding-index;
   left :
-      l.number + with_problems_after l.last (drop l.finding-index l.found) ≡ with_problems_after None l.found;
+      l.number + with_problems_after l.levels l.last (drop l.finding-index l.found)
+      ≡ with_problems_after l.levels None l.found;
 }

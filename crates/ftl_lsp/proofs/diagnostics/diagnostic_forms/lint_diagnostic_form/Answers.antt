@@ -13,10 +13,10 @@ returns-in_ok-positions-in-Some c =
     let with_severity = ap (λ s. diagnostic_with_related diagnostic.range s c.code-code.result.now message positions)
     c.severity-severity.ensures in
     let with_code = ap (λ code. diagnostic_with_related diagnostic.range
-    (severity_of diagnostic.kind) code message positions) c.code-code.ensures in
+    (severity_of c.args.levels diagnostic.kind) code message positions) c.code-code.ensures in
     IfOk-weaker c.form_with_related.result _ _
     (λ value is. subst IsLintDiagnostic (sym (is ∙ (with_severity ∙ with_code)))
-    (with_related diagnostic.range diagnostic.kind message positions))
+    (with_related diagnostic.range c.args.levels diagnostic.kind message positions))
     c.form_with_related.ensures
 
 pub returns-in_default : goal.returns-in_default
@@ -26,8 +26,8 @@ returns-in_default c =
     let with_severity =
     ap (λ s. diagnostic_form diagnostic.range s c.code-code.result.now message) c.severity-severity.ensures in
     let with_code = ap (λ code. diagnostic_form diagnostic.range
-    (severity_of diagnostic.kind) code message) c.code-code.ensures in
+    (severity_of c.args.levels diagnostic.kind) code message) c.code-code.ensures in
     IfOk-weaker c.diagnostic_form.result _ _
     (λ value is. subst IsLintDiagnostic (sym (is ∙ (with_severity ∙ with_code)))
-    (alone diagnostic.range diagnostic.kind message))
+    (alone diagnostic.range c.args.levels diagnostic.kind message))
     c.diagnostic_form.ensures

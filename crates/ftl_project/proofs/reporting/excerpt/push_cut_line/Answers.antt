@@ -2,7 +2,7 @@ use Rattle.std.proofs.Common.{◌≡◌, ◌⊎◌, ◌++◌, ◌+◌, ◌-◌, 
 use Rattle.std.proofs.Common.{⊎_elim, length, string_bytes, subst, sym, take}
 use Rattle.std.proofs.lemmas.Bool.{cases_lt}
 use Rattle.ftl_project.specs.Excerpt.{excerpt}
-use Rattle.ftl_project.proofs.Windows.{floor_is_near, near_excerpt}
+use Rattle.ftl_project.proofs.Windows.{floor_is_near, excerpt_near_place_is_same}
 use Rattle.ftl_project.proofs.reporting.excerpt.push_cut_line.Goals as goal
 
 pub returns : goal.returns
@@ -30,7 +30,8 @@ returns c =
     let near : c.range.result.now ≡ take (end - start) (drop start t) = c.range.ensures.value in
     let same : excerpt c.args.caret.now c.range.result.now (cut - start) ≡ excerpt c.args.caret.now t cut =
     ap (λ n. excerpt c.args.caret.now n (cut - start)) near
-    ∙ sym (near_excerpt c.args.caret.now t start cut end c.utf8.text starts.boundary c.requires ends.boundary ahead
+    ∙ sym (excerpt_near_place_is_same c.args.caret.now t start cut end c.utf8.text starts.boundary c.requires
+    ends.boundary ahead
     after before beyond) in
     subst (λ e. OnOk c.push_line.result (string_bytes c.push_line.new.out ≡ string_bytes c.args.out.now ++ e)) same
     c.push_line.ensures

@@ -4,7 +4,7 @@ use Rattle.ftl_lsp.specs.OpenDocuments.{texts}
 use Rattle.ftl_lsp.specs.Replies.{silence, sends_none, withdrawn}
 use Rattle.ftl_lsp.specs.Sessions.{closes, passes}
 use Rattle.ftl_lsp.specs.declared.sessions.methods.Method.TheVariants.{DidClose}
-use Rattle.ftl_lsp.proofs.SessionLemmas.{withdraws_all, unnamed_is_closed, named_document_is_open}
+use Rattle.ftl_lsp.proofs.SessionLemmas.{empty_list_withdraws_diagnostics, unnamed_is_closed, named_document_is_open}
 use Rattle.std.proofs.Common.{Some, ◌∙◌}
 use Rattle.ftl_lsp.proofs.sessions.server.Server.close.Goals as goal
 
@@ -20,6 +20,7 @@ returns-then-not-contains-clause-follows c =
 pub returns-clause-follows : goal.returns-clause-follows
 returns-clause-follows c = (
   withdrawn c.in-Some.uri.now,
-  withdraws_all c.in-Some.uri.now _ _ c.in_ok-diagnostics_notification.ensures (ap (map view) c.new-none.ensures.items),
+  empty_list_withdraws_diagnostics c.in-Some.uri.now _ _ c.in_ok-diagnostics_notification.ensures
+      (ap (map view) c.new-none.ensures.items),
   closes c.in-Some.uri.now _ (sym c.in-Some.ensures) (sym c.if-not-contains.ensures) c.close.ensures,
 )

@@ -3,7 +3,8 @@ use Rattle.std.proofs.lemmas.Result.{IfOk-weaker}
 use Rattle.serde_json.specs.View.{view}
 use Rattle.ftl_lsp.specs.Replies.{answered, refused, sends_answer}
 use Rattle.ftl_lsp.specs.Sessions.{finds, finds_none, fits, is_out_of_phase, session_of}
-use Rattle.ftl_lsp.proofs.SessionLemmas.{sent_as, answered_session_is_in_phase, finds_value, found_code_refuses}
+use Rattle.ftl_lsp.proofs.SessionLemmas.{equal_value_is_sent, answered_session_is_in_phase}
+use Rattle.ftl_lsp.proofs.SessionLemmas.{found_value_is_sent_as_result, found_code_refuses}
 use Rattle.ftl_lsp.proofs.sessions.server.Server.request.Goals as goal
 
 pub returns-in-Some : goal.returns-in-Some
@@ -31,12 +32,12 @@ returns-in-Err c =
 
 pub returns : goal.returns
 returns c =
-    let response = finds_value (session_of c.args.self.now)
+    let response = found_value_is_sent_as_result (session_of c.args.self.now)
     (view c.args.message.now) c.args.method c.in_ok-response.field-0
     c.in-Ok.response (sym c.in_default.ensures)
     c.in_ok-response.ensures.fitting c.in_ok-response.ensures.result c.in-Ok.is in (
       answered (view c.args.id) (view c.in-Ok.response),
-      sent_as _ _ _ c.in_ok-reply.ensures (sends_answer _ _),
+      equal_value_is_sent _ _ _ c.in_ok-reply.ensures (sends_answer _ _),
       finds _ _ response
           (answered_session_is_in_phase _ (session_of c.response.new.self) _ c.args.method c.after_request-self.ensures
           c.in_ok-response.ensures.same),

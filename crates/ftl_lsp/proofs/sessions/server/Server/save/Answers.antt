@@ -4,7 +4,7 @@ use Rattle.serde_json.specs.View.{view}
 use Rattle.ftl_lsp.specs.Replies.{silence, sends_none}
 use Rattle.ftl_lsp.specs.Sessions.{passes, session_of}
 use Rattle.ftl_lsp.specs.declared.sessions.methods.Method.TheVariants.{DidSave}
-use Rattle.ftl_lsp.proofs.SessionLemmas.{unnamed_is_closed, publishes_saved}
+use Rattle.ftl_lsp.proofs.SessionLemmas.{unnamed_is_closed, saved_text_is_published}
 use Rattle.std.proofs.Common.{Some}
 use Rattle.ftl_lsp.proofs.sessions.server.Server.save.Goals as goal
 
@@ -13,7 +13,7 @@ returns-in-Some-clause-phase c = IfOk-weaker c.publish.result _ _ (λ sent e. ap
 
 pub returns-in-Some-clause-follows : goal.returns-in-Some-clause-follows
 returns-in-Some-clause-follows c =
-    publishes_saved c.publish.result (view c.args.message.now) c.in-Some.uri.now (session_of c.args.self.now)
+    saved_text_is_published c.publish.result (view c.args.message.now) c.in-Some.uri.now (session_of c.args.self.now)
     (session_of c.publish.new.self) (sym c.in-Some.ensures) c.publish.ensures.same c.publish.ensures.sent
 
 pub returns-in-None-clause-follows : goal.returns-in-None-clause-follows

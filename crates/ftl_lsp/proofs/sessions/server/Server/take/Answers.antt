@@ -5,7 +5,7 @@ use Rattle.serde_json.specs.View.{view}
 use Rattle.ftl_lsp.specs.Replies.{refused, silence, sends_none}
 use Rattle.ftl_lsp.specs.Sessions.{garbled, responded, session_of, unasked}
 use Rattle.ftl_lsp.specs.declared.sessions.phases.ErrorCode.TheVariants.{InvalidRequest, ParseError}
-use Rattle.ftl_lsp.proofs.SessionLemmas.{takes_notification, takes_request}
+use Rattle.ftl_lsp.proofs.SessionLemmas.{session_takes_notification, takes_request}
 use Rattle.ftl_lsp.proofs.sessions.server.Server.take.Goals as goal
 
 pub returns-in_default : goal.returns-in_default
@@ -29,7 +29,7 @@ returns-in-Request g c =
 
 pub returns-in-Notification : goal.returns-in-Notification
 returns-in-Notification g c =
-    takes_notification c.notification.result (session_of c.args.self.now) (session_of c.notification.new.self)
+    session_takes_notification c.notification.result (session_of c.args.self.now) (session_of c.notification.new.self)
     c.args.body.now (view c.in-Ok.value)
     c.in-Notification.method.now c.from_name.result c.in-Ok.ensures.ok.1 (sym c.in-Notification.ensures)
     (c.from_name.ensures.named, c.from_name.ensures.other) c.notification.ensures

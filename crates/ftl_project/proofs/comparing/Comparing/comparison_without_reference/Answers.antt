@@ -1,0 +1,19 @@
+use Rattle.std.proofs.Common.{[], codes, refl, string_bytes, subst}
+use Rattle.ftl_project.proofs.Comparisons.{from_bool_is_one_or_zero}
+use Rattle.ftl_files.specs.declared.kinds.ReportedKind.TheVariants.{ObsoleteFile}
+use Rattle.ftl_project.specs.Comparing.{IsFileReport}
+use Rattle.ftl_project.specs.Differences.{is_reported}
+use Rattle.ftl_project.proofs.comparing.Comparing.comparison_without_reference.Goals as goal
+
+pub returns : goal.returns
+returns c =
+    let options = c.args.self.now.options in
+    let pair = c.args.pair.now in
+    record {
+      report_is = subst (λ message. IsFileReport options.form pair (codes "obsolete-file") message
+          (is_reported options.ignored.now ObsoleteFile []) (string_bytes c.in_ok-report_text.report_text))
+          (simp (c.in_ok-message.ensures.ok, c.as_str.ensures.value)) c.in_ok-report_text.ensures;
+      errors_are = rw (c.from.ensures, c.is_file_error-is_error.ensures) (from_bool_is_one_or_zero _);
+      warnings_are = rw (c.from-2.ensures, c.is_file_warning-is_warning.ensures) (from_bool_is_one_or_zero _);
+      share_is = refl;
+    }
