@@ -51,9 +51,10 @@ fn settings(rt: HostRuntime) -> Result<(), Fail> {
     };
     let reference = settings.reference.as_deref();
     assert_same(alloc, "reference", &reference, &Some("l10n/en-US"))?;
-    let ignored = settings.ignored.iter();
-    let rules = ignored.map(|rule| (rule.kind, rule.name.as_str()));
-    assert_holds(alloc, "ignore", rules.eq(RULES))?;
+    assert_same(alloc, "ignore", &settings.ignored.len(), &RULES.len())?;
+    for (rule, (kind, name)) in settings.ignored.iter().zip(RULES) {
+        assert_holds(alloc, name, rule.kind == kind && rule.name.as_str() == name)?;
+    }
     assert_holds(
         alloc,
         "warn and deny",
